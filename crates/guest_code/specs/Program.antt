@@ -1,0 +1,97 @@
+-- What contracts see of a program, and when it is well formed.
+use Rattle.std.specs.Prelude.{◌≡◌, ℕ, ℤ, ◌<◌, ◌≤◌, List, [], length, map, slice_index_or, All}
+use Rattle.guest_syntax.specs.declared.tree.Op.{Op}
+use Rattle.guest_code.specs.declared.limits.TheConstants.{THREADS, VARIABLES, OBJECTS, LOCALS, INSTRUCTIONS, COUNT}
+use Rattle.guest_code.specs.declared.program.Value.{Value}
+use Rattle.guest_code.specs.declared.program.Value.TheVariants.{Local, Literal}
+use Rattle.guest_code.specs.declared.program.Expression.{Expression}
+use Rattle.guest_code.specs.declared.program.Expression.TheVariants.{Single, Both}
+use Rattle.guest_code.specs.declared.program.Instruction.{Instruction}
+use Rattle.guest_code.specs.declared.program.Instruction.TheVariants.{Load, Store, Lock, Unlock, Wait, Signal, Broadcast, Acquire, Release, Set, Assert, SkipIfZero, Skip}
+use Rattle.guest_code.specs.declared.program.Variable as code-variable
+use Rattle.guest_code.specs.declared.program.Semaphore as code-semaphore
+use Rattle.guest_code.specs.declared.program.Thread as code-thread
+
+-- a variable's name and opening value
+pub record Variable : Type 0 where
+  pub name : List ℕ
+  pub opening : ℤ
+
+-- a semaphore's name and opening count
+pub record Semaphore : Type 0 where
+  pub name : List ℕ
+  pub count : ℕ
+
+-- a thread's name, how many locals it has, and its code
+pub record Thread : Type 0 where
+  pub name : List ℕ
+  pub locals : ℕ
+  pub code : List Instruction
+
+-- the objects of each kind in the order of declaration, and the threads
+pub record Program : Type 0 where
+  pub variables : List Variable
+  pub mutexes : List (List ℕ)
+  pub conditions : List (List ℕ)
+  pub semaphores : List Semaphore
+  pub threads : List Thread
+
+-- what the code's values stand for
+
+abbrev pub variable_view : code-variable.Variable → Variable
+variable_view v = record { name = v.name.items; opening = v.opening }
+
+abbrev pub semaphore_view : code-semaphore.Semaphore → Semaphore
+semaphore_view s = record { name = s.name.items; count = s.count }
+
+abbrev pub thread_view : code-thread.Thread → Thread
+thread_view t = record { name = t.name.items; locals = t.locals; code = t.code.items }
+
+-- a thread that is not there
+abbrev pub no_thread : Thread
+no_thread = record { name = []; locals = 0; code = [] }
+
+-- the code of a thread; none for a thread that is not there
+abbrev pub code_of : Program → ℕ → List Instruction
+code_of p t = (slice_index_or p.threads t no_thread).code
+
+-- numbers of objects and locals are in range
+
+abbrev pub IsFineValue : Value → Type 0
+IsFineValue (Local r) = r < LOCALS
+IsFineValue (Literal n) = Unit {0}
+
+abbrev pub IsFineExpression : Expression → Type 0
+IsFineExpression (Single a) = IsFineValue a
+IsFineExpression (Both a op b) = IsFineValue a × IsFineValue b
+
+abbrev pub IsFine : Program → Instruction → Type 0
+IsFine p (Load r x) = (r < LOCALS) × (x < length p.variables)
+IsFine p (Store x a) = (x < length p.variables) × IsFineValue a
+IsFine p (Lock m) = m < length p.mutexes
+IsFine p (Unlock m) = m < length p.mutexes
+IsFine p (Wait c m) = (c < length p.conditions) × (m < length p.mutexes)
+IsFine p (Signal c) = c < length p.conditions
+IsFine p (Broadcast c) = c < length p.conditions
+IsFine p (Acquire s) = s < length p.semaphores
+IsFine p (Release s) = s < length p.semaphores
+IsFine p (Set r e) = (r < LOCALS) × IsFineExpression e
+IsFine p (Assert e) = IsFineExpression e
+IsFine p (SkipIfZero e n) = IsFineExpression e
+IsFine p (Skip n) = Unit {0}
+
+-- a code of this program that is not too long and whose numbers are in range
+pub record IsFineCode (p : Program) (code : List Instruction) : Type 0 where
+  pub short : length code ≤ INSTRUCTIONS
+  pub fine : All (IsFine p) code
+
+-- the limits are kept, and every number of an object or a local is in range
+pub record IsWellFormed (p : Program) : Type 0 where
+  pub some_thread : 0 < length p.threads
+  pub threads : length p.threads ≤ THREADS
+  pub variables : length p.variables ≤ VARIABLES
+  pub mutexes : length p.mutexes ≤ OBJECTS
+  pub conditions : length p.conditions ≤ OBJECTS
+  pub semaphores : length p.semaphores ≤ OBJECTS
+  pub counts : All (λ s. s.count ≤ COUNT) p.semaphores
+  pub codes : All (λ t. IsFineCode p t.code) p.threads
