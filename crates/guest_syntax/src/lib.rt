@@ -1,5 +1,40 @@
-//! The texts of the guest language: their places, tokens and trees.
+//! Texts of the guest language, and the trees that they spell.
+//!
+//! A guest text declares variables, mutexes, conditions and semaphores, and then threads with
+//! their statements. [`parse`] reads a text into a [`tree::Tree`], or answers its first fault and
+//! where it stands. The grammar stands in `specs/Grammar.antt` as a relation between a text and a
+//! tree, `Spells`, which says nothing of how a text is read: which bytes are a token, that the
+//! longest token is taken, which tokens spell which tree, and every limit of `limits.rt`.
+//!
+//! What is promised, for every text:
+//!
+//! - A tree that is answered is spelled by the text. So a text that breaks the grammar or a limit
+//!   has no tree.
+//! - Where the text spells a tree, that tree is answered, or memory ran out. So no good text is
+//!   refused, and a refusal for any other reason means that the text spells nothing.
+//! - A text spells at most one tree ([`one_tree`]): the grammar has no two meanings.
+//! - A text of more than 65,536 bytes is refused as too long, before it is read.
+//! - Reading ends, reads no byte outside the text and never overflows, also for hostile texts.
+//!
+//! Which fault is the first, and its place, is shown by tests.
 #![tactic(auto)]
 
+mod blocks;
+mod error;
+mod expressions;
+mod lexer;
+mod limits;
+mod parser;
 pub mod place;
+mod reading;
+mod statements;
+mod token;
+mod tokens;
 pub mod tree;
+
+pub use error::SyntaxError;
+pub use place::Pos;
+pub use reading::{one_tree, parse};
+
+#[cfg(test)]
+mod tests;

@@ -1,5 +1,10 @@
 //! Places in a text.
 
+ghost use Rattle.std.specs.Prelude.{◌≡◌, ◌+◌, ◌<◌, ◌≤◌, ◌^◌, length};
+ghost use Rattle.guest_syntax.specs.Place.{past, after};
+
+use std::fmt;
+
 /// A place in a text. Lines and columns count bytes from 1; a line feed ends a line.
 #[derive(Clone, Copy, Debug, PartialEq, Eq)]
 pub struct Pos {
@@ -7,4 +12,50 @@ pub struct Pos {
     pub line: u32,
     /// The byte in its line, from 1.
     pub col: u32,
+}
+
+impl Pos {
+    /// The place behind a byte that stands here.
+    #[tactic(auto, unfolding(crate::specs::Place::past))]
+    pub(crate) fn past(self, byte: u8) -> Pos
+        requires line { self.line + 1 < 2 ^ 32 }
+        requires col { self.col + 1 < 2 ^ 32 }
+        ensures place { result ≡ past self byte }
+        ensures line { result.line ≤ self.line + 1 }
+        ensures col { result.col ≤ self.col + 1 }
+    {
+        if byte == b'\n' {
+            Pos {
+                line: self.line + 1,
+                col: 1,
+            }
+        } else {
+            Pos {
+                line: self.line,
+                col: self.col + 1,
+            }
+        }
+    }
+
+    /// The place behind bytes that stand here.
+    pub(crate) fn behind(self, bytes: &[u8]) -> Pos
+        requires line { self.line + length bytes.now < 2 ^ 32 }
+        requires col { self.col + length bytes.now < 2 ^ 32 }
+        ensures place { result ≡ after self bytes.now }
+        ensures line { result.line ≤ self.line + length bytes.now }
+        ensures col { result.col ≤ self.col + length bytes.now }
+    {
+        let mut at = self;
+        for byte in bytes {
+            at = at.past(*byte);
+        }
+        at
+    }
+}
+
+/// Line and column with a colon between them, as `1:21`.
+impl fmt::Display for Pos {
+    fn fmt<W: fmt::Write>(&self, f: &mut fmt::Formatter<W>) -> fmt::Result {
+        write!(f, "{}:{}", self.line, self.col)
+    }
 }

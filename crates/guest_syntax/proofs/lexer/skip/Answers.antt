@@ -1,0 +1,23 @@
+use Rattle.std.proofs.Common.{ℕ, length, Some, List, sym, ap, ◌∙◌, arith}
+use Rattle.guest_syntax.specs.declared.lexer.Step.TheVariants.{Passed, Stops, NotAscii}
+use Rattle.guest_syntax.proofs.Skips.{from_at, skipped_step, skipped_end}
+use Rattle.guest_syntax.proofs.lexer.skip.Goals as goal
+
+pub returns-in-Stops-clause-gives : goal.returns-in-Stops-clause-gives
+returns-in-Stops-clause-gives c =
+    sym c.loop-i.invariant.same ∙ skipped_step c.args.text.now c.loop-i.i c.loop-i.comment c.loop-i.at c.loop-i-test.true Stops (sym c.in-Stops.ensures) ∙ ap (λ (r : List ℕ). Some (c.loop-i.at, r)) (sym (from_at c.args.text.now c.loop-i.i))
+
+pub returns-in-NotAscii-clause-gives : goal.returns-in-NotAscii-clause-gives
+returns-in-NotAscii-clause-gives c =
+    sym c.loop-i.invariant.same ∙ skipped_step c.args.text.now c.loop-i.i c.loop-i.comment c.loop-i.at c.loop-i-test.true NotAscii (sym c.in-NotAscii.ensures)
+
+pub loop-i-preserved : goal.loop-i-preserved
+loop-i-preserved c =
+    record {
+      same = rw c.past-at.ensures.place (sym (skipped_step c.args.text.now c.loop-i.i c.loop-i.comment c.loop-i.at c.loop-i-test.true (Passed c.in-Passed.goes_on) (sym c.in-Passed.ensures)) ∙ c.loop-i.invariant.same);
+      line = omega arith;
+      col = omega arith;
+    }
+
+pub returns-clause-gives : goal.returns-clause-gives
+returns-clause-gives c = sym c.loop-i.invariant.same ∙ skipped_end c.args.text.now c.loop-i.i c.loop-i.comment c.loop-i.at c.loop-i-test.false ∙ ap (λ (r : List ℕ). Some (c.loop-i.at, r)) (sym (from_at c.args.text.now (length c.args.text.now)))

@@ -1,0 +1,25 @@
+use Rattle.std.proofs.Common.{map, refl}
+use Rattle.std.proofs.lemmas.Result.{err_from_is_err_and}
+use Rattle.std.proofs.lemmas.List.{map_push}
+use Rattle.guest_syntax.specs.Tree.{thread_view}
+use Rattle.guest_syntax.specs.ReadTokens.{rest_of}
+use Rattle.guest_syntax.specs.ReadItems.{all_from}
+use Rattle.guest_syntax.specs.ReadTree.{thread_turn}
+use Rattle.guest_syntax.proofs.Loops.{begins, goes_on, is_done, stops}
+use Rattle.guest_syntax.proofs.parser.threads.Goals as goal
+
+pub items-init : goal.items-init
+items-init c = rw c.new-all.ensures.items (begins thread_turn (rest_of c.args.text))
+
+pub returns-in_err-thread : goal.returns-in_err-thread
+returns-in_err-thread c =
+    let p = err_from_is_err_and c.from_residual.result c.from_residual.ensures.1 in
+    record { gives = rw (p.1, p.2) (stops thread_turn (map thread_view c.items.all.items) (rest_of c.items.rest) (all_from thread_turn (rest_of c.args.text)) c.in_err-thread.field-0.0 c.items.invariant c.in_err-thread.ensures.gives) }
+
+pub returns-in-None : goal.returns-in-None
+returns-in-None c =
+    record { gives = is_done thread_turn (map thread_view c.items.all.items) (rest_of c.items.rest) (rest_of c.in_ok-thread.after) (all_from thread_turn (rest_of c.args.text)) (rw c.in-None.is at c.in_ok-thread.ensures.gives) c.items.invariant }
+
+pub items-preserved : goal.items-preserved
+items-preserved c =
+    rw (c.in_ok-push-in-Some.ensures.items, map_push thread_view c.items.all.items c.in-Some.thread) (goes_on thread_turn (map thread_view c.items.all.items) (rest_of c.items.rest) (rest_of c.in_ok-thread.after) (thread_view c.in-Some.thread) (all_from thread_turn (rest_of c.args.text)) (rw c.in-Some.is at c.in_ok-thread.ensures.gives) (rw c.in-Some.is at c.in_ok-thread.ensures.shorter refl) c.items.invariant)

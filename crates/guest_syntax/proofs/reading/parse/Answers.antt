@@ -1,0 +1,8 @@
+use Rattle.guest_syntax.proofs.Parsing.{found, only}
+use Rattle.guest_syntax.proofs.reading.parse.Goals as goal
+
+pub returns-clause-found : goal.returns-clause-found
+returns-clause-found c = found c.args.text.now c.tree.result c.if-text-gt-TEXT_BYTES.false c.tree.ensures
+
+pub returns-clause-only : goal.returns-clause-only
+returns-clause-only c = λ t s. only c.args.text.now c.tree.result c.tree.ensures t s

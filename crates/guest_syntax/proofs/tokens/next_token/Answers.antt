@@ -1,0 +1,8 @@
+use Rattle.guest_syntax.proofs.Nexts.{next_gives, next_takes_one}
+use Rattle.guest_syntax.proofs.tokens.next_token.Goals as goal
+
+pub returns-clause-gives : goal.returns-clause-gives
+returns-clause-gives c = next_gives c.args.text.at c.args.text.rest.now c.first.result c.first.ensures.gives c.first.ensures.end
+
+pub returns-clause-shorter : goal.returns-clause-shorter
+returns-clause-shorter c = next_takes_one c.args.text.at c.args.text.rest.now c.first.result c.first.ensures.gives

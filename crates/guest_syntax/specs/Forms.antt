@@ -1,0 +1,48 @@
+-- Forms: which tokens may stand before which others.
+use Rattle.std.specs.Prelude.{◌≡◌, ℕ, suc, ◌≤◌, ℤ, pos, ◌-ℤ◌, ◌⊎◌, List, [], ◌∷◌}
+use Rattle.guest_syntax.specs.declared.limits.TheConstants.{NUMBER}
+use Rattle.guest_syntax.specs.declared.place.Pos.{Pos}
+use Rattle.guest_syntax.specs.declared.token.Sign.TheVariants as signs
+use Rattle.guest_syntax.specs.Tokens.{Kind, name, number, sign, Token}
+use Rattle.guest_syntax.specs.Tree.{Name}
+
+-- which tokens may stand before which
+abbrev pub Form : Type 1
+Form = List Token → List Token → Type 0
+
+infixr 5 ◌then◌
+-- one form, and behind it another
+abbrev pub ◌then◌ : Form → Form → Form
+(A then B) ts rest = (mid : List Token) × A ts mid × B mid rest
+
+-- a token of this kind at this place
+abbrev pub IsTokenAt : Pos → Kind → Form
+IsTokenAt at k ts rest = ts ≡ record { kind = k; at = at } ∷ rest
+
+-- a token of this kind
+abbrev pub IsToken : Kind → Form
+IsToken k ts rest = (at : Pos) × IsTokenAt at k ts rest
+
+abbrev pub IsName : Name → Form
+IsName n = IsTokenAt n.at (name n.text)
+
+-- a number up to a limit
+abbrev pub IsNumber : ℕ → ℕ → Form
+IsNumber limit n ts rest = (n ≤ limit) × IsToken (number n) ts rest
+
+abbrev pub IsEnd : Form
+IsEnd = IsToken (sign signs.End)
+
+-- a number, or a number behind a minus
+abbrev pub IsLiteral : ℤ → Form
+IsLiteral z ts rest =
+    (n : ℕ) × (((z ≡ pos n) × IsNumber NUMBER n ts rest) ⊎ ((z ≡ pos 0 -ℤ pos n) × (IsToken (sign signs.Minus) then IsNumber NUMBER n) ts rest))
+
+-- one after the other
+abbrev pub each : {A : Type 0} → (A → Form) → List A → Form
+each F [] ts rest = ts ≡ rest
+each F (x ∷ xs) ts rest = (F x then each F xs) ts rest
+
+-- a block, where there is room for it: its statements, with less room, in braces
+abbrev pub in_braces : (ℕ → Form) → ℕ → Form
+in_braces inner room ts rest = (less : ℕ) × (room ≡ suc less) × (IsToken (sign signs.Open) then inner less then IsToken (sign signs.Close)) ts rest

@@ -1,0 +1,43 @@
+//! Reading a text.
+
+ghost use Rattle.std.specs.Prelude.{◌≡◌, ◌<◌, length, IfOk, List, ℕ, Err};
+ghost use Rattle.guest_syntax.specs.declared.error.SyntaxError.TheVariants.{TooLong};
+ghost use Rattle.guest_syntax.specs.declared.limits.TheConstants.{TEXT_BYTES};
+ghost use Rattle.guest_syntax.specs.Gives.{Answers};
+ghost use Rattle.guest_syntax.specs.Tree.{tree_view};
+ghost use Rattle.guest_syntax.specs.Tree as model;
+ghost use Rattle.guest_syntax.specs.Grammar.{Spells};
+
+use crate::error::SyntaxError;
+use crate::lexer::Cursor;
+use crate::limits::TEXT_BYTES;
+use crate::parser::tree;
+use crate::place::Pos;
+use crate::tree::Tree;
+use std::alloc::Global;
+
+/// The tree that a text spells.
+///
+/// # Errors
+///
+/// `TooLong` where the text has more than 65,536 bytes; else the first fault in text order, with
+/// its place; `OutOfMemory` where memory runs out before that.
+pub fn parse(alloc: Global, text: &[u8]) -> Result<Tree, SyntaxError>
+    // What is answered is spelled by the text.
+    ensures found { IfOk result (λ t. Spells text.now (tree_view t)) }
+    // What the text spells is answered, unless memory runs out; it is never refused.
+    ensures only { (t : model.Tree) → Spells text.now t → Answers result t }
+    // A text that is too long is refused as such, at its first byte.
+    ensures long { TEXT_BYTES < length text.now → result ≡ Err (TooLong (record { line = 1; col = 1 })) }
+{
+    let at = Pos { line: 1, col: 1 };
+    if text.len() > TEXT_BYTES {
+        return Err(SyntaxError::TooLong(at));
+    }
+    tree(alloc, Cursor { rest: text, at })
+}
+
+/// A text spells at most one tree.
+pub fn one_tree()
+    ensures { (text : List ℕ) (t u : model.Tree) → Spells text t → Spells text u → t ≡ u }
+{}

@@ -1,0 +1,102 @@
+//! Single tokens, as the grammar wants them.
+
+ghost use Rattle.std.specs.Prelude.{◌≡◌, ◌<◌, ◌≤◌, length, IfOk, IsSome, option_map};
+ghost use Rattle.guest_syntax.specs.Gives.{Gives};
+ghost use Rattle.guest_syntax.specs.View.{kind_view, token_view};
+ghost use Rattle.guest_syntax.specs.Tree.{name_view};
+ghost use Rattle.guest_syntax.specs.ReadTokens.{rest_of, next_at, token_at, sign_from, name_from, number_in, number_from, times_from};
+
+use crate::error::SyntaxError;
+use crate::lexer::{Cursor, first};
+use crate::limits::REPEATS;
+use crate::place::Pos;
+use crate::token::{Kind, Sign, Token};
+use crate::tree::Name;
+use std::alloc::Global;
+
+/// The next token and what stands behind it, or nothing and the end of the text.
+pub fn next_token<'a>(text: Cursor<'a>) -> Result<(Option<Token<'a>>, Cursor<'a>), SyntaxError>
+    ensures gives { Gives (λ x. (option_map token_view x.0, rest_of x.1)) result (next_at (rest_of text.entry)) }
+    ensures shorter { IfOk result (λ x. IsSome x.0 → length (rest_of x.1) < length (rest_of text.entry)) }
+{
+    first(text)
+}
+
+/// A token, which the grammar wants here.
+#[tactic(auto, unfolding(crate::specs::ReadTokens::next_at, crate::specs::ReadTokens::token_at))]
+pub fn token<'a>(text: Cursor<'a>) -> Result<(Token<'a>, Cursor<'a>), SyntaxError>
+    ensures gives { Gives (λ x. (token_view x.0, rest_of x.1)) result (token_at (rest_of text.entry)) }
+    ensures shorter { IfOk result (λ x. length (rest_of x.1) < length (rest_of text.entry)) }
+{
+    match next_token(text)? {
+        (Some(token), after) => Ok((token, after)),
+        (None, end) => Err(SyntaxError::Expected(end.at)),
+    }
+}
+
+/// This operator or mark. Answers its place.
+#[tactic(auto, unfolding(crate::specs::ReadTokens::sign_from))]
+pub fn sign<'a>(text: Cursor<'a>, wanted: Sign) -> Result<(Pos, Cursor<'a>), SyntaxError>
+    ensures gives { Gives (λ x. rest_of x.1) result (sign_from wanted (rest_of text.entry)) }
+    ensures shorter { IfOk result (λ x. length (rest_of x.1) < length (rest_of text.entry)) }
+{
+    let (token, after) = token(text)?;
+    match token.kind {
+        Kind::Sign(found) if found == wanted => Ok((token.at, after)),
+        _ => Err(SyntaxError::Expected(token.at)),
+    }
+}
+
+/// A name.
+#[tactic(auto, unfolding(crate::specs::ReadTokens::name_from))]
+pub fn name<'a>(alloc: Global, text: Cursor<'a>) -> Result<(Name, Cursor<'a>), SyntaxError>
+    ensures gives { Gives (λ x. (name_view x.0, rest_of x.1)) result (name_from (rest_of text.entry)) }
+    ensures shorter { IfOk result (λ x. length (rest_of x.1) < length (rest_of text.entry)) }
+{
+    let (token, after) = token(text)?;
+    match token.kind {
+        Kind::Name(bytes) => {
+            let text = Vec::from_slice(alloc, bytes)?;
+            Ok((Name { text, at: token.at }, after))
+        }
+        _ => Err(SyntaxError::Expected(token.at)),
+    }
+}
+
+/// The value of a token, which is to be a number up to a limit.
+pub fn number_in(token: Token, limit: u64) -> Result<u64, SyntaxError>
+    ensures gives { Gives (λ n. n) result (number_in limit (kind_view token.entry.kind)) }
+    ensures limit { IfOk result (λ n. n ≤ limit) }
+{
+    match token.kind {
+        Kind::Number(n) if n <= limit => Ok(n),
+        Kind::Number(_) => Err(SyntaxError::NumberTooBig(token.at)),
+        _ => Err(SyntaxError::Expected(token.at)),
+    }
+}
+
+/// A number up to a limit.
+#[tactic(auto, unfolding(crate::specs::ReadTokens::number_from))]
+pub fn number<'a>(text: Cursor<'a>, limit: u64) -> Result<(u64, Cursor<'a>), SyntaxError>
+    ensures gives { Gives (λ x. (x.0, rest_of x.1)) result (number_from limit (rest_of text.entry)) }
+    ensures shorter { IfOk result (λ x. length (rest_of x.1) < length (rest_of text.entry)) }
+    ensures limit { IfOk result (λ x. x.0 ≤ limit) }
+{
+    let (token, after) = token(text)?;
+    let number = number_in(token, limit)?;
+    Ok((number, after))
+}
+
+/// How often a block is repeated.
+#[tactic(auto, unfolding(crate::specs::ReadTokens::times_from))]
+pub fn times<'a>(text: Cursor<'a>) -> Result<(u8, Cursor<'a>), SyntaxError>
+    ensures gives { Gives (λ x. (x.0, rest_of x.1)) result (times_from (rest_of text.entry)) }
+    ensures shorter { IfOk result (λ x. length (rest_of x.1) < length (rest_of text.entry)) }
+{
+    let (token, after) = token(text)?;
+    let times = number_in(token, REPEATS)?;
+    if times == 0 {
+        return Err(SyntaxError::Expected(token.at));
+    }
+    Ok((times as u8, after))
+}
