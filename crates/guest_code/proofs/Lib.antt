@@ -1,1 +1,15 @@
 pub mod Codes
+pub mod Plain
+pub mod Looks
+pub mod Laws
+pub mod Steps
+pub mod Ends
+pub mod Sizes
+pub mod Threads
+pub mod Found
+pub mod Objects
+pub mod Counts
+pub mod Fine
+pub mod WellFormed
+pub mod Same
+pub mod Equal

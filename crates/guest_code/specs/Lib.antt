@@ -1,1 +1,9 @@
 pub mod Program
+pub mod Uses
+pub mod Sizes
+pub mod Fault
+pub mod Walk
+pub mod Gives
+pub mod Code
+pub mod Found
+pub mod Same

@@ -1,5 +1,5 @@
 -- What contracts see of a program, and when it is well formed.
-use Rattle.std.specs.Prelude.{◌≡◌, ℕ, ℤ, ◌<◌, ◌≤◌, List, [], length, map, slice_index_or, All}
+use Rattle.std.specs.Prelude.{◌≡◌, ℕ, ℤ, pos, ◌<◌, ◌≤◌, List, [], length, map, slice_index_or, All}
 use Rattle.guest_syntax.specs.declared.tree.Op.{Op}
 use Rattle.guest_code.specs.declared.limits.TheConstants.{THREADS, VARIABLES, OBJECTS, LOCALS, INSTRUCTIONS, COUNT}
 use Rattle.guest_code.specs.declared.program.Value.{Value}
@@ -50,6 +50,23 @@ thread_view t = record { name = t.name.items; locals = t.locals; code = t.code.i
 -- a thread that is not there
 abbrev pub no_thread : Thread
 no_thread = record { name = []; locals = 0; code = [] }
+
+-- a variable and a semaphore that are not there
+abbrev pub no_variable : Variable
+no_variable = record { name = []; opening = pos 0 }
+
+abbrev pub no_semaphore : Semaphore
+no_semaphore = record { name = []; count = 0 }
+
+-- the objects and threads of these numbers
+abbrev pub variable_at : Program → ℕ → Variable
+variable_at p x = slice_index_or p.variables x no_variable
+
+abbrev pub semaphore_at : Program → ℕ → Semaphore
+semaphore_at p s = slice_index_or p.semaphores s no_semaphore
+
+abbrev pub thread_at : Program → ℕ → Thread
+thread_at p t = slice_index_or p.threads t no_thread
 
 -- the code of a thread; none for a thread that is not there
 abbrev pub code_of : Program → ℕ → List Instruction

@@ -1,8 +1,8 @@
 //! Programs as flat code, with all names resolved.
 
-ghost use Rattle.std.specs.Prelude.{◌≡◌, ◌<◌, ◌≤◌, length, map, List, ℕ};
+ghost use Rattle.std.specs.Prelude.{◌≡◌, ◌↔◌, ◌<◌, ◌≤◌, IsTrue, [], length, map, slice_index_or, List, ℕ};
 ghost use Rattle.guest_code.specs.Program as model;
-ghost use Rattle.guest_code.specs.Program.{IsWellFormed, IsFineCode, variable_view, semaphore_view, thread_view, code_of};
+ghost use Rattle.guest_code.specs.Program.{IsWellFormed, IsFineCode, variable_view, semaphore_view, thread_view, code_of, variable_at, semaphore_at, thread_at};
 
 use crate::limits::*;
 use guest_syntax::tree::Op;
@@ -44,21 +44,21 @@ pub enum Instruction {
 }
 
 /// A variable's name and opening value.
-#[derive(Debug, Drop)]
+#[derive(Debug, PartialEq, Eq, Drop)]
 pub struct Variable {
     pub name: Vec<u8>,
     pub opening: i64,
 }
 
 /// A semaphore's name and opening count.
-#[derive(Debug, Drop)]
+#[derive(Debug, PartialEq, Eq, Drop)]
 pub struct Semaphore {
     pub name: Vec<u8>,
     pub count: u16,
 }
 
 /// A thread's name, how many locals it has, and its code.
-#[derive(Debug, Drop)]
+#[derive(Debug, PartialEq, Eq, Drop)]
 pub struct Thread {
     pub name: Vec<u8>,
     pub locals: usize,
@@ -87,7 +87,57 @@ impl Model for Program {
     ghost invariant = { λ p. IsWellFormed (record { variables = map variable_view p.variables.items; mutexes = map (λ n. n.items) p.mutexes.items; conditions = map (λ n. n.items) p.conditions.items; semaphores = map semaphore_view p.semaphores.items; threads = map thread_view p.threads.items }) };
 }
 
+impl PartialEq for Program {
+    ghost use Rattle.guest_code.specs.Same.{same_program, programs_partial_equivalence};
+
+    ghost eq = { same_program };
+
+    ghost laws = { programs_partial_equivalence };
+
+    /// Whether all that the two hold is equal, names included.
+    fn eq(&self, other: &Program) -> bool {
+        self.variables == other.variables
+            && self.mutexes == other.mutexes
+            && self.conditions == other.conditions
+            && self.semaphores == other.semaphores
+            && self.threads == other.threads
+    }
+}
+
+impl Eq for Program {
+    ghost use Rattle.guest_code.specs.Same.{programs_equivalence};
+
+    ghost laws = { programs_equivalence };
+}
+
 impl Program {
+    /// A program of these parts.
+    pub(crate) fn new(
+        variables: Vec<Variable>,
+        mutexes: Vec<Vec<u8>>,
+        conditions: Vec<Vec<u8>>,
+        semaphores: Vec<Semaphore>,
+        threads: Vec<Thread>,
+    ) -> Program
+        requires { IsWellFormed (record { variables = map variable_view variables.items; mutexes = map (λ n. n.items) mutexes.items; conditions = map (λ n. n.items) conditions.items; semaphores = map semaphore_view semaphores.items; threads = map thread_view threads.items }) }
+        ensures { result ≡ record { variables = map variable_view variables.items; mutexes = map (λ n. n.items) mutexes.items; conditions = map (λ n. n.items) conditions.items; semaphores = map semaphore_view semaphores.items; threads = map thread_view threads.items } }
+    {
+        Program {
+            variables,
+            mutexes,
+            conditions,
+            semaphores,
+            threads,
+        }
+    }
+
+    /// Whether all that the two hold is equal, names included.
+    pub fn is_same(&self, other: &Program) -> bool
+        ensures { IsTrue result ↔ (self.now ≡ other.now) }
+    {
+        *self == *other
+    }
+
     /// How many threads it has, 1 to `THREADS`.
     pub fn threads(&self) -> u8
         ensures number { result ≡ length self.now.threads }
@@ -104,6 +154,47 @@ impl Program {
         self.variables.len() as u8
     }
 
+    /// How many mutexes it has, at most `OBJECTS`.
+    pub fn mutexes(&self) -> u8
+        ensures number { result ≡ length self.now.mutexes }
+        ensures few { result ≤ OBJECTS }
+    {
+        self.mutexes.len() as u8
+    }
+
+    /// How many conditions it has, at most `OBJECTS`.
+    pub fn conditions(&self) -> u8
+        ensures number { result ≡ length self.now.conditions }
+        ensures few { result ≤ OBJECTS }
+    {
+        self.conditions.len() as u8
+    }
+
+    /// How many semaphores it has, at most `OBJECTS`.
+    pub fn semaphores(&self) -> u8
+        ensures number { result ≡ length self.now.semaphores }
+        ensures few { result ≤ OBJECTS }
+    {
+        self.semaphores.len() as u8
+    }
+
+    /// The opening value of a variable.
+    pub fn opening(&self, variable: u8) -> i64
+        requires { variable < length self.now.variables }
+        ensures { result ≡ (variable_at self.now variable).opening }
+    {
+        self.variables[variable as usize].opening
+    }
+
+    /// The opening count of a semaphore.
+    pub fn count(&self, semaphore: u8) -> u16
+        requires { semaphore < length self.now.semaphores }
+        ensures count { result ≡ (semaphore_at self.now semaphore).count }
+        ensures few { result ≤ COUNT }
+    {
+        self.semaphores[semaphore as usize].count
+    }
+
     /// The code of a thread.
     pub fn code(&self, t: u8) -> &[Instruction]
         requires { t < length self.now.threads }
@@ -111,5 +202,53 @@ impl Program {
         ensures fine { IsFineCode self.now result.now }
     {
         self.threads[t as usize].code.as_slice()
+    }
+
+    /// How many locals a thread has.
+    pub fn locals(&self, t: u8) -> usize
+        requires { t < length self.now.threads }
+        ensures { result ≡ (thread_at self.now t).locals }
+    {
+        self.threads[t as usize].locals
+    }
+
+    /// The name of a variable.
+    pub fn variable_name(&self, variable: u8) -> &[u8]
+        requires { variable < length self.now.variables }
+        ensures { result.now ≡ (variable_at self.now variable).name }
+    {
+        self.variables[variable as usize].name.as_slice()
+    }
+
+    /// The name of a mutex.
+    pub fn mutex_name(&self, mutex: u8) -> &[u8]
+        requires { mutex < length self.now.mutexes }
+        ensures { result.now ≡ slice_index_or self.now.mutexes mutex [] }
+    {
+        self.mutexes[mutex as usize].as_slice()
+    }
+
+    /// The name of a condition.
+    pub fn condition_name(&self, condition: u8) -> &[u8]
+        requires { condition < length self.now.conditions }
+        ensures { result.now ≡ slice_index_or self.now.conditions condition [] }
+    {
+        self.conditions[condition as usize].as_slice()
+    }
+
+    /// The name of a semaphore.
+    pub fn semaphore_name(&self, semaphore: u8) -> &[u8]
+        requires { semaphore < length self.now.semaphores }
+        ensures { result.now ≡ (semaphore_at self.now semaphore).name }
+    {
+        self.semaphores[semaphore as usize].name.as_slice()
+    }
+
+    /// The name of a thread.
+    pub fn thread_name(&self, t: u8) -> &[u8]
+        requires { t < length self.now.threads }
+        ensures { result.now ≡ (thread_at self.now t).name }
+    {
+        self.threads[t as usize].name.as_slice()
     }
 }

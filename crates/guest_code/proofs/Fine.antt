@@ -1,0 +1,192 @@
+-- Code of statements whose names are right has its numbers in range.
+use Rattle.std.proofs.Common.{◌≡◌, ℕ, zero, suc, ◌+◌, ◌*◌, ◌<◌, ◌≤◌, Bool, true, false, ltb, List, [], ◌∷◌, ◌++◌, length, Option, Some, None, Ok, Err, refl, sym, ap, ◌∙◌, arith, if◌then◌else◌, ◌||◌, length-append}
+use Rattle.std.specs.List.{All}
+use Rattle.std.specs.Str.{bytes_eq}
+use Rattle.std.proofs.lemmas.Bool.{ltb-true}
+use Rattle.std.proofs.lemmas.List.Elements.{All-append, All-cons, All-nil}
+use Rattle.std.proofs.lemmas.Slice.Eq.{bytes_eq-Decides}
+use Rattle.guest_syntax.specs.Tree as tree
+use Rattle.guest_syntax.specs.Tree.{Name, Operand, Expr, Stmt, Block}
+use Rattle.guest_code.specs.declared.kinds.Kind.{Kind}
+use Rattle.guest_code.specs.declared.kinds.Kind.TheVariants as kinds
+use Rattle.guest_code.specs.declared.program.Value.TheVariants.{Local, Literal}
+use Rattle.guest_code.specs.declared.program.Instruction.{Instruction}
+use Rattle.guest_code.specs.declared.program.Instruction.TheVariants.{Load, Store, Lock, Unlock, Wait, Signal, Broadcast, Acquire, Release, Set, Assert, SkipIfZero, Skip}
+use Rattle.guest_code.specs.declared.error.CheckError.{CheckError}
+use Rattle.guest_code.specs.declared.error.CheckError.TheVariants as errors
+use Rattle.guest_code.specs.Program.{Program, IsFineValue, IsFineExpression, IsFine}
+use Rattle.guest_code.specs.Uses.{Use, declares, object, local, outside, same, operand_uses, expr_uses, stmt_uses, block_uses, kind_in, knows, with_name, locals_from}
+use Rattle.guest_code.specs.Sizes.{block_size}
+use Rattle.guest_code.specs.Fault.{object_refusal, local_refusal}
+use Rattle.guest_code.specs.Walk.{Checked, passed, and_then}
+use Rattle.guest_code.specs.Code.{Names, slot, place, value_of, expression_of, stmt_code, block_code, copies}
+use Rattle.guest_code.proofs.Plain.{Plain}
+use Rattle.guest_code.proofs.Laws.{walk, walk_leaves}
+use Rattle.guest_code.proofs.Counts.{same_is, place_less}
+
+-- ---- names that are right
+
+-- each name of these uses stands for what must stand there, with these locals
+abbrev pub Right : List Use → List (List ℕ) → List Use → Type 0
+Right all ns [] = Unit {0}
+Right all ns (declares k n ∷ us) = Right all ns us
+Right all ns (object k n ∷ us) = (kind_in all n.text ≡ Some k) × Right all ns us
+Right all ns (local n ∷ us) = (knows ns n.text ≡ true) × Right all ns us
+Right all ns (outside at ∷ us) = Right all ns us
+
+pub right_front : (all : List Use) (ns : List (List ℕ)) (us vs : List Use) → Right all ns (us ++ vs) → Right all ns us
+right_front all ns [] vs r = tt
+right_front all ns (declares k n ∷ us) vs r = right_front all ns us vs r
+right_front all ns (object k n ∷ us) vs r = (r.0, right_front all ns us vs r.1)
+right_front all ns (local n ∷ us) vs r = (r.0, right_front all ns us vs r.1)
+right_front all ns (outside at ∷ us) vs r = right_front all ns us vs r
+
+pub right_back : (all : List Use) (ns : List (List ℕ)) (us vs : List Use) → Right all ns (us ++ vs) → Right all ns vs
+right_back all ns [] vs r = r
+right_back all ns (declares k n ∷ us) vs r = right_back all ns us vs r
+right_back all ns (object k n ∷ us) vs r = right_back all ns us vs r.1
+right_back all ns (local n ∷ us) vs r = right_back all ns us vs r.1
+right_back all ns (outside at ∷ us) vs r = right_back all ns us vs r
+
+-- ---- what a walk with no refusal leaves
+
+-- a name that is known stays known
+or_true : (a : Bool) → (a || true) ≡ true
+or_true true = refl
+or_true false = refl
+
+knows_front : (ns : List (List ℕ)) (m name : List ℕ) → knows ns name ≡ true → knows (ns ++ m ∷ []) name ≡ true
+knows_front [] m name e = absurd cc
+knows_front (n ∷ ns) m name e = go (bytes_eq n name) (knows ns name) (knows (ns ++ m ∷ []) name) e (knows_front ns m name)
+  where
+    go : (a b c : Bool) → (a || b) ≡ true → (b ≡ true → c ≡ true) → (a || c) ≡ true
+    go true b c e h = refl
+    go false b c e h = h e
+
+knows_last : (ns : List (List ℕ)) (name : List ℕ) → knows (ns ++ name ∷ []) name ≡ true
+knows_last [] name = let itself : bytes_eq name name ≡ true = (bytes_eq-Decides name name).1 refl in rw itself refl
+knows_last (n ∷ ns) name = rw (knows_last ns name) (or_true (bytes_eq n name))
+
+with_more : (ns : List (List ℕ)) (m name : List ℕ) → knows ns name ≡ true → knows (with_name ns m) name ≡ true
+with_more ns m name e = go (knows ns m)
+  where
+    go : (b : Bool) → knows (if b then ns else ns ++ m ∷ []) name ≡ true
+    go true = e
+    go false = knows_front ns m name e
+
+with_itself : (ns : List (List ℕ)) (name : List ℕ) → knows (with_name ns name) name ≡ true
+with_itself ns name = go (knows ns name) refl
+  where
+    go : (b : Bool) → knows ns name ≡ b → knows (if b then ns else ns ++ name ∷ []) name ≡ true
+    go true e = e
+    go false e = knows_last ns name
+
+stays : (us : List Use) (ns : List (List ℕ)) (name : List ℕ) → Plain us → knows ns name ≡ true → knows (locals_from ns us) name ≡ true
+stays [] ns name p e = e
+stays (declares k n ∷ us) ns name p e = absurd p
+stays (object k n ∷ us) ns name p e = stays us ns name p e
+stays (local n ∷ us) ns name p e = stays us (with_name ns n.text) name p (with_more ns n.text name e)
+stays (outside at ∷ us) ns name p e = stays us ns name p e
+
+-- what passed had no refusal
+passed_then : (o : Option CheckError) (ns ms : List (List ℕ)) (f : List (List ℕ) → Checked) → and_then (passed o ns) f ≡ Ok ms → (o ≡ None) × (f ns ≡ Ok ms)
+passed_then None ns ms f e = (refl, e)
+passed_then (Some d) ns ms f e = absurd cc
+
+object_right : (k : Kind) (n : Name) (o : Option Kind) → object_refusal k n o ≡ None → o ≡ Some k
+object_right k n None e = absurd cc
+object_right k n (Some j) e = ap (λ (i : Kind). Some i) (same_is j k (go (same j k) e))
+  where
+    go : (b : Bool) → (if b then None else Some (errors.WrongKind n.at)) ≡ None → b ≡ true
+    go true e = refl
+    go false e = absurd cc
+
+pub walk_right : (all us : List Use) (ns ms : List (List ℕ)) → Plain us → walk all ns us ≡ Ok ms → Right all ms us
+walk_right all [] ns ms p e = tt
+walk_right all (declares k n ∷ us) ns ms p e = absurd p
+walk_right all (object k n ∷ us) ns ms p e =
+    let h = passed_then (object_refusal k n (kind_in all n.text)) ns ms (λ q. walk all q us) e in
+    (object_right k n (kind_in all n.text) h.0, walk_right all us ns ms p h.1)
+walk_right all (local n ∷ us) ns ms p e =
+    let h = passed_then (local_refusal n (kind_in all n.text) ns) (with_name ns n.text) ms (λ q. walk all q us) e in
+    let left : locals_from (with_name ns n.text) us ≡ ms = walk_leaves all us (with_name ns n.text) ms p h.1 in
+    (ap (λ (l : List (List ℕ)). knows l n.text) (sym left) ∙ stays us (with_name ns n.text) n.text p (with_itself ns n.text), walk_right all us (with_name ns n.text) ms p h.1)
+walk_right all (outside at ∷ us) ns ms p e = absurd cc
+
+-- no more locals than the limit
+with_few : (n : Name) (o : Option Kind) (ns : List (List ℕ)) → local_refusal n o ns ≡ None → length ns ≤ 16 → length (with_name ns n.text) ≤ 16
+with_few n (Some j) ns e le = absurd cc
+with_few n None ns e le = go (knows ns n.text) e
+  where
+    small : (b : Bool) → (if b then None else Some (errors.TooMany n.at)) ≡ None → b ≡ true
+    small true e = refl
+    small false e = absurd cc
+
+    go : (b : Bool) → (if b then None else if ltb (length ns) 16 then None else Some (errors.TooMany n.at)) ≡ None → length (if b then ns else ns ++ n.text ∷ []) ≤ 16
+    go true e = le
+    go false e = omega (arith, ltb-true (length ns) 16 (small (ltb (length ns) 16) e), length-append ns (n.text ∷ []))
+
+pub walk_few : (all us : List Use) (ns ms : List (List ℕ)) → Plain us → walk all ns us ≡ Ok ms → length ns ≤ 16 → length ms ≤ 16
+walk_few all [] ns ms p e le = let is : ns ≡ ms = cc in rw (← is) le
+walk_few all (declares k n ∷ us) ns ms p e le = absurd p
+walk_few all (object k n ∷ us) ns ms p e le = walk_few all us ns ms p (passed_then (object_refusal k n (kind_in all n.text)) ns ms (λ q. walk all q us) e).1 le
+walk_few all (local n ∷ us) ns ms p e le =
+    let h = passed_then (local_refusal n (kind_in all n.text) ns) (with_name ns n.text) ms (λ q. walk all q us) e in
+    walk_few all us (with_name ns n.text) ms p h.1 (with_few n (kind_in all n.text) ns h.0 le)
+walk_few all (outside at ∷ us) ns ms p e le = absurd cc
+
+-- ---- code
+
+-- the names of a thread have numbers in the range of the program
+pub record Sound (p : Program) (ns : Names) (all : List Use) : Type 0 where
+  pub locals : length ns.locals ≤ 16
+  pub variable : (name : List ℕ) → kind_in all name ≡ Some kinds.Variable → slot kinds.Variable ns.declarations name < length p.variables
+  pub mutex : (name : List ℕ) → kind_in all name ≡ Some kinds.Mutex → slot kinds.Mutex ns.declarations name < length p.mutexes
+  pub condition : (name : List ℕ) → kind_in all name ≡ Some kinds.Condition → slot kinds.Condition ns.declarations name < length p.conditions
+  pub semaphore : (name : List ℕ) → kind_in all name ≡ Some kinds.Semaphore → slot kinds.Semaphore ns.declarations name < length p.semaphores
+
+fine_place : (p : Program) (ns : Names) (all : List Use) (g : Sound p ns all) (name : List ℕ) → knows ns.locals name ≡ true → place ns.locals name < 16
+fine_place p ns all g name e = omega (arith, place_less ns.locals name e, g.locals)
+
+fine_value : (p : Program) (ns : Names) (all : List Use) (g : Sound p ns all) (a : Operand) → Right all ns.locals (operand_uses a) → IsFineValue (value_of ns a)
+fine_value p ns all g (tree.local n) r = fine_place p ns all g n.text r.0
+fine_value p ns all g (tree.literal z) r = tt
+
+fine_expression : (p : Program) (ns : Names) (all : List Use) (g : Sound p ns all) (e : Expr) → Right all ns.locals (expr_uses e) → IsFineExpression (expression_of ns e)
+fine_expression p ns all g (tree.single a) r = fine_value p ns all g a r
+fine_expression p ns all g (tree.both a op b) r = (fine_value p ns all g a (right_front all ns.locals (operand_uses a) (operand_uses b) r), fine_value p ns all g b (right_back all ns.locals (operand_uses a) (operand_uses b) r))
+
+only : (p : Program) (i : Instruction) → IsFine p i → All (IsFine p) (i ∷ [])
+only p i f = All-cons (IsFine p) i [] f (All-nil (IsFine p))
+
+fine_copies : (p : Program) (body : ℕ → List Instruction) (len n : ℕ) → ((k : ℕ) → All (IsFine p) (body k)) → All (IsFine p) (copies body len n)
+fine_copies p body len zero h = All-nil (IsFine p)
+fine_copies p body len (suc n) h = All-append (IsFine p) (body (n * len)) (copies body len n) (h (n * len)) (fine_copies p body len n h)
+
+mutual
+  pub fine_stmt : (p : Program) (ns : Names) (all : List Use) (g : Sound p ns all) (inside : Bool) (s : Stmt) (behind : ℕ) → Right all ns.locals (stmt_uses inside s) → All (IsFine p) (stmt_code ns s behind)
+  fine_stmt p ns all g inside (tree.load r x) behind h = only p _ (fine_place p ns all g r.text h.0, g.variable x.text h.1.0)
+  fine_stmt p ns all g inside (tree.store x a) behind h = only p _ (g.variable x.text h.0, fine_value p ns all g a h.1)
+  fine_stmt p ns all g inside (tree.lock m) behind h = only p _ (g.mutex m.text h.0)
+  fine_stmt p ns all g inside (tree.unlock m) behind h = only p _ (g.mutex m.text h.0)
+  fine_stmt p ns all g inside (tree.wait c m) behind h = only p _ (g.condition c.text h.0, g.mutex m.text h.1.0)
+  fine_stmt p ns all g inside (tree.signal c) behind h = only p _ (g.condition c.text h.0)
+  fine_stmt p ns all g inside (tree.broadcast c) behind h = only p _ (g.condition c.text h.0)
+  fine_stmt p ns all g inside (tree.acquire s) behind h = only p _ (g.semaphore s.text h.0)
+  fine_stmt p ns all g inside (tree.release s) behind h = only p _ (g.semaphore s.text h.0)
+  fine_stmt p ns all g inside (tree.set r e) behind h = only p _ (fine_place p ns all g r.text h.0, fine_expression p ns all g e h.1)
+  fine_stmt p ns all g inside (tree.assert e) behind h = only p _ (fine_expression p ns all g e h)
+  fine_stmt p ns all g inside (tree.if_then e b) behind h =
+      All-cons (IsFine p) (SkipIfZero (expression_of ns e) (block_size b)) (block_code ns b behind) (fine_expression p ns all g e (right_front all ns.locals (expr_uses e) (block_uses inside b) h)) (fine_block p ns all g inside b behind (right_back all ns.locals (expr_uses e) (block_uses inside b) h))
+  fine_stmt p ns all g inside (tree.if_else e b c) behind h =
+      let bodies = right_back all ns.locals (expr_uses e) (block_uses inside b ++ block_uses inside c) h in
+      let yes = fine_block p ns all g inside b (behind + 1 + block_size c) (right_front all ns.locals (block_uses inside b) (block_uses inside c) bodies) in
+      let no = fine_block p ns all g inside c behind (right_back all ns.locals (block_uses inside b) (block_uses inside c) bodies) in
+      All-cons (IsFine p) (SkipIfZero (expression_of ns e) (block_size b + 1)) (block_code ns b (behind + 1 + block_size c) ++ (Skip (block_size c) ∷ block_code ns c behind)) (fine_expression p ns all g e (right_front all ns.locals (expr_uses e) (block_uses inside b ++ block_uses inside c) h))
+      (All-append (IsFine p) (block_code ns b (behind + 1 + block_size c)) (Skip (block_size c) ∷ block_code ns c behind) yes (All-cons (IsFine p) (Skip (block_size c)) (block_code ns c behind) tt no))
+  fine_stmt p ns all g inside (tree.repeat n b) behind h = fine_copies p (block_code ns b) (block_size b) n (λ k. fine_block p ns all g true b k h)
+  fine_stmt p ns all g inside (tree.leave at) behind h = only p (Skip behind) tt
+
+  pub fine_block : (p : Program) (ns : Names) (all : List Use) (g : Sound p ns all) (inside : Bool) (b : Block) (behind : ℕ) → Right all ns.locals (block_uses inside b) → All (IsFine p) (block_code ns b behind)
+  fine_block p ns all g inside tree.nothing behind h = All-nil (IsFine p)
+  fine_block p ns all g inside (tree.next s b) behind h = All-append (IsFine p) (stmt_code ns s (behind + block_size b)) (block_code ns b behind) (fine_stmt p ns all g inside s (behind + block_size b) (right_front all ns.locals (stmt_uses inside s) (block_uses inside b) h)) (fine_block p ns all g inside b behind (right_back all ns.locals (stmt_uses inside s) (block_uses inside b) h))

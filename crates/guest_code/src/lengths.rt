@@ -1,0 +1,68 @@
+//! How many instructions code comes to, found before any is written.
+
+ghost use Rattle.std.specs.Prelude.{◌≡◌, ◌+◌, ◌≤◌, length, map, min};
+ghost use Rattle.guest_syntax.specs.Tree.{stmt_view, block_view, thread_view};
+ghost use Rattle.guest_code.specs.Sizes.{size, block_size};
+ghost use Rattle.guest_code.specs.Fault.{too_long};
+ghost use Rattle.guest_code.specs.Walk.{passed};
+
+use crate::error::CheckError;
+use crate::limits::{INSTRUCTIONS, THREADS};
+use guest_syntax::tree::{Statement, Thread};
+
+/// How many instructions a statement has, cut one above the limit.
+#[cycle(sizes)]
+pub fn size_of_statement(statement: &Statement) -> usize
+    ensures { result ≡ min (size (stmt_view statement.now)) (INSTRUCTIONS + 1) }
+{
+    match statement {
+        Statement::Load { .. } => 1,
+        Statement::Store { .. } => 1,
+        Statement::Lock(_) => 1,
+        Statement::Unlock(_) => 1,
+        Statement::Wait { .. } => 1,
+        Statement::Signal(_) => 1,
+        Statement::Broadcast(_) => 1,
+        Statement::Acquire(_) => 1,
+        Statement::Release(_) => 1,
+        Statement::Set { .. } => 1,
+        Statement::Assert(_) => 1,
+        Statement::If {
+            then,
+            otherwise,
+            ..
+        } => match otherwise {
+            None => (1 + size_of_block(then)).min(INSTRUCTIONS + 1),
+            Some(other) => (2 + size_of_block(then) + size_of_block(other)).min(INSTRUCTIONS + 1),
+        },
+        Statement::Repeat { times, body } => (*times as usize * size_of_block(body)).min(
+            INSTRUCTIONS + 1,
+        ),
+        Statement::Leave(_) => 1,
+    }
+}
+
+/// How many instructions a block has, cut one above the limit.
+#[cycle(sizes)]
+pub fn size_of_block(block: &[Statement]) -> usize
+    ensures { result ≡ min (block_size (block_view block.now)) (INSTRUCTIONS + 1) }
+{
+    let mut total = 0;
+    for statement in block {
+        total = (total + size_of_statement(statement)).min(INSTRUCTIONS + 1);
+    }
+    total
+}
+
+/// Refuses the first thread that has too many instructions.
+pub fn check_lengths(threads: &[Thread]) -> Result<(), CheckError>
+    requires { length threads.now ≤ THREADS }
+    ensures { result ≡ passed (too_long 0 (map thread_view threads.now)) tt }
+{
+    for (i, thread) in threads.iter().enumerate() {
+        if size_of_block(&thread.body) > INSTRUCTIONS {
+            return Err(CheckError::CodeTooLong(i as u8));
+        }
+    }
+    Ok(())
+}

@@ -1,0 +1,169 @@
+use crate::error::CheckError;
+use crate::lowering::{first_stands, lower};
+use crate::program::{Expression, Instruction, Program, Value};
+use guest_syntax::parse;
+use std::alloc::Global;
+use std::test::*;
+
+/// Texts, and the lines that are printed for their first faults.
+const FAULTS: [(&str, &str); 18] = [
+    ("", "check C4 NoThreads"),
+    ("var x; mutex x; thread A { }", "check C1 Duplicate at 1:14"),
+    ("var x; thread x { }", "check C1 Duplicate at 1:15"),
+    ("thread A { } thread A { }", "check C1 Duplicate at 1:21"),
+    ("thread A { lock m; }", "check C2 Unknown at 1:17"),
+    ("var x; thread A { lock x; }", "check C3 WrongKind at 1:24"),
+    (
+        "thread A { lock B; } thread B { }",
+        "check C3 WrongKind at 1:17",
+    ),
+    (
+        "var x; thread A { load x x; }",
+        "check C3 WrongKind at 1:24",
+    ),
+    ("thread A { leave; }", "check C7 LeaveOutside at 1:12"),
+    (
+        "thread A { leave; lock m; }",
+        "check C7 LeaveOutside at 1:12",
+    ),
+    ("mutex m; mutex m;", "check C1 Duplicate at 1:16"),
+    (
+        "var x; thread A { repeat 100 { store x 1; store x 2; store x 3; } }",
+        "check C6 CodeTooLong in thread 0",
+    ),
+    (
+        "thread A { } thread B { repeat 100 { assert 1; assert 1; assert 1; } }",
+        "check C6 CodeTooLong in thread 1",
+    ),
+    (
+        "thread A { repeat 100 { assert 1; assert 1; assert 1; } } thread B { leave; }",
+        "check C7 LeaveOutside at 1:70",
+    ),
+    (
+        "thread A { } thread B { } thread C { } thread D { } thread E { } thread F { } thread G { } thread H { } thread I { } ",
+        "check C5 TooMany at 1:112",
+    ),
+    (
+        "var a; var b; var c; var d; var e; var f; var g; var h; var i; var j; var k; var l; var m; var n; var o; var p; var q; thread A { }",
+        "check C5 TooMany at 1:117",
+    ),
+    (
+        "var a; var b; var c; var d; var e; var f; var g; var h; var i; var j; var k; var l; var m; var n; var o; var p; var a; thread A { }",
+        "check C1 Duplicate at 1:117",
+    ),
+    (
+        "thread A { set a 0; set b 0; set c 0; set d 0; set e 0; set f 0; set g 0; set h 0; set i 0; set j 0; set k 0; set l 0; set m 0; set n 0; set o 0; set p 0; set a 0; repeat 1 { if r { } } }",
+        "check C5 TooMany at 1:179",
+    ),
+];
+
+/// The program of a text that spells a tree.
+fn program_of(alloc: Global, text: &str) -> Result<Program, Fail> {
+    let tree = parse(alloc, text.as_bytes())?;
+    Ok(lower(alloc, &tree)?)
+}
+
+/// A thread with 32 blocks of a hundred copies each inside one another, and this in the innermost.
+fn nested(alloc: Global, innermost: &str) -> Result<String, Fail> {
+    let mut text = String::from_str(alloc, "thread A { ")?;
+    for _ in 0..32 {
+        text.push_str("repeat 100 { ")?;
+    }
+    text.push_str(innermost)?;
+    for _ in 0..33 {
+        text.push_str(" }")?;
+    }
+    Ok(text)
+}
+
+#[test]
+fn first_faults(rt: HostRuntime) -> Result<(), Fail> {
+    first_stands();
+    let alloc = rt.alloc();
+    for (text, want) in FAULTS {
+        let tree = parse(alloc, text.as_bytes())?;
+        let line = match lower(alloc, &tree) {
+            Ok(_) => String::from_str(alloc, "no fault")?,
+            Err(error) => format!(in alloc; "{error}")?,
+        };
+        assert_eq!(rt; line.as_str(), want, "{text}");
+    }
+    let line = format!(in alloc; "{}", CheckError::OutOfMemory)?;
+    assert_eq!(rt; line.as_str(), "memory");
+    Ok(())
+}
+
+#[test]
+fn nested_copies(rt: HostRuntime) -> Result<(), Fail> {
+    let alloc = rt.alloc();
+    let text = nested(alloc, "assert 1;")?;
+    let tree = parse(alloc, text.as_bytes())?;
+    assert!(rt; matches!(lower(alloc, &tree), Err(CheckError::CodeTooLong(0))));
+    let text = nested(alloc, "")?;
+    let program = program_of(alloc, &text)?;
+    assert_eq!(rt; program.code(0).len(), 0);
+    let text = "var x; thread A { repeat 64 { store x 1; store x 2; store x 3; store x 4; } }";
+    let program = program_of(alloc, text)?;
+    assert_eq!(rt; program.code(0).len(), 256);
+    Ok(())
+}
+
+#[test]
+fn jumps(rt: HostRuntime) -> Result<(), Fail> {
+    let text = "var x; thread A { repeat 2 { if r { leave; } else { load q x; } } store x 1; }";
+    let program = program_of(rt.alloc(), text)?;
+    let test = Expression::Single(Value::Local(0));
+    let load = Instruction::Load {
+        local: 1,
+        variable: 0,
+    };
+    let store = Instruction::Store {
+        variable: 0,
+        value: Value::Literal(1),
+    };
+    let want = [
+        Instruction::SkipIfZero(test, 2),
+        Instruction::Skip(6),
+        Instruction::Skip(1),
+        load,
+        Instruction::SkipIfZero(test, 2),
+        Instruction::Skip(2),
+        Instruction::Skip(1),
+        load,
+        store,
+    ];
+    assert_eq!(rt; program.code(0), &want[..]);
+    assert_eq!(rt; program.locals(0), 2);
+    Ok(())
+}
+
+#[test]
+fn parts(rt: HostRuntime) -> Result<(), Fail> {
+    let alloc = rt.alloc();
+    let text =
+        "sem t = 1; var x; mutex m; cond c; var y = -3; mutex n; sem s = 5; cond d; thread A { } thread B { wait d n; acquire s; set r y1 + 2; }";
+    let program = program_of(alloc, text)?;
+    assert_eq!(rt; program.variables(), 2);
+    assert_eq!(rt; program.mutexes(), 2);
+    assert_eq!(rt; program.conditions(), 2);
+    assert_eq!(rt; program.semaphores(), 2);
+    assert_eq!(rt; program.threads(), 2);
+    assert_eq!(rt; program.opening(0), 0);
+    assert_eq!(rt; program.opening(1), -3);
+    assert_eq!(rt; program.count(0), 1);
+    assert_eq!(rt; program.count(1), 5);
+    assert_eq!(rt; program.variable_name(1), b"y".as_slice());
+    assert_eq!(rt; program.mutex_name(1), b"n".as_slice());
+    assert_eq!(rt; program.condition_name(1), b"d".as_slice());
+    assert_eq!(rt; program.semaphore_name(1), b"s".as_slice());
+    assert_eq!(rt; program.thread_name(1), b"B".as_slice());
+    let shown = format!(in alloc; "{:?}", program.code(1))?;
+    assert_eq!(rt;
+        shown.as_str(),
+        "[Wait { condition: 1, mutex: 1 }, Acquire(1), Set { local: 0, value: Both(Local(1), Add, Literal(2)) }]"
+    );
+    assert!(rt; program.is_same(&program_of(alloc, text)?));
+    let other = program_of(alloc, "thread A { }")?;
+    assert!(rt; !program.is_same(&other));
+    Ok(())
+}
