@@ -1,8 +1,16 @@
+pub mod Expressions
+pub mod LocalRun
+pub mod Actions
+pub mod Objects
+pub mod Conditions
 pub mod Machine
+pub mod Work
 pub mod Schedules
 pub mod View
 pub mod Ends
 pub mod Sleep
 pub mod Order
+pub mod Rising
 pub mod Waiters
-pub mod Parts
+pub mod Mask
+pub mod Reachable

@@ -1,0 +1,11 @@
+use Rattle.std.proofs.Common.{◌≡◌, Some, ap, ◌∙◌, sym, subst}
+use Rattle.semantics.specs.Machine.{acts, step, next_of, thread_at}
+use Rattle.semantics.specs.Reachable.{IsOf}
+use Rattle.semantics.proofs.Stays.{step_is_of}
+use Rattle.semantics.proofs.state.State.step.Goals as goal
+
+pub returns-in-Some-clause-of : goal.returns-in-Some-clause-of
+returns-in-Some-clause-of c =
+    let about : next_of c.args.p.now c.args.self.now c.args.t ≡ Some c.in-Some.action = sym c.next.ensures.value ∙ c.in-Some.is in
+    let value : c.act.new.self ≡ step c.args.p.now c.args.self.now c.args.t = c.act.ensures ∙ ap (acts c.args.p.now c.args.self.now c.args.t (thread_at c.args.self.now c.args.t)) (sym about) in
+    subst (IsOf c.args.p.now) (sym value) (step_is_of c.args.p.now c.args.self.now c.args.t c.requires.of c.requires.enabled)

@@ -1,0 +1,78 @@
+//! What a thread does next, and whether the objects allow it.
+
+ghost use Rattle.std.specs.Prelude.{◌≡◌};
+ghost use Rattle.semantics.specs.Machine.{action_of, action_at, owns, is_free, mutex_allows, sem_allows};
+
+use crate::state::{Action, ConditionAction, MutexAction, SemaphoreAction, Status, VariableAction};
+use guest_code::program::Instruction;
+
+// The step of a visible statement.
+fn action_of(i: Instruction) -> Option<Action>
+    ensures { result ≡ action_of i }
+{
+    match i {
+        Instruction::Load { local, variable } => Some(Action::OnVariable(
+            variable,
+            VariableAction::Load(local),
+        )),
+        Instruction::Store { variable, value } => Some(Action::OnVariable(
+            variable,
+            VariableAction::Store(value),
+        )),
+        Instruction::Lock(m) => Some(Action::OnMutex(m, MutexAction::Lock)),
+        Instruction::Unlock(m) => Some(Action::OnMutex(m, MutexAction::Unlock)),
+        Instruction::Wait { condition, mutex } => Some(Action::Wait(condition, mutex)),
+        Instruction::Signal(c) => Some(Action::OnCondition(c, ConditionAction::Signal)),
+        Instruction::Broadcast(c) => Some(Action::OnCondition(c, ConditionAction::Broadcast)),
+        Instruction::Acquire(k) => Some(Action::OnSemaphore(k, SemaphoreAction::Acquire)),
+        Instruction::Release(k) => Some(Action::OnSemaphore(k, SemaphoreAction::Release)),
+        Instruction::Set { .. }
+        | Instruction::Assert(_)
+        | Instruction::SkipIfZero(_, _)
+        | Instruction::Skip(_) => None,
+    }
+}
+
+/// What a thread does next that stands so at this instruction, if it stands at one.
+pub fn action_at(status: Status, i: Option<Instruction>) -> Option<Action>
+    ensures { result ≡ action_at status i }
+{
+    match (status, i) {
+        (Status::Running, Some(i)) => action_of(i),
+        (Status::Woken, Some(Instruction::Wait { mutex, .. })) => Some(Action::OnMutex(
+            mutex,
+            MutexAction::Retake,
+        )),
+        _ => None,
+    }
+}
+
+/// Whether a thread owns a mutex.
+pub fn owns(t: u8, owner: Option<u8>) -> bool
+    ensures { result ≡ owns t owner }
+{
+    match owner {
+        Some(u) => t == u,
+        None => false,
+    }
+}
+
+/// Whether a mutex that has this owner allows a step.
+pub fn mutex_allows(action: MutexAction, owner: Option<u8>) -> bool
+    ensures { result ≡ mutex_allows action owner }
+{
+    match action {
+        MutexAction::Lock | MutexAction::Retake => owner.is_none(),
+        MutexAction::Unlock => true,
+    }
+}
+
+/// Whether a semaphore of this count allows a step.
+pub fn semaphore_allows(action: SemaphoreAction, count: u16) -> bool
+    ensures { result ≡ sem_allows action count }
+{
+    match action {
+        SemaphoreAction::Acquire => count > 0,
+        SemaphoreAction::Release => true,
+    }
+}

@@ -1,0 +1,131 @@
+//! Expressions, and the instructions that a thread runs by itself.
+
+ghost use Rattle.std.specs.Prelude.{◌≡◌, ◌<◌, ◌≤◌, ◌+◌, length, drop, IsTrue, IsFalse};
+ghost use Rattle.guest_code.specs.Program.{Program, IsFineCode, IsFineValue, IsFineExpression};
+ghost use Rattle.semantics.specs.Machine.{value_of_operand, of_both, value_of_expression, is_zero, advance, local_run, goes_on};
+
+use crate::state::{Status, Stop, Thread};
+use guest_code::limits::LOCALS;
+use guest_code::program::{Expression, Instruction, Value};
+use guest_syntax::tree::Op;
+
+/// A local's value, or the number itself.
+pub fn operand_at(locals: &[i64; LOCALS], value: Value) -> i64
+    requires { IsFineValue value }
+    ensures { result ≡ value_of_operand locals.now value }
+{
+    match value {
+        Value::Local(r) => locals[r],
+        Value::Literal(n) => n,
+    }
+}
+
+// What an operator makes of two values. Sums, differences and products wrap.
+fn of_both(op: Op, a: i64, b: i64) -> i64
+    ensures { result ≡ of_both op a b }
+{
+    match op {
+        Op::Add => a.wrapping_add(b),
+        Op::Subtract => a.wrapping_sub(b),
+        Op::Multiply => a.wrapping_mul(b),
+        Op::Equal => i64::from(a == b),
+        Op::NotEqual => i64::from(a != b),
+        Op::Less => i64::from(a < b),
+        Op::LessOrEqual => i64::from(a <= b),
+        Op::Greater => i64::from(a > b),
+        Op::GreaterOrEqual => i64::from(a >= b),
+    }
+}
+
+// The value of an expression.
+fn expression_at(locals: &[i64; LOCALS], e: Expression) -> i64
+    requires { IsFineExpression e }
+    ensures { result ≡ value_of_expression locals.now e }
+{
+    match e {
+        Expression::Single(a) => operand_at(locals, a),
+        Expression::Both(a, op, b) => of_both(op, operand_at(locals, a), operand_at(locals, b)),
+    }
+}
+
+// Whether an expression is 0.
+fn is_zero_at(locals: &[i64; LOCALS], e: Expression) -> bool
+    requires { IsFineExpression e }
+    ensures { result ≡ is_zero (value_of_expression locals.now e) }
+{
+    expression_at(locals, e) == 0
+}
+
+// Passes the instruction where the thread stands, and so many behind it, if so many are left.
+fn pass(code: &[Instruction], thread: &mut Thread, skip: usize)
+    requires place { thread.old.place < length code.now }
+    ensures place { thread.new.place ≤ length code.now }
+    ensures further { thread.old.place < thread.new.place }
+    ensures run { local_run (drop thread.new.place code.now) 0 thread.new ≡ local_run (drop (thread.old.place + 1) code.now) skip (advance thread.old 1) }
+{
+    let behind = thread.place + 1;
+    thread.place = behind + skip.min(code.len() - behind);
+}
+
+// One instruction of a local run. False where the run is over.
+fn turn(code: &[Instruction], thread: &mut Thread) -> bool
+    requires fine { (p : Program) × IsFineCode p code.now }
+    requires place { thread.old.place ≤ length code.now }
+    ensures place { thread.new.place ≤ length code.now }
+    ensures further { IsTrue result → thread.old.place < thread.new.place }
+    ensures same { IsTrue result → local_run (drop thread.new.place code.now) 0 thread.new ≡ local_run (drop thread.old.place code.now) 0 thread.old }
+    ensures over { IsFalse result → thread.new ≡ local_run (drop thread.old.place code.now) 0 thread.old }
+{
+    if thread.place >= code.len() {
+        thread.status = Status::Ended;
+        return false;
+    }
+    match code[thread.place] {
+        Instruction::Set { local, value } => {
+            thread.locals[local] = expression_at(&thread.locals, value);
+            thread.place += 1;
+            true
+        }
+        Instruction::Assert(e) => {
+            if is_zero_at(&thread.locals, e) {
+                thread.status = Status::Stopped(Stop::Assert);
+                return false;
+            }
+            thread.place += 1;
+            true
+        }
+        Instruction::SkipIfZero(e, n) => {
+            let skip = if is_zero_at(&thread.locals, e) { n } else { 0 };
+            pass(code, thread, skip);
+            true
+        }
+        Instruction::Skip(n) => {
+            pass(code, thread, n);
+            true
+        }
+        _ => false,
+    }
+}
+
+/// Runs a thread's own instructions, up to a visible statement, the end or a failed assertion.
+pub fn run_on(code: &[Instruction], thread: &mut Thread)
+    requires fine { (p : Program) × IsFineCode p code.now }
+    requires place { thread.old.place ≤ length code.now }
+    ensures { thread.new ≡ local_run (drop thread.old.place code.now) 0 thread.old }
+{
+    let mut running = true;
+    while running {
+        running = turn(code, thread);
+    }
+}
+
+/// Behind its visible statement a thread runs on.
+pub fn go_on(code: &[Instruction], thread: &mut Thread)
+    requires fine { (p : Program) × IsFineCode p code.now }
+    requires place { thread.old.place < length code.now }
+    ensures { thread.new ≡ goes_on code.now thread.old }
+{
+    thread.place += 1;
+    thread.status = Status::Running;
+    run_on(code, thread);
+}

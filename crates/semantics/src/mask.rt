@@ -1,0 +1,21 @@
+//! Sets of thread numbers.
+
+ghost use Rattle.std.specs.Prelude.{◌≡◌};
+ghost use Rattle.semantics.specs.Mask.{has};
+
+use guest_code::limits::THREADS;
+
+/// A set of thread numbers.
+#[derive(Clone, Copy, Debug, PartialEq, Eq)]
+pub struct Mask {
+    pub(crate) members: [bool; THREADS],
+}
+
+impl Mask {
+    /// Whether a thread is in the set.
+    pub fn has(self, t: u8) -> bool
+        ensures { result ≡ has self t }
+    {
+        (t as usize) < THREADS && self.members[t as usize]
+    }
+}

@@ -1,0 +1,88 @@
+//! The queue of a condition.
+
+ghost use Rattle.std.specs.Prelude.{◌≡◌, ◌<◌, length, [], ◌∷◌, ◌++◌, take, drop, map, MatchOption};
+
+use guest_code::limits::THREADS;
+use std::alloc::AllocError;
+use std::marker::Model;
+
+/// Threads that wait, the one that waits longest first. It has room for every thread, so it takes
+/// no memory.
+#[derive(Drop)]
+pub struct Queue {
+    threads: [u8; THREADS],
+    length: usize,
+}
+
+impl Model for Queue {
+    ghost use Rattle.std.specs.Prelude.{List, ℕ, ◌≤◌, take};
+    ghost use Rattle.guest_code.specs.declared.limits.TheConstants.{THREADS};
+
+    ghost Value = { List ℕ };
+
+    ghost view = { λ q. take q.length q.threads };
+
+    ghost invariant = { λ q. q.length ≤ THREADS };
+}
+
+impl Clone for Queue {
+    ghost use Rattle.std.specs.Prelude.{◌≡◌};
+
+    ghost is_clone = { λ q copy. copy ≡ q };
+
+    fn clone(&self) -> Result<Queue, AllocError> {
+        Ok(Queue {
+            threads: self.threads,
+            length: self.length,
+        })
+    }
+}
+
+impl Queue {
+    /// A queue in which nobody stands.
+    pub fn new() -> Queue
+        ensures { result ≡ [] }
+    {
+        Queue {
+            threads: [0; THREADS],
+            length: 0,
+        }
+    }
+
+    /// The threads, the one that waits longest first.
+    pub fn threads(&self) -> &[u8]
+        ensures { result.now ≡ self.now }
+    {
+        &self.threads[..self.length]
+    }
+
+    /// A thread stands at the end.
+    pub fn join(&mut self, t: u8)
+        requires room { length self.old < THREADS }
+        ensures { self.new ≡ self.old ++ t ∷ [] }
+    {
+        self.threads[self.length] = t;
+        self.length += 1;
+    }
+
+    /// The thread that waits longest leaves.
+    pub fn leave(&mut self) -> Option<u8>
+        ensures rest { self.new ≡ drop 1 self.old }
+        ensures first { MatchOption result (self.old ≡ []) (λ t. take 1 self.old ≡ t ∷ []) }
+    {
+        if self.length == 0 {
+            return None;
+        }
+        let first = self.threads[0];
+        self.threads.rotate_left(1);
+        self.length -= 1;
+        Some(first)
+    }
+
+    /// All leave.
+    pub fn clear(&mut self)
+        ensures { self.new ≡ [] }
+    {
+        self.length = 0;
+    }
+}

@@ -1,0 +1,45 @@
+//! Whom a signal or a broadcast wakes.
+
+ghost use Rattle.std.specs.Prelude.{◌≡◌, ◌<◌, length, All};
+ghost use Rattle.semantics.specs.Machine.{called, queue_after, woken, wake};
+
+use crate::queue::Queue;
+use crate::state::{ConditionAction, Status, Thread};
+
+// The thread is woken where it waits for the condition.
+fn wake_one(c: usize, thread: &mut Thread)
+    ensures { thread.new ≡ woken c thread.old }
+{
+    if thread.status == Status::Waiting(c) {
+        thread.status = Status::Woken;
+    }
+}
+
+// These threads are woken.
+fn wake(threads: &mut [Thread], c: usize, called: &[u8])
+    requires { All (λ u. u < length threads.old) called.now }
+    ensures { threads.new ≡ wake c called.now threads.old }
+{
+    for u in called {
+        wake_one(c, &mut threads[*u as usize]);
+    }
+}
+
+/// Takes those whom a step on the condition calls out of its queue, and wakes them.
+pub fn call(queue: &mut Queue, threads: &mut [Thread], c: usize, action: ConditionAction)
+    requires { All (λ u. u < length threads.old) queue.old }
+    ensures queue { queue.new ≡ queue_after action queue.old }
+    ensures threads { threads.new ≡ wake c (called action queue.old) threads.old }
+{
+    match action {
+        ConditionAction::Broadcast => {
+            wake(threads, c, queue.threads());
+            queue.clear();
+        }
+        ConditionAction::Signal => {
+            if let Some(u) = queue.leave() {
+                wake_one(c, &mut threads[u as usize]);
+            }
+        }
+    }
+}
