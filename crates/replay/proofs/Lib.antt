@@ -1,0 +1,6 @@
+mod Numbers
+mod Pieces
+mod Turns
+mod Steps
+mod Bad
+mod Texts

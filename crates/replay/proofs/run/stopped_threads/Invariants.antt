@@ -1,0 +1,12 @@
+use Rattle.std.proofs.Common.{◌≡◌, ◌<◌, length, All}
+use Rattle.std.specs.List.{filter}
+use Rattle.semantics.specs.Machine.{thread_at}
+use Rattle.semantics.specs.Schedules.{up_from}
+use Rattle.semantics.specs.Ends.{is_stopped}
+use Rattle.replay.proofs.run.stopped_threads.Given as goal
+
+abbrev pub invariant-loop-t : goal.invariant-loop-t
+invariant-loop-t l = record {
+  value : l.stopped.items ≡ filter (λ t. is_stopped (thread_at l.state t).status) (up_from 0 l.t);
+  fine : All (λ t. t < length l.p.threads) l.stopped.items;
+}

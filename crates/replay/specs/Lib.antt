@@ -1,0 +1,3 @@
+pub mod Spelling
+pub mod Run
+pub mod Trace

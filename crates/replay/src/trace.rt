@@ -1,0 +1,213 @@
+//! The trace of a run: a text, one line for each step.
+
+ghost use Rattle.std.specs.Prelude.{◌≡◌, ◌<◌, ◌++◌, ℕ, List, length, All, IfOk, OnOk};
+ghost use Rattle.std.specs.Fmt.{decimal, signed_decimal};
+ghost use Rattle.std.specs.List.{flat_map};
+ghost use Rattle.replay.specs.Run.{IsRunOf};
+ghost use Rattle.replay.specs.Trace.{Trace, trace, start_line, step_line, step_lines, end_lines, values_text, act_text, preempt_text, stop_text, kind_text, IsFineAct, IsFineLine, IsFineRun};
+
+use crate::run::{Act, Line, Run};
+use guest_code::program::Program;
+use semantics::state::Stop;
+use semantics::view::Kind;
+use std::alloc::{AllocError, Global};
+
+/// The trace of a run of the program. Each line ends with a line feed.
+///
+/// First `start NAME stop assert` for each thread that stopped at the start. Then, for each step,
+/// its place, the thread's name and what it did, with ` preempt` where the switch was preempting
+/// and ` stop WHY` where the thread stopped. At last `preemptions N`, `kind K` and `vars` with the
+/// value of each variable.
+///
+/// # Errors
+///
+/// `AllocError` where memory runs out.
+pub fn trace_text(alloc: Global, p: &Program, r: &Run) -> Result<Vec<u8>, AllocError>
+    requires { IsFineRun p.now r.now }
+    ensures run { IfOk result (λ text. text.items ≡ trace p.now r.now) }
+    ensures schedule { IfOk result (λ text. (w : List ℕ) → IsRunOf p.now w r.now → text.items ≡ Trace p.now w) }
+{
+    let mut text = Vec::new(alloc);
+    put_starts(&mut text, p, r.stopped())?;
+    put_steps(&mut text, alloc, p, r.lines())?;
+    put_end(&mut text, alloc, p, r)?;
+    Ok(text)
+}
+
+// A line for each thread that stopped at the start.
+fn put_starts(text: &mut Vec<u8>, p: &Program, stopped: &[u8]) -> Result<(), AllocError>
+    requires { All (λ t. t < length p.now.threads) stopped.now }
+    ensures { OnOk result (text.new.items ≡ text.old.items ++ flat_map (start_line p.now) stopped.now) }
+{
+    for t in stopped {
+        put_words(text, b"start ", p.thread_name(*t), b" stop assert\n")?;
+    }
+    Ok(())
+}
+
+// A line for each step.
+fn put_steps(
+    text: &mut Vec<u8>,
+    alloc: Global,
+    p: &Program,
+    lines: &[Line],
+) -> Result<(), AllocError>
+    requires { All (IsFineLine p.now) lines.now }
+    ensures { OnOk result (text.new.items ≡ text.old.items ++ step_lines p.now 0 lines.now) }
+{
+    for (k, line) in lines.iter().enumerate() {
+        put_step(text, alloc, p, k, *line)?;
+    }
+    Ok(())
+}
+
+// The line of the step at place k.
+fn put_step(
+    text: &mut Vec<u8>,
+    alloc: Global,
+    p: &Program,
+    k: usize,
+    line: Line,
+) -> Result<(), AllocError>
+    requires { IsFineLine p.now line }
+    ensures { OnOk result (text.new.items ≡ text.old.items ++ step_line p.now k line) }
+{
+    put_number(text, alloc, b"", k)?;
+    put_words(text, b" ", p.thread_name(line.thread), b" ")?;
+    put_act(text, alloc, p, line.act)?;
+    put_words(
+        text,
+        preempt_text(line.preempting),
+        stop_text(line.stop),
+        b"\n",
+    )?;
+    Ok(())
+}
+
+// What a step did.
+fn put_act(text: &mut Vec<u8>, alloc: Global, p: &Program, act: Act) -> Result<(), AllocError>
+    requires { IsFineAct p.now act }
+    ensures { OnOk result (text.new.items ≡ text.old.items ++ act_text p.now act) }
+{
+    match act {
+        Act::Load { variable, value } => {
+            put(text, b"load ", p.variable_name(variable))?;
+            put_value(text, alloc, b" ", value)
+        }
+        Act::Store { variable, value } => {
+            put(text, b"store ", p.variable_name(variable))?;
+            put_value(text, alloc, b" ", value)
+        }
+        Act::Lock(m) => put(text, b"lock ", p.mutex_name(m)),
+        Act::Unlock(m) => put(text, b"unlock ", p.mutex_name(m)),
+        Act::Wait { condition, mutex } => {
+            put(text, b"wait ", p.condition_name(condition))?;
+            put(text, b" ", p.mutex_name(mutex))
+        }
+        Act::Retake(m) => put(text, b"retake ", p.mutex_name(m)),
+        Act::Signal(c) => put(text, b"signal ", p.condition_name(c)),
+        Act::Broadcast(c) => put(text, b"broadcast ", p.condition_name(c)),
+        Act::Acquire(k) => put(text, b"acquire ", p.semaphore_name(k)),
+        Act::Release(k) => put(text, b"release ", p.semaphore_name(k)),
+    }
+}
+
+// The three lines at the end.
+fn put_end(text: &mut Vec<u8>, alloc: Global, p: &Program, r: &Run) -> Result<(), AllocError>
+    requires { IsFineRun p.now r.now }
+    ensures { OnOk result (text.new.items ≡ text.old.items ++ end_lines p.now r.now) }
+{
+    put_number(text, alloc, b"preemptions ", r.preemptions())?;
+    put_words(text, b"\nkind ", kind_text(r.kind()), b"\nvars")?;
+    put_values(text, alloc, p, r.variables())?;
+    text.extend_from_slice(b"\n")?;
+    Ok(())
+}
+
+// The values of the variables, each behind the variable's name.
+fn put_values(
+    text: &mut Vec<u8>,
+    alloc: Global,
+    p: &Program,
+    values: &[i64],
+) -> Result<(), AllocError>
+    requires { length values.now ≡ length p.now.variables }
+    ensures { OnOk result (text.new.items ≡ text.old.items ++ values_text p.now 0 values.now) }
+{
+    for x in 0..p.variables() {
+        put(text, b" ", p.variable_name(x))?;
+        put_value(text, alloc, b"=", values[x as usize])?;
+    }
+    Ok(())
+}
+
+// A word and a value.
+fn put_value(text: &mut Vec<u8>, alloc: Global, word: &[u8], value: i64) -> Result<(), AllocError>
+    ensures { OnOk result (text.new.items ≡ text.old.items ++ (word.now ++ signed_decimal value)) }
+{
+    put(text, word, value.to_string(alloc)?.as_bytes())
+}
+
+// A word and a number.
+fn put_number(
+    text: &mut Vec<u8>,
+    alloc: Global,
+    word: &[u8],
+    number: usize,
+) -> Result<(), AllocError>
+    ensures { OnOk result (text.new.items ≡ text.old.items ++ (word.now ++ decimal number)) }
+{
+    put(text, word, number.to_string(alloc)?.as_bytes())
+}
+
+// Three words.
+fn put_words(
+    text: &mut Vec<u8>,
+    first: &[u8],
+    second: &[u8],
+    third: &[u8],
+) -> Result<(), AllocError>
+    ensures { OnOk result (text.new.items ≡ text.old.items ++ (first.now ++ second.now ++ third.now)) }
+{
+    put(text, first, second)?;
+    text.extend_from_slice(third)
+}
+
+// A word and a name.
+fn put(text: &mut Vec<u8>, word: &[u8], name: &[u8]) -> Result<(), AllocError>
+    ensures { OnOk result (text.new.items ≡ text.old.items ++ (word.now ++ name.now)) }
+{
+    text.extend_from_slice(word)?;
+    text.extend_from_slice(name)
+}
+
+// The mark of a preempting switch.
+fn preempt_text(preempting: bool) -> &'static [u8]
+    ensures { result.now ≡ preempt_text preempting }
+{
+    if preempting { b" preempt" } else { b"" }
+}
+
+// Why the thread stopped, if it did.
+fn stop_text(stop: Option<Stop>) -> &'static [u8]
+    ensures { result.now ≡ stop_text stop }
+{
+    match stop {
+        Some(Stop::Assert) => b" stop assert",
+        Some(Stop::NotHeld) => b" stop not-held",
+        Some(Stop::SemFull) => b" stop sem-full",
+        None => b"",
+    }
+}
+
+// The word of a kind.
+fn kind_text(kind: Option<Kind>) -> &'static [u8]
+    ensures { result.now ≡ kind_text kind }
+{
+    match kind {
+        Some(Kind::Done) => b"done",
+        Some(Kind::Failed) => b"failed",
+        Some(Kind::Stuck) => b"stuck",
+        None => b"none",
+    }
+}
