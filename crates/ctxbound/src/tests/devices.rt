@@ -1,0 +1,61 @@
+//! A reader and a writer that fail at one of their calls.
+
+use std::io;
+use std::io::{ErrorKind, Read, Write};
+
+/// Gives its text a few bytes a call, and fails at the call of this number, counted from 0.
+#[derive(Drop)]
+pub struct FailingReader<'a> {
+    pub text: &'a [u8],
+    pub fails_at: usize,
+    pub calls: usize,
+}
+
+impl<'a> Read for FailingReader<'a> {
+    fn read(&mut self, buf: &mut [u8]) -> io::Result<usize> {
+        let call = self.calls;
+        self.calls = self.calls.saturating_add(1);
+        if call == self.fails_at {
+            return Err(ErrorKind::Other.into());
+        }
+        let Some(byte) = self.text.first() else {
+            return Ok(0);
+        };
+        let Some(place) = buf.first_mut() else {
+            return Ok(0);
+        };
+        *place = *byte;
+        self.text = &self.text[1..];
+        Ok(1)
+    }
+}
+
+/// Takes one byte a call, and fails at the call of this number, counted from 0, or where it is
+/// flushed behind so many calls.
+#[derive(Drop)]
+pub struct FailingWriter {
+    pub fails_at: usize,
+    pub calls: usize,
+}
+
+impl FailingWriter {
+    fn call(&mut self) -> io::Result<()> {
+        let call = self.calls;
+        self.calls = self.calls.saturating_add(1);
+        if call == self.fails_at {
+            return Err(ErrorKind::Other.into());
+        }
+        Ok(())
+    }
+}
+
+impl Write for FailingWriter {
+    fn write(&mut self, buf: &[u8]) -> io::Result<usize> {
+        self.call()?;
+        Ok(buf.len().min(1))
+    }
+
+    fn flush(&mut self) -> io::Result<()> {
+        self.call()
+    }
+}
