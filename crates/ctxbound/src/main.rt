@@ -16,25 +16,29 @@ mod words;
 use crate::fault::Fault;
 use crate::serve::{report_fault, serve};
 use crate::words::asked;
+use std::fs;
 use std::process::ExitCode;
-use std::{fs, io};
 
-fn main(rt: HostRuntime) -> io::Result<ExitCode> {
-    let words: Vec<String> = std::env::args(&rt)?.collect(rt.alloc())?;
+/// The status to end with. What is said of faults behind `asked` is printed already.
+fn run(rt: &HostRuntime) -> Result<u8, Fault> {
+    let words: Vec<String> = std::env::args(rt)?.collect(rt.alloc())?;
     let (file, request) = match asked(rt.alloc(), words.as_slice()) {
         Ok(request) => request,
-        Err(fault) => return Ok(ExitCode::from(fault.report(&mut rt.stderr()))),
+        Err(fault) => return Ok(fault.report(&mut rt.stderr())),
     };
-    let mut input = match fs::open(&rt, file.as_str()) {
-        Ok(input) => input,
-        Err(_) => return Ok(ExitCode::from(report_fault(&mut rt.stderr(), &Fault::File))),
-    };
-    let status = serve(
+    let mut input = fs::open(rt, file.as_str())?;
+    Ok(serve(
         rt.alloc(),
         &request,
         &mut input,
         &mut rt.stdout(),
         &mut rt.stderr(),
-    );
-    Ok(ExitCode::from(status))
+    ))
+}
+
+fn main(rt: HostRuntime) -> ExitCode {
+    match run(&rt) {
+        Ok(status) => ExitCode::from(status),
+        Err(fault) => ExitCode::from(report_fault(&mut rt.stderr(), &fault)),
+    }
 }

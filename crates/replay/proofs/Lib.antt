@@ -1,5 +1,6 @@
 mod Numbers
 mod Pieces
+mod Spelt
 mod Turns
 mod Steps
 mod Bad

@@ -40,7 +40,7 @@ pub spells_pieces : (text w : List ℕ) → pieces_of text ≡ map decimal w →
 spells_pieces text [] e small = let one = length-slice_split (λ b. b == 44) text in absurd (let none : length (pieces_of text) ≡ 0 = ap length e in omega (arith, one, none))
 spells_pieces text (t ∷ w) e small = record { numbers = small; spelt = joined text ∙ ap (join_with_byte 44) e }
 
-numbers_are : (w : List ℕ) → All (λ t. t < 256) w → All IsNumber (map decimal w)
+pub numbers_are : (w : List ℕ) → All (λ t. t < 256) w → All IsNumber (map decimal w)
 numbers_are w small = All-map IsNumber decimal w (λ k d l. record { number = get_or w k d; small = small k d l; written = refl })
 
 -- where the first of the pieces stands that is no number

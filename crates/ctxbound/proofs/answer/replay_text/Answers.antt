@@ -8,18 +8,18 @@ use Rattle.ctxbound.proofs.answer.replay_text.Goals as goal
 pub returns : goal.returns
 returns c =
     let is_run : IsRunOf c.in_ok-program.program c.in_ok-schedule.schedule.items c.in_ok-run.run' =
-        subst (λ (w : List ℕ). IsRunOf c.in_ok-program.program w c.in_ok-run.run') c.as_slice.ensures.value c.in_ok-run.ensures.value in
+    subst (λ (w : List ℕ). IsRunOf c.in_ok-program.program w c.in_ok-run.run') c.as_slice.ensures.value c.in_ok-run.ensures.value in
     record {
-  program = c.in_ok-program.program;
-  is_program = record {
-    tree = tree_view c.in_ok-tree.tree;
-    spelt = c.in_ok-tree.ensures.found;
-    sound = c.in_ok-program.ensures.0;
-    same = c.in_ok-program.ensures.1;
-  };
-  steps = c.in_ok-schedule.schedule.items;
-  spelt = c.in_ok-schedule.ensures;
-  runs = is_run.legal;
-  trace = c.in_ok-trace.ensures.run ∙ ap (trace c.in_ok-program.program) is_run.same;
-  kind = c.kind.ensures ∙ ap (λ (r : Run). r.kind) is_run.same;
-}
+      program = c.in_ok-program.program;
+      is_program = record {
+        tree = tree_view c.in_ok-tree.tree;
+        spelt = c.in_ok-tree.ensures.found;
+        sound = c.in_ok-program.ensures.0;
+        same = c.in_ok-program.ensures.1;
+      };
+      steps = c.in_ok-schedule.schedule.items;
+      spelt = c.in_ok-schedule.ensures;
+      runs = is_run.legal;
+      trace = c.in_ok-trace.ensures.run ∙ ap (trace c.in_ok-program.program) is_run.same;
+      kind = c.kind.ensures ∙ ap (λ (r : Run). r.kind) is_run.same;
+    }
