@@ -1,6 +1,6 @@
 -- The tree of a text.
 use Rattle.std.proofs.Common.{◌≡◌, ℕ, ◌≤◌, List, length, Some, Result, Ok, Err, refl, sym, ap, subst, ◌∙◌}
-use Rattle.std.specs.Prelude.{IfOk}
+use Rattle.std.specs.Prelude.{IfOk, IfErr, ◌≢◌}
 use Rattle.guest_syntax.specs.declared.limits.TheConstants.{TEXT_BYTES}
 use Rattle.guest_syntax.specs.declared.place.Pos.{Pos}
 use Rattle.guest_syntax.specs.declared.error.SyntaxError.{SyntaxError}
@@ -48,3 +48,8 @@ answers (Err (errors.TooDeep p)) t g = absurd cc
 
 pub only : (text : List ℕ) (r : Result code.Tree SyntaxError) → Gives tree_view r (tree_from (tokens_from start text)) → (t : Tree) → Spells text t → Answers r t
 only text r g t s = answers r t (subst (Gives tree_view r) (text_again text t s) g)
+
+-- what is refused spells nothing
+pub refused : (text : List ℕ) (r : Result code.Tree SyntaxError) → ((t : Tree) → Spells text t → Answers r t) → IfErr r (λ e. e ≢ errors.OutOfMemory → (t : Tree) → Spells text t → ⊥)
+refused text (Ok x) h = tt
+refused text (Err e) h = λ other t s. other (h t s)

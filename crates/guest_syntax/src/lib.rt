@@ -33,6 +33,7 @@ mod tokens;
 pub mod tree;
 
 pub use error::SyntaxError;
+pub use limits::TEXT_BYTES;
 pub use place::Pos;
 pub use reading::{one_tree, parse};
 

@@ -1,7 +1,7 @@
 //! Reading a text.
 
-ghost use Rattle.std.specs.Prelude.{◌≡◌, ◌<◌, length, IfOk, List, ℕ, Err};
-ghost use Rattle.guest_syntax.specs.declared.error.SyntaxError.TheVariants.{TooLong};
+ghost use Rattle.std.specs.Prelude.{◌≡◌, ◌≢◌, ◌<◌, length, IfOk, IfErr, List, ℕ, Err};
+ghost use Rattle.guest_syntax.specs.declared.error.SyntaxError.TheVariants.{OutOfMemory, TooLong};
 ghost use Rattle.guest_syntax.specs.declared.limits.TheConstants.{TEXT_BYTES};
 ghost use Rattle.guest_syntax.specs.Gives.{Answers};
 ghost use Rattle.guest_syntax.specs.Tree.{tree_view};
@@ -27,6 +27,8 @@ pub fn parse(alloc: Global, text: &[u8]) -> Result<Tree, SyntaxError>
     ensures found { IfOk result (λ t. Spells text.now (tree_view t)) }
     // What the text spells is answered, unless memory runs out; it is never refused.
     ensures only { (t : model.Tree) → Spells text.now t → Answers result t }
+    // A text that is refused, other than for want of memory, spells nothing.
+    ensures refused { IfErr result (λ e. e ≢ OutOfMemory → (t : model.Tree) → Spells text.now t → ⊥) }
     // A text that is too long is refused as such, at its first byte.
     ensures long { TEXT_BYTES < length text.now → result ≡ Err (TooLong (record { line = 1; col = 1 })) }
 {

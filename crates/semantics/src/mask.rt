@@ -1,7 +1,7 @@
 //! Sets of thread numbers.
 
 ghost use Rattle.std.specs.Prelude.{◌≡◌};
-ghost use Rattle.semantics.specs.Mask.{has};
+ghost use Rattle.semantics.specs.Mask.{has, nobody};
 
 use guest_code::limits::THREADS;
 
@@ -17,5 +17,12 @@ impl Mask {
         ensures { result ≡ has self t }
     {
         (t as usize) < THREADS && self.members[t as usize]
+    }
+
+    /// The empty set.
+    pub fn empty() -> Mask
+        ensures { result ≡ nobody }
+    {
+        Mask { members: [false; THREADS] }
     }
 }
