@@ -2,7 +2,7 @@
 # build  leaves the program at build/ctxbound
 # test   the gate: every proof from nothing, the must-fail edits, the tests, the documents' commands
 # bench  how fast a subtree is walked
-.PHONY: run build test clean
+.PHONY: run build test bench clean
 
 EXAMPLE = examples/first.guest 0,1,0
 
@@ -17,7 +17,12 @@ build:
 
 test: build
 	python3 tests/docs.py build/ctxbound
+	python3 tests/allocations.py build/ctxbound
 	rt ci
+
+bench:
+	@cd crates/walk_bench && rt run -- data/race.guest 1 > /dev/null
+	@python3 bench/walk.py
 
 clean:
 	rm -rf build crates/*/out

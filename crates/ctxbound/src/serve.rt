@@ -3,6 +3,7 @@
 use crate::answer::{replay_text, status_of};
 use crate::asked::Asked;
 use crate::fault::Fault;
+use guest_syntax::TEXT_BYTES;
 use std::alloc::Global;
 use std::io::{Read, Write};
 
@@ -12,13 +13,10 @@ pub fn report_fault<E: Write>(err: &mut E, fault: &Fault) -> u8 {
     fault.status()
 }
 
-/// One byte more than a guest program may have, so that a longer text is seen.
-const MOST_READ: u64 = 65_537;
-
-/// The text of a guest program, or its beginning where it is too long.
+/// The text of a guest program, or one byte more than a program may have where it is too long.
 fn read_text<R: Read>(alloc: Global, input: &mut R) -> Result<Vec<u8>, Fault> {
     let mut text = Vec::new(alloc);
-    input.take(MOST_READ).read_to_end(&mut text)?;
+    input.take(TEXT_BYTES as u64 + 1).read_to_end(&mut text)?;
     Ok(text)
 }
 

@@ -1,5 +1,5 @@
 -- The code of a thread, in memory and in what is seen of it.
-use Rattle.std.proofs.Common.{arith, ◌≡◌, ◌<◌, ℕ, suc, zero, ◌+◌, List, [], ◌∷◌, length, map, ap, slice_index_or}
+use Rattle.std.proofs.Common.{arith, ◌≡◌, ◌<◌, ℕ, suc, zero, List, [], ◌∷◌, length, map, ap, slice_index_or}
 use Rattle.guest_code.specs.Program.{thread_view, no_thread}
 use Rattle.guest_code.specs.declared.program.Thread.{Thread}
 

@@ -1,5 +1,5 @@
 -- Programs are the same exactly where `==` says so.
-use Rattle.std.proofs.Common.{◌≡◌, ℕ, ℤ, ◌&&◌, nat_eq, List, [], ◌∷◌, map, true, false, Bool, Vec, Global, refl, ap, sym, subst, ◌∙◌}
+use Rattle.std.proofs.Common.{◌≡◌, ℕ, ◌&&◌, nat_eq, List, [], ◌∷◌, map, true, false, Bool, Vec, Global, refl, ap, sym, subst, ◌∙◌}
 use Rattle.std.specs.Bool.{Decides}
 use Rattle.std.specs.Cmp.{unsigned_Decides, signed_Decides}
 use Rattle.std.specs.Cmp.Lexicographic.{pointwise}

@@ -1,5 +1,5 @@
 -- Code of statements whose names are right has its numbers in range.
-use Rattle.std.proofs.Common.{◌≡◌, ℕ, zero, suc, ◌+◌, ◌*◌, ◌<◌, ◌≤◌, Bool, true, false, ltb, List, [], ◌∷◌, ◌++◌, length, Option, Some, None, Ok, Err, refl, sym, ap, ◌∙◌, arith, if◌then◌else◌, ◌||◌, length-append}
+use Rattle.std.proofs.Common.{◌≡◌, ℕ, zero, suc, ◌+◌, ◌*◌, ◌<◌, ◌≤◌, Bool, true, false, ltb, List, [], ◌∷◌, ◌++◌, length, Option, Some, None, Ok, refl, sym, ap, ◌∙◌, arith, if◌then◌else◌, ◌||◌, length-append}
 use Rattle.std.specs.List.{All}
 use Rattle.std.specs.Str.{bytes_eq}
 use Rattle.std.proofs.lemmas.Bool.{ltb-true}
@@ -9,9 +9,8 @@ use Rattle.guest_syntax.specs.Tree as tree
 use Rattle.guest_syntax.specs.Tree.{Name, Operand, Expr, Stmt, Block}
 use Rattle.guest_code.specs.declared.kinds.Kind.{Kind}
 use Rattle.guest_code.specs.declared.kinds.Kind.TheVariants as kinds
-use Rattle.guest_code.specs.declared.program.Value.TheVariants.{Local, Literal}
 use Rattle.guest_code.specs.declared.program.Instruction.{Instruction}
-use Rattle.guest_code.specs.declared.program.Instruction.TheVariants.{Load, Store, Lock, Unlock, Wait, Signal, Broadcast, Acquire, Release, Set, Assert, SkipIfZero, Skip}
+use Rattle.guest_code.specs.declared.program.Instruction.TheVariants.{SkipIfZero, Skip}
 use Rattle.guest_code.specs.declared.error.CheckError.{CheckError}
 use Rattle.guest_code.specs.declared.error.CheckError.TheVariants as errors
 use Rattle.guest_code.specs.Program.{Program, IsFineValue, IsFineExpression, IsFine}

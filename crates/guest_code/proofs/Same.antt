@@ -1,8 +1,6 @@
 -- Instructions are the same exactly where `==` says so.
-use Rattle.std.proofs.Common.{◌≡◌, ℕ, ℤ, ◌&&◌, nat_eq, List, [], ◌∷◌, map, true, false, Bool, refl, ap, sym, ◌∙◌, rules}
-use Rattle.std.specs.Bool.{Decides}
+use Rattle.std.proofs.Common.{◌≡◌, ℕ, ℤ, ◌&&◌, true, false, Bool, refl, ap}
 use Rattle.std.specs.Cmp.{unsigned_Decides, signed_Decides}
-use Rattle.std.specs.Ordering.{int_eq}
 use Rattle.guest_syntax.specs.declared.tree.Op.{Op}
 use Rattle.guest_syntax.specs.declared.tree.Op.TheVariants as ops
 use Rattle.guest_syntax.specs.contracts.tree.OpPartialEq.TheImpl.{eq-value as same-op}

@@ -1,9 +1,9 @@
 -- The program of a tree without a fault is well formed.
-use Rattle.std.proofs.Common.{◌≡◌, ℕ, ◌+◌, ◌<◌, ◌≤◌, Bool, true, false, ltb, List, [], ◌∷◌, ◌++◌, length, map, Option, Some, None, Ok, Err, refl, sym, ap, subst, ◌∙◌, arith, if◌then◌else◌}
+use Rattle.std.proofs.Common.{◌≡◌, ℕ, ◌+◌, ◌<◌, ◌≤◌, Bool, true, false, ltb, List, [], ◌∷◌, ◌++◌, length, map, Some, None, Ok, Err, refl, sym, ap, subst, ◌∙◌, arith, if◌then◌else◌}
 use Rattle.std.specs.List.{All}
 use Rattle.std.proofs.lemmas.List.Elements.{All-cons, All-nil}
 use Rattle.std.proofs.lemmas.Bool.{ltb-false}
-use Rattle.guest_syntax.specs.Tree.{Block, Declaration, Thread, Tree}
+use Rattle.guest_syntax.specs.Tree.{Declaration, Thread, Tree}
 use Rattle.guest_code.specs.declared.kinds.Kind.{Kind}
 use Rattle.guest_code.specs.declared.kinds.Kind.TheVariants as kinds
 use Rattle.guest_code.specs.declared.error.CheckError.TheVariants as errors
@@ -14,13 +14,13 @@ use Rattle.guest_code.specs.Sizes.{block_size}
 use Rattle.guest_code.specs.Fault.{limit_of, declares_refusal, or_else, first, no_threads, too_long, fault}
 use Rattle.guest_code.specs.Walk.{Checked, block_check}
 use Rattle.guest_code.specs.Gives.{fault_of}
-use Rattle.guest_code.specs.Code.{Names, slot, block_code, objects_by, variable_of, mutex_of, condition_of, semaphore_of, thread_code, code}
+use Rattle.guest_code.specs.Code.{Names, slot, objects_by, variable_of, mutex_of, condition_of, semaphore_of, thread_code, code}
 use Rattle.guest_code.proofs.Plain.{plain_block}
 use Rattle.guest_code.proofs.Laws.{walk, block_walks, first_append}
 use Rattle.guest_code.proofs.Steps.{many_none, many_threads, one_thread, length_mapped, body_leaves}
 use Rattle.guest_code.proofs.Sizes.{block_length}
 use Rattle.guest_code.proofs.Counts.{or_none, few, many_append, slot_less, many_variables, many_mutexes, many_conditions, many_semaphores}
-use Rattle.guest_code.proofs.Fine.{Right, Sound, walk_right, walk_few, fine_block}
+use Rattle.guest_code.proofs.Fine.{Sound, walk_right, walk_few, fine_block}
 
 -- ---- one thread
 

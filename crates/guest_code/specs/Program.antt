@@ -1,6 +1,5 @@
 -- What contracts see of a program, and when it is well formed.
-use Rattle.std.specs.Prelude.{◌≡◌, ℕ, ℤ, pos, ◌<◌, ◌≤◌, List, [], length, map, slice_index_or, All}
-use Rattle.guest_syntax.specs.declared.tree.Op.{Op}
+use Rattle.std.specs.Prelude.{ℕ, ℤ, pos, ◌<◌, ◌≤◌, List, [], length, slice_index_or, All}
 use Rattle.guest_code.specs.declared.limits.TheConstants.{THREADS, VARIABLES, OBJECTS, LOCALS, INSTRUCTIONS, COUNT}
 use Rattle.guest_code.specs.declared.program.Value.{Value}
 use Rattle.guest_code.specs.declared.program.Value.TheVariants.{Local, Literal}

@@ -23,6 +23,8 @@ impl Mask {
     pub fn empty() -> Mask
         ensures { result ≡ nobody }
     {
-        Mask { members: [false; THREADS] }
+        Mask {
+            members: [false; THREADS],
+        }
     }
 }

@@ -1,8 +1,7 @@
-use Rattle.std.proofs.Common.{◌≡◌, List, ℕ, ap, ◌∙◌, subst}
+use Rattle.std.proofs.Common.{List, ℕ, ap, ◌∙◌, subst}
 use Rattle.guest_syntax.specs.Tree.{tree_view}
 use Rattle.replay.specs.Run.{Run, IsRunOf}
 use Rattle.replay.specs.Trace.{trace}
-use Rattle.ctxbound.specs.Answer.{IsReplayOf, IsProgramOf}
 use Rattle.ctxbound.proofs.answer.replay_text.Goals as goal
 
 pub returns : goal.returns

@@ -1,4 +1,4 @@
-use Rattle.std.proofs.Common.{◌≡◌, ◌≤◌, ◌++◌, map, drop, All}
+use Rattle.std.proofs.Common.{◌≡◌, ◌++◌, map, drop}
 use Rattle.guest_syntax.specs.Tree.{declaration_view}
 use Rattle.guest_code.specs.Code.{objects_by, condition_of}
 use Rattle.guest_code.proofs.lowering.lower_conditions.Given as goal

@@ -1,4 +1,4 @@
-use Rattle.std.proofs.Common.{◌∙◌, ap, arith}
+use Rattle.std.proofs.Common.{◌∙◌, ap}
 use Rattle.guest_code.specs.Program.{semaphore_view}
 use Rattle.guest_code.specs.Code.{semaphore_of}
 use Rattle.guest_code.proofs.Objects.{objects_more, objects_same, is_semaphore, not_semaphore, counts_more}

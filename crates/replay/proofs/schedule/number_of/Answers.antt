@@ -1,4 +1,4 @@
-use Rattle.std.proofs.Common.{◌≡◌, sym, ◌∙◌}
+use Rattle.std.proofs.Common.{sym, ◌∙◌}
 use Rattle.std.proofs.lemmas.Bool.{false≢true}
 use Rattle.replay.proofs.Numbers.{starts_plain, utf8_number, parsed}
 use Rattle.replay.proofs.schedule.number_of.Goals as goal

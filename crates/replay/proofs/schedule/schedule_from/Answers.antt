@@ -1,8 +1,7 @@
-use Rattle.std.proofs.Common.{◌≡◌, ◌≢◌, ◌==◌, ◌+◌, List, ℕ, rules, tests, arith, map, take, length, get_or, sym, ◌∙◌, ap, codes}
+use Rattle.std.proofs.Common.{◌==◌, rules, tests, arith, length, sym, ◌∙◌}
 use Rattle.std.proofs.lemmas.Iterator.Consumers.{YieldsList-at}
 use Rattle.std.proofs.lemmas.Iterator.Splits.{YieldsList-from_slice_split}
 use Rattle.std.proofs.lemmas.Bool.{false≢true}
-use Rattle.replay.specs.Spelling.{length_with_commas}
 use Rattle.replay.proofs.Pieces.{spells_pieces, bad_piece, place_fits}
 use Rattle.replay.proofs.Turns.{turned, ended}
 use Rattle.replay.proofs.schedule.schedule_from.Goals as goal

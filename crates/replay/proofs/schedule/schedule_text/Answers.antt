@@ -1,4 +1,4 @@
-use Rattle.std.proofs.Common.{rules, arith, append_assoc}
+use Rattle.std.proofs.Common.{rules, arith}
 use Rattle.replay.proofs.Pieces.{numbers_step, numbers_all}
 use Rattle.replay.proofs.schedule.schedule_text.Goals as goal
 

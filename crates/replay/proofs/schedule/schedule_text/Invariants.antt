@@ -1,4 +1,4 @@
-use Rattle.std.proofs.Common.{◌≡◌, ◌+◌, ◌∷◌, take, map, decimal}
+use Rattle.std.proofs.Common.{◌≡◌, ◌+◌, take, map, decimal}
 use Rattle.std.specs.List.{join_with_byte}
 use Rattle.replay.proofs.schedule.schedule_text.Given as goal
 

@@ -1,12 +1,11 @@
-use Rattle.std.proofs.Common.{rules, ◌≡◌, ◌<◌, ◌≤◌, ◌+◌, ◌++◌, ◌∷◌, [], ℕ, List, Bool, true, false, arith, sym, ap, subst, refl, ◌∙◌, IfOk, Some, None, length}
+use Rattle.std.proofs.Common.{◌≡◌, ◌<◌, ◌+◌, ◌++◌, ◌∷◌, [], ℕ, List, true, false, arith, sym, ap, subst, refl, ◌∙◌, length}
 use Rattle.std.proofs.lemmas.Result.{IfOk-weaker}
-use Rattle.semantics.specs.Ends.{is_over, view_of, view_at}
-use Rattle.semantics.specs.Machine.{Snapshot, is_enabled, step}
-use Rattle.semantics.specs.View.{View}
+use Rattle.semantics.specs.Ends.{is_over}
+use Rattle.semantics.specs.Machine.{Snapshot, is_enabled}
 use Rattle.semantics.specs.Schedules.{work, preempts, one_if, Within, Beyond}
 use Rattle.semantics.proofs.Work.{work-step}
-use Rattle.walk.specs.Tally.{Tally, with_beyond}
-use Rattle.walk.specs.Walking.{Extends, Leads, added}
+use Rattle.walk.specs.Tally.{Tally}
+use Rattle.walk.specs.Walking.{Extends, added}
 use Rattle.walk.proofs.Children.{SoFar, so_far_none, so_far_skip, so_far_take, so_far_past, so_far_all, leaf, leads_child, leads_same, popped, view_of-some, view_of-none}
 use Rattle.walk.proofs.subtree.+walk_from.Goals as goal
 use Rattle.walk.proofs.subtree.+walk_from.Goals.{then-has+then-now-bound, then-has+else-now-bound+in_ok-next+in_ok-push+in_ok-summary, else-has}

@@ -1,4 +1,4 @@
-use Rattle.std.proofs.Common.{◌≡◌, ◌∙◌, sym}
+use Rattle.std.proofs.Common.{◌∙◌, sym}
 use Rattle.guest_code.proofs.Equal.{same_program-Decides}
 use Rattle.guest_code.proofs.program.Program.is_same.Goals as goal
 

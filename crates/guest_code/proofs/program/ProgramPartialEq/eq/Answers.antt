@@ -1,4 +1,4 @@
-use Rattle.std.proofs.Common.{◌≡◌, ◌∙◌, ◌&&◌, refl, ap}
+use Rattle.std.proofs.Common.{◌≡◌, ◌∙◌, ◌&&◌, refl}
 use Rattle.std.specs.Cmp.Lexicographic.{pointwise}
 use Rattle.guest_code.specs.contracts.program.VariablePartialEq.TheImpl.{eq-value as variable-eq}
 use Rattle.guest_code.specs.contracts.program.SemaphorePartialEq.TheImpl.{eq-value as semaphore-eq}

@@ -1,4 +1,4 @@
-use Rattle.std.proofs.Common.{◌≡◌, ◌∙◌, ap, ℕ, Bool, List, Option, option_map, Some, ◌+◌, if◌then◌else◌}
+use Rattle.std.proofs.Common.{◌∙◌, ap, ℕ, Bool, option_map, Some, ◌+◌, if◌then◌else◌}
 use Rattle.semantics.specs.declared.view.Kind.{Kind}
 use Rattle.semantics.specs.Order.{lesser, is_bad}
 use Rattle.walk.specs.Tally.{cut, is_failed, is_stuck}
