@@ -105,9 +105,11 @@ fn reads_its_words(rt: HostRuntime) -> Result<(), Fail> {
         String::from_str(alloc, words[1])?,
         String::from_str(alloc, words[2])?,
     ];
-    let Ok((file, Asked::Replay { schedule })) = asked(alloc, &words[..]) else {
-        return Err(Fail::new("the words are refused"));
+    let (file, request) = match asked(alloc, &words[..]) {
+        Ok(request) => request,
+        Err(_) => return Err(Fail::new("the words are refused")),
     };
+    let Asked::Replay { schedule } = &request;
     assert_eq!(rt; file.as_str(), "race.guest");
     assert_eq!(rt; schedule.as_str(), "-");
     for count in 1..3 {

@@ -36,11 +36,13 @@ pub record Names : Type 0 where
   pub declarations : List Declaration
   pub locals : List (List ℕ)
 
+-- the same of declarations and locals in memory
 abbrev pub names_of : List code-declaration.Declaration → List (Vec ℕ Global) → Names
 names_of ds ns = record { declarations = map declaration_view ds; locals = map (λ n. n.items) ns }
 
 -- ---- code
 
+-- an operand and an expression, with their locals by number
 abbrev pub value_of : Names → Operand → Value
 value_of ns (tree.local n) = Local (place ns.locals n.text)
 value_of ns (tree.literal z) = Literal z
@@ -100,6 +102,7 @@ semaphore_of name _ = None
 abbrev pub objects_by : {X : Type 0} → (List ℕ → Object → Option X) → List Declaration → List X
 objects_by of ds = filter_map (λ d. of d.name.text d.object) ds
 
+-- a thread with its code, its names resolved
 abbrev pub thread_code : List Declaration → tree.Thread → Thread
 thread_code ds t = record { name = t.name.text; locals = length (thread_locals t); code = block_code (record { declarations = ds; locals = thread_locals t }) t.body 0 }
 

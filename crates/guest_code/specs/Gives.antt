@@ -19,6 +19,7 @@ abbrev pub Answers : {X : Type 0} → Result X CheckError → Option CheckError 
 Answers (Ok x) fault = fault ≡ None
 Answers (Err e) fault = Refuses e fault
 
+-- the refusal of an answer
 abbrev pub fault_of : {Y : Type 0} → Result Y CheckError → Option CheckError
 fault_of (Ok y) = None
 fault_of (Err e) = Some e

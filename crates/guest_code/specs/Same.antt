@@ -12,6 +12,7 @@ use Rattle.guest_code.specs.Program.{Variable, Semaphore, Thread, Program}
 abbrev pub same_instruction : Instruction → Instruction → Bool
 same_instruction = eq-value.it
 
+-- `==` of variables, of semaphores and of threads: of their names and of all else that they hold
 abbrev pub same_variable : Variable → Variable → Bool
 same_variable = eq_of_both (on (λ v. v.name) (pointwise nat_eq)) (on (λ v. v.opening) int_eq)
 
@@ -21,6 +22,7 @@ same_semaphore = eq_of_both (on (λ s. s.name) (pointwise nat_eq)) (on (λ s. s.
 abbrev pub same_thread : Thread → Thread → Bool
 same_thread = eq_of_both (on (λ t. t.name) (pointwise nat_eq)) (eq_of_both (on (λ t. t.locals) nat_eq) (on (λ t. t.code) (pointwise same_instruction)))
 
+-- `==` of programs
 abbrev pub same_program : Program → Program → Bool
 same_program =
     eq_of_both (on (λ p. p.variables) (pointwise same_variable))

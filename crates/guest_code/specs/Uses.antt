@@ -32,6 +32,7 @@ pub data Use : Type 0 where
   local : Name → Use  -- a name where a local must stand
   outside : Pos → Use  -- a `leave` with no `repeat` round it
 
+-- of an operand and of an expression
 abbrev pub operand_uses : Operand → List Use
 operand_uses (tree.local n) = local n ∷ []
 operand_uses (tree.literal z) = []
@@ -63,6 +64,7 @@ abbrev mutual
   block_uses inside tree.nothing = []
   block_uses inside (tree.next s b) = stmt_uses inside s ++ block_uses inside b
 
+-- of a thread, of declarations and of threads
 abbrev pub thread_uses : Thread → List Use
 thread_uses t = declares kinds.Thread t.name ∷ block_uses false t.body
 

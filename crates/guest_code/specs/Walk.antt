@@ -15,10 +15,12 @@ use Rattle.guest_code.specs.Fault.{object_refusal, local_refusal}
 unfoldable pub all_uses : code-tree.Tree → List Use
 all_uses t = uses (tree_view t).declarations (tree_view t).threads
 
+-- what a check with this refusal answers, where it leaves x
 abbrev pub passed : {X : Type 0} → Option CheckError → X → Result X CheckError
 passed None x = Ok x
 passed (Some e) x = Err e
 
+-- the names of a thread's locals in memory
 abbrev pub locals_view : Vec (Vec ℕ Global) Global → List (List ℕ)
 locals_view v = map (λ n. n.items) v.items
 
@@ -26,16 +28,20 @@ locals_view v = map (λ n. n.items) v.items
 abbrev pub Checked : Type 0
 Checked = Result (List (List ℕ)) CheckError
 
+-- one check, and then another with the locals that it left
 abbrev pub and_then : Checked → (List (List ℕ) → Checked) → Checked
 and_then (Ok ns) f = f ns
 and_then (Err e) f = Err e
 
+-- a name where a local must stand: it is added where it is new
 abbrev pub local_check : List Use → Name → List (List ℕ) → Checked
 local_check all n ns = passed (local_refusal n (kind_in all n.text) ns) (with_name ns n.text)
 
+-- a name where an object of this kind must stand
 abbrev pub object_check : List Use → Kind → Name → List (List ℕ) → Checked
 object_check all k n ns = passed (object_refusal k n (kind_in all n.text)) ns
 
+-- an operand and an expression
 abbrev pub operand_check : List Use → Operand → List (List ℕ) → Checked
 operand_check all (tree.local n) ns = local_check all n ns
 operand_check all (tree.literal z) ns = Ok ns
@@ -44,6 +50,7 @@ abbrev pub expr_check : List Use → Expr → List (List ℕ) → Checked
 expr_check all (tree.single a) ns = operand_check all a ns
 expr_check all (tree.both a op b) ns = and_then (operand_check all a ns) (operand_check all b)
 
+-- a statement and a block, with whether a `repeat` is round them
 abbrev mutual
   pub stmt_check : List Use → Bool → Stmt → List (List ℕ) → Checked
   stmt_check all inside (tree.load r x) ns = and_then (local_check all r ns) (object_check all kinds.Variable x)

@@ -1,4 +1,19 @@
 //! Programs of the guest language: flat code, made of a tree that has no fault.
+//!
+//! [`lowering::lower`] answers a tree's first fault, or its program. Which fault is the first is
+//! said in `specs/Fault.antt` of the uses of names in text order (`specs/Uses.antt`), and which
+//! program a tree stands for in `specs/Code.antt`.
+//!
+//! What is promised, for every tree:
+//!
+//! - A program is answered exactly where the tree has no fault, and it is the one that the tree
+//!   stands for; else exactly the first fault is answered. Only memory may run out.
+//! - The first fault stands at one use of a name or a `leave`, and no use before it has any
+//!   ([`lowering::first_stands`]). Want of threads and too long a code come after all others.
+//! - A program keeps every limit of [`limits`], and each number of an object or a local in its
+//!   code is in range (`IsWellFormed` of `specs/Program.antt`).
+//! - Two programs are equal exactly where all that is seen of them is
+//!   ([`program::Program::is_same`]).
 #![tactic(auto)]
 
 mod check;

@@ -11,7 +11,9 @@ use std::marker::Model;
 /// A local of the thread, by its number, or a number.
 #[derive(Clone, Copy, Debug, PartialEq, Eq)]
 pub enum Value {
+    /// The local of this number.
     Local(usize),
+    /// This number.
     Literal(i64),
 }
 
