@@ -1,8 +1,9 @@
 # run    builds the program, proving all that it is built from, and replays the first example
 # build  leaves the program at build/ctxbound
-# test   the gate: every proof from nothing, the must-fail edits, the tests, the documents' commands
+# test   the gate: every proof from nothing, the must-fail edits, the tests, and then `shown`
+# shown  the documents' commands and refused requests for memory, on the program that is at build/ctxbound
 # bench  how fast a subtree is walked
-.PHONY: run build test bench clean
+.PHONY: run build test shown bench clean
 
 EXAMPLE = examples/first.guest 0,1,0
 
@@ -15,10 +16,16 @@ build:
 	@cd crates/ctxbound && rt run -- replay data/race.guest 0 > ../../build/log 2>&1 || { cat ../../build/log; exit 1; }
 	@cp crates/ctxbound/out/ctxbound build/ctxbound
 
-test: build
+# The program that `rt ci` proved and built stays in its crate's folder.
+test:
+	rt ci
+	@mkdir -p build
+	@cp crates/ctxbound/out/ctxbound build/ctxbound
+	@$(MAKE) --no-print-directory shown
+
+shown:
 	python3 tests/docs.py build/ctxbound
 	python3 tests/allocations.py build/ctxbound
-	rt ci
 
 bench:
 	@cd crates/walk_bench && rt run -- data/race.guest 1 > /dev/null
