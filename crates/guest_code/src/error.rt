@@ -12,25 +12,25 @@ use thiserror::Error;
 #[derive(Clone, Copy, Debug, PartialEq, Eq, Error)]
 pub enum CheckError {
     /// The name is declared already. Objects and threads share one name space.
-    #[error("check C1 Duplicate at {}:{}", .0.line, .0.col)]
+    #[error("check C1 Duplicate at {0}")]
     Duplicate(Pos),
     /// An object must stand here, and nothing declares this name.
-    #[error("check C2 Unknown at {}:{}", .0.line, .0.col)]
+    #[error("check C2 Unknown at {0}")]
     Unknown(Pos),
     /// This name is declared as something else than what must stand here.
-    #[error("check C3 WrongKind at {}:{}", .0.line, .0.col)]
+    #[error("check C3 WrongKind at {0}")]
     WrongKind(Pos),
     /// There is no thread.
     #[error("check C4 NoThreads")]
     NoThreads,
     /// The declaration, the thread or the first use of a local that passes its limit.
-    #[error("check C5 TooMany at {}:{}", .0.line, .0.col)]
+    #[error("check C5 TooMany at {0}")]
     TooMany(Pos),
     /// The first thread, by its number, with more than `INSTRUCTIONS` instructions.
     #[error("check C6 CodeTooLong in thread {0}")]
     CodeTooLong(u8),
     /// No `repeat` of its thread is round this `leave`.
-    #[error("check C7 LeaveOutside at {}:{}", .0.line, .0.col)]
+    #[error("check C7 LeaveOutside at {0}")]
     LeaveOutside(Pos),
     /// Memory ran out.
     #[error("memory")]
