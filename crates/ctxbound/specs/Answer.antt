@@ -1,7 +1,11 @@
 -- What a replay answers for two byte strings, and what each fault says of them.
 use Rattle.std.specs.Prelude.{◌≡◌, ℕ, List, true, Option, Some, None}
+use Rattle.guest_syntax.specs.declared.error.SyntaxError.{SyntaxError}
+use Rattle.guest_syntax.specs.declared.error.SyntaxError.TheVariants as syntax
 use Rattle.guest_syntax.specs.Tree.{Tree}
 use Rattle.guest_syntax.specs.Grammar.{Spells}
+use Rattle.guest_code.specs.declared.error.CheckError.{CheckError}
+use Rattle.guest_code.specs.declared.error.CheckError.TheVariants as check
 use Rattle.guest_code.specs.Fault.{fault}
 use Rattle.guest_code.specs.Code.{code}
 use Rattle.guest_code.specs.Program.{Program}
@@ -10,9 +14,16 @@ use Rattle.semantics.specs.Schedules.{run, runs}
 use Rattle.semantics.specs.Ends.{kind_of}
 use Rattle.semantics.specs.declared.view.Kind.{Kind}
 use Rattle.semantics.specs.declared.view.Kind.TheVariants.{Done, Failed, Stuck}
+use Rattle.replay.specs.declared.error.ReplayError.{ReplayError}
+use Rattle.replay.specs.declared.error.ReplayError.TheVariants as replay
+use Rattle.replay.specs.declared.schedule.ScheduleError.{ScheduleError}
+use Rattle.replay.specs.declared.schedule.ScheduleError.TheVariants as schedule
+use Rattle.replay.specs.Run.{TellsOfSchedule}
 use Rattle.replay.specs.Spelling as spelling
 use Rattle.replay.specs.Trace.{Trace}
 use Rattle.ctxbound.specs.declared.answer.Replayed.{Replayed}
+use Rattle.ctxbound.specs.declared.fault.Fault.{Fault}
+use Rattle.ctxbound.specs.declared.fault.Fault.TheVariants.{File, Syntax, Check, Schedule, Replay, Memory}
 
 -- the text spells a tree without a fault, and this is its program
 pub record IsProgramOf (text : List ℕ) (p : Program) : Type 0 where
@@ -31,9 +42,64 @@ pub record IsReplayOf (text schedule : List ℕ) (a : Replayed) : Type 0 where
   pub trace : a.trace.items ≡ Trace program steps
   pub kind : a.kind ≡ kind_of program (run program (start program) steps)
 
+-- the text spells a tree, and this is its first fault
+pub record IsFaultOf (text : List ℕ) (e : CheckError) : Type 0 where
+  pub tree : Tree
+  pub spelt : Spells text tree
+  pub first : fault tree ≡ Some e
+
+-- the text spells a program, and this is what is wrong with the schedule's text
+pub record IsNoSchedule (text schedule : List ℕ) (e : ScheduleError) : Type 0 where
+  pub program : Program
+  pub is_program : IsProgramOf text program
+  pub refused : spelling.TellsOfText schedule e
+
+-- the text spells a program, the schedule's text a schedule, and this is why it doesn't run
+pub record IsNoRun (text schedule : List ℕ) (e : ReplayError) : Type 0 where
+  pub program : Program
+  pub is_program : IsProgramOf text program
+  pub steps : List ℕ
+  pub spelt : spelling.Spells schedule steps
+  pub refused : TellsOfSchedule program steps e
+
+-- what a fault says of the text and of the schedule's text
+abbrev pub TellsOf : List ℕ → List ℕ → Fault → Type 0
+TellsOf text schedule File = ⊥
+TellsOf text schedule (Syntax e) = (t : Tree) → Spells text t → ⊥
+TellsOf text schedule (Check e) = IsFaultOf text e
+TellsOf text schedule (Schedule e) = IsNoSchedule text schedule e
+TellsOf text schedule (Replay e) = IsNoRun text schedule e
+TellsOf text schedule Memory = Unit {0}
+
+-- the fault of a refusal: want of memory is one fault, whoever met it
+abbrev pub of_syntax : SyntaxError → Fault
+of_syntax syntax.OutOfMemory = Memory
+of_syntax e = Syntax e
+
+abbrev pub of_check : CheckError → Fault
+of_check check.OutOfMemory = Memory
+of_check e = Check e
+
+abbrev pub of_schedule : ScheduleError → Fault
+of_schedule schedule.OutOfMemory = Memory
+of_schedule e = Schedule e
+
+abbrev pub of_replay : ReplayError → Fault
+of_replay replay.OutOfMemory = Memory
+of_replay e = Replay e
+
 -- the status behind a replay
 abbrev pub status_of : Option Kind → ℕ
 status_of (Some Done) = 0
 status_of (Some Failed) = 1
 status_of (Some Stuck) = 1
 status_of None = 0
+
+-- the status behind a fault: 4 for devices and memory, 2 for what the user gave
+abbrev pub fault_status : Fault → ℕ
+fault_status File = 4
+fault_status Memory = 4
+fault_status (Syntax e) = 2
+fault_status (Check e) = 2
+fault_status (Schedule e) = 2
+fault_status (Replay e) = 2

@@ -1,7 +1,7 @@
 //! What a replay answers for a text and a schedule.
 
-ghost use Rattle.std.specs.Prelude.{◌≡◌, IfOk};
-ghost use Rattle.ctxbound.specs.Answer.{IsReplayOf, status_of};
+ghost use Rattle.std.specs.Prelude.{◌≡◌, MatchResult};
+ghost use Rattle.ctxbound.specs.Answer.{IsReplayOf, TellsOf, status_of};
 
 use crate::fault::Fault;
 use guest_code::lowering::lower;
@@ -18,8 +18,13 @@ pub struct Replayed {
 }
 
 /// The trace of the schedule that `schedule` spells in the program that `text` spells.
+///
+/// # Errors
+///
+/// What is wrong first: with the text, with the program that it spells, with the schedule's text, or
+/// with a step of the schedule; `Memory` where memory runs out.
 pub fn replay_text(alloc: Global, text: &[u8], schedule: &[u8]) -> Result<Replayed, Fault>
-    ensures { IfOk result (IsReplayOf text.now schedule.now) }
+    ensures { MatchResult result (IsReplayOf text.now schedule.now) (TellsOf text.now schedule.now) }
 {
     let tree = parse(alloc, text)?;
     let program = lower(alloc, &tree)?;

@@ -1,5 +1,8 @@
 //! Why a run of the program has no answer.
 
+ghost use Rattle.std.specs.Prelude.{◌≡◌};
+ghost use Rattle.ctxbound.specs.Answer.{fault_status};
+
 use guest_code::error::CheckError;
 use guest_syntax::SyntaxError;
 use replay::{ReplayError, ScheduleError};
@@ -34,7 +37,9 @@ pub enum Fault {
 
 impl Fault {
     /// The status that the program ends with: 2 for what the user gave, 4 for memory and devices.
-    pub fn status(&self) -> u8 {
+    pub fn status(&self) -> u8
+        ensures { result ≡ fault_status self.now }
+    {
         match self {
             Fault::File | Fault::Memory => 4,
             Fault::Syntax(_) | Fault::Check(_) | Fault::Schedule(_) | Fault::Replay(_) => 2,
@@ -43,6 +48,11 @@ impl Fault {
 }
 
 impl From<SyntaxError> for Fault {
+    ghost use Rattle.std.specs.Prelude.{◌≡◌};
+    ghost use Rattle.ctxbound.specs.Answer.{of_syntax};
+
+    ghost from_gives = { λ e fault. fault ≡ of_syntax e };
+
     fn from(error: SyntaxError) -> Fault {
         match error {
             SyntaxError::OutOfMemory => Fault::Memory,
@@ -52,6 +62,11 @@ impl From<SyntaxError> for Fault {
 }
 
 impl From<CheckError> for Fault {
+    ghost use Rattle.std.specs.Prelude.{◌≡◌};
+    ghost use Rattle.ctxbound.specs.Answer.{of_check};
+
+    ghost from_gives = { λ e fault. fault ≡ of_check e };
+
     fn from(error: CheckError) -> Fault {
         match error {
             CheckError::OutOfMemory => Fault::Memory,
@@ -61,6 +76,11 @@ impl From<CheckError> for Fault {
 }
 
 impl From<ScheduleError> for Fault {
+    ghost use Rattle.std.specs.Prelude.{◌≡◌};
+    ghost use Rattle.ctxbound.specs.Answer.{of_schedule};
+
+    ghost from_gives = { λ e fault. fault ≡ of_schedule e };
+
     fn from(error: ScheduleError) -> Fault {
         match error {
             ScheduleError::OutOfMemory => Fault::Memory,
@@ -70,6 +90,11 @@ impl From<ScheduleError> for Fault {
 }
 
 impl From<ReplayError> for Fault {
+    ghost use Rattle.std.specs.Prelude.{◌≡◌};
+    ghost use Rattle.ctxbound.specs.Answer.{of_replay};
+
+    ghost from_gives = { λ e fault. fault ≡ of_replay e };
+
     fn from(error: ReplayError) -> Fault {
         match error {
             ReplayError::OutOfMemory => Fault::Memory,
@@ -79,6 +104,11 @@ impl From<ReplayError> for Fault {
 }
 
 impl From<AllocError> for Fault {
+    ghost use Rattle.std.specs.Prelude.{◌≡◌};
+    ghost use Rattle.ctxbound.specs.declared.fault.Fault.TheVariants.{Memory};
+
+    ghost from_gives = { λ _ fault. fault ≡ Memory };
+
     fn from(_error: AllocError) -> Fault {
         Fault::Memory
     }

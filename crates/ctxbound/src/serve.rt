@@ -1,5 +1,8 @@
 //! One run of the program over a reader and two writers.
 
+ghost use Rattle.std.specs.Prelude.{◌≡◌};
+ghost use Rattle.ctxbound.specs.Answer.{fault_status};
+
 use crate::answer::{replay_text, status_of};
 use crate::asked::Asked;
 use crate::fault::Fault;
@@ -8,7 +11,9 @@ use std::alloc::Global;
 use std::io::{Read, Write};
 
 /// Writes the line of a fault, and answers its status. A failing stream changes no status.
-pub fn report_fault<E: Write>(err: &mut E, fault: &Fault) -> u8 {
+pub fn report_fault<E: Write>(err: &mut E, fault: &Fault) -> u8
+    ensures { result ≡ fault_status fault.now }
+{
     let _ = writeln!(err, "ctxbound: {fault}");
     fault.status()
 }

@@ -1,8 +1,15 @@
 use Rattle.std.proofs.Common.{List, ℕ, ap, ◌∙◌, subst}
+use Rattle.std.proofs.lemmas.Result.{err_from_is_err_and}
 use Rattle.guest_syntax.specs.Tree.{tree_view}
 use Rattle.replay.specs.Run.{Run, IsRunOf}
 use Rattle.replay.specs.Trace.{trace}
+use Rattle.ctxbound.proofs.Faults.{syntax_tells}
 use Rattle.ctxbound.proofs.answer.replay_text.Goals as goal
+
+pub returns-in_err-tree : goal.returns-in_err-tree
+returns-in_err-tree c =
+    let p = err_from_is_err_and c.from_residual.result c.from_residual.ensures.1 in
+    rw (p.1, p.2) (syntax_tells c.args.text.now c.args.schedule.now c.in_err-tree.field-0.0 c.in_err-tree.ensures.refused)
 
 pub returns : goal.returns
 returns c =
