@@ -1,9 +1,13 @@
 //! Spellings of schedules, one run with its trace, and what the errors print. More runs and
 //! traces are tested through the program.
 
-use crate::{ReplayError, ScheduleError, replay, schedule_from, schedule_text, trace_text};
+use crate::{
+    Act, Line, ReplayError, ScheduleError, replay, schedule_from, schedule_text, trace_text,
+};
 use guest_code::lowering::lower;
 use guest_syntax::parse;
+use semantics::state::Stop;
+use semantics::view::Kind;
 use std::test::*;
 
 /// A text, and the schedule that it spells.
@@ -48,16 +52,48 @@ fn reads_and_writes_schedules(rt: HostRuntime) -> Result<(), Fail> {
 
 #[test]
 fn replays_and_prints(rt: HostRuntime) -> Result<(), Fail> {
-    let text = b"var x; thread A { store x 1; store x 0; } thread B { load r x; assert r == 0; }";
+    let text =
+        b"var x; thread A { store x 1; store x 0; } thread B { load r x; assert r == 0; } thread C { assert 0; }";
     let tree = parse(rt.alloc(), text)?;
     let program = lower(rt.alloc(), &tree)?;
     let run = replay(rt.alloc(), &program, &[0, 1, 0])?;
+    let lines = [
+        Line {
+            thread: 0,
+            act: Act::Store {
+                variable: 0,
+                value: 1,
+            },
+            preempting: false,
+            stop: None,
+        },
+        Line {
+            thread: 1,
+            act: Act::Load {
+                variable: 0,
+                value: 1,
+            },
+            preempting: true,
+            stop: Some(Stop::Assert),
+        },
+        Line {
+            thread: 0,
+            act: Act::Store {
+                variable: 0,
+                value: 0,
+            },
+            preempting: false,
+            stop: None,
+        },
+    ];
+    assert_eq!(rt; run.stopped(), &[2][..]);
+    assert_eq!(rt; run.lines(), &lines[..]);
     assert_eq!(rt; run.preemptions(), 1);
     assert_eq!(rt; run.variables(), &[0][..]);
-    assert_eq!(rt; run.lines().len(), 3);
+    assert_eq!(rt; run.kind(), Some(Kind::Failed));
     let trace = trace_text(rt.alloc(), &program, &run)?;
     let want =
-        b"0 A store x 1\n1 B load x 1 preempt stop assert\n2 A store x 0\npreemptions 1\nkind failed\nvars x=0\n";
+        b"start C stop assert\n0 A store x 1\n1 B load x 1 preempt stop assert\n2 A store x 0\npreemptions 1\nkind failed\nvars x=0\n";
     assert_eq!(rt; trace.as_slice(), &want[..]);
     Ok(())
 }
