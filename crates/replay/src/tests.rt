@@ -33,6 +33,41 @@ static REFUSED: [(&[u8], usize); 10] = [
     (b"12,1a,", 3),
 ];
 
+/// A thread that fails where its step comes between two of another, and one that fails at the start.
+const RACE: &[u8] =
+    b"var x; thread A { store x 1; store x 0; } thread B { load r x; assert r == 0; } thread C { assert 0; }";
+
+/// What the steps `0,1,0` of `RACE` do.
+const LINES: [Line; 3] = [
+    Line {
+        thread: 0,
+        act: Act::Store {
+            variable: 0,
+            value: 1,
+        },
+        preempting: false,
+        stop: None,
+    },
+    Line {
+        thread: 1,
+        act: Act::Load {
+            variable: 0,
+            value: 1,
+        },
+        preempting: true,
+        stop: Some(Stop::Assert),
+    },
+    Line {
+        thread: 0,
+        act: Act::Store {
+            variable: 0,
+            value: 0,
+        },
+        preempting: false,
+        stop: None,
+    },
+];
+
 #[test]
 fn reads_and_writes_schedules(rt: HostRuntime) -> Result<(), Fail> {
     for (text, schedule) in SPELLED.iter() {
@@ -52,42 +87,11 @@ fn reads_and_writes_schedules(rt: HostRuntime) -> Result<(), Fail> {
 
 #[test]
 fn replays_and_prints(rt: HostRuntime) -> Result<(), Fail> {
-    let text =
-        b"var x; thread A { store x 1; store x 0; } thread B { load r x; assert r == 0; } thread C { assert 0; }";
-    let tree = parse(rt.alloc(), text)?;
+    let tree = parse(rt.alloc(), RACE)?;
     let program = lower(rt.alloc(), &tree)?;
     let run = replay(rt.alloc(), &program, &[0, 1, 0])?;
-    let lines = [
-        Line {
-            thread: 0,
-            act: Act::Store {
-                variable: 0,
-                value: 1,
-            },
-            preempting: false,
-            stop: None,
-        },
-        Line {
-            thread: 1,
-            act: Act::Load {
-                variable: 0,
-                value: 1,
-            },
-            preempting: true,
-            stop: Some(Stop::Assert),
-        },
-        Line {
-            thread: 0,
-            act: Act::Store {
-                variable: 0,
-                value: 0,
-            },
-            preempting: false,
-            stop: None,
-        },
-    ];
     assert_eq!(rt; run.stopped(), &[2][..]);
-    assert_eq!(rt; run.lines(), &lines[..]);
+    assert_eq!(rt; run.lines(), &LINES[..]);
     assert_eq!(rt; run.preemptions(), 1);
     assert_eq!(rt; run.variables(), &[0][..]);
     assert_eq!(rt; run.kind(), Some(Kind::Failed));
