@@ -1,36 +1,57 @@
 //! Which refusal a tree gets.
 
-ghost use Rattle.std.specs.Prelude.{◌≡◌, ◌≤◌, List, [], Some, length, map, IfOk, MatchResult, false};
+ghost use Rattle.std.specs.Prelude.{◌≡◌, ◌≤◌, List, [], Some, length, map, IfOk, MatchResult, Ok, Err, cond, false};
 ghost use Rattle.guest_syntax.specs.Tree.{name_view, operand_view, expr_view, stmt_view, block_view, declaration_view, thread_view, tree_view};
-ghost use Rattle.guest_code.specs.Uses.{Use, uses, kind_in, how_many, knows, declarations_uses, thread_locals};
-ghost use Rattle.guest_code.specs.Fault.{declares_refusal, object_refusal, first, fault};
-ghost use Rattle.guest_code.specs.Walk.{all_uses, passed, local_check, operand_check, expr_check, stmt_check, block_check, locals_view};
+ghost use Rattle.guest_code.specs.Uses.{Use, uses, kind_in, how_many, knows, declarations_uses, threads_uses, thread_locals};
+ghost use Rattle.guest_code.specs.Fault.{declares_refusal, object_refusal, or_else, first, fault};
+ghost use Rattle.guest_code.specs.Walk.{all_uses, passed, and_then, local_check, object_check, operand_check, expr_check, stmt_check, block_check, locals_view};
 ghost use Rattle.guest_code.specs.Gives.{Gives, Answers, Refuses, fault_of};
 ghost use Rattle.guest_code.specs.Found.{Found};
 ghost use Rattle.guest_code.specs.declared.error.CheckError.{CheckError};
+ghost use Rattle.guest_code.specs.declared.kinds.Kind.{Kind};
+ghost use Rattle.guest_syntax.specs.declared.tree.Statement.{Statement};
 
 use crate::error::CheckError;
 use crate::kinds::{Kind, kind_of};
 use crate::lengths::check_lengths;
 use crate::limits::{LOCALS, THREADS};
+use guest_syntax::place::Pos;
 use guest_syntax::tree::{Declaration, Expr, Name, Operand, Statement, Thread, Tree};
 use std::alloc::Global;
 
-/// The kind that a name is declared as.
-fn kind_among(declarations: &[Declaration], threads: &[Thread], name: &[u8]) -> Option<Kind>
-    ensures { result ≡ kind_in (uses (map declaration_view declarations.now) (map thread_view threads.now)) name.now }
+/// The kind that a name is declared as by these declarations.
+fn kind_declared(declarations: &[Declaration], name: &[u8]) -> Option<Kind>
+    ensures { result ≡ kind_in (declarations_uses (map declaration_view declarations.now)) name.now }
 {
     for declaration in declarations {
         if declaration.name.text.as_slice() == name {
             return Some(kind_of(declaration.object));
         }
     }
+    None
+}
+
+/// The kind of a name of one of these threads.
+fn kind_of_thread(threads: &[Thread], name: &[u8]) -> Option<Kind>
+    ensures { result ≡ kind_in (threads_uses (map thread_view threads.now)) name.now }
+{
     for thread in threads {
         if thread.name.text.as_slice() == name {
             return Some(Kind::Thread);
         }
     }
     None
+}
+
+/// The kind that a name is declared as.
+#[tactic(auto, using(crate::proofs::Looks::kind_stays, crate::proofs::Looks::kind_behind))]
+fn kind_among(declarations: &[Declaration], threads: &[Thread], name: &[u8]) -> Option<Kind>
+    ensures { result ≡ kind_in (uses (map declaration_view declarations.now) (map thread_view threads.now)) name.now }
+{
+    match kind_declared(declarations, name) {
+        Some(kind) => Some(kind),
+        None => kind_of_thread(threads, name),
+    }
 }
 
 /// The kind that a name is declared as anywhere in the text.
@@ -74,6 +95,17 @@ fn check_object(tree: &Tree, kind: Kind, name: &Name) -> Result<(), CheckError>
         None => Err(CheckError::Unknown(name.at)),
         Some(found) if found.is(kind) => Ok(()),
         Some(_) => Err(CheckError::WrongKind(name.at)),
+    }
+}
+
+/// Refuses a `leave` with no `repeat` round it.
+fn check_leave(inside: bool, at: Pos) -> Result<(), CheckError>
+    ensures { result ≡ cond inside (Ok tt) (Err (CheckError.LeaveOutside at)) }
+{
+    if inside {
+        Ok(())
+    } else {
+        Err(CheckError::LeaveOutside(at))
     }
 }
 
@@ -132,6 +164,56 @@ fn check_expr(
     }
 }
 
+/// The same of a `load`.
+fn check_load(
+    alloc: Global,
+    tree: &Tree,
+    locals: &mut Vec<Vec<u8>>,
+    local: &Name,
+    variable: &Name,
+) -> Result<(), CheckError>
+    ensures { Gives result (map (λ n. n.items) locals.new.items) (and_then (local_check (all_uses tree.now) (name_view local.now) (map (λ n. n.items) locals.old.items)) (object_check (all_uses tree.now) Kind.Variable (name_view variable.now))) }
+{
+    check_local(alloc, tree, locals, local)?;
+    check_object(tree, Kind::Variable, variable)
+}
+
+/// The same of a `store`.
+fn check_store(
+    alloc: Global,
+    tree: &Tree,
+    locals: &mut Vec<Vec<u8>>,
+    variable: &Name,
+    value: &Operand,
+) -> Result<(), CheckError>
+    ensures { Gives result (map (λ n. n.items) locals.new.items) (and_then (object_check (all_uses tree.now) Kind.Variable (name_view variable.now) (map (λ n. n.items) locals.old.items)) (operand_check (all_uses tree.now) (operand_view value.now))) }
+{
+    check_object(tree, Kind::Variable, variable)?;
+    check_operand(alloc, tree, locals, value)
+}
+
+/// The same of a `set`.
+fn check_set(
+    alloc: Global,
+    tree: &Tree,
+    locals: &mut Vec<Vec<u8>>,
+    local: &Name,
+    value: &Expr,
+) -> Result<(), CheckError>
+    ensures { Gives result (map (λ n. n.items) locals.new.items) (and_then (local_check (all_uses tree.now) (name_view local.now) (map (λ n. n.items) locals.old.items)) (expr_check (all_uses tree.now) (expr_view value.now))) }
+{
+    check_local(alloc, tree, locals, local)?;
+    check_expr(alloc, tree, locals, value)
+}
+
+/// The same of a `wait`, which uses no local.
+fn check_wait(tree: &Tree, condition: &Name, mutex: &Name) -> Result<(), CheckError>
+    ensures { result ≡ passed (or_else (object_refusal Kind.Condition (name_view condition.now) (kind_in (all_uses tree.now) condition.now.text.items)) (object_refusal Kind.Mutex (name_view mutex.now) (kind_in (all_uses tree.now) mutex.now.text.items))) tt }
+{
+    check_object(tree, Kind::Condition, condition)?;
+    check_object(tree, Kind::Mutex, mutex)
+}
+
 /// The same of a statement, with whether a `repeat` is round it.
 #[cycle(body)]
 fn check_statement(
@@ -144,51 +226,46 @@ fn check_statement(
     ensures { Gives result (map (λ n. n.items) locals.new.items) (stmt_check (all_uses tree.now) inside (stmt_view statement.now) (map (λ n. n.items) locals.old.items)) }
 {
     match statement {
-        Statement::Load { local, variable } => {
-            check_local(alloc, tree, locals, local)?;
-            check_object(tree, Kind::Variable, variable)
+        Statement::Load { local, variable } => check_load(alloc, tree, locals, local, variable),
+        Statement::Store { variable, value } => check_store(alloc, tree, locals, variable, value),
+        Statement::Lock(name) | Statement::Unlock(name) => check_object(tree, Kind::Mutex, name),
+        Statement::Wait { condition, mutex } => check_wait(tree, condition, mutex),
+        Statement::Signal(name) | Statement::Broadcast(name) => {
+            check_object(tree, Kind::Condition, name)
         }
-        Statement::Store { variable, value } => {
-            check_object(tree, Kind::Variable, variable)?;
-            check_operand(alloc, tree, locals, value)
+        Statement::Acquire(name) | Statement::Release(name) => {
+            check_object(tree, Kind::Semaphore, name)
         }
-        Statement::Lock(mutex) => check_object(tree, Kind::Mutex, mutex),
-        Statement::Unlock(mutex) => check_object(tree, Kind::Mutex, mutex),
-        Statement::Wait { condition, mutex } => {
-            check_object(tree, Kind::Condition, condition)?;
-            check_object(tree, Kind::Mutex, mutex)
-        }
-        Statement::Signal(condition) => check_object(tree, Kind::Condition, condition),
-        Statement::Broadcast(condition) => check_object(tree, Kind::Condition, condition),
-        Statement::Acquire(semaphore) => check_object(tree, Kind::Semaphore, semaphore),
-        Statement::Release(semaphore) => check_object(tree, Kind::Semaphore, semaphore),
-        Statement::Set { local, value } => {
-            check_local(alloc, tree, locals, local)?;
-            check_expr(alloc, tree, locals, value)
-        }
+        Statement::Set { local, value } => check_set(alloc, tree, locals, local, value),
         Statement::Assert(test) => check_expr(alloc, tree, locals, test),
         Statement::If {
             test,
             then,
             otherwise,
-        } => {
-            check_expr(alloc, tree, locals, test)?;
-            match otherwise {
-                None => check_block(alloc, tree, locals, inside, then),
-                Some(other) => {
-                    check_block(alloc, tree, locals, inside, then)?;
-                    check_block(alloc, tree, locals, inside, other)
-                }
-            }
-        }
+        } => check_if(alloc, tree, locals, inside, test, then, otherwise),
         Statement::Repeat { body, .. } => check_block(alloc, tree, locals, true, body),
-        Statement::Leave(at) => {
-            if inside {
-                Ok(())
-            } else {
-                Err(CheckError::LeaveOutside(*at))
-            }
-        }
+        Statement::Leave(at) => check_leave(inside, *at),
+    }
+}
+
+/// The same of an `if`, with its `else` where it has one.
+#[cycle(body)]
+fn check_if(
+    alloc: Global,
+    tree: &Tree,
+    locals: &mut Vec<Vec<u8>>,
+    inside: bool,
+    test: &Expr,
+    then: &Vec<Statement>,
+    otherwise: &Option<Vec<Statement>>,
+) -> Result<(), CheckError>
+    ensures { Gives result (map (λ n. n.items) locals.new.items) (stmt_check (all_uses tree.now) inside (stmt_view (Statement.If test.now then.now otherwise.now)) (map (λ n. n.items) locals.old.items)) }
+{
+    check_expr(alloc, tree, locals, test)?;
+    check_block(alloc, tree, locals, inside, then)?;
+    match otherwise {
+        None => Ok(()),
+        Some(other) => check_block(alloc, tree, locals, inside, other),
     }
 }
 

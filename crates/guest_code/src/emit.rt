@@ -2,68 +2,56 @@
 //! nearest `repeat` round it.
 
 ghost use Rattle.std.specs.Prelude.{◌≡◌, ◌+◌, ◌*◌, ◌<◌, ◌≤◌, ◌^◌, ◌++◌, [], ◌∷◌, map, OnOk};
-ghost use Rattle.guest_syntax.specs.Tree.{operand_view, expr_view, stmt_view, block_view, declaration_view};
+ghost use Rattle.guest_syntax.specs.Tree.{if_then, if_else, operand_view, expr_view, stmt_view, block_view, declaration_view};
 ghost use Rattle.guest_code.specs.Sizes.{size, block_size};
 ghost use Rattle.guest_code.specs.Code.{slot, place, names_of, value_of, expression_of, stmt_code, block_code, copies};
+ghost use Rattle.guest_code.specs.declared.kinds.Kind.{Kind};
+ghost use Rattle.guest_code.specs.declared.program.Instruction.{Instruction};
 
-use crate::kinds::{Kind, kind_of};
 use crate::lengths::{size_of_block, size_of_statement};
 use crate::limits::INSTRUCTIONS;
-use crate::program::{Expression, Instruction, Value};
-use guest_syntax::tree::{Declaration, Expr, Operand, Statement};
+use crate::names::Names;
+use crate::program::Instruction;
+use guest_syntax::tree::{Expr, Name, Operand, Statement};
 use std::alloc::AllocError;
 
-/// The number of an object among those of its kind.
-fn slot_of(declarations: &[Declaration], kind: Kind, name: &[u8]) -> usize
-    ensures { result ≡ slot kind (map declaration_view declarations.now) name.now }
+/// The instruction that loads a variable into a local.
+fn load(names: Names<'_>, local: &Name, variable: &Name) -> Instruction
+    ensures { result ≡ Instruction.Load (place (map (λ n. n.items) names.entry.locals.now) local.now.text.items) (slot Kind.Variable (map declaration_view names.entry.declarations.now) variable.now.text.items) }
 {
-    let mut at = 0;
-    for declaration in declarations {
-        if declaration.name.text.as_slice() == name {
-            return at;
-        }
-        if kind_of(declaration.object).is(kind) {
-            at += 1;
-        }
-    }
-    at
-}
-
-/// The number of a local.
-fn place_of(locals: &[Vec<u8>], name: &[u8]) -> usize
-    ensures { result ≡ place (map (λ n. n.items) locals.now) name.now }
-{
-    let mut at = 0;
-    for local in locals {
-        if local.as_slice() == name {
-            return at;
-        }
-        at += 1;
-    }
-    at
-}
-
-/// An operand, with its local by number.
-fn value_of(declarations: &[Declaration], locals: &[Vec<u8>], operand: &Operand) -> Value
-    ensures { result ≡ value_of (names_of declarations.now locals.now) (operand_view operand.now) }
-{
-    match operand {
-        Operand::Local(name) => Value::Local(place_of(locals, &name.text)),
-        Operand::Literal(z) => Value::Literal(*z),
+    Instruction::Load {
+        local: names.local(local),
+        variable: names.variable(variable),
     }
 }
 
-/// An expression, with its locals by number.
-fn expression_of(declarations: &[Declaration], locals: &[Vec<u8>], test: &Expr) -> Expression
-    ensures { result ≡ expression_of (names_of declarations.now locals.now) (expr_view test.now) }
+/// The instruction that stores a value in a variable.
+fn store(names: Names<'_>, variable: &Name, value: &Operand) -> Instruction
+    ensures { result ≡ Instruction.Store (slot Kind.Variable (map declaration_view names.entry.declarations.now) variable.now.text.items) (value_of (names_of names.entry.declarations.now names.entry.locals.now) (operand_view value.now)) }
 {
-    match test {
-        Expr::Single(a) => Expression::Single(value_of(declarations, locals, a)),
-        Expr::Both(a, op, b) => Expression::Both(
-            value_of(declarations, locals, a),
-            *op,
-            value_of(declarations, locals, b),
-        ),
+    Instruction::Store {
+        variable: names.variable(variable),
+        value: names.value(value),
+    }
+}
+
+/// The instruction that waits on a condition with a mutex.
+fn wait(names: Names<'_>, condition: &Name, mutex: &Name) -> Instruction
+    ensures { result ≡ Instruction.Wait (slot Kind.Condition (map declaration_view names.entry.declarations.now) condition.now.text.items) (slot Kind.Mutex (map declaration_view names.entry.declarations.now) mutex.now.text.items) }
+{
+    Instruction::Wait {
+        condition: names.condition(condition),
+        mutex: names.mutex(mutex),
+    }
+}
+
+/// The instruction that sets a local.
+fn set(names: Names<'_>, local: &Name, value: &Expr) -> Instruction
+    ensures { result ≡ Instruction.Set (place (map (λ n. n.items) names.entry.locals.now) local.now.text.items) (expression_of (names_of names.entry.declarations.now names.entry.locals.now) (expr_view value.now)) }
+{
+    Instruction::Set {
+        local: names.local(local),
+        value: names.expression(value),
     }
 }
 
@@ -79,129 +67,99 @@ fn put(code: &mut Vec<Instruction>, instr: Instruction) -> Result<(), AllocError
 #[cycle(emit)]
 fn emit_statement(
     code: &mut Vec<Instruction>,
-    declarations: &[Declaration],
-    locals: &[Vec<u8>],
+    names: Names<'_>,
     statement: &Statement,
     behind: usize,
 ) -> Result<(), AllocError>
     requires small { size (stmt_view statement.now) ≤ INSTRUCTIONS }
     requires behind { behind + size (stmt_view statement.now) < 2 ^ 32 }
-    ensures { OnOk result (code.new.items ≡ code.old.items ++ stmt_code (names_of declarations.now locals.now) (stmt_view statement.now) behind) }
+    ensures { OnOk result (code.new.items ≡ code.old.items ++ stmt_code (names_of names.entry.declarations.now names.entry.locals.now) (stmt_view statement.now) behind) }
 {
     match statement {
-        Statement::Load { local, variable } => put(
-            code,
-            Instruction::Load {
-                local: place_of(locals, &local.text),
-                variable: slot_of(declarations, Kind::Variable, &variable.text),
-            },
-        ),
-        Statement::Store { variable, value } => put(
-            code,
-            Instruction::Store {
-                variable: slot_of(declarations, Kind::Variable, &variable.text),
-                value: value_of(declarations, locals, value),
-            },
-        ),
-        Statement::Lock(mutex) => put(
-            code,
-            Instruction::Lock(slot_of(declarations, Kind::Mutex, &mutex.text)),
-        ),
-        Statement::Unlock(mutex) => put(
-            code,
-            Instruction::Unlock(slot_of(declarations, Kind::Mutex, &mutex.text)),
-        ),
-        Statement::Wait { condition, mutex } => put(
-            code,
-            Instruction::Wait {
-                condition: slot_of(declarations, Kind::Condition, &condition.text),
-                mutex: slot_of(declarations, Kind::Mutex, &mutex.text),
-            },
-        ),
-        Statement::Signal(condition) => put(
-            code,
-            Instruction::Signal(slot_of(declarations, Kind::Condition, &condition.text)),
-        ),
-        Statement::Broadcast(condition) => put(
-            code,
-            Instruction::Broadcast(slot_of(declarations, Kind::Condition, &condition.text)),
-        ),
-        Statement::Acquire(semaphore) => put(
-            code,
-            Instruction::Acquire(slot_of(declarations, Kind::Semaphore, &semaphore.text)),
-        ),
-        Statement::Release(semaphore) => put(
-            code,
-            Instruction::Release(slot_of(declarations, Kind::Semaphore, &semaphore.text)),
-        ),
-        Statement::Set { local, value } => put(
-            code,
-            Instruction::Set {
-                local: place_of(locals, &local.text),
-                value: expression_of(declarations, locals, value),
-            },
-        ),
-        Statement::Assert(test) => put(
-            code,
-            Instruction::Assert(expression_of(declarations, locals, test)),
-        ),
+        Statement::Load { local, variable } => put(code, load(names, local, variable)),
+        Statement::Store { variable, value } => put(code, store(names, variable, value)),
+        Statement::Lock(name) => put(code, Instruction::Lock(names.mutex(name))),
+        Statement::Unlock(name) => put(code, Instruction::Unlock(names.mutex(name))),
+        Statement::Wait { condition, mutex } => put(code, wait(names, condition, mutex)),
+        Statement::Signal(name) => put(code, Instruction::Signal(names.condition(name))),
+        Statement::Broadcast(name) => put(code, Instruction::Broadcast(names.condition(name))),
+        Statement::Acquire(name) => put(code, Instruction::Acquire(names.semaphore(name))),
+        Statement::Release(name) => put(code, Instruction::Release(names.semaphore(name))),
+        Statement::Set { local, value } => put(code, set(names, local, value)),
+        Statement::Assert(test) => put(code, Instruction::Assert(names.expression(test))),
         Statement::If {
             test,
             then,
             otherwise,
         } => match otherwise {
-            None => {
-                put(
-                    code,
-                    Instruction::SkipIfZero(
-                        expression_of(declarations, locals, test),
-                        size_of_block(then),
-                    ),
-                )?;
-                emit_block(code, declarations, locals, then, behind)
-            }
-            Some(other) => {
-                let len = size_of_block(other);
-                put(
-                    code,
-                    Instruction::SkipIfZero(
-                        expression_of(declarations, locals, test),
-                        size_of_block(then) + 1,
-                    ),
-                )?;
-                emit_block(code, declarations, locals, then, behind + 1 + len)?;
-                put(code, Instruction::Skip(len))?;
-                emit_block(code, declarations, locals, other, behind)
-            }
+            None => emit_if(code, names, test, then, behind),
+            Some(other) => emit_choice(code, names, test, then, other, behind),
         },
-        Statement::Repeat { times, body } => emit_copies(code, declarations, locals, body, *times),
+        Statement::Repeat { times, body } => emit_copies(code, names, body, *times),
         Statement::Leave(_) => put(code, Instruction::Skip(behind)),
     }
+}
+
+/// Adds the code of an `if` with no `else`.
+#[cycle(emit)]
+fn emit_if(
+    code: &mut Vec<Instruction>,
+    names: Names<'_>,
+    test: &Expr,
+    then: &[Statement],
+    behind: usize,
+) -> Result<(), AllocError>
+    requires small { size (if_then (expr_view test.now) (block_view then.now)) ≤ INSTRUCTIONS }
+    requires behind { behind + size (if_then (expr_view test.now) (block_view then.now)) < 2 ^ 32 }
+    ensures { OnOk result (code.new.items ≡ code.old.items ++ stmt_code (names_of names.entry.declarations.now names.entry.locals.now) (if_then (expr_view test.now) (block_view then.now)) behind) }
+{
+    let over = size_of_block(then);
+    put(code, Instruction::SkipIfZero(names.expression(test), over))?;
+    emit_block(code, names, then, behind)
+}
+
+/// Adds the code of an `if` with an `else`.
+#[cycle(emit)]
+fn emit_choice(
+    code: &mut Vec<Instruction>,
+    names: Names<'_>,
+    test: &Expr,
+    then: &[Statement],
+    other: &[Statement],
+    behind: usize,
+) -> Result<(), AllocError>
+    requires small { size (if_else (expr_view test.now) (block_view then.now) (block_view other.now)) ≤ INSTRUCTIONS }
+    requires behind { behind + size (if_else (expr_view test.now) (block_view then.now) (block_view other.now)) < 2 ^ 32 }
+    ensures { OnOk result (code.new.items ≡ code.old.items ++ stmt_code (names_of names.entry.declarations.now names.entry.locals.now) (if_else (expr_view test.now) (block_view then.now) (block_view other.now)) behind) }
+{
+    // The test passes over the skip too.
+    let over = size_of_block(then) + 1;
+    let len = size_of_block(other);
+    put(code, Instruction::SkipIfZero(names.expression(test), over))?;
+    emit_block(code, names, then, behind + 1 + len)?;
+    put(code, Instruction::Skip(len))?;
+    emit_block(code, names, other, behind)
 }
 
 /// Adds copies of a block. An empty block takes no turn.
 #[cycle(emit)]
 fn emit_copies(
     code: &mut Vec<Instruction>,
-    declarations: &[Declaration],
-    locals: &[Vec<u8>],
+    names: Names<'_>,
     body: &[Statement],
     times: u8,
 ) -> Result<(), AllocError>
     requires { times * block_size (block_view body.now) ≤ INSTRUCTIONS }
-    ensures { OnOk result (code.new.items ≡ code.old.items ++ copies (block_code (names_of declarations.now locals.now) (block_view body.now)) (block_size (block_view body.now)) times) }
+    ensures { OnOk result (code.new.items ≡ code.old.items ++ copies (block_code (names_of names.entry.declarations.now names.entry.locals.now) (block_view body.now)) (block_size (block_view body.now)) times) }
 {
     let len = size_of_block(body);
-    if times == 0 {
-        return Ok(());
-    }
-    if len == 0 {
+    if times == 0 || len == 0 {
         return Ok(());
     }
     let mut left = times as usize;
     while left > 0 {
         left -= 1;
-        emit_block(code, declarations, locals, body, left * len)?;
+        emit_block(code, names, body, left * len)?;
     }
     Ok(())
 }
@@ -210,19 +168,18 @@ fn emit_copies(
 #[cycle(emit)]
 pub fn emit_block(
     code: &mut Vec<Instruction>,
-    declarations: &[Declaration],
-    locals: &[Vec<u8>],
+    names: Names<'_>,
     block: &[Statement],
     behind: usize,
 ) -> Result<(), AllocError>
     requires small { block_size (block_view block.now) ≤ INSTRUCTIONS }
     requires behind { behind + block_size (block_view block.now) < 2 ^ 32 }
-    ensures { OnOk result (code.new.items ≡ code.old.items ++ block_code (names_of declarations.now locals.now) (block_view block.now) behind) }
+    ensures { OnOk result (code.new.items ≡ code.old.items ++ block_code (names_of names.entry.declarations.now names.entry.locals.now) (block_view block.now) behind) }
 {
     let mut left = size_of_block(block);
     for statement in block {
         left -= size_of_statement(statement);
-        emit_statement(code, declarations, locals, statement, behind + left)?;
+        emit_statement(code, names, statement, behind + left)?;
     }
     Ok(())
 }

@@ -23,6 +23,7 @@ mod kinds;
 mod lengths;
 pub mod limits;
 pub mod lowering;
+mod names;
 pub mod program;
 #[cfg(test)]
 mod tests;

@@ -16,6 +16,7 @@ use crate::check::check;
 use crate::emit::emit_block;
 use crate::error::CheckError;
 use crate::limits::{COUNT, INSTRUCTIONS};
+use crate::names::Names;
 use crate::program::{Program, Semaphore, Thread, Variable};
 use guest_syntax::tree::{Declaration, Name, Object, Thread as ThreadTree, Tree};
 use std::alloc::Global;
@@ -104,8 +105,12 @@ fn lower_thread(
     requires locals { locals_view locals.now ≡ thread_locals (thread_view thread.now) }
     ensures { MatchResult result (λ t. code_view t ≡ thread_code (map declaration_view declarations.now) (thread_view thread.now)) (λ e. e ≡ CheckError.OutOfMemory) }
 {
+    let names = Names {
+        declarations,
+        locals,
+    };
     let mut code = Vec::new(alloc);
-    emit_block(&mut code, declarations, locals, &thread.body, 0)?;
+    emit_block(&mut code, names, &thread.body, 0)?;
     Ok(Thread {
         name: thread.name.text.to_vec(alloc)?,
         locals: locals.len(),

@@ -1,22 +1,39 @@
-use Rattle.std.proofs.Common.{◌≡◌, ◌+◌, ◌≤◌, ◌<◌, ◌++◌, ◌^◌, drop}
+use Rattle.std.proofs.Common.{◌≡◌, ◌+◌, ◌*◌, ◌≤◌, ◌<◌, ◌++◌, ◌^◌, max, drop}
+use denote.Param.Weighed.{most}
+use Rattle.guest_syntax.proofs.tree.Statement.TheLaws.{the_size}
 use Rattle.guest_syntax.specs.Tree.{block_view}
 use Rattle.guest_code.specs.Sizes.{block_size}
 use Rattle.guest_code.specs.Code.{block_code, copies}
 use Rattle.guest_code.specs.Code.{names_of}
 use Rattle.guest_code.proofs.emit.+emit.Given as goal
 
+abbrev pub decreases-emit_block : goal.decreases-emit_block
+decreases-emit_block l = 3 * goal.size-emit_block l + 1
+
+abbrev pub decreases-emit_statement : goal.decreases-emit_statement
+decreases-emit_statement l = 3 * goal.size-emit_statement l
+
+abbrev pub decreases-emit_if : goal.decreases-emit_if
+decreases-emit_if l = 3 * goal.size-emit_if l + 2
+
+abbrev pub decreases-emit_choice : goal.decreases-emit_choice
+decreases-emit_choice l = 3 * max (most the_size l.then.now) (most the_size l.other.now) + 2
+
+abbrev pub decreases-emit_copies : goal.decreases-emit_copies
+decreases-emit_copies l = 3 * goal.size-emit_copies l + 2
+
 abbrev pub decreases-emit_copies-loop-left : goal.decreases-emit_copies-loop-left
 decreases-emit_copies-loop-left l = l.left
 
 abbrev pub invariant-emit_copies-loop-left : goal.invariant-emit_copies-loop-left
 invariant-emit_copies-loop-left l = record {
-  same : l.code.items ++ copies (block_code (names_of l.declarations l.locals) (block_view l.body)) l.len l.left ≡ l.fn.code.items ++ copies (block_code (names_of l.declarations l.locals) (block_view l.body)) l.len l.times;
+  same : l.code.items ++ copies (block_code (names_of l.names.declarations.now l.names.locals.now) (block_view l.body)) l.len l.left ≡ l.fn.code.items ++ copies (block_code (names_of l.names.declarations.now l.names.locals.now) (block_view l.body)) l.len l.times;
   less : l.left ≤ l.times;
 }
 
 abbrev pub invariant-emit_block-loop-statement : goal.invariant-emit_block-loop-statement
 invariant-emit_block-loop-statement l = record {
-  same : l.code.items ++ block_code (names_of l.declarations l.locals) (block_view (drop l.statement-index l.block)) l.behind ≡ l.fn.code.items ++ block_code (names_of l.declarations l.locals) (block_view l.block) l.behind;
+  same : l.code.items ++ block_code (names_of l.names.declarations.now l.names.locals.now) (block_view (drop l.statement-index l.block)) l.behind ≡ l.fn.code.items ++ block_code (names_of l.names.declarations.now l.names.locals.now) (block_view l.block) l.behind;
   left : l.left ≡ block_size (block_view (drop l.statement-index l.block));
   small : l.left < 257;
   behind : l.behind + l.left < 2 ^ 32;

@@ -1,6 +1,6 @@
 use Rattle.std.proofs.Common.{◌≡◌, ◌+◌, map, drop}
 use Rattle.guest_code.specs.Code.{place}
-use Rattle.guest_code.proofs.emit.place_of.Given as goal
+use Rattle.guest_code.proofs.names.place_of.Given as goal
 
 abbrev pub invariant-loop-local : goal.invariant-loop-local
 invariant-loop-local l = record {

@@ -1,7 +1,7 @@
 use Rattle.std.proofs.Common.{◌≡◌, ◌+◌, ◌≤◌, map, drop}
 use Rattle.guest_syntax.specs.Tree.{declaration_view}
 use Rattle.guest_code.specs.Code.{slot}
-use Rattle.guest_code.proofs.emit.slot_of.Given as goal
+use Rattle.guest_code.proofs.names.slot_of.Given as goal
 
 abbrev pub invariant-loop-declaration : goal.invariant-loop-declaration
 invariant-loop-declaration l = record {
