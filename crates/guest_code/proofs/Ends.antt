@@ -12,6 +12,7 @@ use Rattle.guest_code.specs.declared.kinds.Kind.{Kind}
 use Rattle.guest_code.specs.declared.kinds.Kind.TheVariants as kinds
 use Rattle.guest_code.specs.declared.error.CheckError.{CheckError}
 use Rattle.guest_code.specs.declared.error.CheckError.TheVariants as errors
+use Rattle.guest_code.specs.declared.limits.TheConstants.{THREADS}
 use Rattle.guest_code.specs.Uses.{Use, kind_of, declarations_uses, threads_uses, uses, kind_in, how_many, thread_locals}
 use Rattle.guest_code.specs.Fault.{declares_refusal, or_else, first, too_long, no_threads, fault}
 use Rattle.guest_code.specs.Walk.{all_uses, locals_view, passed, block_check}
@@ -104,11 +105,11 @@ few_test : (b : Bool) (d : CheckError) → (if b then None else Some d) ≡ None
 few_test true d e = refl
 few_test false d e = absurd cc
 
-few_refusal : (n : tree.Name) (o : Option Kind) (i : ℕ) → declares_refusal kinds.Thread n o i ≡ None → i < 8
-few_refusal n None i e = ltb-true i 8 (few_test (ltb i 8) (errors.TooMany n.at) e)
+few_refusal : (n : tree.Name) (o : Option Kind) (i : ℕ) → declares_refusal kinds.Thread n o i ≡ None → i < THREADS
+few_refusal n None i e = ltb-true i THREADS (few_test (ltb i THREADS) (errors.TooMany n.at) e)
 few_refusal n (Some k) i e = absurd cc
 
-pub few_go : (n : tree.Name) (o : Option Kind) (i : ℕ) (u : Unit {0}) → Ok u ≡ passed (declares_refusal kinds.Thread n o i) u → i < 8
+pub few_go : (n : tree.Name) (o : Option Kind) (i : ℕ) (u : Unit {0}) → Ok u ≡ passed (declares_refusal kinds.Thread n o i) u → i < THREADS
 few_go n o i u e = few_refusal n o i (passed_ok _ u e)
 
 -- ---- the whole tree

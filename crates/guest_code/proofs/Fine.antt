@@ -9,6 +9,7 @@ use Rattle.guest_syntax.specs.Tree as tree
 use Rattle.guest_syntax.specs.Tree.{Name, Operand, Expr, Stmt, Block}
 use Rattle.guest_code.specs.declared.kinds.Kind.{Kind}
 use Rattle.guest_code.specs.declared.kinds.Kind.TheVariants as kinds
+use Rattle.guest_code.specs.declared.limits.TheConstants.{LOCALS}
 use Rattle.guest_code.specs.declared.program.Instruction.{Instruction}
 use Rattle.guest_code.specs.declared.program.Instruction.TheVariants.{SkipIfZero, Skip}
 use Rattle.guest_code.specs.declared.error.CheckError.{CheckError}
@@ -113,7 +114,7 @@ walk_right all (local n ∷ us) ns ms p e =
 walk_right all (outside at ∷ us) ns ms p e = absurd cc
 
 -- no more locals than the limit
-with_few : (n : Name) (o : Option Kind) (ns : List (List ℕ)) → local_refusal n o ns ≡ None → length ns ≤ 16 → length (with_name ns n.text) ≤ 16
+with_few : (n : Name) (o : Option Kind) (ns : List (List ℕ)) → local_refusal n o ns ≡ None → length ns ≤ LOCALS → length (with_name ns n.text) ≤ LOCALS
 with_few n (Some j) ns e le = absurd cc
 with_few n None ns e le = go (knows ns n.text) e
   where
@@ -121,11 +122,11 @@ with_few n None ns e le = go (knows ns n.text) e
     small true e = refl
     small false e = absurd cc
 
-    go : (b : Bool) → (if b then None else if ltb (length ns) 16 then None else Some (errors.TooMany n.at)) ≡ None → length (if b then ns else ns ++ n.text ∷ []) ≤ 16
+    go : (b : Bool) → (if b then None else if ltb (length ns) LOCALS then None else Some (errors.TooMany n.at)) ≡ None → length (if b then ns else ns ++ n.text ∷ []) ≤ LOCALS
     go true e = le
-    go false e = omega (arith, ltb-true (length ns) 16 (small (ltb (length ns) 16) e), length-append ns (n.text ∷ []))
+    go false e = omega (arith, ltb-true (length ns) LOCALS (small (ltb (length ns) LOCALS) e), length-append ns (n.text ∷ []))
 
-pub walk_few : (all us : List Use) (ns ms : List (List ℕ)) → Plain us → walk all ns us ≡ Ok ms → length ns ≤ 16 → length ms ≤ 16
+pub walk_few : (all us : List Use) (ns ms : List (List ℕ)) → Plain us → walk all ns us ≡ Ok ms → length ns ≤ LOCALS → length ms ≤ LOCALS
 walk_few all [] ns ms p e le = let is : ns ≡ ms = cc in rw (← is) le
 walk_few all (declares k n ∷ us) ns ms p e le = absurd p
 walk_few all (object k n ∷ us) ns ms p e le = walk_few all us ns ms p (passed_then (object_refusal k n (kind_in all n.text)) ns ms (λ q. walk all q us) e).1 le
@@ -138,13 +139,13 @@ walk_few all (outside at ∷ us) ns ms p e le = absurd cc
 
 -- the names of a thread have numbers in the range of the program
 pub record Sound (p : Program) (ns : Names) (all : List Use) : Type 0 where
-  pub locals : length ns.locals ≤ 16
+  pub locals : length ns.locals ≤ LOCALS
   pub variable : (name : List ℕ) → kind_in all name ≡ Some kinds.Variable → slot kinds.Variable ns.declarations name < length p.variables
   pub mutex : (name : List ℕ) → kind_in all name ≡ Some kinds.Mutex → slot kinds.Mutex ns.declarations name < length p.mutexes
   pub condition : (name : List ℕ) → kind_in all name ≡ Some kinds.Condition → slot kinds.Condition ns.declarations name < length p.conditions
   pub semaphore : (name : List ℕ) → kind_in all name ≡ Some kinds.Semaphore → slot kinds.Semaphore ns.declarations name < length p.semaphores
 
-fine_place : (p : Program) (ns : Names) (all : List Use) (g : Sound p ns all) (name : List ℕ) → knows ns.locals name ≡ true → place ns.locals name < 16
+fine_place : (p : Program) (ns : Names) (all : List Use) (g : Sound p ns all) (name : List ℕ) → knows ns.locals name ≡ true → place ns.locals name < LOCALS
 fine_place p ns all g name e = omega (arith, place_less ns.locals name e, g.locals)
 
 fine_value : (p : Program) (ns : Names) (all : List Use) (g : Sound p ns all) (a : Operand) → Right all ns.locals (operand_uses a) → IsFineValue (value_of ns a)

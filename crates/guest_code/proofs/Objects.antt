@@ -7,6 +7,7 @@ use Rattle.guest_syntax.specs.declared.tree.Declaration.{Declaration}
 use Rattle.guest_syntax.specs.Tree.{declaration_view}
 use Rattle.std.specs.List.{All}
 use Rattle.std.proofs.lemmas.List.Elements.{All-append, All-cons, All-nil}
+use Rattle.guest_code.specs.declared.limits.TheConstants.{COUNT}
 use Rattle.guest_code.specs.declared.program.Semaphore as code-semaphore
 use Rattle.guest_code.specs.Program.{Variable, Semaphore, semaphore_view}
 use Rattle.guest_code.specs.Code.{objects_by, variable_of, semaphore_of}
@@ -48,7 +49,7 @@ pub is_semaphore : (name : List ℕ) (o : Object) (k : ℕ) (y : Semaphore) → 
 is_semaphore name o k y e same = rw (e, same) refl
 
 -- one semaphore more, whose count is not too great
-pub counts_more : (old : List code-semaphore.Semaphore) (new : List code-semaphore.Semaphore) (y : code-semaphore.Semaphore) (name : List ℕ) (k : ℕ) → new ≡ old ++ y ∷ [] → semaphore_view y ≡ record { name = name; count = k } → k ≤ 65535 → All (λ s. s.count ≤ 65535) (map semaphore_view old) → All (λ s. s.count ≤ 65535) (map semaphore_view new)
+pub counts_more : (old : List code-semaphore.Semaphore) (new : List code-semaphore.Semaphore) (y : code-semaphore.Semaphore) (name : List ℕ) (k : ℕ) → new ≡ old ++ y ∷ [] → semaphore_view y ≡ record { name = name; count = k } → k ≤ COUNT → All (λ s. s.count ≤ COUNT) (map semaphore_view old) → All (λ s. s.count ≤ COUNT) (map semaphore_view new)
 counts_more old new y name k pushed same le h =
-    let P : Semaphore → Type 0 = λ s. s.count ≤ 65535 in
-    rw (pushed, map-append semaphore_view old (y ∷ [])) (All-append P (map semaphore_view old) (semaphore_view y ∷ []) h (All-cons P (semaphore_view y) [] (subst (λ (v : Semaphore). v.count ≤ 65535) (sym same) le) (All-nil P)))
+    let P : Semaphore → Type 0 = λ s. s.count ≤ COUNT in
+    rw (pushed, map-append semaphore_view old (y ∷ [])) (All-append P (map semaphore_view old) (semaphore_view y ∷ []) h (All-cons P (semaphore_view y) [] (subst (λ (v : Semaphore). v.count ≤ COUNT) (sym same) le) (All-nil P)))

@@ -3,6 +3,7 @@ use Rattle.std.proofs.Common.{◌≡◌, ℕ, zero, suc, ◌+◌, ◌-◌, ◌*�
 use Rattle.std.proofs.lemmas.List.{drop_all, nil_from_length, append-nil}
 use Rattle.guest_syntax.specs.Tree as tree
 use Rattle.guest_syntax.specs.Tree.{Stmt, Block}
+use Rattle.guest_code.specs.declared.limits.TheConstants.{INSTRUCTIONS}
 use Rattle.guest_code.specs.declared.program.Instruction.TheVariants.{Skip}
 use Rattle.guest_syntax.specs.declared.tree.Statement.{Statement}
 use Rattle.guest_syntax.specs.Tree.{stmt_view, block_view}
@@ -23,7 +24,7 @@ block_code_at ns ss i behind x lt is = rw (add-one, drop-cons ss i x, ← is) re
 pub block_code_end : (ns : Names) (ss : List Statement) (i behind : ℕ) → length ss ≤ i → block_code ns (block_view (drop i ss)) behind ≡ []
 block_code_end ns ss i behind le = rw (drop_all i ss le) refl
 
-pub cut_is : (n m : ℕ) → 0 < n → n * m ≤ 256 → min m 257 ≡ m
+pub cut_is : (n m : ℕ) → 0 < n → n * m ≤ INSTRUCTIONS → min m (INSTRUCTIONS + 1) ≡ m
 cut_is zero m h lt = absurd (omega arith)
 cut_is (suc n) m h lt = omega arith
 

@@ -7,6 +7,7 @@ use Rattle.guest_syntax.specs.Tree.{Declaration, Thread, Tree}
 use Rattle.guest_code.specs.declared.kinds.Kind.{Kind}
 use Rattle.guest_code.specs.declared.kinds.Kind.TheVariants as kinds
 use Rattle.guest_code.specs.declared.error.CheckError.TheVariants as errors
+use Rattle.guest_code.specs.declared.limits.TheConstants.{INSTRUCTIONS, COUNT}
 use Rattle.guest_code.specs.Program.{Program, IsFineCode, IsWellFormed}
 use Rattle.guest_code.specs.Program as program
 use Rattle.guest_code.specs.Uses.{Use, same, block_uses, thread_uses, declarations_uses, threads_uses, uses, kind_in, how_many, thread_locals}
@@ -29,9 +30,9 @@ checked_is : (all : List Use) (t : Thread) (r : Checked) → block_check all fal
 checked_is all t (Ok ns) e f = rw (← body_leaves all t ns e) e
 checked_is all t (Err d) e f = absurd cc
 
-short : (k : ℕ) (t : Thread) (ts : List Thread) (b : Bool) → ltb 256 (block_size t.body) ≡ b → (if b then Some (errors.CodeTooLong k) else too_long (k + 1) ts) ≡ None → (block_size t.body ≤ 256) × (too_long (k + 1) ts ≡ None)
+short : (k : ℕ) (t : Thread) (ts : List Thread) (b : Bool) → ltb INSTRUCTIONS (block_size t.body) ≡ b → (if b then Some (errors.CodeTooLong k) else too_long (k + 1) ts) ≡ None → (block_size t.body ≤ INSTRUCTIONS) × (too_long (k + 1) ts ≡ None)
 short k t ts true e h = absurd cc
-short k t ts false e h = (omega (arith, ltb-false 256 (block_size t.body) e), h)
+short k t ts false e h = (omega (arith, ltb-false INSTRUCTIONS (block_size t.body) e), h)
 
 -- what the numbers of objects need
 pub record Placed (p : Program) (ds : List Declaration) (all : List Use) : Type 0 where
@@ -40,7 +41,7 @@ pub record Placed (p : Program) (ds : List Declaration) (all : List Use) : Type 
   pub condition : (name : List ℕ) → kind_in all name ≡ Some kinds.Condition → slot kinds.Condition ds name < length p.conditions
   pub semaphore : (name : List ℕ) → kind_in all name ≡ Some kinds.Semaphore → slot kinds.Semaphore ds name < length p.semaphores
 
-thread_fine : (p : Program) (ds : List Declaration) (all : List Use) (g : Placed p ds all) (t : Thread) → fault_of (block_check all false t.body []) ≡ None → block_size t.body ≤ 256 → IsFineCode p (thread_code ds t).code
+thread_fine : (p : Program) (ds : List Declaration) (all : List Use) (g : Placed p ds all) (t : Thread) → fault_of (block_check all false t.body []) ≡ None → block_size t.body ≤ INSTRUCTIONS → IsFineCode p (thread_code ds t).code
 thread_fine p ds all g t right le =
     let names : Names = record { declarations = ds; locals = thread_locals t } in
     let checked = checked_is all t (block_check all false t.body []) refl right in
@@ -60,7 +61,7 @@ threads_fine p ds all g before k [] e long = All-nil (λ (t : program.Thread). I
 threads_fine p ds all g before k (t ∷ ts) e long =
     let parts = or_none (declares_refusal kinds.Thread t.name (kind_in before t.name.text) (how_many kinds.Thread before)) (or_else (fault_of (block_check all false t.body [])) (first all (before ++ thread_uses t) (threads_uses ts))) (sym (one_thread all before t (threads_uses ts)) ∙ e) in
     let rest = or_none (fault_of (block_check all false t.body [])) (first all (before ++ thread_uses t) (threads_uses ts)) parts.1 in
-    let lengths = short k t ts (ltb 256 (block_size t.body)) refl long in
+    let lengths = short k t ts (ltb INSTRUCTIONS (block_size t.body)) refl long in
     All-cons (λ (c : program.Thread). IsFineCode p c.code) (thread_code ds t) (map (thread_code ds) ts) (thread_fine p ds all g t rest.0 lengths.0) (threads_fine p ds all g (before ++ thread_uses t) (k + 1) ts rest.1 lengths.1)
 
 -- ---- the program
@@ -75,7 +76,7 @@ declared ds ts k e = omega (arith, few (uses ds ts) [] (uses ds ts) k e (omega a
 in_range : (k : Kind) (ds : List Declaration) (ts : List Thread) (n : ℕ) → same kinds.Thread k ≡ false → n ≡ how_many k (declarations_uses ds) → (name : List ℕ) → kind_in (uses ds ts) name ≡ Some k → slot k ds name < n
 in_range k ds ts n other is name e = omega (arith, slot_less k ds ts name other e, is)
 
-pub well_formed : (t : Tree) → fault t ≡ None → All (λ (s : program.Semaphore). s.count ≤ 65535) (code t).semaphores → IsWellFormed (code t)
+pub well_formed : (t : Tree) → fault t ≡ None → All (λ (s : program.Semaphore). s.count ≤ COUNT) (code t).semaphores → IsWellFormed (code t)
 well_formed t e counts =
     let ds = t.declarations in
     let ts = t.threads in
@@ -113,5 +114,5 @@ lowered_is t ds ts variables mutexes conditions semaphores threads d e v m c s h
     let h' = h ∙ (ap (λ (l : List Declaration). map (thread_code l) ts) d ∙ ap (map (thread_code t.declarations)) e) in
     λ i. record { variables = v' i; mutexes = m' i; conditions = c' i; semaphores = s' i; threads = h' i }
 
-pub lowered_fine : (t : Tree) (p : Program) → p ≡ code t → fault t ≡ None → All (λ (s : program.Semaphore). s.count ≤ 65535) p.semaphores → IsWellFormed p
-lowered_fine t p is e counts = subst (λ (q : Program). IsWellFormed q) (sym is) (well_formed t e (subst (λ (q : Program). All (λ (s : program.Semaphore). s.count ≤ 65535) q.semaphores) is counts))
+pub lowered_fine : (t : Tree) (p : Program) → p ≡ code t → fault t ≡ None → All (λ (s : program.Semaphore). s.count ≤ COUNT) p.semaphores → IsWellFormed p
+lowered_fine t p is e counts = subst (λ (q : Program). IsWellFormed q) (sym is) (well_formed t e (subst (λ (q : Program). All (λ (s : program.Semaphore). s.count ≤ COUNT) q.semaphores) is counts))

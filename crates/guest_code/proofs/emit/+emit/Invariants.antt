@@ -2,6 +2,7 @@ use Rattle.std.proofs.Common.{◌≡◌, ◌+◌, ◌*◌, ◌≤◌, ◌<◌, �
 use denote.Param.Weighed.{most}
 use Rattle.guest_syntax.proofs.tree.Statement.TheLaws.{the_size}
 use Rattle.guest_syntax.specs.Tree.{block_view}
+use Rattle.guest_code.specs.declared.limits.TheConstants.{INSTRUCTIONS}
 use Rattle.guest_code.specs.Sizes.{block_size}
 use Rattle.guest_code.specs.Code.{block_code, copies}
 use Rattle.guest_code.specs.Code.{names_of}
@@ -35,6 +36,6 @@ abbrev pub invariant-emit_block-loop-statement : goal.invariant-emit_block-loop-
 invariant-emit_block-loop-statement l = record {
   same : l.code.items ++ block_code (names_of l.names.declarations.now l.names.locals.now) (block_view (drop l.statement-index l.block)) l.behind ≡ l.fn.code.items ++ block_code (names_of l.names.declarations.now l.names.locals.now) (block_view l.block) l.behind;
   left : l.left ≡ block_size (block_view (drop l.statement-index l.block));
-  small : l.left < 257;
+  small : l.left ≤ INSTRUCTIONS;
   behind : l.behind + l.left < 2 ^ 32;
 }
