@@ -13,7 +13,9 @@ use std::alloc::Global;
 /// The trace of a schedule, and how the schedule ends: none where it isn't complete.
 #[derive(Debug, Drop)]
 pub struct Replayed {
+    /// The trace's text, each line ended by a line feed.
     pub trace: Vec<u8>,
+    /// How the schedule ends.
     pub kind: Option<Kind>,
 }
 

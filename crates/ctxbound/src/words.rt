@@ -57,6 +57,10 @@ fn parsed(alloc: Global, words: &[String]) -> Result<(String, Asked), Error> {
 }
 
 /// The name of the file and what to do with it. The first word is the program's own name.
+///
+/// # Errors
+///
+/// What `clap` says of the words, a request for help included, or that memory ran out.
 pub fn asked(alloc: Global, words: &[String]) -> Result<(String, Asked), WordsFault> {
     parsed(alloc, words).map_err(WordsFault)
 }

@@ -136,10 +136,13 @@ fn lower_threads(
     Ok(all)
 }
 
-/// The program of a tree that has no fault, else the first fault in text order: of two at one
-/// name the one of the lower number, and want of threads and too long a code after all others.
-/// Fails too when memory runs out. The length of a code is found before any copy of a `repeat` is
-/// written, so no text costs more than the limits allow.
+/// The program of a tree that has no fault. The length of a code is found before any copy of a
+/// `repeat` is written, so no text costs more than the limits allow.
+///
+/// # Errors
+///
+/// The first fault in text order: of two at one name the one of the lower number, and want of
+/// threads and too long a code after all others; `OutOfMemory` where memory runs out.
 pub fn lower(alloc: Global, tree: &Tree) -> Result<Program, CheckError>
     ensures { MatchResult result (λ p. (fault (tree_view tree.now) ≡ None) × (p ≡ code (tree_view tree.now))) (λ e. Refuses e (fault (tree_view tree.now))) }
 {

@@ -20,7 +20,9 @@ pub enum Value {
 /// A value alone, or two with an operator between them.
 #[derive(Clone, Copy, Debug, PartialEq, Eq)]
 pub enum Expression {
+    /// The value itself.
     Single(Value),
+    /// What the operator makes of the two.
     Both(Value, Op, Value),
 }
 
@@ -28,16 +30,27 @@ pub enum Expression {
 /// in the order of declaration, locals in the order of first use.
 #[derive(Clone, Copy, Debug, PartialEq, Eq)]
 pub enum Instruction {
+    /// The local becomes the variable's value.
     Load { local: usize, variable: usize },
+    /// The variable becomes the value.
     Store { variable: usize, value: Value },
+    /// Takes the mutex of this number.
     Lock(usize),
+    /// Gives the mutex of this number back.
     Unlock(usize),
+    /// Gives the mutex back, waits for the condition, and takes the mutex again.
     Wait { condition: usize, mutex: usize },
+    /// Wakes the thread that has waited longest for the condition of this number.
     Signal(usize),
+    /// Wakes all threads that wait for the condition of this number.
     Broadcast(usize),
+    /// Lowers the count of the semaphore of this number.
     Acquire(usize),
+    /// Raises the count of the semaphore of this number.
     Release(usize),
+    /// The local becomes the expression's value.
     Set { local: usize, value: Expression },
+    /// Stops the thread where the expression is 0.
     Assert(Expression),
     /// Passes over so many of the next instructions where the expression is 0.
     SkipIfZero(Expression, usize),
@@ -63,7 +76,9 @@ pub struct Semaphore {
 #[derive(Debug, PartialEq, Eq, Drop)]
 pub struct Thread {
     pub name: Vec<u8>,
+    /// At most `LOCALS`.
     pub locals: usize,
+    /// At most `INSTRUCTIONS`, all jumps forwards.
     pub code: Vec<Instruction>,
 }
 

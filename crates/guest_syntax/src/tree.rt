@@ -17,7 +17,9 @@ pub struct Name {
 /// A local of the thread, or a number.
 #[derive(Debug, Drop)]
 pub enum Operand {
+    /// The local of this name.
     Local(Name),
+    /// This number, with its sign.
     Literal(i64),
 }
 
@@ -39,11 +41,13 @@ pub enum Op {
 /// An operand alone, or two with an operator between them.
 #[derive(Debug, Drop)]
 pub enum Expr {
+    /// The operand itself.
     Single(Operand),
+    /// What the operator makes of the two.
     Both(Operand, Op, Operand),
 }
 
-/// A statement of a thread.
+/// A statement of a thread, named after its word; `docs/LANGUAGE.md` says what each does.
 #[derive(Debug, Drop)]
 pub enum Statement {
     Load {
@@ -72,9 +76,11 @@ pub enum Statement {
     If {
         test: Expr,
         then: Vec<Statement>,
+        /// The block behind `else`, where there is one.
         otherwise: Option<Vec<Statement>>,
     },
     Repeat {
+        /// 1 to 100.
         times: u8,
         body: Vec<Statement>,
     },
@@ -85,9 +91,11 @@ pub enum Statement {
 /// What a declaration declares, with its opening value.
 #[derive(Clone, Copy, Debug, PartialEq, Eq)]
 pub enum Object {
+    /// A variable, with its opening value: 0 where the text gives none.
     Variable(i64),
     Mutex,
     Condition,
+    /// A semaphore, with its opening count.
     Semaphore(u16),
 }
 

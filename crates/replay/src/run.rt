@@ -26,15 +26,21 @@ pub enum Act {
     Load { variable: u8, value: i64 },
     /// The value is the one stored.
     Store { variable: u8, value: i64 },
+    /// The mutex was taken.
     Lock(u8),
+    /// The mutex was given back, or the thread stopped, since it didn't own it.
     Unlock(u8),
     /// The first step of a `wait`: the thread gives the mutex back and waits.
     Wait { condition: u8, mutex: u8 },
     /// The second step of a `wait`: the thread takes the mutex again.
     Retake(u8),
+    /// The thread that waited longest was called, if one waited.
     Signal(u8),
+    /// All threads that waited were called.
     Broadcast(u8),
+    /// The count fell by 1.
     Acquire(u8),
+    /// The count rose by 1, or the thread stopped, since it was at its limit.
     Release(u8),
 }
 
@@ -43,6 +49,7 @@ pub enum Act {
 pub struct Line {
     /// The thread, by its number.
     pub thread: u8,
+    /// What it did.
     pub act: Act,
     /// Whether the switch to this step was preempting: another thread took the step before it, and
     /// is still enabled.

@@ -24,25 +24,35 @@ use std::marker::Model;
 /// Why a thread stopped.
 #[derive(Clone, Copy, Debug, PartialEq, Eq)]
 pub enum Stop {
+    /// The expression of an `assert` was 0.
     Assert,
+    /// An `unlock` or a `wait` with a mutex that the thread doesn't own.
     NotHeld,
+    /// A `release` of a semaphore whose count was `COUNT`.
     SemFull,
 }
 
-/// Whether a thread goes on. One that waits says for which condition.
+/// Whether a thread goes on.
 #[derive(Clone, Copy, Debug, PartialEq, Eq)]
 pub enum Status {
+    /// It stands at a visible statement.
     Running,
+    /// It stands in the queue of the condition of this number.
     Waiting(usize),
+    /// It was called, and has to take its mutex again.
     Woken,
+    /// It ran to the end of its code.
     Ended,
+    /// It takes no further step, and keeps the mutexes that it owns.
     Stopped(Stop),
 }
 
 /// Where a thread stands, and its locals.
 #[derive(Clone, Copy, Debug)]
 pub struct Thread {
+    /// The number of the instruction where it stands; the length of its code where it ended.
     pub place: usize,
+    /// The values of its locals; those that it doesn't have stay 0.
     pub locals: [i64; LOCALS],
     pub status: Status,
 }
@@ -50,7 +60,9 @@ pub struct Thread {
 /// What a step does with a variable.
 #[derive(Clone, Copy, Debug, PartialEq, Eq)]
 pub enum VariableAction {
+    /// The local of this number becomes the variable's value.
     Load(usize),
+    /// The variable becomes this value.
     Store(Value),
 }
 
@@ -59,28 +71,34 @@ pub enum VariableAction {
 pub enum MutexAction {
     Lock,
     Unlock,
+    /// A woken thread takes the mutex of its `wait` again.
     Retake,
 }
 
 /// What a step does with a condition alone.
 #[derive(Clone, Copy, Debug, PartialEq, Eq)]
 pub enum ConditionAction {
+    /// The one that has waited longest is woken.
     Signal,
+    /// All that wait are woken.
     Broadcast,
 }
 
 /// What a step does with a semaphore.
 #[derive(Clone, Copy, Debug, PartialEq, Eq)]
 pub enum SemaphoreAction {
+    /// The count falls by 1.
     Acquire,
+    /// The count rises by 1.
     Release,
 }
 
-/// What the next step of a thread does, and with which object.
+/// What the next step of a thread does, and with which object, by its number.
 #[derive(Clone, Copy, Debug, PartialEq, Eq)]
 pub enum Action {
     OnVariable(usize, VariableAction),
     OnMutex(usize, MutexAction),
+    /// The first step of a `wait` for this condition with this mutex.
     Wait(usize, usize),
     OnCondition(usize, ConditionAction),
     OnSemaphore(usize, SemaphoreAction),
@@ -111,6 +129,10 @@ impl Model for State {
 
 impl State {
     /// The opening state of a program: each thread has run its own instructions.
+    ///
+    /// # Errors
+    ///
+    /// `AllocError` where memory runs out.
     pub fn start(alloc: Global, p: &Program) -> Result<State, AllocError>
         ensures value { IfOk result (λ s. s ≡ start p.now) }
         ensures of { IfOk result (λ s. IsOf p.now s) }
@@ -125,6 +147,10 @@ impl State {
     }
 
     /// An equal state.
+    ///
+    /// # Errors
+    ///
+    /// `AllocError` where memory runs out.
     pub fn try_clone(&self, alloc: Global) -> Result<State, AllocError>
         ensures { IfOk result (λ s. s ≡ self.now) }
     {
@@ -349,6 +375,10 @@ impl State {
     }
 
     /// The end view, where the schedule to this state is complete.
+    ///
+    /// # Errors
+    ///
+    /// `AllocError` where memory runs out.
     pub fn view(&self, alloc: Global, p: &Program) -> Result<Option<EndView>, AllocError>
         requires { IsOf p.now self.now }
         ensures { IfOk result (λ v. v ≡ view_of p.now self.now) }

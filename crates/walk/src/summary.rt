@@ -94,6 +94,10 @@ impl Summary {
     }
 
     /// An equal summary.
+    ///
+    /// # Errors
+    ///
+    /// `AllocError` where memory runs out.
     pub fn try_clone(&self, alloc: Global) -> Result<Summary, AllocError>
         ensures { IfOk result (λ s. s ≡ self.now) }
     {
@@ -108,6 +112,10 @@ impl Summary {
     }
 
     /// This summary and another as one: the counts added, the lesser first bad schedule, the end views of both.
+    ///
+    /// # Errors
+    ///
+    /// `AllocError` where memory runs out.
     #[tactic(auto, using(crate::proofs::Sums::join_kept), unfolding(crate::specs::Tally::join))]
     pub fn join(&self, alloc: Global, other: &Summary) -> Result<Summary, AllocError>
         ensures { IfOk result (λ s. s ≡ join self.now other.now) }
