@@ -83,11 +83,27 @@ fn keeps_its_limits(rt: HostRuntime) -> Result<(), Fail> {
         );
         assert_eq!(rt; status, 2);
     }
-    let mut zeros = String::from_str(rt.alloc(), "0")?;
-    for _ in 0..4_096 {
-        zeros.push_str(",0")?;
+    Ok(())
+}
+
+/// The schedule in which thread 0 takes so many steps and one more.
+fn zeros(alloc: Global, more: usize) -> Result<String, Fail> {
+    let mut schedule = String::from_str(alloc, "0")?;
+    for _ in 0..more {
+        schedule.push_str(",0")?;
     }
-    let (_, err, status) = served(rt.alloc(), LONGEST.as_bytes(), zeros.as_str())?;
+    Ok(schedule)
+}
+
+#[test]
+fn runs_the_longest_thread(rt: HostRuntime) -> Result<(), Fail> {
+    let all = zeros(rt.alloc(), 255)?;
+    let (out, _, status) = served(rt.alloc(), LONGEST.as_bytes(), all.as_str())?;
+    let end = b"\n255 A store x 4\npreemptions 0\nkind done\nvars x=4\n";
+    assert!(rt; out.as_slice().ends_with(end));
+    assert_eq!(rt; status, 0);
+    let more = zeros(rt.alloc(), 4_096)?;
+    let (_, err, status) = served(rt.alloc(), LONGEST.as_bytes(), more.as_str())?;
     assert_eq!(rt;
         err.as_slice(),
         &b"ctxbound: schedule P2 NotEnabled at 256\n"[..]

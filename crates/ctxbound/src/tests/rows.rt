@@ -33,10 +33,13 @@ pub const TWO_WAITERS_ONE_SIGNAL: &str =
 pub const LONGEST: &str =
     "var x; thread A { repeat 64 { store x 1; store x 2; store x 3; store x 4; } }";
 
+pub const THREE_STORES: &str =
+    "var x; var y; var z; thread A { store x 1; } thread B { store y 1; } thread C { store z 1; }";
+
 pub const ONE_STORE: &str = "var x; thread A { store x 1; }";
 
 /// A program, a schedule, its trace and the status.
-pub static TRACES: [(&str, &str, &str, u8); 35] = [
+pub static TRACES: [(&str, &str, &str, u8); 38] = [
     (
         FAILED_ASSERT,
         "-",
@@ -170,6 +173,19 @@ pub static TRACES: [(&str, &str, &str, u8); 35] = [
         "0 B store x 1\n1 A store y 1\n2 A load x 1 stop assert\npreemptions 0\nkind failed\nvars x=1 y=1\n",
         1,
     ),
+    (
+        THREE_STORES,
+        "0,1,2",
+        "0 A store x 1\n1 B store y 1\n2 C store z 1\npreemptions 0\nkind done\nvars x=1 y=1 z=1\n",
+        0,
+    ),
+    (
+        THREE_STORES,
+        "2,0,1",
+        "0 C store z 1\n1 A store x 1\n2 B store y 1\npreemptions 0\nkind done\nvars x=1 y=1 z=1\n",
+        0,
+    ),
+    ("thread A { }", "-", "preemptions 0\nkind done\nvars\n", 0),
     (
         RACE,
         "0",
