@@ -57,6 +57,10 @@ const FAULTS: [(&str, &str); 18] = [
     ),
 ];
 
+/// A text that is cut at each byte.
+const CUT: &[u8] =
+    b"mutex m; cond c; thread A { lock m; wait c m; unlock m; } thread B { lock m; wait c m; unlock m; } thread C { lock m; broadcast c; unlock m; }";
+
 /// The program of a text that spells a tree.
 fn program_of(alloc: Global, text: &str) -> Result<Program, Fail> {
     let tree = parse(alloc, text.as_bytes())?;
@@ -90,6 +94,24 @@ fn first_faults(rt: HostRuntime) -> Result<(), Fail> {
     }
     let line = format!(in alloc; "{}", CheckError::OutOfMemory)?;
     assert_eq!(rt; line.as_str(), "memory");
+    Ok(())
+}
+
+#[test]
+fn cuts_are_accepted_or_have_no_threads(rt: HostRuntime) -> Result<(), Fail> {
+    let alloc = rt.alloc();
+    let mut accepted = 0_u32;
+    let mut without_threads = 0_u32;
+    for end in 0..=CUT.len() {
+        if let Ok(tree) = parse(alloc, &CUT[..end]) {
+            match lower(alloc, &tree) {
+                Ok(_) => accepted = accepted.saturating_add(1),
+                Err(CheckError::NoThreads) => without_threads = without_threads.saturating_add(1),
+                Err(_) => return Err(Fail::new("a cut text has another fault")),
+            }
+        }
+    }
+    assert_eq!(rt; (accepted, without_threads), (5, 5));
     Ok(())
 }
 
