@@ -25,12 +25,12 @@ fn is_switch(enabled: Mask, last: Option<u8>, t: u8) -> bool
     }
 }
 
-// The preemptions with one step more.
-fn used_after(used: u64, switch: bool) -> u64
-    requires { used < 2 ^ 64 - 1 }
-    ensures { result ≡ used + one_if switch }
+// How many preemptions a switch adds.
+fn one_if(b: bool) -> u64
+    ensures one { result ≡ one_if b }
+    ensures few { result ≤ 1 }
 {
-    if switch { used + 1 } else { used }
+    if b { 1 } else { 0 }
 }
 
 // The state after a step.
@@ -69,7 +69,7 @@ fn walk_from(
     let mut summary = summary;
     for t in 0..p.threads() {
         if mask.has(t) {
-            let now = used_after(used, is_switch(mask, last, t));
+            let now = used + one_if(is_switch(mask, last, t));
             if now > bound {
                 summary = summary.with_beyond();
             } else {
@@ -81,13 +81,6 @@ fn walk_from(
         }
     }
     Ok(summary)
-}
-
-fn one_if(b: bool) -> u64
-    ensures one { result ≡ one_if b }
-    ensures few { result ≤ 1 }
-{
-    if b { 1 } else { 0 }
 }
 
 // The state that a prefix leads to, its last thread and its preemptions.

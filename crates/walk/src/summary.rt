@@ -147,7 +147,7 @@ impl Summary {
         place(&mut ends, view)?;
         let first_bad = first_bad_with(alloc, first_bad, w, kind)?;
         Ok(Summary {
-            tried: count_if(true, tried),
+            tried: tried.saturating_add(1),
             failed: count_if(is_failed(kind), failed),
             stuck: count_if(is_stuck(kind), stuck),
             beyond,
@@ -160,21 +160,9 @@ impl Summary {
     pub(crate) fn with_beyond(self) -> Summary
         ensures { result ≡ with_beyond self true }
     {
-        let Summary {
-            tried,
-            failed,
-            stuck,
-            beyond: _,
-            first_bad,
-            ends,
-        } = self;
         Summary {
-            tried,
-            failed,
-            stuck,
             beyond: true,
-            first_bad,
-            ends,
+            ..self
         }
     }
 }
