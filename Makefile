@@ -28,7 +28,8 @@ shown:
 	python3 tests/allocations.py build/ctxbound
 
 bench:
-	@cd crates/walk_bench && rt run -- data/race.guest 1 > /dev/null
+	@mkdir -p build
+	@cd crates/walk_bench && rt run -- data/race.guest 1 > ../../build/log 2>&1 || { cat ../../build/log; exit 1; }
 	@python3 bench/walk.py
 
 clean:
