@@ -1,9 +1,11 @@
 #!/usr/bin/env python3
-"""allocations.py BINARY: each request for memory of a run fails in turn.
+"""allocations.py BINARY WALKER: each request for memory of a run fails in turn.
 
-The answer must be that of a run with ample memory, or `ctxbound: memory` with status 4 and
-nothing on standard output. The sweep of a run ends at the first number that is past its last
-request. Its last line is `N passed, M failed`.
+BINARY is the program. Its answer must be that of a run with ample memory, or `ctxbound: memory`
+with status 4 and nothing on standard output. WALKER is the program of the benchmark, which walks
+all schedules of a guest; its answer must be that with ample memory, or nothing with status 1 or 2.
+The sweep of a run ends at the first number that is past its last request. The last line is
+`N passed, M failed`.
 """
 import os
 import subprocess
@@ -28,6 +30,7 @@ RUNS = [
     ("waits", "0,0,1,1,1,0,0"), ("waits", "1,1,1,0,0"), ("loops", "0"),
     ("cut", "0"), ("unknown", "0"),
 ]
+WALKS = [("race", "1"), ("locks", "1"), ("waits", "0"), ("cut", "0")]
 
 
 def run(binary, words, library=None, fail_at=0):
@@ -38,7 +41,15 @@ def run(binary, words, library=None, fail_at=0):
     return done.stdout, done.stderr, done.returncode
 
 
-def sweep(binary, words, library):
+def says_memory(answer):
+    return answer == (b"", b"ctxbound: memory\n", 4)
+
+
+def says_nothing(answer):
+    return answer in [(b"", b"", 1), (b"", b"", 2)]
+
+
+def sweep(binary, words, library, is_refusal):
     """How many requests were refused in turn, or a line that says what went wrong."""
     ample = run(binary, words)
     for fail_at in range(1, MOST):
@@ -47,12 +58,12 @@ def sweep(binary, words, library):
             if run(binary, words, library, fail_at + 1) == ample:
                 return fail_at - 1, None
             continue
-        if answer != (b"", b"ctxbound: memory\n", 4):
+        if not is_refusal(answer):
             return fail_at, "%s, request %d refused: %r" % (" ".join(words), fail_at, answer)
     return MOST, "%s: no end after %d requests" % (" ".join(words), MOST)
 
 
-def main(binary):
+def main(binary, walker):
     passed = failed = refusals = 0
     with tempfile.TemporaryDirectory() as folder:
         library = os.path.join(folder, "fail_alloc.so")
@@ -62,8 +73,10 @@ def main(binary):
         for name, text in PROGRAMS.items():
             with open(os.path.join(folder, name), "w") as file:
                 file.write(text)
-        for name, schedule in RUNS:
-            count, wrong = sweep(os.path.abspath(binary), ["replay", os.path.join(folder, name), schedule], library)
+        replays = [(binary, ["replay", os.path.join(folder, name), schedule], says_memory) for name, schedule in RUNS]
+        walks = [(walker, [os.path.join(folder, name), bound], says_nothing) for name, bound in WALKS]
+        for program, words, is_refusal in replays + walks:
+            count, wrong = sweep(os.path.abspath(program), words, library, is_refusal)
             refusals += count
             passed, failed = passed + (wrong is None), failed + (wrong is not None)
             if wrong:
@@ -74,4 +87,4 @@ def main(binary):
 
 
 if __name__ == "__main__":
-    sys.exit(main(sys.argv[1]))
+    sys.exit(main(*sys.argv[1:]))
