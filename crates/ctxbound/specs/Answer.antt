@@ -62,14 +62,19 @@ pub record IsNoRun (text schedule : List ℕ) (e : ReplayError) : Type 0 where
   pub spelt : spelling.Spells schedule steps
   pub refused : TellsOfSchedule program steps e
 
--- what a fault says of the text and of the schedule's text
+-- what a fault says of the text and of the schedule's text; want of memory is told as such and never as a refusal,
+-- and no file is touched
 abbrev pub TellsOf : List ℕ → List ℕ → Fault → Type 0
-TellsOf text schedule File = ⊥
-TellsOf text schedule (Syntax e) = (t : Tree) → Spells text t → ⊥
-TellsOf text schedule (Check e) = IsFaultOf text e
-TellsOf text schedule (Schedule e) = IsNoSchedule text schedule e
-TellsOf text schedule (Replay e) = IsNoRun text schedule e
-TellsOf text schedule Memory = Unit {0}
+TellsOf text w File = ⊥
+TellsOf text w (Syntax syntax.OutOfMemory) = ⊥
+TellsOf text w (Syntax e) = (t : Tree) → Spells text t → ⊥
+TellsOf text w (Check check.OutOfMemory) = ⊥
+TellsOf text w (Check e) = IsFaultOf text e
+TellsOf text w (Schedule schedule.OutOfMemory) = ⊥
+TellsOf text w (Schedule e) = IsNoSchedule text w e
+TellsOf text w (Replay replay.OutOfMemory) = ⊥
+TellsOf text w (Replay e) = IsNoRun text w e
+TellsOf text w Memory = Unit {0}
 
 -- the fault of a refusal: want of memory is one fault, whoever met it
 abbrev pub of_syntax : SyntaxError → Fault
