@@ -10,7 +10,7 @@ use Rattle.guest_code.specs.Fault.{fault}
 use Rattle.guest_code.specs.Code.{code}
 use Rattle.guest_code.specs.Program.{Program}
 use Rattle.semantics.specs.Machine.{start}
-use Rattle.semantics.specs.Schedules.{run, runs}
+use Rattle.semantics.specs.Schedules.{state_after, runs}
 use Rattle.semantics.specs.Ends.{kind_of}
 use Rattle.semantics.specs.declared.view.Kind.{Kind}
 use Rattle.semantics.specs.declared.view.Kind.TheVariants.{Done, Failed, Stuck}
@@ -18,7 +18,7 @@ use Rattle.replay.specs.declared.error.ReplayError.{ReplayError}
 use Rattle.replay.specs.declared.error.ReplayError.TheVariants as replay
 use Rattle.replay.specs.declared.schedule.ScheduleError.{ScheduleError}
 use Rattle.replay.specs.declared.schedule.ScheduleError.TheVariants as schedule
-use Rattle.replay.specs.Run.{TellsOfSchedule}
+use Rattle.replay.specs.Run.{ReplayErrorMeans}
 use Rattle.replay.specs.Spelling as spelling
 use Rattle.replay.specs.Trace.{Trace}
 use Rattle.ctxbound.specs.declared.answer.Replayed.{Replayed}
@@ -40,7 +40,7 @@ pub record IsReplayOf (text schedule : List ℕ) (a : Replayed) : Type 0 where
   pub spelt : spelling.Spells schedule steps
   pub runs : runs program (start program) steps ≡ true
   pub trace : a.trace.items ≡ Trace program steps
-  pub kind : a.kind ≡ kind_of program (run program (start program) steps)
+  pub kind : a.kind ≡ kind_of program (state_after program (start program) steps)
 
 -- the text spells a tree, and this is its first fault
 pub record IsFaultOf (text : List ℕ) (e : CheckError) : Type 0 where
@@ -52,7 +52,7 @@ pub record IsFaultOf (text : List ℕ) (e : CheckError) : Type 0 where
 pub record IsNoSchedule (text schedule : List ℕ) (e : ScheduleError) : Type 0 where
   pub program : Program
   pub is_program : IsProgramOf text program
-  pub refused : spelling.TellsOfText schedule e
+  pub refused : spelling.ScheduleErrorMeans schedule e
 
 -- the text spells a program, the schedule's text a schedule, and this is why it doesn't run
 pub record IsNoRun (text schedule : List ℕ) (e : ReplayError) : Type 0 where
@@ -60,21 +60,21 @@ pub record IsNoRun (text schedule : List ℕ) (e : ReplayError) : Type 0 where
   pub is_program : IsProgramOf text program
   pub steps : List ℕ
   pub spelt : spelling.Spells schedule steps
-  pub refused : TellsOfSchedule program steps e
+  pub refused : ReplayErrorMeans program steps e
 
 -- what a fault says of the text and of the schedule's text; want of memory is told as such and never as a refusal,
 -- and no file is touched
-abbrev pub TellsOf : List ℕ → List ℕ → Fault → Type 0
-TellsOf text w File = ⊥
-TellsOf text w (Syntax syntax.OutOfMemory) = ⊥
-TellsOf text w (Syntax e) = (t : Tree) → Spells text t → ⊥
-TellsOf text w (Check check.OutOfMemory) = ⊥
-TellsOf text w (Check e) = IsFaultOf text e
-TellsOf text w (Schedule schedule.OutOfMemory) = ⊥
-TellsOf text w (Schedule e) = IsNoSchedule text w e
-TellsOf text w (Replay replay.OutOfMemory) = ⊥
-TellsOf text w (Replay e) = IsNoRun text w e
-TellsOf text w Memory = Unit {0}
+abbrev pub FaultMeans : List ℕ → List ℕ → Fault → Type 0
+FaultMeans text w File = ⊥
+FaultMeans text w (Syntax syntax.OutOfMemory) = ⊥
+FaultMeans text w (Syntax e) = (t : Tree) → Spells text t → ⊥
+FaultMeans text w (Check check.OutOfMemory) = ⊥
+FaultMeans text w (Check e) = IsFaultOf text e
+FaultMeans text w (Schedule schedule.OutOfMemory) = ⊥
+FaultMeans text w (Schedule e) = IsNoSchedule text w e
+FaultMeans text w (Replay replay.OutOfMemory) = ⊥
+FaultMeans text w (Replay e) = IsNoRun text w e
+FaultMeans text w Memory = Unit {0}
 
 -- the fault of a refusal: want of memory is one fault, whoever met it
 abbrev pub of_syntax : SyntaxError → Fault

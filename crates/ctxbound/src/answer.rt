@@ -1,7 +1,7 @@
 //! What a replay answers for a text and a schedule.
 
 ghost use Rattle.std.specs.Prelude.{◌≡◌, MatchResult};
-ghost use Rattle.ctxbound.specs.Answer.{IsReplayOf, TellsOf, status_of};
+ghost use Rattle.ctxbound.specs.Answer.{IsReplayOf, FaultMeans, status_of};
 
 use crate::fault::Fault;
 use guest_code::lowering::lower;
@@ -26,7 +26,7 @@ pub struct Replayed {
 /// What is wrong first: with the text, with the program that it spells, with the schedule's text, or
 /// with a step of the schedule; `Memory` where memory runs out.
 pub fn replay_text(alloc: Global, text: &[u8], schedule: &[u8]) -> Result<Replayed, Fault>
-    ensures { MatchResult result (IsReplayOf text.now schedule.now) (TellsOf text.now schedule.now) }
+    ensures { MatchResult result (IsReplayOf text.now schedule.now) (FaultMeans text.now schedule.now) }
 {
     let tree = parse(alloc, text)?;
     let program = lower(alloc, &tree)?;

@@ -14,7 +14,7 @@ use Rattle.guest_code.specs.declared.program.Instruction.{Instruction}
 use Rattle.guest_code.specs.declared.program.Instruction.TheVariants.{SkipIfZero, Skip}
 use Rattle.guest_code.specs.declared.error.CheckError.{CheckError}
 use Rattle.guest_code.specs.declared.error.CheckError.TheVariants as errors
-use Rattle.guest_code.specs.Program.{Program, IsFineValue, IsFineExpression, IsFine}
+use Rattle.guest_code.specs.Program.{Program, IsValidValue, IsValidExpression, IsValid}
 use Rattle.guest_code.specs.Uses.{Use, declares, object, local, outside, same, operand_uses, expr_uses, stmt_uses, block_uses, kind_in, knows, with_name, locals_from}
 use Rattle.guest_code.specs.Sizes.{block_size}
 use Rattle.guest_code.specs.Fault.{object_refusal, local_refusal}
@@ -148,23 +148,23 @@ pub record Sound (p : Program) (ns : Names) (all : List Use) : Type 0 where
 fine_place : (p : Program) (ns : Names) (all : List Use) (g : Sound p ns all) (name : List ℕ) → knows ns.locals name ≡ true → place ns.locals name < LOCALS
 fine_place p ns all g name e = omega (arith, place_less ns.locals name e, g.locals)
 
-fine_value : (p : Program) (ns : Names) (all : List Use) (g : Sound p ns all) (a : Operand) → Right all ns.locals (operand_uses a) → IsFineValue (value_of ns a)
+fine_value : (p : Program) (ns : Names) (all : List Use) (g : Sound p ns all) (a : Operand) → Right all ns.locals (operand_uses a) → IsValidValue (value_of ns a)
 fine_value p ns all g (tree.local n) r = fine_place p ns all g n.text r.0
 fine_value p ns all g (tree.literal z) r = tt
 
-fine_expression : (p : Program) (ns : Names) (all : List Use) (g : Sound p ns all) (e : Expr) → Right all ns.locals (expr_uses e) → IsFineExpression (expression_of ns e)
+fine_expression : (p : Program) (ns : Names) (all : List Use) (g : Sound p ns all) (e : Expr) → Right all ns.locals (expr_uses e) → IsValidExpression (expression_of ns e)
 fine_expression p ns all g (tree.single a) r = fine_value p ns all g a r
 fine_expression p ns all g (tree.both a op b) r = (fine_value p ns all g a (right_front all ns.locals (operand_uses a) (operand_uses b) r), fine_value p ns all g b (right_back all ns.locals (operand_uses a) (operand_uses b) r))
 
-only : (p : Program) (i : Instruction) → IsFine p i → All (IsFine p) (i ∷ [])
-only p i f = All-cons (IsFine p) i [] f (All-nil (IsFine p))
+only : (p : Program) (i : Instruction) → IsValid p i → All (IsValid p) (i ∷ [])
+only p i f = All-cons (IsValid p) i [] f (All-nil (IsValid p))
 
-fine_copies : (p : Program) (body : ℕ → List Instruction) (len n : ℕ) → ((k : ℕ) → All (IsFine p) (body k)) → All (IsFine p) (copies body len n)
-fine_copies p body len zero h = All-nil (IsFine p)
-fine_copies p body len (suc n) h = All-append (IsFine p) (body (n * len)) (copies body len n) (h (n * len)) (fine_copies p body len n h)
+fine_copies : (p : Program) (body : ℕ → List Instruction) (len n : ℕ) → ((k : ℕ) → All (IsValid p) (body k)) → All (IsValid p) (copies body len n)
+fine_copies p body len zero h = All-nil (IsValid p)
+fine_copies p body len (suc n) h = All-append (IsValid p) (body (n * len)) (copies body len n) (h (n * len)) (fine_copies p body len n h)
 
 mutual
-  pub fine_stmt : (p : Program) (ns : Names) (all : List Use) (g : Sound p ns all) (inside : Bool) (s : Stmt) (behind : ℕ) → Right all ns.locals (stmt_uses inside s) → All (IsFine p) (stmt_code ns s behind)
+  pub fine_stmt : (p : Program) (ns : Names) (all : List Use) (g : Sound p ns all) (inside : Bool) (s : Stmt) (behind : ℕ) → Right all ns.locals (stmt_uses inside s) → All (IsValid p) (stmt_code ns s behind)
   fine_stmt p ns all g inside (tree.load r x) behind h = only p _ (fine_place p ns all g r.text h.0, g.variable x.text h.1.0)
   fine_stmt p ns all g inside (tree.store x a) behind h = only p _ (g.variable x.text h.0, fine_value p ns all g a h.1)
   fine_stmt p ns all g inside (tree.lock m) behind h = only p _ (g.mutex m.text h.0)
@@ -177,16 +177,16 @@ mutual
   fine_stmt p ns all g inside (tree.set r e) behind h = only p _ (fine_place p ns all g r.text h.0, fine_expression p ns all g e h.1)
   fine_stmt p ns all g inside (tree.assert e) behind h = only p _ (fine_expression p ns all g e h)
   fine_stmt p ns all g inside (tree.if_then e b) behind h =
-      All-cons (IsFine p) (SkipIfZero (expression_of ns e) (block_size b)) (block_code ns b behind) (fine_expression p ns all g e (right_front all ns.locals (expr_uses e) (block_uses inside b) h)) (fine_block p ns all g inside b behind (right_back all ns.locals (expr_uses e) (block_uses inside b) h))
+      All-cons (IsValid p) (SkipIfZero (expression_of ns e) (block_size b)) (block_code ns b behind) (fine_expression p ns all g e (right_front all ns.locals (expr_uses e) (block_uses inside b) h)) (fine_block p ns all g inside b behind (right_back all ns.locals (expr_uses e) (block_uses inside b) h))
   fine_stmt p ns all g inside (tree.if_else e b c) behind h =
       let bodies = right_back all ns.locals (expr_uses e) (block_uses inside b ++ block_uses inside c) h in
       let yes = fine_block p ns all g inside b (behind + 1 + block_size c) (right_front all ns.locals (block_uses inside b) (block_uses inside c) bodies) in
       let no = fine_block p ns all g inside c behind (right_back all ns.locals (block_uses inside b) (block_uses inside c) bodies) in
-      All-cons (IsFine p) (SkipIfZero (expression_of ns e) (block_size b + 1)) (block_code ns b (behind + 1 + block_size c) ++ (Skip (block_size c) ∷ block_code ns c behind)) (fine_expression p ns all g e (right_front all ns.locals (expr_uses e) (block_uses inside b ++ block_uses inside c) h))
-      (All-append (IsFine p) (block_code ns b (behind + 1 + block_size c)) (Skip (block_size c) ∷ block_code ns c behind) yes (All-cons (IsFine p) (Skip (block_size c)) (block_code ns c behind) tt no))
+      All-cons (IsValid p) (SkipIfZero (expression_of ns e) (block_size b + 1)) (block_code ns b (behind + 1 + block_size c) ++ (Skip (block_size c) ∷ block_code ns c behind)) (fine_expression p ns all g e (right_front all ns.locals (expr_uses e) (block_uses inside b ++ block_uses inside c) h))
+      (All-append (IsValid p) (block_code ns b (behind + 1 + block_size c)) (Skip (block_size c) ∷ block_code ns c behind) yes (All-cons (IsValid p) (Skip (block_size c)) (block_code ns c behind) tt no))
   fine_stmt p ns all g inside (tree.repeat n b) behind h = fine_copies p (block_code ns b) (block_size b) n (λ k. fine_block p ns all g true b k h)
   fine_stmt p ns all g inside (tree.leave at) behind h = only p (Skip behind) tt
 
-  pub fine_block : (p : Program) (ns : Names) (all : List Use) (g : Sound p ns all) (inside : Bool) (b : Block) (behind : ℕ) → Right all ns.locals (block_uses inside b) → All (IsFine p) (block_code ns b behind)
-  fine_block p ns all g inside tree.nothing behind h = All-nil (IsFine p)
-  fine_block p ns all g inside (tree.next s b) behind h = All-append (IsFine p) (stmt_code ns s (behind + block_size b)) (block_code ns b behind) (fine_stmt p ns all g inside s (behind + block_size b) (right_front all ns.locals (stmt_uses inside s) (block_uses inside b) h)) (fine_block p ns all g inside b behind (right_back all ns.locals (stmt_uses inside s) (block_uses inside b) h))
+  pub fine_block : (p : Program) (ns : Names) (all : List Use) (g : Sound p ns all) (inside : Bool) (b : Block) (behind : ℕ) → Right all ns.locals (block_uses inside b) → All (IsValid p) (block_code ns b behind)
+  fine_block p ns all g inside tree.nothing behind h = All-nil (IsValid p)
+  fine_block p ns all g inside (tree.next s b) behind h = All-append (IsValid p) (stmt_code ns s (behind + block_size b)) (block_code ns b behind) (fine_stmt p ns all g inside s (behind + block_size b) (right_front all ns.locals (stmt_uses inside s) (block_uses inside b) h)) (fine_block p ns all g inside b behind (right_back all ns.locals (stmt_uses inside s) (block_uses inside b) h))

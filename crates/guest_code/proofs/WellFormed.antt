@@ -8,7 +8,7 @@ use Rattle.guest_code.specs.declared.kinds.Kind.{Kind}
 use Rattle.guest_code.specs.declared.kinds.Kind.TheVariants as kinds
 use Rattle.guest_code.specs.declared.error.CheckError.TheVariants as errors
 use Rattle.guest_code.specs.declared.limits.TheConstants.{INSTRUCTIONS, COUNT}
-use Rattle.guest_code.specs.Program.{Program, IsFineCode, IsWellFormed}
+use Rattle.guest_code.specs.Program.{Program, IsValidCode, IsWellFormed}
 use Rattle.guest_code.specs.Program as program
 use Rattle.guest_code.specs.Uses.{Use, same, block_uses, thread_uses, declarations_uses, threads_uses, uses, kind_in, how_many, thread_locals}
 use Rattle.guest_code.specs.Sizes.{block_size}
@@ -41,7 +41,7 @@ pub record Placed (p : Program) (ds : List Declaration) (all : List Use) : Type 
   pub condition : (name : List ℕ) → kind_in all name ≡ Some kinds.Condition → slot kinds.Condition ds name < length p.conditions
   pub semaphore : (name : List ℕ) → kind_in all name ≡ Some kinds.Semaphore → slot kinds.Semaphore ds name < length p.semaphores
 
-thread_fine : (p : Program) (ds : List Declaration) (all : List Use) (g : Placed p ds all) (t : Thread) → fault_of (block_check all false t.body []) ≡ None → block_size t.body ≤ INSTRUCTIONS → IsFineCode p (thread_code ds t).code
+thread_fine : (p : Program) (ds : List Declaration) (all : List Use) (g : Placed p ds all) (t : Thread) → fault_of (block_check all false t.body []) ≡ None → block_size t.body ≤ INSTRUCTIONS → IsValidCode p (thread_code ds t).code
 thread_fine p ds all g t right le =
     let names : Names = record { declarations = ds; locals = thread_locals t } in
     let checked = checked_is all t (block_check all false t.body []) refl right in
@@ -56,13 +56,13 @@ thread_fine p ds all g t right le =
 -- ---- all threads
 
 threads_fine : (p : Program) (ds : List Declaration) (all : List Use) (g : Placed p ds all) (before : List Use) (k : ℕ) (ts : List Thread) → first all before (threads_uses ts) ≡ None → too_long k ts ≡ None
-    → All (λ (t : program.Thread). IsFineCode p t.code) (map (thread_code ds) ts)
-threads_fine p ds all g before k [] e long = All-nil (λ (t : program.Thread). IsFineCode p t.code)
+    → All (λ (t : program.Thread). IsValidCode p t.code) (map (thread_code ds) ts)
+threads_fine p ds all g before k [] e long = All-nil (λ (t : program.Thread). IsValidCode p t.code)
 threads_fine p ds all g before k (t ∷ ts) e long =
     let parts = or_none (declares_refusal kinds.Thread t.name (kind_in before t.name.text) (how_many kinds.Thread before)) (or_else (fault_of (block_check all false t.body [])) (first all (before ++ thread_uses t) (threads_uses ts))) (sym (one_thread all before t (threads_uses ts)) ∙ e) in
     let rest = or_none (fault_of (block_check all false t.body [])) (first all (before ++ thread_uses t) (threads_uses ts)) parts.1 in
     let lengths = short k t ts (ltb INSTRUCTIONS (block_size t.body)) refl long in
-    All-cons (λ (c : program.Thread). IsFineCode p c.code) (thread_code ds t) (map (thread_code ds) ts) (thread_fine p ds all g t rest.0 lengths.0) (threads_fine p ds all g (before ++ thread_uses t) (k + 1) ts rest.1 lengths.1)
+    All-cons (λ (c : program.Thread). IsValidCode p c.code) (thread_code ds t) (map (thread_code ds) ts) (thread_fine p ds all g t rest.0 lengths.0) (threads_fine p ds all g (before ++ thread_uses t) (k + 1) ts rest.1 lengths.1)
 
 -- ---- the program
 

@@ -73,33 +73,33 @@ code_of p t = (slice_index_or p.threads t no_thread).code
 
 -- numbers of objects and locals are in range
 
-abbrev pub IsFineValue : Value → Type 0
-IsFineValue (Local r) = r < LOCALS
-IsFineValue (Literal n) = Unit {0}
+abbrev pub IsValidValue : Value → Type 0
+IsValidValue (Local r) = r < LOCALS
+IsValidValue (Literal n) = Unit {0}
 
-abbrev pub IsFineExpression : Expression → Type 0
-IsFineExpression (Single a) = IsFineValue a
-IsFineExpression (Both a op b) = IsFineValue a × IsFineValue b
+abbrev pub IsValidExpression : Expression → Type 0
+IsValidExpression (Single a) = IsValidValue a
+IsValidExpression (Both a op b) = IsValidValue a × IsValidValue b
 
-abbrev pub IsFine : Program → Instruction → Type 0
-IsFine p (Load r x) = (r < LOCALS) × (x < length p.variables)
-IsFine p (Store x a) = (x < length p.variables) × IsFineValue a
-IsFine p (Lock m) = m < length p.mutexes
-IsFine p (Unlock m) = m < length p.mutexes
-IsFine p (Wait c m) = (c < length p.conditions) × (m < length p.mutexes)
-IsFine p (Signal c) = c < length p.conditions
-IsFine p (Broadcast c) = c < length p.conditions
-IsFine p (Acquire s) = s < length p.semaphores
-IsFine p (Release s) = s < length p.semaphores
-IsFine p (Set r e) = (r < LOCALS) × IsFineExpression e
-IsFine p (Assert e) = IsFineExpression e
-IsFine p (SkipIfZero e n) = IsFineExpression e
-IsFine p (Skip n) = Unit {0}
+abbrev pub IsValid : Program → Instruction → Type 0
+IsValid p (Load r x) = (r < LOCALS) × (x < length p.variables)
+IsValid p (Store x a) = (x < length p.variables) × IsValidValue a
+IsValid p (Lock m) = m < length p.mutexes
+IsValid p (Unlock m) = m < length p.mutexes
+IsValid p (Wait c m) = (c < length p.conditions) × (m < length p.mutexes)
+IsValid p (Signal c) = c < length p.conditions
+IsValid p (Broadcast c) = c < length p.conditions
+IsValid p (Acquire s) = s < length p.semaphores
+IsValid p (Release s) = s < length p.semaphores
+IsValid p (Set r e) = (r < LOCALS) × IsValidExpression e
+IsValid p (Assert e) = IsValidExpression e
+IsValid p (SkipIfZero e n) = IsValidExpression e
+IsValid p (Skip n) = Unit {0}
 
 -- a code of this program that is not too long and whose numbers are in range
-pub record IsFineCode (p : Program) (code : List Instruction) : Type 0 where
+pub record IsValidCode (p : Program) (code : List Instruction) : Type 0 where
   pub short : length code ≤ INSTRUCTIONS
-  pub fine : All (IsFine p) code
+  pub fine : All (IsValid p) code
 
 -- the limits are kept, and every number of an object or a local is in range
 pub record IsWellFormed (p : Program) : Type 0 where
@@ -110,4 +110,4 @@ pub record IsWellFormed (p : Program) : Type 0 where
   pub conditions : length p.conditions ≤ OBJECTS
   pub semaphores : length p.semaphores ≤ OBJECTS
   pub counts : All (λ s. s.count ≤ COUNT) p.semaphores
-  pub codes : All (λ t. IsFineCode p t.code) p.threads
+  pub codes : All (λ t. IsValidCode p t.code) p.threads

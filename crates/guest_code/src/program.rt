@@ -2,7 +2,7 @@
 
 ghost use Rattle.std.specs.Prelude.{◌≡◌, ◌↔◌, ◌<◌, ◌≤◌, IsTrue, [], length, map, slice_index_or, List, ℕ};
 ghost use Rattle.guest_code.specs.Program as model;
-ghost use Rattle.guest_code.specs.Program.{IsWellFormed, IsFineCode, variable_view, semaphore_view, thread_view, code_of, variable_at, semaphore_at, thread_at};
+ghost use Rattle.guest_code.specs.Program.{IsWellFormed, IsValidCode, variable_view, semaphore_view, thread_view, code_of, variable_at, semaphore_at, thread_at};
 
 use crate::limits::*;
 use guest_syntax::tree::Op;
@@ -216,7 +216,7 @@ impl Program {
     pub fn code(&self, t: u8) -> &[Instruction]
         requires { t < length self.now.threads }
         ensures code { result.now ≡ code_of self.now t }
-        ensures fine { IsFineCode self.now result.now }
+        ensures fine { IsValidCode self.now result.now }
     {
         self.threads[t as usize].code.as_slice()
     }

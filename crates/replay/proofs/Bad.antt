@@ -3,7 +3,7 @@ use Rattle.std.proofs.Common.{◌≡◌, ℕ, zero, suc, ◌<◌, Bool, true, fa
 use Rattle.std.proofs.lemmas.Bool.{false≢true}
 use Rattle.guest_code.specs.Program.{Program}
 use Rattle.semantics.specs.Machine.{Snapshot, is_enabled, step, start}
-use Rattle.semantics.specs.Schedules.{run, runs}
+use Rattle.semantics.specs.Schedules.{state_after, runs}
 use Rattle.replay.specs.Run.{IsFirstBad}
 
 both : (a b : Bool) → (a && b) ≡ true → (a ≡ true) × (b ≡ true)
@@ -11,7 +11,7 @@ both true b h = (refl, h)
 both false b h = absurd (false≢true h)
 
 -- a schedule with a bad place behind steps that run doesn't run
-bad_fails : (p : Program) (s : Snapshot) (w : List ℕ) (k : ℕ) → k < length w → runs p s (take k w) ≡ true → is_enabled p (run p s (take k w)) (get_or w k 0) ≡ false → runs p s w ≡ false
+bad_fails : (p : Program) (s : Snapshot) (w : List ℕ) (k : ℕ) → k < length w → runs p s (take k w) ≡ true → is_enabled p (state_after p s (take k w)) (get_or w k 0) ≡ false → runs p s w ≡ false
 bad_fails p s [] k inside h bad = absurd (omega (arith, inside))
 bad_fails p s (t ∷ w) zero inside h bad = ap (λ b. b && runs p (step p s t) w) bad
 bad_fails p s (t ∷ w) (suc k) inside h bad =
@@ -19,7 +19,7 @@ bad_fails p s (t ∷ w) (suc k) inside h bad =
     ap (λ b. b && runs p (step p s t) w) on.0 ∙ bad_fails p (step p s t) w k (omega (arith, inside)) on.1 bad
 
 -- there is one such place
-bad_once : (p : Program) (s : Snapshot) (w : List ℕ) (j k : ℕ) → j < length w → runs p s (take j w) ≡ true → is_enabled p (run p s (take j w)) (get_or w j 0) ≡ false → k < length w → runs p s (take k w) ≡ true → is_enabled p (run p s (take k w)) (get_or w k 0) ≡ false → j ≡ k
+bad_once : (p : Program) (s : Snapshot) (w : List ℕ) (j k : ℕ) → j < length w → runs p s (take j w) ≡ true → is_enabled p (state_after p s (take j w)) (get_or w j 0) ≡ false → k < length w → runs p s (take k w) ≡ true → is_enabled p (state_after p s (take k w)) (get_or w k 0) ≡ false → j ≡ k
 bad_once p s [] j k inside h bad inside2 h2 bad2 = absurd (omega (arith, inside))
 bad_once p s (t ∷ w) zero zero inside h bad inside2 h2 bad2 = refl
 bad_once p s (t ∷ w) zero (suc k) inside h bad inside2 h2 bad2 = absurd (false≢true (sym bad ∙ (both (is_enabled p s t) (runs p (step p s t) (take k w)) h2).0))

@@ -7,9 +7,9 @@ use Rattle.std.proofs.lemmas.List.{take_more, take_all}
 use Rattle.std.proofs.lemmas.List.Elements.{filter-append}
 use Rattle.guest_code.specs.Program.{Program}
 use Rattle.semantics.specs.Machine.{Snapshot, next_of, is_enabled, step, start}
-use Rattle.semantics.specs.Schedules.{up_from, run, runs, preempts, preemptions, one_if, last_of, last_after}
+use Rattle.semantics.specs.Schedules.{up_from, state_after, runs, preempts, preemptions, one_if, last_of, last_after}
 use Rattle.semantics.specs.Ends.{kind_of}
-use Rattle.semantics.proofs.Prefix.{runs-push, run-push, preemptions-push}
+use Rattle.semantics.proofs.UnfoldingUnderPrefix.{runs-push, state_after-push, preemptions-push}
 use Rattle.replay.specs.declared.run.Line.{Line}
 use Rattle.replay.specs.Run.{Run, lines_from, line_at, stopped_in, IsRunOf}
 
@@ -37,7 +37,7 @@ passed_same test n old e h =
     ∙ (ap (λ b. filter test (up_from 0 n) ++ cond b (n ∷ []) []) h ∙ append-nil (filter test (up_from 0 n))))))
 
 -- lines of one schedule behind another
-lines_from-append : (p : Program) (s : Snapshot) (last : Option ℕ) (v w : List ℕ) → lines_from p s last (v ++ w) ≡ lines_from p s last v ++ lines_from p (run p s v) (last_after last v) w
+lines_from-append : (p : Program) (s : Snapshot) (last : Option ℕ) (v w : List ℕ) → lines_from p s last (v ++ w) ≡ lines_from p s last v ++ lines_from p (state_after p s v) (last_after last v) w
 lines_from-append p s last [] w = refl
 lines_from-append p s last (t ∷ v) w =
     ap (λ ls. line_at p s last t (next_of p s t) ++ ls) (lines_from-append p (step p s t) (Some t) v w)
@@ -59,7 +59,7 @@ from_bool-is false = refl
 -- a schedule that runs leads to this state, by these lines, with so many preempting switches
 pub record Reached (p : Program) (w : List ℕ) (s : Snapshot) (last : Option ℕ) (lines : List Line) (n : ℕ) : Type 0 where
   pub legal : runs p (start p) w ≡ true
-  pub state : s ≡ run p (start p) w
+  pub state : s ≡ state_after p (start p) w
   pub latest : last ≡ last_of w
   pub told : lines ≡ lines_from p (start p) None w
   pub counted : n ≡ preemptions p w
@@ -72,17 +72,17 @@ reached_none p s e = record { legal = refl; state = e; latest = refl; told = ref
 pub reached_more : (p : Program) (w : List ℕ) (s : Snapshot) (last : Option ℕ) (lines : List Line) (n : ℕ) (t : ℕ) (line : Line) → Reached p w s last lines n → is_enabled p s t ≡ true → line_at p s last t (next_of p s t) ≡ line ∷ [] → line.preempting ≡ preempts p s last t → Reached p (w ++ t ∷ []) (step p s t) (Some t) (lines ++ line ∷ []) (n + one_if line.preempting)
 reached_more p w s last lines n t line old h e g = record {
   legal = runs-push p (start p) w t old.legal (subst (λ u. is_enabled p u t ≡ true) old.state h);
-  state = ap (λ u. step p u t) old.state ∙ sym (run-push p (start p) w t);
+  state = ap (λ u. step p u t) old.state ∙ sym (state_after-push p (start p) w t);
   latest = sym (last_after-push None w t);
   told = (λ i. old.told i ++ e_line i) ∙ sym (lines_from-append p (start p) None w (t ∷ []));
   counted = (λ i. old.counted i + one_if (preempting i)) ∙ sym (preemptions-push p w t);
   few = let few = old.few in let one = one_or_none line.preempting in let long = length-append w (t ∷ []) in omega (arith, few, one, long);
 }
   where
-    e_line : line ∷ [] ≡ lines_from p (run p (start p) w) (last_of w) (t ∷ [])
-    e_line = sym e ∙ ((λ i. line_at p (old.state i) (old.latest i) t (next_of p (old.state i) t)) ∙ sym (append-nil (line_at p (run p (start p) w) (last_of w) t (next_of p (run p (start p) w) t))))
+    e_line : line ∷ [] ≡ lines_from p (state_after p (start p) w) (last_of w) (t ∷ [])
+    e_line = sym e ∙ ((λ i. line_at p (old.state i) (old.latest i) t (next_of p (old.state i) t)) ∙ sym (append-nil (line_at p (state_after p (start p) w) (last_of w) t (next_of p (state_after p (start p) w) t))))
 
-    preempting : line.preempting ≡ preempts p (run p (start p) w) (last_of w) t
+    preempting : line.preempting ≡ preempts p (state_after p (start p) w) (last_of w) t
     preempting = g ∙ (λ i. preempts p (old.state i) (old.latest i) t)
 
 -- the step at place k of a schedule

@@ -12,7 +12,7 @@ use Rattle.semantics.specs.declared.state.Action.{Action}
 use Rattle.semantics.specs.declared.state.Action.TheVariants.{OnVariable, OnMutex, Wait as Waits, OnCondition, OnSemaphore}
 use Rattle.semantics.specs.declared.view.Kind.{Kind}
 use Rattle.semantics.specs.Machine.{Snapshot, thread_at, next_of, value_of, value_of_operand, is_enabled, step, start}
-use Rattle.semantics.specs.Schedules.{up_from, run, runs, preempts, preemptions}
+use Rattle.semantics.specs.Schedules.{up_from, state_after, runs, preempts, preemptions}
 use Rattle.semantics.specs.Ends.{is_stopped, kind_of}
 use Rattle.replay.specs.declared.run.Act.{Act}
 use Rattle.replay.specs.declared.run.Act.TheVariants.{Load, Store, Lock, Unlock, Wait, Retake, Signal, Broadcast, Acquire, Release}
@@ -76,8 +76,8 @@ run_of p w = record {
   stopped = stopped_in (start p);
   lines = lines_from p (start p) None w;
   preemptions = preemptions p w;
-  vars = (run p (start p) w).vars;
-  kind = kind_of p (run p (start p) w);
+  vars = (state_after p (start p) w).vars;
+  kind = kind_of p (state_after p (start p) w);
 }
 
 -- the schedule runs, and this is its run
@@ -91,7 +91,7 @@ number_at w k = slice_index_or w k 0
 
 -- the state before the step at a place
 abbrev pub state_before : Program → List ℕ → ℕ → Snapshot
-state_before p w k = run p (start p) (take k w)
+state_before p w k = state_after p (start p) (take k w)
 
 -- the schedule runs up to this place, and its step there is of no thread that is enabled
 pub record IsFirstBad (p : Program) (w : List ℕ) (k : ℕ) : Type 0 where
@@ -100,7 +100,7 @@ pub record IsFirstBad (p : Program) (w : List ℕ) (k : ℕ) : Type 0 where
   pub bad : is_enabled p (state_before p w k) (number_at w k) ≡ false
 
 -- what an error says of the schedule: its first bad place, and whether there is such a thread
-abbrev pub TellsOfSchedule : Program → List ℕ → ReplayError → Type 0
-TellsOfSchedule p w (NoSuchThread k) = IsFirstBad p w k × ¬ (number_at w k < length p.threads)
-TellsOfSchedule p w (NotEnabled k) = IsFirstBad p w k × (number_at w k < length p.threads)
-TellsOfSchedule p w OutOfMemory = Unit {0}
+abbrev pub ReplayErrorMeans : Program → List ℕ → ReplayError → Type 0
+ReplayErrorMeans p w (NoSuchThread k) = IsFirstBad p w k × ¬ (number_at w k < length p.threads)
+ReplayErrorMeans p w (NotEnabled k) = IsFirstBad p w k × (number_at w k < length p.threads)
+ReplayErrorMeans p w OutOfMemory = Unit {0}

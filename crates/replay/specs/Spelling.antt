@@ -42,6 +42,6 @@ pub record IsBadAt (text : List ℕ) (at : ℕ) : Type 0 where
   pub place : at ≡ length_with_commas front
 
 -- what an error says of the text
-abbrev pub TellsOfText : List ℕ → ScheduleError → Type 0
-TellsOfText text (BadSchedule at) = IsBadAt text at
-TellsOfText text OutOfMemory = Unit {0}
+abbrev pub ScheduleErrorMeans : List ℕ → ScheduleError → Type 0
+ScheduleErrorMeans text (BadSchedule at) = IsBadAt text at
+ScheduleErrorMeans text OutOfMemory = Unit {0}

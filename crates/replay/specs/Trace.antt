@@ -98,25 +98,25 @@ Trace p w = trace p (run_of p w)
 -- which runs can be told with the program's names
 
 -- the step was on objects of the program
-abbrev pub IsFineAct : Program → Act → Type 0
-IsFineAct p (Load x v) = x < length p.variables
-IsFineAct p (Store x v) = x < length p.variables
-IsFineAct p (Lock m) = m < length p.mutexes
-IsFineAct p (Unlock m) = m < length p.mutexes
-IsFineAct p (Wait c m) = (c < length p.conditions) × (m < length p.mutexes)
-IsFineAct p (Retake m) = m < length p.mutexes
-IsFineAct p (Signal c) = c < length p.conditions
-IsFineAct p (Broadcast c) = c < length p.conditions
-IsFineAct p (Acquire k) = k < length p.semaphores
-IsFineAct p (Release k) = k < length p.semaphores
+abbrev pub IsValidAct : Program → Act → Type 0
+IsValidAct p (Load x v) = x < length p.variables
+IsValidAct p (Store x v) = x < length p.variables
+IsValidAct p (Lock m) = m < length p.mutexes
+IsValidAct p (Unlock m) = m < length p.mutexes
+IsValidAct p (Wait c m) = (c < length p.conditions) × (m < length p.mutexes)
+IsValidAct p (Retake m) = m < length p.mutexes
+IsValidAct p (Signal c) = c < length p.conditions
+IsValidAct p (Broadcast c) = c < length p.conditions
+IsValidAct p (Acquire k) = k < length p.semaphores
+IsValidAct p (Release k) = k < length p.semaphores
 
 -- a step of a thread of the program on objects of the program
-pub record IsFineLine (p : Program) (line : Line) : Type 0 where
+pub record IsValidLine (p : Program) (line : Line) : Type 0 where
   pub thread : line.thread < length p.threads
-  pub act : IsFineAct p line.act
+  pub act : IsValidAct p line.act
 
 -- each thread and object in the run is one of the program, and each variable has one value
-pub record IsFineRun (p : Program) (r : Run) : Type 0 where
+pub record IsValidRun (p : Program) (r : Run) : Type 0 where
   pub stopped : All (λ t. t < length p.threads) r.stopped
-  pub lines : All (IsFineLine p) r.lines
+  pub lines : All (IsValidLine p) r.lines
   pub vars : length r.vars ≡ length p.variables

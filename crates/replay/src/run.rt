@@ -4,10 +4,10 @@ ghost use Rattle.std.specs.Prelude.{◌≡◌, ◌<◌, true, false, [], ◌∷�
 ghost use Rattle.guest_code.specs.Program.{Program};
 ghost use Rattle.semantics.specs.Machine.{thread_at, is_enabled, step, next_of};
 ghost use Rattle.semantics.specs.Schedules.{preempts};
-ghost use Rattle.semantics.specs.Reachable.{IsOf, IsFineAction};
+ghost use Rattle.semantics.specs.Reachable.{IsOf, IsValidAction};
 ghost use Rattle.semantics.specs.Ends.{is_stopped};
-ghost use Rattle.replay.specs.Run.{act_of, stop_of, line_at, stopped_in, IsRunOf, TellsOfSchedule};
-ghost use Rattle.replay.specs.Trace.{IsFineAct, IsFineLine, IsFineRun};
+ghost use Rattle.replay.specs.Run.{act_of, stop_of, line_at, stopped_in, IsRunOf, ReplayErrorMeans};
+ghost use Rattle.replay.specs.Trace.{IsValidAct, IsValidLine, IsValidRun};
 
 use crate::error::ReplayError;
 use guest_code::program::Program;
@@ -120,8 +120,8 @@ impl Run {
 /// `NoSuchThread` or `NotEnabled` with the first place at which the schedule can't go on,
 /// `OutOfMemory` where memory runs out.
 pub fn replay(alloc: Global, p: &Program, w: &[u8]) -> Result<Run, ReplayError>
-    ensures value { MatchResult result (IsRunOf p.now w.now) (TellsOfSchedule p.now w.now) }
-    ensures fine { IfOk result (IsFineRun p.now) }
+    ensures value { MatchResult result (IsRunOf p.now w.now) (ReplayErrorMeans p.now w.now) }
+    ensures fine { IfOk result (IsValidRun p.now) }
 {
     let mut state = State::start(alloc, p)?;
     let stopped = stopped_threads(alloc, p, &state)?;
@@ -178,7 +178,7 @@ fn take_step(state: &mut State, p: &Program, last: Option<u8>, t: u8) -> Option<
     ensures line { MatchOption result (is_enabled p.now state.old t ≡ false) (λ line. line_at p.now state.old last t (next_of p.now state.old t) ≡ line ∷ []) }
     ensures enabled { IfSome result (λ _. is_enabled p.now state.old t ≡ true) }
     ensures preempting { IfSome result (λ line. line.preempting ≡ preempts p.now state.old last t) }
-    ensures fine { IfSome result (IsFineLine p.now) }
+    ensures fine { IfSome result (IsValidLine p.now) }
     ensures state { IfSome result (λ _. state.new ≡ step p.now state.old t) }
     ensures of { IfSome result (λ _. IsOf p.now state.new) }
 {
@@ -223,9 +223,9 @@ fn stop_of(status: Status) -> Option<Stop>
 fn act_of(state: &State, p: &Program, t: u8, action: Action) -> Act
     requires of { IsOf p.now state.now }
     requires thread { t < length p.now.threads }
-    requires fine { IsFineAction p.now action }
+    requires fine { IsValidAction p.now action }
     ensures value { result ≡ act_of state.now t action }
-    ensures fine { IsFineAct p.now result }
+    ensures fine { IsValidAct p.now result }
 {
     match action {
         Action::OnVariable(x, VariableAction::Load(_)) => Act::Load {

@@ -2,7 +2,7 @@
 //! joined by commas.
 
 ghost use Rattle.std.specs.Prelude.{◌≡◌, ◌≢◌, ◌<◌, length, IfOk, MatchOption, MatchResult, decimal, List, ℕ, ◌==◌, ◌&&◌, ◌||◌, nat_lt, slice_index, IsTrue, ◌↔◌, codes};
-ghost use Rattle.replay.specs.Spelling.{spelling, Spells, IsNumber, IsBadAt, TellsOfText};
+ghost use Rattle.replay.specs.Spelling.{spelling, Spells, IsNumber, IsBadAt, ScheduleErrorMeans};
 
 use std::alloc::{AllocError, AllocFailed, Global};
 use thiserror::Error;
@@ -70,7 +70,7 @@ pub fn schedule_text(alloc: Global, w: &[u8]) -> Result<Vec<u8>, AllocError>
 /// `BadSchedule` with the offset of the first piece that is no number 0 to 255 in decimal (for a
 /// last piece that is empty, the length of the text), `OutOfMemory` where memory runs out.
 pub fn schedule_from(alloc: Global, text: &[u8]) -> Result<Vec<u8>, ScheduleError>
-    ensures { MatchResult result (λ w. Spells text.now w.items) (TellsOfText text.now) }
+    ensures { MatchResult result (λ w. Spells text.now w.items) (ScheduleErrorMeans text.now) }
 {
     let mut schedule = Vec::new(alloc);
     if is_empty(text) {

@@ -4,7 +4,7 @@ ghost use Rattle.std.specs.Prelude.{◌≡◌, ◌<◌, ◌++◌, ℕ, List, len
 ghost use Rattle.std.specs.Fmt.{decimal, signed_decimal};
 ghost use Rattle.std.specs.List.{flat_map};
 ghost use Rattle.replay.specs.Run.{IsRunOf};
-ghost use Rattle.replay.specs.Trace.{Trace, trace, start_line, step_line, step_lines, end_lines, values_text, act_text, preempt_text, stop_text, kind_text, IsFineAct, IsFineLine, IsFineRun};
+ghost use Rattle.replay.specs.Trace.{Trace, trace, start_line, step_line, step_lines, end_lines, values_text, act_text, preempt_text, stop_text, kind_text, IsValidAct, IsValidLine, IsValidRun};
 
 use crate::run::{Act, Line, Run};
 use guest_code::program::Program;
@@ -23,7 +23,7 @@ use std::alloc::{AllocError, Global};
 ///
 /// `AllocError` where memory runs out.
 pub fn trace_text(alloc: Global, p: &Program, r: &Run) -> Result<Vec<u8>, AllocError>
-    requires { IsFineRun p.now r.now }
+    requires { IsValidRun p.now r.now }
     ensures run { IfOk result (λ text. text.items ≡ trace p.now r.now) }
     ensures schedule { IfOk result (λ text. (w : List ℕ) → IsRunOf p.now w r.now → text.items ≡ Trace p.now w) }
 {
@@ -52,7 +52,7 @@ fn put_steps(
     p: &Program,
     lines: &[Line],
 ) -> Result<(), AllocError>
-    requires { All (IsFineLine p.now) lines.now }
+    requires { All (IsValidLine p.now) lines.now }
     ensures { OnOk result (text.new.items ≡ text.old.items ++ step_lines p.now 0 lines.now) }
 {
     for (k, line) in lines.iter().enumerate() {
@@ -69,7 +69,7 @@ fn put_step(
     k: usize,
     line: Line,
 ) -> Result<(), AllocError>
-    requires { IsFineLine p.now line }
+    requires { IsValidLine p.now line }
     ensures { OnOk result (text.new.items ≡ text.old.items ++ step_line p.now k line) }
 {
     put_number(text, alloc, b"", k)?;
@@ -86,7 +86,7 @@ fn put_step(
 
 // What a step did.
 fn put_act(text: &mut Vec<u8>, alloc: Global, p: &Program, act: Act) -> Result<(), AllocError>
-    requires { IsFineAct p.now act }
+    requires { IsValidAct p.now act }
     ensures { OnOk result (text.new.items ≡ text.old.items ++ act_text p.now act) }
 {
     match act {
@@ -114,7 +114,7 @@ fn put_act(text: &mut Vec<u8>, alloc: Global, p: &Program, act: Act) -> Result<(
 
 // The three lines at the end.
 fn put_end(text: &mut Vec<u8>, alloc: Global, p: &Program, r: &Run) -> Result<(), AllocError>
-    requires { IsFineRun p.now r.now }
+    requires { IsValidRun p.now r.now }
     ensures { OnOk result (text.new.items ≡ text.old.items ++ end_lines p.now r.now) }
 {
     put_number(text, alloc, b"preemptions ", r.preemptions())?;

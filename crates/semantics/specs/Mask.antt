@@ -8,5 +8,5 @@ abbrev pub has : Mask → ℕ → Bool
 has m t = slice_index_or m.members t false
 
 -- the empty set
-abbrev pub nobody : Mask
-nobody = record { members = replicate THREADS false }
+abbrev pub no_threads : Mask
+no_threads = record { members = replicate THREADS false }

@@ -1,8 +1,8 @@
 //! Expressions, and the instructions that a thread runs by itself.
 
 ghost use Rattle.std.specs.Prelude.{◌≡◌, ◌<◌, ◌≤◌, ◌+◌, length, drop, IsTrue, IsFalse};
-ghost use Rattle.guest_code.specs.Program.{Program, IsFineCode, IsFineValue, IsFineExpression};
-ghost use Rattle.semantics.specs.Machine.{value_of_operand, of_both, value_of_expression, is_zero, advance, local_run, goes_on};
+ghost use Rattle.guest_code.specs.Program.{Program, IsValidCode, IsValidValue, IsValidExpression};
+ghost use Rattle.semantics.specs.Machine.{value_of_operand, of_both, value_of_expression, is_zero, advance, local_run, resumed};
 
 use crate::state::{Status, Stop, Thread};
 use guest_code::limits::LOCALS;
@@ -11,7 +11,7 @@ use guest_syntax::tree::Op;
 
 /// A local's value, or the number itself.
 pub fn operand_at(locals: &[i64; LOCALS], value: Value) -> i64
-    requires { IsFineValue value }
+    requires { IsValidValue value }
     ensures { result ≡ value_of_operand locals.now value }
 {
     match value {
@@ -39,7 +39,7 @@ fn of_both(op: Op, a: i64, b: i64) -> i64
 
 // The value of an expression.
 fn expression_at(locals: &[i64; LOCALS], e: Expression) -> i64
-    requires { IsFineExpression e }
+    requires { IsValidExpression e }
     ensures { result ≡ value_of_expression locals.now e }
 {
     match e {
@@ -50,7 +50,7 @@ fn expression_at(locals: &[i64; LOCALS], e: Expression) -> i64
 
 // Whether an expression is 0.
 fn is_zero_at(locals: &[i64; LOCALS], e: Expression) -> bool
-    requires { IsFineExpression e }
+    requires { IsValidExpression e }
     ensures { result ≡ is_zero (value_of_expression locals.now e) }
 {
     expression_at(locals, e) == 0
@@ -58,32 +58,32 @@ fn is_zero_at(locals: &[i64; LOCALS], e: Expression) -> bool
 
 // Passes the instruction where the thread stands, and so many behind it, if so many are left.
 fn pass(code: &[Instruction], thread: &mut Thread, skip: usize)
-    requires place { thread.old.place < length code.now }
-    ensures place { thread.new.place ≤ length code.now }
-    ensures further { thread.old.place < thread.new.place }
-    ensures run { local_run (drop thread.new.place code.now) 0 thread.new ≡ local_run (drop (thread.old.place + 1) code.now) skip (advance thread.old 1) }
+    requires pc { thread.old.pc < length code.now }
+    ensures pc { thread.new.pc ≤ length code.now }
+    ensures further { thread.old.pc < thread.new.pc }
+    ensures run { local_run (drop thread.new.pc code.now) 0 thread.new ≡ local_run (drop (thread.old.pc + 1) code.now) skip (advance thread.old 1) }
 {
-    let behind = thread.place + 1;
-    thread.place = behind + skip.min(code.len() - behind);
+    let behind = thread.pc + 1;
+    thread.pc = behind + skip.min(code.len() - behind);
 }
 
 // One instruction of a local run. False where the run is over.
 fn turn(code: &[Instruction], thread: &mut Thread) -> bool
-    requires fine { (p : Program) × IsFineCode p code.now }
-    requires place { thread.old.place ≤ length code.now }
-    ensures place { thread.new.place ≤ length code.now }
-    ensures further { IsTrue result → thread.old.place < thread.new.place }
-    ensures same { IsTrue result → local_run (drop thread.new.place code.now) 0 thread.new ≡ local_run (drop thread.old.place code.now) 0 thread.old }
-    ensures over { IsFalse result → thread.new ≡ local_run (drop thread.old.place code.now) 0 thread.old }
+    requires fine { (p : Program) × IsValidCode p code.now }
+    requires pc { thread.old.pc ≤ length code.now }
+    ensures pc { thread.new.pc ≤ length code.now }
+    ensures further { IsTrue result → thread.old.pc < thread.new.pc }
+    ensures same { IsTrue result → local_run (drop thread.new.pc code.now) 0 thread.new ≡ local_run (drop thread.old.pc code.now) 0 thread.old }
+    ensures over { IsFalse result → thread.new ≡ local_run (drop thread.old.pc code.now) 0 thread.old }
 {
-    if thread.place >= code.len() {
+    if thread.pc >= code.len() {
         thread.status = Status::Ended;
         return false;
     }
-    match code[thread.place] {
+    match code[thread.pc] {
         Instruction::Set { local, value } => {
             thread.locals[local] = expression_at(&thread.locals, value);
-            thread.place += 1;
+            thread.pc += 1;
             true
         }
         Instruction::Assert(e) => {
@@ -91,7 +91,7 @@ fn turn(code: &[Instruction], thread: &mut Thread) -> bool
                 thread.status = Status::Stopped(Stop::Assert);
                 return false;
             }
-            thread.place += 1;
+            thread.pc += 1;
             true
         }
         Instruction::SkipIfZero(e, n) => {
@@ -109,9 +109,9 @@ fn turn(code: &[Instruction], thread: &mut Thread) -> bool
 
 /// Runs a thread's own instructions, up to a visible statement, the end or a failed assertion.
 pub fn run_on(code: &[Instruction], thread: &mut Thread)
-    requires fine { (p : Program) × IsFineCode p code.now }
-    requires place { thread.old.place ≤ length code.now }
-    ensures { thread.new ≡ local_run (drop thread.old.place code.now) 0 thread.old }
+    requires fine { (p : Program) × IsValidCode p code.now }
+    requires pc { thread.old.pc ≤ length code.now }
+    ensures { thread.new ≡ local_run (drop thread.old.pc code.now) 0 thread.old }
 {
     let mut running = true;
     while running {
@@ -120,12 +120,12 @@ pub fn run_on(code: &[Instruction], thread: &mut Thread)
 }
 
 /// Behind its visible statement a thread runs on.
-pub fn go_on(code: &[Instruction], thread: &mut Thread)
-    requires fine { (p : Program) × IsFineCode p code.now }
-    requires place { thread.old.place < length code.now }
-    ensures { thread.new ≡ goes_on code.now thread.old }
+pub fn resume(code: &[Instruction], thread: &mut Thread)
+    requires fine { (p : Program) × IsValidCode p code.now }
+    requires pc { thread.old.pc < length code.now }
+    ensures { thread.new ≡ resumed code.now thread.old }
 {
-    thread.place += 1;
+    thread.pc += 1;
     thread.status = Status::Running;
     run_on(code, thread);
 }

@@ -1,7 +1,7 @@
 //! Sets of thread numbers.
 
 ghost use Rattle.std.specs.Prelude.{◌≡◌};
-ghost use Rattle.semantics.specs.Mask.{has, nobody};
+ghost use Rattle.semantics.specs.Mask.{has, no_threads};
 
 use guest_code::limits::THREADS;
 
@@ -21,7 +21,7 @@ impl Mask {
 
     /// The empty set.
     pub fn empty() -> Mask
-        ensures { result ≡ nobody }
+        ensures { result ≡ no_threads }
     {
         Mask {
             members: [false; THREADS],

@@ -40,7 +40,7 @@ pub fn opening_threads(alloc: Global, p: &Program) -> Result<Vec<Thread>, AllocE
     let mut threads = Vec::new(alloc);
     for t in 0..p.threads() {
         let mut thread = Thread {
-            place: 0,
+            pc: 0,
             locals: [0; LOCALS],
             status: Status::Running,
         };

@@ -1,7 +1,7 @@
 //! Whom a signal or a broadcast wakes.
 
 ghost use Rattle.std.specs.Prelude.{◌≡◌, ◌<◌, length, All};
-ghost use Rattle.semantics.specs.Machine.{called, queue_after, woken, wake};
+ghost use Rattle.semantics.specs.Machine.{threads_to_wake, queue_after, woken, wake};
 
 use crate::queue::Queue;
 use crate::state::{ConditionAction, Status, Thread};
@@ -16,11 +16,11 @@ fn wake_one(c: usize, thread: &mut Thread)
 }
 
 // These threads are woken.
-fn wake(threads: &mut [Thread], c: usize, called: &[u8])
-    requires { All (λ u. u < length threads.old) called.now }
-    ensures { threads.new ≡ wake c called.now threads.old }
+fn wake(threads: &mut [Thread], c: usize, threads_to_wake: &[u8])
+    requires { All (λ u. u < length threads.old) threads_to_wake.now }
+    ensures { threads.new ≡ wake c threads_to_wake.now threads.old }
 {
-    for u in called {
+    for u in threads_to_wake {
         wake_one(c, &mut threads[*u as usize]);
     }
 }
@@ -29,7 +29,7 @@ fn wake(threads: &mut [Thread], c: usize, called: &[u8])
 pub fn call(queue: &mut Queue, threads: &mut [Thread], c: usize, action: ConditionAction)
     requires { All (λ u. u < length threads.old) queue.old }
     ensures queue { queue.new ≡ queue_after action queue.old }
-    ensures threads { threads.new ≡ wake c (called action queue.old) threads.old }
+    ensures threads { threads.new ≡ wake c (threads_to_wake action queue.old) threads.old }
 {
     match action {
         ConditionAction::Broadcast => {

@@ -2,15 +2,15 @@
 
 ghost use Rattle.std.specs.Prelude.{◌≡◌, ◌<◌, ◌≤◌, ℕ, Some, length, true, All, IfOk, IfSome};
 ghost use Rattle.std.specs.List.{list_any, list_all};
-ghost use Rattle.guest_code.specs.Program.{Program, code_of, IsFineValue};
+ghost use Rattle.guest_code.specs.Program.{Program, code_of, IsValidValue};
 ghost use Rattle.semantics.specs.Machine.{Snapshot, start, step, acts, is_enabled, next_of, thread_at, queue_of, value_of_operand, sem_allows, count_of};
-ghost use Rattle.semantics.specs.Reachable.{IsOf, IsFineAction};
-ghost use Rattle.semantics.specs.Ends.{is_over, kind_of, view_of, final_kind, is_stopped, is_ended};
+ghost use Rattle.semantics.specs.Reachable.{IsOf, IsValidAction};
+ghost use Rattle.semantics.specs.Ends.{is_terminal, kind_of, view_of, final_kind, is_stopped, is_ended};
 ghost use Rattle.semantics.specs.Mask.{has};
 ghost use Rattle.semantics.specs.declared.state.Action.TheVariants.{OnVariable, OnMutex, Wait as Waits, OnCondition, OnSemaphore};
 
 use crate::action::{action_at, mutex_allows, owns, semaphore_allows};
-use crate::local::{go_on, operand_at};
+use crate::local::{operand_at, resume};
 use crate::mask::Mask;
 use crate::opening::{opening_counts, opening_threads, opening_values};
 use crate::queue::Queue;
@@ -51,7 +51,7 @@ pub enum Status {
 #[derive(Clone, Copy, Debug)]
 pub struct Thread {
     /// The number of the instruction where it stands; the length of its code where it ended.
-    pub place: usize,
+    pub pc: usize,
     /// The values of its locals; those that it doesn't have stay 0.
     pub locals: [i64; LOCALS],
     pub status: Status,
@@ -181,7 +181,7 @@ impl State {
     /// The value that a store of a thread would write.
     pub fn value_of(&self, t: u8, value: Value) -> i64
         requires thread { t < length self.now.threads }
-        requires fine { IsFineValue value }
+        requires fine { IsValidValue value }
         ensures { result ≡ value_of_operand (thread_at self.now t).locals value }
     {
         operand_at(&self.threads[t as usize].locals, value)
@@ -192,11 +192,11 @@ impl State {
         requires of { IsOf p.now self.now }
         requires thread { t < length p.now.threads }
         ensures value { result ≡ next_of p.now self.now t }
-        ensures fine { IfSome result (IsFineAction p.now) }
-        ensures place { IfSome result (λ _. (thread_at self.now t).place < length (code_of p.now t)) }
+        ensures fine { IfSome result (IsValidAction p.now) }
+        ensures pc { IfSome result (λ _. (thread_at self.now t).pc < length (code_of p.now t)) }
     {
         let thread = &self.threads[t as usize];
-        action_at(thread.status, p.code(t).get(thread.place).copied())
+        action_at(thread.status, p.code(t).get(thread.pc).copied())
     }
 
     /// Whether a thread can take a step.
@@ -243,8 +243,8 @@ impl State {
         requires of { IsOf p.now self.old }
         requires enabled { is_enabled p.now self.old t ≡ true }
         requires action { next_of p.now self.old t ≡ Some action }
-        requires fine { IsFineAction p.now action }
-        requires place { (thread_at self.old t).place < length (code_of p.now t) }
+        requires fine { IsValidAction p.now action }
+        requires pc { (thread_at self.old t).pc < length (code_of p.now t) }
         ensures { self.new ≡ acts p.now self.old t (thread_at self.old t) (Some action) }
     {
         match action {
@@ -260,8 +260,8 @@ impl State {
     fn access(&mut self, p: &Program, t: u8, x: usize, action: VariableAction)
         requires of { IsOf p.now self.old }
         requires thread { t < length p.now.threads }
-        requires place { (thread_at self.old t).place < length (code_of p.now t) }
-        requires fine { IsFineAction p.now (OnVariable x action) }
+        requires pc { (thread_at self.old t).pc < length (code_of p.now t) }
+        requires fine { IsValidAction p.now (OnVariable x action) }
         ensures { self.new ≡ acts p.now self.old t (thread_at self.old t) (Some (OnVariable x action)) }
     {
         let thread = &mut self.threads[t as usize];
@@ -269,15 +269,15 @@ impl State {
             VariableAction::Load(r) => thread.locals[r] = self.variables[x],
             VariableAction::Store(value) => self.variables[x] = operand_at(&thread.locals, value),
         }
-        go_on(p.code(t), thread);
+        resume(p.code(t), thread);
     }
 
     // A step on a mutex alone.
     fn hold(&mut self, p: &Program, t: u8, m: usize, action: MutexAction)
         requires of { IsOf p.now self.old }
         requires thread { t < length p.now.threads }
-        requires place { (thread_at self.old t).place < length (code_of p.now t) }
-        requires fine { IsFineAction p.now (OnMutex m action) }
+        requires pc { (thread_at self.old t).pc < length (code_of p.now t) }
+        requires fine { IsValidAction p.now (OnMutex m action) }
         ensures { self.new ≡ acts p.now self.old t (thread_at self.old t) (Some (OnMutex m action)) }
     {
         let thread = &mut self.threads[t as usize];
@@ -291,7 +291,7 @@ impl State {
                 self.owners[m] = None;
             }
         }
-        go_on(p.code(t), thread);
+        resume(p.code(t), thread);
     }
 
     // The first step of a `wait`.
@@ -299,7 +299,7 @@ impl State {
         requires of { IsOf p.now self.old }
         requires thread { t < length p.now.threads }
         requires room { length (queue_of self.old c) < THREADS }
-        requires fine { IsFineAction p.now (Waits c m) }
+        requires fine { IsValidAction p.now (Waits c m) }
         ensures { self.new ≡ acts p.now self.old t (thread_at self.old t) (Some (Waits c m)) }
     {
         let thread = &mut self.threads[t as usize];
@@ -316,12 +316,12 @@ impl State {
     fn call(&mut self, p: &Program, t: u8, c: usize, action: ConditionAction)
         requires of { IsOf p.now self.old }
         requires thread { t < length p.now.threads }
-        requires place { (thread_at self.old t).place < length (code_of p.now t) }
-        requires fine { IsFineAction p.now (OnCondition c action) }
+        requires pc { (thread_at self.old t).pc < length (code_of p.now t) }
+        requires fine { IsValidAction p.now (OnCondition c action) }
         ensures { self.new ≡ acts p.now self.old t (thread_at self.old t) (Some (OnCondition c action)) }
     {
         let mut thread = self.threads[t as usize];
-        go_on(p.code(t), &mut thread);
+        resume(p.code(t), &mut thread);
         call(&mut self.queues[c], self.threads.as_mut_slice(), c, action);
         self.threads[t as usize] = thread;
     }
@@ -330,8 +330,8 @@ impl State {
     fn count(&mut self, p: &Program, t: u8, k: usize, action: SemaphoreAction)
         requires of { IsOf p.now self.old }
         requires thread { t < length p.now.threads }
-        requires place { (thread_at self.old t).place < length (code_of p.now t) }
-        requires fine { IsFineAction p.now (OnSemaphore k action) }
+        requires pc { (thread_at self.old t).pc < length (code_of p.now t) }
+        requires fine { IsValidAction p.now (OnSemaphore k action) }
         requires allowed { sem_allows action (count_of self.old k) ≡ true }
         ensures { self.new ≡ acts p.now self.old t (thread_at self.old t) (Some (OnSemaphore k action)) }
     {
@@ -346,13 +346,13 @@ impl State {
                 self.counts[k] += 1;
             }
         }
-        go_on(p.code(t), thread);
+        resume(p.code(t), thread);
     }
 
     /// Whether no thread is enabled.
-    pub fn is_over(&self, p: &Program) -> bool
+    pub fn is_terminal(&self, p: &Program) -> bool
         requires { IsOf p.now self.now }
-        ensures { result ≡ is_over p.now self.now }
+        ensures { result ≡ is_terminal p.now self.now }
     {
         for t in 0..p.threads() {
             if self.is_enabled(p, t) {
@@ -367,7 +367,7 @@ impl State {
         requires { IsOf p.now self.now }
         ensures { result ≡ kind_of p.now self.now }
     {
-        if self.is_over(p) {
+        if self.is_terminal(p) {
             Some(final_kind(self.threads.as_slice()))
         } else {
             None

@@ -5,9 +5,9 @@ ghost use Rattle.guest_code.specs.Program.{Program};
 ghost use Rattle.semantics.specs.Machine.{Snapshot, start, is_enabled, step};
 ghost use Rattle.semantics.specs.Reachable.{IsOf};
 ghost use Rattle.semantics.specs.Mask.{has};
-ghost use Rattle.semantics.specs.Schedules.{runs, preempts, one_if, Within, Beyond};
-ghost use Rattle.walk.specs.Tally.{sum_of, with_beyond};
-ghost use Rattle.walk.specs.Walking.{Extends, Leads};
+ghost use Rattle.semantics.specs.Schedules.{runs, preempts, one_if, schedules_within, exceeds_bound};
+ghost use Rattle.walk.specs.Summaries.{sum_of, with_beyond};
+ghost use Rattle.walk.specs.Walking.{Extends, Reaches};
 
 use crate::summary::Summary;
 use guest_code::program::Program;
@@ -56,10 +56,10 @@ fn walk_from(
     summary: Summary,
 ) -> Result<Summary, AllocError>
     requires of { IsOf p.now state.now }
-    requires leads { Leads p.now prefix.old.items state.now last used }
+    requires leads { Reaches p.now prefix.old.items state.now last used }
     requires within { used ≤ bound }
     requires bound { bound < 2 ^ 32 }
-    ensures sum { IfOk result (λ s. Extends p.now summary s (Within p.now prefix.old.items bound) (Beyond p.now prefix.old.items bound)) }
+    ensures sum { IfOk result (λ s. Extends p.now summary s (schedules_within p.now prefix.old.items bound) (exceeds_bound p.now prefix.old.items bound)) }
     ensures prefix { OnOk result (prefix.new.items ≡ prefix.old.items) }
 {
     if let Some(view) = state.view(alloc, p)? {
@@ -86,7 +86,7 @@ fn walk_from(
 // The state that a prefix leads to, its last thread and its preemptions.
 fn arrive(alloc: Global, p: &Program, prefix: &[u8]) -> Result<(State, Option<u8>, u64), AllocError>
     requires { runs p.now (start p.now) prefix.now ≡ true }
-    ensures { IfOk result (λ r. Leads p.now prefix.now r.0 r.1 r.2 × IsOf p.now r.0 × (r.2 ≤ length prefix.now)) }
+    ensures { IfOk result (λ r. Reaches p.now prefix.now r.0 r.1 r.2 × IsOf p.now r.0 × (r.2 ≤ length prefix.now)) }
 {
     let mut state = State::start(alloc, p)?;
     let mut last = None;
@@ -107,7 +107,7 @@ pub(crate) fn walk_under(
     bound: u32,
 ) -> Result<Summary, AllocError>
     requires { runs p.now (start p.now) prefix.now ≡ true }
-    ensures { IfOk result (λ s. s ≡ with_beyond (sum_of p.now (Within p.now prefix.now bound)) (Beyond p.now prefix.now bound)) }
+    ensures { IfOk result (λ s. s ≡ with_beyond (sum_of p.now (schedules_within p.now prefix.now bound)) (exceeds_bound p.now prefix.now bound)) }
 {
     let (state, last, used) = arrive(alloc, p, prefix)?;
     let empty = Summary::empty(alloc);

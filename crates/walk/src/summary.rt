@@ -2,7 +2,7 @@
 
 ghost use Rattle.std.specs.Prelude.{◌≡◌, OnOk, OnErr, IfOk, option_map, MatchOption, Some, None, true, ◌+◌, ◌++◌, ◌≤◌, length, insert, if◌then◌else◌};
 ghost use Rattle.semantics.specs.Order.{precedes, lesser, is_bad};
-ghost use Rattle.walk.specs.Tally.{Tally, IsSummary, nothing, cut, is_failed, is_stuck, placed, rising, join, with_beyond};
+ghost use Rattle.walk.specs.Summaries.{SummaryView, IsSummary, nothing, cut, is_failed, is_stuck, with_view, sorted_views, join, with_beyond};
 ghost use Rattle.walk.specs.Walking.{added};
 
 use semantics::view::{EndView, Kind};
@@ -23,9 +23,9 @@ pub struct Summary {
 
 impl Model for Summary {
     ghost use Rattle.std.specs.Prelude.{option_map};
-    ghost use Rattle.walk.specs.Tally.{Tally, IsSummary};
+    ghost use Rattle.walk.specs.Summaries.{SummaryView, IsSummary};
 
-    ghost Value = { Tally };
+    ghost Value = { SummaryView };
 
     ghost view = { λ s. record { tried = s.tried; failed = s.failed; stuck = s.stuck; beyond = s.beyond; first_bad = option_map (λ w. w.items) s.first_bad; ends = s.ends.items } };
 
@@ -116,7 +116,7 @@ impl Summary {
     /// # Errors
     ///
     /// `AllocError` where memory runs out.
-    #[tactic(auto, using(crate::proofs::Sums::join_kept), unfolding(crate::specs::Tally::join))]
+    #[tactic(auto, using(crate::proofs::Sums::join_kept), unfolding(crate::specs::Summaries::join))]
     pub fn join(&self, alloc: Global, other: &Summary) -> Result<Summary, AllocError>
         ensures { IfOk result (λ s. s ≡ join self.now other.now) }
     {
@@ -266,7 +266,7 @@ fn lesser_of(
 
 // Where a view belongs in a rising list, unless it is there.
 fn place_of(ends: &[EndView], view: &EndView) -> Option<usize>
-    ensures { MatchOption result (placed view.now ends.now ≡ ends.now) (λ at. (at ≤ length ends.now) × (placed view.now ends.now ≡ insert ends.now at view.now)) }
+    ensures { MatchOption result (with_view view.now ends.now ≡ ends.now) (λ at. (at ≤ length ends.now) × (with_view view.now ends.now ≡ insert ends.now at view.now)) }
 {
     for (at, end) in ends.iter().enumerate() {
         match view.compare(end) {
@@ -280,7 +280,7 @@ fn place_of(ends: &[EndView], view: &EndView) -> Option<usize>
 
 // Puts a view in its place, unless it is there.
 fn place(ends: &mut Vec<EndView>, view: EndView) -> Result<(), AllocError>
-    ensures { OnOk result (ends.new.items ≡ placed view ends.old.items) }
+    ensures { OnOk result (ends.new.items ≡ with_view view ends.old.items) }
 {
     match place_of(ends.as_slice(), &view) {
         Some(at) => {
@@ -308,8 +308,8 @@ fn views_of_both(
     first: &[EndView],
     second: &[EndView],
 ) -> Result<Vec<EndView>, AllocError>
-    requires { rising first.now ≡ first.now }
-    ensures { IfOk result (λ v. v.items ≡ rising (first.now ++ second.now)) }
+    requires { sorted_views first.now ≡ first.now }
+    ensures { IfOk result (λ v. v.items ≡ sorted_views (first.now ++ second.now)) }
 {
     let mut views = copy_views(alloc, first)?;
     for view in second {

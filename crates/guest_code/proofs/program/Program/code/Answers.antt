@@ -1,6 +1,6 @@
 use Rattle.std.proofs.Common.{arith, ◌≡◌, ◌<◌, length, map, ap, subst, ◌∙◌}
 use Rattle.std.proofs.lemmas.List.{length-map}
-use Rattle.guest_code.specs.Program.{Program, IsFineCode, thread_view, no_thread}
+use Rattle.guest_code.specs.Program.{Program, IsValidCode, thread_view, no_thread}
 use Rattle.guest_code.proofs.Codes.{code_at}
 use Rattle.guest_code.proofs.program.Program.code.Goals as goal
 
@@ -10,4 +10,4 @@ returns-clause-fine c =
     let inside : c.args.t < length (map thread_view c.self.inside.threads.items) = omega (arith, c.requires) in
     let there : c.args.t < length c.self.inside.threads.items = omega (arith, length-map c.self.inside.threads.items thread_view) in
     let same = c.as_slice.ensures.value ∙ code_at c.self.inside.threads.items c.args.t c.index.result.now there c.index.ensures in
-    subst (λ (p : Program). IsFineCode p c.as_slice.result.now) c.self.view_is (rw same (c.self.invariant.codes c.args.t no_thread inside))
+    subst (λ (p : Program). IsValidCode p c.as_slice.result.now) c.self.view_is (rw same (c.self.invariant.codes c.args.t no_thread inside))

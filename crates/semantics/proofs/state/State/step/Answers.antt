@@ -1,7 +1,7 @@
 use Rattle.std.proofs.Common.{◌≡◌, Some, ap, ◌∙◌, sym, subst}
 use Rattle.semantics.specs.Machine.{acts, step, next_of, thread_at}
 use Rattle.semantics.specs.Reachable.{IsOf}
-use Rattle.semantics.proofs.Stays.{step_is_of}
+use Rattle.semantics.proofs.StepsKeepStates.{step_is_of}
 use Rattle.semantics.proofs.state.State.step.Goals as goal
 
 pub returns-in-Some-clause-of : goal.returns-in-Some-clause-of
