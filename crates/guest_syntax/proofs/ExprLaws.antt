@@ -4,10 +4,10 @@ use Rattle.std.specs.Prelude.{nat_le, pos}
 use Rattle.std.proofs.lemmas.Bool.{leb-true, le-leb}
 use Rattle.guest_syntax.specs.declared.limits.TheConstants.{NUMBER}
 use Rattle.guest_syntax.specs.declared.place.Pos.{Pos}
-use Rattle.guest_syntax.specs.declared.token.Sign.TheVariants as signs
+use Rattle.guest_syntax.specs.declared.token.Symbol.TheVariants as symbols
 use Rattle.guest_syntax.specs.declared.tree.Op.{Op}
 use Rattle.guest_syntax.specs.declared.tree.Op.TheVariants as ops
-use Rattle.guest_syntax.specs.Tokens.{Kind, name, word, number, sign, bad, Token}
+use Rattle.guest_syntax.specs.Tokens.{Kind, name, keyword, number, symbol, bad, Token}
 use Rattle.guest_syntax.specs.Tree.{Operand, local, literal, Expr, single, both}
 use Rattle.guest_syntax.specs.Forms.{IsToken, IsLiteral}
 use Rattle.guest_syntax.specs.Grammar.{IsOperand, IsOp, IsExpr}
@@ -21,26 +21,26 @@ use Rattle.guest_syntax.proofs.TokenLaws.{token_takes, token_again, kind_again, 
 
 literal_by_takes : (k : Kind) (at : Pos) (ts : List Token) (x : ℤ × List Token) → literal_by k ts ≡ Some x → IsLiteral x.0 (record { kind = k; at = at } ∷ ts) x.1
 literal_by_takes (name s) at ts x e = absurd cc
-literal_by_takes (word w) at ts x e = absurd cc
+literal_by_takes (keyword w) at ts x e = absurd cc
 literal_by_takes bad at ts x e = absurd cc
 literal_by_takes (number n) at ts x e =
     let g = cond_ok (nat_le n NUMBER) (pos n, ts) x e in
     subst (λ (y : ℤ × List Token). IsLiteral y.0 (record { kind = number n; at = at } ∷ ts) y.1) g.1 (n, inl (refl, (leb-true n NUMBER g.0, (at, refl))))
-literal_by_takes (sign signs.Minus) at ts x e =
+literal_by_takes (symbol symbols.Minus) at ts x e =
     let n = bind_some (number_from NUMBER ts) _ _ e in
-    subst (λ (y : ℤ × List Token). IsLiteral y.0 (record { kind = sign signs.Minus; at = at } ∷ ts) y.1) (some_is (negated n.0.0, n.0.1) x n.2) (n.0.0, inr (refl, (ts, (at, refl), number_takes NUMBER ts n.0 n.1)))
-literal_by_takes (sign signs.Equal) at ts x e = absurd cc
-literal_by_takes (sign signs.NotEqual) at ts x e = absurd cc
-literal_by_takes (sign signs.LessOrEqual) at ts x e = absurd cc
-literal_by_takes (sign signs.GreaterOrEqual) at ts x e = absurd cc
-literal_by_takes (sign signs.Less) at ts x e = absurd cc
-literal_by_takes (sign signs.Greater) at ts x e = absurd cc
-literal_by_takes (sign signs.Plus) at ts x e = absurd cc
-literal_by_takes (sign signs.Times) at ts x e = absurd cc
-literal_by_takes (sign signs.Assign) at ts x e = absurd cc
-literal_by_takes (sign signs.Open) at ts x e = absurd cc
-literal_by_takes (sign signs.Close) at ts x e = absurd cc
-literal_by_takes (sign signs.End) at ts x e = absurd cc
+    subst (λ (y : ℤ × List Token). IsLiteral y.0 (record { kind = symbol symbols.Minus; at = at } ∷ ts) y.1) (some_is (negated n.0.0, n.0.1) x n.2) (n.0.0, inr (refl, (ts, (at, refl), number_takes NUMBER ts n.0 n.1)))
+literal_by_takes (symbol symbols.Equal) at ts x e = absurd cc
+literal_by_takes (symbol symbols.NotEqual) at ts x e = absurd cc
+literal_by_takes (symbol symbols.LessOrEqual) at ts x e = absurd cc
+literal_by_takes (symbol symbols.GreaterOrEqual) at ts x e = absurd cc
+literal_by_takes (symbol symbols.Less) at ts x e = absurd cc
+literal_by_takes (symbol symbols.Greater) at ts x e = absurd cc
+literal_by_takes (symbol symbols.Plus) at ts x e = absurd cc
+literal_by_takes (symbol symbols.Times) at ts x e = absurd cc
+literal_by_takes (symbol symbols.Assign) at ts x e = absurd cc
+literal_by_takes (symbol symbols.Open) at ts x e = absurd cc
+literal_by_takes (symbol symbols.Close) at ts x e = absurd cc
+literal_by_takes (symbol symbols.End) at ts x e = absurd cc
 
 pub literal_takes : (ts : List Token) (x : ℤ × List Token) → literal_from ts ≡ Some x → IsLiteral x.0 ts x.1
 unfolding literal_from
@@ -63,7 +63,7 @@ literally z ts rest (n, inl (is, (le, (at, e)))) =
     record { first = record { kind = number n; at = at }; more = rest; is = e; good = refl; read = rw (passes, is) refl; operand = rw (passes, is) refl }
 literally z ts rest (n, inr (is, (mid, (at, e), h))) =
     let r = number_again NUMBER n mid rest h in
-    record { first = record { kind = sign signs.Minus; at = at }; more = mid; is = e; good = refl; read = rw (r, is) refl; operand = rw (r, is) refl }
+    record { first = record { kind = symbol symbols.Minus; at = at }; more = mid; is = e; good = refl; read = rw (r, is) refl; operand = rw (r, is) refl }
 
 pub literal_again : (z : ℤ) (ts rest : List Token) → IsLiteral z ts rest → literal_from ts ≡ Some (z, rest)
 unfolding literal_from
@@ -75,13 +75,13 @@ literal_again z ts rest h =
 
 operand_by_takes : (t : Token) (k : Kind) (ts : List Token) (x : Operand × List Token) → operand_by t ts k ≡ Some x → IsOperand x.0 (record { kind = k; at = t.at } ∷ ts) x.1
 operand_by_takes t (name s) ts x e = subst (λ (y : Operand × List Token). IsOperand y.0 (record { kind = name s; at = t.at } ∷ ts) y.1) (some_is (local (record { text = s; at = t.at }), ts) x e) refl
-operand_by_takes t (word w) ts x e = absurd cc
+operand_by_takes t (keyword w) ts x e = absurd cc
 operand_by_takes t (number n) ts x e =
     let z = bind_some (literal_by (number n) ts) _ _ e in
     subst (λ (y : Operand × List Token). IsOperand y.0 (record { kind = number n; at = t.at } ∷ ts) y.1) (some_is (literal z.0.0, z.0.1) x z.2) (literal_by_takes (number n) t.at ts z.0 z.1)
-operand_by_takes t (sign s) ts x e =
-    let z = bind_some (literal_by (sign s) ts) _ _ e in
-    subst (λ (y : Operand × List Token). IsOperand y.0 (record { kind = sign s; at = t.at } ∷ ts) y.1) (some_is (literal z.0.0, z.0.1) x z.2) (literal_by_takes (sign s) t.at ts z.0 z.1)
+operand_by_takes t (symbol s) ts x e =
+    let z = bind_some (literal_by (symbol s) ts) _ _ e in
+    subst (λ (y : Operand × List Token). IsOperand y.0 (record { kind = symbol s; at = t.at } ∷ ts) y.1) (some_is (literal z.0.0, z.0.1) x z.2) (literal_by_takes (symbol s) t.at ts z.0 z.1)
 operand_by_takes t bad ts x e = absurd cc
 
 pub operand_takes : (ts : List Token) (x : Operand × List Token) → operand_from ts ≡ Some x → IsOperand x.0 ts x.1
@@ -101,33 +101,33 @@ operand_again (literal z) ts rest h =
 
 op_of_is : (k : Kind) (op : Op) → op_of k ≡ Some op → (ts rest : List Token) → IsToken k ts rest → IsOp op ts rest
 op_of_is (name s) op e ts rest h = absurd cc
-op_of_is (word w) op e ts rest h = absurd cc
+op_of_is (keyword w) op e ts rest h = absurd cc
 op_of_is (number n) op e ts rest h = absurd cc
 op_of_is bad op e ts rest h = absurd cc
-op_of_is (sign signs.Equal) op e ts rest h = subst (λ o. IsOp o ts rest) (some_is ops.Equal op e) h
-op_of_is (sign signs.NotEqual) op e ts rest h = subst (λ o. IsOp o ts rest) (some_is ops.NotEqual op e) h
-op_of_is (sign signs.LessOrEqual) op e ts rest h = subst (λ o. IsOp o ts rest) (some_is ops.LessOrEqual op e) h
-op_of_is (sign signs.GreaterOrEqual) op e ts rest h = subst (λ o. IsOp o ts rest) (some_is ops.GreaterOrEqual op e) h
-op_of_is (sign signs.Less) op e ts rest h = subst (λ o. IsOp o ts rest) (some_is ops.Less op e) h
-op_of_is (sign signs.Greater) op e ts rest h = subst (λ o. IsOp o ts rest) (some_is ops.Greater op e) h
-op_of_is (sign signs.Plus) op e ts rest h = subst (λ o. IsOp o ts rest) (some_is ops.Add op e) h
-op_of_is (sign signs.Minus) op e ts rest h = subst (λ o. IsOp o ts rest) (some_is ops.Subtract op e) h
-op_of_is (sign signs.Times) op e ts rest h = subst (λ o. IsOp o ts rest) (some_is ops.Multiply op e) h
-op_of_is (sign signs.Assign) op e ts rest h = absurd cc
-op_of_is (sign signs.Open) op e ts rest h = absurd cc
-op_of_is (sign signs.Close) op e ts rest h = absurd cc
-op_of_is (sign signs.End) op e ts rest h = absurd cc
+op_of_is (symbol symbols.Equal) op e ts rest h = subst (λ o. IsOp o ts rest) (some_is ops.Equal op e) h
+op_of_is (symbol symbols.NotEqual) op e ts rest h = subst (λ o. IsOp o ts rest) (some_is ops.NotEqual op e) h
+op_of_is (symbol symbols.LessOrEqual) op e ts rest h = subst (λ o. IsOp o ts rest) (some_is ops.LessOrEqual op e) h
+op_of_is (symbol symbols.GreaterOrEqual) op e ts rest h = subst (λ o. IsOp o ts rest) (some_is ops.GreaterOrEqual op e) h
+op_of_is (symbol symbols.Less) op e ts rest h = subst (λ o. IsOp o ts rest) (some_is ops.Less op e) h
+op_of_is (symbol symbols.Greater) op e ts rest h = subst (λ o. IsOp o ts rest) (some_is ops.Greater op e) h
+op_of_is (symbol symbols.Plus) op e ts rest h = subst (λ o. IsOp o ts rest) (some_is ops.Add op e) h
+op_of_is (symbol symbols.Minus) op e ts rest h = subst (λ o. IsOp o ts rest) (some_is ops.Subtract op e) h
+op_of_is (symbol symbols.Times) op e ts rest h = subst (λ o. IsOp o ts rest) (some_is ops.Multiply op e) h
+op_of_is (symbol symbols.Assign) op e ts rest h = absurd cc
+op_of_is (symbol symbols.Open) op e ts rest h = absurd cc
+op_of_is (symbol symbols.Close) op e ts rest h = absurd cc
+op_of_is (symbol symbols.End) op e ts rest h = absurd cc
 
 op_read : (op : Op) (ts rest : List Token) → IsOp op ts rest → (t : Token) × (token_at ts ≡ Some (t, rest)) × (op_of t.kind ≡ Some op)
-op_read ops.Add ts rest h = (record { kind = sign signs.Plus; at = h.0 }, kind_again (sign signs.Plus) ts rest h refl, refl)
-op_read ops.Subtract ts rest h = (record { kind = sign signs.Minus; at = h.0 }, kind_again (sign signs.Minus) ts rest h refl, refl)
-op_read ops.Multiply ts rest h = (record { kind = sign signs.Times; at = h.0 }, kind_again (sign signs.Times) ts rest h refl, refl)
-op_read ops.Equal ts rest h = (record { kind = sign signs.Equal; at = h.0 }, kind_again (sign signs.Equal) ts rest h refl, refl)
-op_read ops.NotEqual ts rest h = (record { kind = sign signs.NotEqual; at = h.0 }, kind_again (sign signs.NotEqual) ts rest h refl, refl)
-op_read ops.Less ts rest h = (record { kind = sign signs.Less; at = h.0 }, kind_again (sign signs.Less) ts rest h refl, refl)
-op_read ops.LessOrEqual ts rest h = (record { kind = sign signs.LessOrEqual; at = h.0 }, kind_again (sign signs.LessOrEqual) ts rest h refl, refl)
-op_read ops.Greater ts rest h = (record { kind = sign signs.Greater; at = h.0 }, kind_again (sign signs.Greater) ts rest h refl, refl)
-op_read ops.GreaterOrEqual ts rest h = (record { kind = sign signs.GreaterOrEqual; at = h.0 }, kind_again (sign signs.GreaterOrEqual) ts rest h refl, refl)
+op_read ops.Add ts rest h = (record { kind = symbol symbols.Plus; at = h.0 }, kind_again (symbol symbols.Plus) ts rest h refl, refl)
+op_read ops.Subtract ts rest h = (record { kind = symbol symbols.Minus; at = h.0 }, kind_again (symbol symbols.Minus) ts rest h refl, refl)
+op_read ops.Multiply ts rest h = (record { kind = symbol symbols.Times; at = h.0 }, kind_again (symbol symbols.Times) ts rest h refl, refl)
+op_read ops.Equal ts rest h = (record { kind = symbol symbols.Equal; at = h.0 }, kind_again (symbol symbols.Equal) ts rest h refl, refl)
+op_read ops.NotEqual ts rest h = (record { kind = symbol symbols.NotEqual; at = h.0 }, kind_again (symbol symbols.NotEqual) ts rest h refl, refl)
+op_read ops.Less ts rest h = (record { kind = symbol symbols.Less; at = h.0 }, kind_again (symbol symbols.Less) ts rest h refl, refl)
+op_read ops.LessOrEqual ts rest h = (record { kind = symbol symbols.LessOrEqual; at = h.0 }, kind_again (symbol symbols.LessOrEqual) ts rest h refl, refl)
+op_read ops.Greater ts rest h = (record { kind = symbol symbols.Greater; at = h.0 }, kind_again (symbol symbols.Greater) ts rest h refl, refl)
+op_read ops.GreaterOrEqual ts rest h = (record { kind = symbol symbols.GreaterOrEqual; at = h.0 }, kind_again (symbol symbols.GreaterOrEqual) ts rest h refl, refl)
 
 -- the next token ends an expression and a choice
 pub record Ends (ts : List Token) : Type 0 where

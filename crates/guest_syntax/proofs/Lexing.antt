@@ -4,19 +4,19 @@ use Rattle.std.specs.Prelude.{IsSome}
 use Rattle.std.specs.List.{list_all}
 use Rattle.std.proofs.lemmas.List.{append-nil, take_at, drop_at, take-append-drop}
 use Rattle.guest_syntax.specs.declared.place.Pos.{Pos}
-use Rattle.guest_syntax.specs.declared.token.Sign.{Sign}
-use Rattle.guest_syntax.specs.declared.token.Sign.TheVariants as signs
+use Rattle.guest_syntax.specs.declared.token.Symbol.{Symbol}
+use Rattle.guest_syntax.specs.declared.token.Symbol.TheVariants as symbols
 use Rattle.guest_syntax.specs.declared.lexer.Step.TheVariants.{Stops}
 use Rattle.guest_syntax.specs.Place.{after}
 use Rattle.guest_syntax.specs.Gap.{gap_step}
-use Rattle.guest_syntax.specs.Tokens.{Kind, name, word, number, sign, bad, Token, Tokens, Begins, Spelling, IsIdentifier, word_text, sign_text, blank, is_digit}
+use Rattle.guest_syntax.specs.Tokens.{Kind, name, keyword, number, symbol, bad, Token, Tokens, Begins, Spelling, IsIdentifier, keyword_text, symbol_text, blank, is_digit}
 use Rattle.guest_syntax.specs.Scan.{◌>>=◌, skipped, kind_at, first_from, first, scan_with, scan, tokens_from}
 use Rattle.guest_syntax.proofs.Options.{bind_some, some_is}
 use Rattle.guest_syntax.proofs.Scans.{first_len}
 use Rattle.guest_syntax.proofs.Clean.{Clean}
 use Rattle.guest_syntax.proofs.Bytes.{and_parts, letter_stops, digit_stops}
 use Rattle.guest_syntax.proofs.Gaps.{Ascii, ascii_append, ascii_parts, Gap, skip_takes, skip_again, stop_again}
-use Rattle.guest_syntax.proofs.Spelt.{kind_reads, kind_again, word_is_identifier}
+use Rattle.guest_syntax.proofs.Spelt.{kind_reads, kind_again, keyword_is_identifier}
 
 -- ---- what is read is spelled
 
@@ -100,26 +100,26 @@ digits_head : (s : List ℕ) → 0 < length s → list_all is_digit s ≡ true �
 digits_head [] h a = absurd (omega arith)
 digits_head (b ∷ s) h a = record { first = b; more = s; is = refl; stops = digit_stops b (and_parts (is_digit b) (list_all is_digit s) a).0 }
 
-sign_head : (s : Sign) → Head (sign_text s)
-sign_head signs.Equal = record { first = 61; more = 61 ∷ []; is = refl; stops = refl }
-sign_head signs.NotEqual = record { first = 33; more = 61 ∷ []; is = refl; stops = refl }
-sign_head signs.LessOrEqual = record { first = 60; more = 61 ∷ []; is = refl; stops = refl }
-sign_head signs.GreaterOrEqual = record { first = 62; more = 61 ∷ []; is = refl; stops = refl }
-sign_head signs.Less = record { first = 60; more = []; is = refl; stops = refl }
-sign_head signs.Greater = record { first = 62; more = []; is = refl; stops = refl }
-sign_head signs.Plus = record { first = 43; more = []; is = refl; stops = refl }
-sign_head signs.Minus = record { first = 45; more = []; is = refl; stops = refl }
-sign_head signs.Times = record { first = 42; more = []; is = refl; stops = refl }
-sign_head signs.Assign = record { first = 61; more = []; is = refl; stops = refl }
-sign_head signs.Open = record { first = 123; more = []; is = refl; stops = refl }
-sign_head signs.Close = record { first = 125; more = []; is = refl; stops = refl }
-sign_head signs.End = record { first = 59; more = []; is = refl; stops = refl }
+symbol_head : (s : Symbol) → Head (symbol_text s)
+symbol_head symbols.Equal = record { first = 61; more = 61 ∷ []; is = refl; stops = refl }
+symbol_head symbols.NotEqual = record { first = 33; more = 61 ∷ []; is = refl; stops = refl }
+symbol_head symbols.LessOrEqual = record { first = 60; more = 61 ∷ []; is = refl; stops = refl }
+symbol_head symbols.GreaterOrEqual = record { first = 62; more = 61 ∷ []; is = refl; stops = refl }
+symbol_head symbols.Less = record { first = 60; more = []; is = refl; stops = refl }
+symbol_head symbols.Greater = record { first = 62; more = []; is = refl; stops = refl }
+symbol_head symbols.Plus = record { first = 43; more = []; is = refl; stops = refl }
+symbol_head symbols.Minus = record { first = 45; more = []; is = refl; stops = refl }
+symbol_head symbols.Times = record { first = 42; more = []; is = refl; stops = refl }
+symbol_head symbols.Assign = record { first = 61; more = []; is = refl; stops = refl }
+symbol_head symbols.Open = record { first = 123; more = []; is = refl; stops = refl }
+symbol_head symbols.Close = record { first = 125; more = []; is = refl; stops = refl }
+symbol_head symbols.End = record { first = 59; more = []; is = refl; stops = refl }
 
 head_of : (k : Kind) (text : List ℕ) → Spelling k text → Head text
 head_of (name s) text h = subst Head (sym h.0) (identifier_head s h.1)
-head_of (word w) text h = subst Head (sym h) (identifier_head (word_text w) (word_is_identifier w))
+head_of (keyword w) text h = subst Head (sym h) (identifier_head (keyword_text w) (keyword_is_identifier w))
 head_of (number n) text h = digits_head text h.0 h.1
-head_of (sign s) text h = subst Head (sym h) (sign_head s)
+head_of (symbol s) text h = subst Head (sym h) (symbol_head s)
 head_of bad text h = elim h [ ]
 
 first_from_again : (p : Pos) (b : ℕ) (bs : List ℕ) (k : Kind) (n : ℕ) → kind_at (b ∷ bs) ≡ Some (k, n) → first_from p (b ∷ bs) ≡ Some (Some (record { kind = k; at = p }, after p (take n (b ∷ bs)), drop n (b ∷ bs)))

@@ -26,9 +26,9 @@ fails_then (errors.TooDeep at) o p f h = f h
 
 good : (k : Kind) → is_bad (kind_view k) ≡ false
 good (kinds.Name s) = refl
-good (kinds.Word w) = refl
+good (kinds.Keyword w) = refl
 good (kinds.Number n) = refl
-good (kinds.Sign s) = refl
+good (kinds.Symbol s) = refl
 
 pub next_bad : (at : Pos) (bytes : List ℕ) → first at bytes ≡ None → next_at (tokens_from at bytes) ≡ None
 unfolding next_at

@@ -2,14 +2,14 @@
 use Rattle.std.proofs.Common.{◌≡◌, ℕ, zero, suc, ◌<◌, ◌≤◌, Bool, true, false, ◌||◌, List, [], ◌∷◌, length, Option, Some, None, refl, ap, ◌∙◌, arith, length-drop}
 use Rattle.std.specs.List.{prefix_len}
 use Rattle.guest_syntax.specs.declared.place.Pos.{Pos}
-use Rattle.guest_syntax.specs.declared.token.Sign.{Sign}
-use Rattle.guest_syntax.specs.declared.token.Sign.TheVariants as signs
+use Rattle.guest_syntax.specs.declared.token.Symbol.{Symbol}
+use Rattle.guest_syntax.specs.declared.token.Symbol.TheVariants as symbols
 use Rattle.guest_syntax.specs.declared.lexer.Step.{Step}
 use Rattle.guest_syntax.specs.declared.lexer.Step.TheVariants.{Passed, Stops, NotAscii}
 use Rattle.guest_syntax.specs.Place.{past}
 use Rattle.guest_syntax.specs.Gap.{gap_step}
-use Rattle.guest_syntax.specs.Tokens.{Kind, sign, Token, is_letter, is_digit, is_name_byte, sign_text}
-use Rattle.guest_syntax.specs.Scan.{skip_by, skipped, sign_at, kind_by, kind_at, first_from, first, scan_with, scan, tokens_from}
+use Rattle.guest_syntax.specs.Tokens.{Kind, symbol, Token, is_letter, is_digit, is_name_byte, symbol_text}
+use Rattle.guest_syntax.specs.Scan.{skip_by, skipped, symbol_at, kind_by, kind_at, first_from, first, scan_with, scan, tokens_from}
 use Rattle.guest_syntax.proofs.Options.{bind_some, map_some, some_is}
 
 skip_by_len : (b : ℕ) (bs : List ℕ) (at : Pos) (x : Pos × List ℕ) (s : Step) (more : Bool → Option (Pos × List ℕ))
@@ -24,20 +24,20 @@ unfolding skipped
 skipped_len [] c at x e = omega (arith, ap (λ (y : Pos × List ℕ). length y.1) (some_is (at, []) x e))
 skipped_len (b ∷ bs) c at x e = skip_by_len b bs at x (gap_step c b) (λ d. skipped d (past at b) bs) (λ d h. skipped_len bs d (past at b) x h) e
 
-pub sign_has_bytes : (s : Sign) → 0 < length (sign_text s)
-sign_has_bytes signs.Equal = omega arith
-sign_has_bytes signs.NotEqual = omega arith
-sign_has_bytes signs.LessOrEqual = omega arith
-sign_has_bytes signs.GreaterOrEqual = omega arith
-sign_has_bytes signs.Less = omega arith
-sign_has_bytes signs.Greater = omega arith
-sign_has_bytes signs.Plus = omega arith
-sign_has_bytes signs.Minus = omega arith
-sign_has_bytes signs.Times = omega arith
-sign_has_bytes signs.Assign = omega arith
-sign_has_bytes signs.Open = omega arith
-sign_has_bytes signs.Close = omega arith
-sign_has_bytes signs.End = omega arith
+pub symbol_has_bytes : (s : Symbol) → 0 < length (symbol_text s)
+symbol_has_bytes symbols.Equal = omega arith
+symbol_has_bytes symbols.NotEqual = omega arith
+symbol_has_bytes symbols.LessOrEqual = omega arith
+symbol_has_bytes symbols.GreaterOrEqual = omega arith
+symbol_has_bytes symbols.Less = omega arith
+symbol_has_bytes symbols.Greater = omega arith
+symbol_has_bytes symbols.Plus = omega arith
+symbol_has_bytes symbols.Minus = omega arith
+symbol_has_bytes symbols.Times = omega arith
+symbol_has_bytes symbols.Assign = omega arith
+symbol_has_bytes symbols.Open = omega arith
+symbol_has_bytes symbols.Close = omega arith
+symbol_has_bytes symbols.End = omega arith
 
 letter_is_name : (b : Bool) (bs : Bool) → b ≡ true → (b || bs) ≡ true
 letter_is_name true bs e = refl
@@ -52,8 +52,8 @@ kind_has_bytes_by b bs true d il id x e =
 kind_has_bytes_by b bs false true il id x e =
     rw (← ap (λ (y : Kind × ℕ). y.1) (some_is _ x e)) (prefix_has is_digit b bs id)
 kind_has_bytes_by b bs false false il id x e =
-    let m = map_some (λ s. (sign s, length (sign_text s))) (sign_at (b ∷ bs)) x e in
-    rw (← ap (λ (y : Kind × ℕ). y.1) m.2) (sign_has_bytes m.0)
+    let m = map_some (λ s. (symbol s, length (symbol_text s))) (symbol_at (b ∷ bs)) x e in
+    rw (← ap (λ (y : Kind × ℕ). y.1) m.2) (symbol_has_bytes m.0)
 
 pub kind_has_bytes : (b : ℕ) (bs : List ℕ) (x : Kind × ℕ) → kind_at (b ∷ bs) ≡ Some x → 0 < x.1
 unfolding kind_at

@@ -1,7 +1,7 @@
 -- What is spelled takes tokens.
 use Rattle.std.proofs.Common.{ℕ, ◌<◌, ◌≤◌, inl, inr, List, length, ap, arith, ℤ}
-use Rattle.guest_syntax.specs.Tokens.{Kind, sign, Token}
-use Rattle.guest_syntax.specs.declared.token.Sign.TheVariants as signs
+use Rattle.guest_syntax.specs.Tokens.{Kind, symbol, Token}
+use Rattle.guest_syntax.specs.declared.token.Symbol.TheVariants as symbols
 use Rattle.guest_syntax.specs.declared.tree.Op.{Op}
 use Rattle.guest_syntax.specs.declared.tree.Op.TheVariants as ops
 use Rattle.guest_syntax.specs.declared.tree.Object.{Object}
@@ -30,7 +30,7 @@ number_shrinks limit n ts rest h = token_shrinks _ ts rest h.1
 
 pub literal_shrinks : (z : ℤ) → Shrinks (IsLiteral z)
 literal_shrinks z ts rest (n, inl h) = number_shrinks _ n ts rest h.1
-literal_shrinks z ts rest (n, inr h) = then_shrinks (IsToken (sign signs.Minus)) (IsNumber _ n) (token_shrinks _) (number_shrinks _ n) ts rest h.1
+literal_shrinks z ts rest (n, inr h) = then_shrinks (IsToken (symbol symbols.Minus)) (IsNumber _ n) (token_shrinks _) (number_shrinks _ n) ts rest h.1
 
 pub operand_shrinks : (a : Operand) → Shrinks (IsOperand a)
 operand_shrinks (local n) = name_shrinks n

@@ -7,16 +7,16 @@ use Rattle.std.specs.List.{prefix_len, list_all, starts_with, AllByRecursion}
 use Rattle.std.proofs.lemmas.Bool.Decides.{Decides-eqb}
 use Rattle.std.proofs.lemmas.List.{take_at, take-append-drop}
 use Rattle.std.proofs.lemmas.Slice.Eq.{bytes_eq-Decides, slice_eq-Decides}
-use Rattle.guest_syntax.specs.declared.token.Word.{Word}
-use Rattle.guest_syntax.specs.declared.token.Sign.{Sign}
-use Rattle.guest_syntax.specs.declared.token.Word.TheVariants as words
-use Rattle.guest_syntax.specs.declared.token.Sign.TheVariants as signs
-use Rattle.guest_syntax.specs.declared.token.TheConstants.{WORDS, SIGNS}
-use Rattle.guest_syntax.specs.Tokens.{Kind, name, word, number, sign, bad, Spelling, IsLongest, IsIdentifier, word_text, sign_text, value, is_letter, is_digit, is_name_byte}
-use Rattle.guest_syntax.specs.Scan.{name_or_word, capped, sign_at, kind_by, kind_at}
+use Rattle.guest_syntax.specs.declared.token.Keyword.{Keyword}
+use Rattle.guest_syntax.specs.declared.token.Symbol.{Symbol}
+use Rattle.guest_syntax.specs.declared.token.Keyword.TheVariants as keywords
+use Rattle.guest_syntax.specs.declared.token.Symbol.TheVariants as symbols
+use Rattle.guest_syntax.specs.declared.token.TheConstants.{KEYWORDS, SYMBOLS}
+use Rattle.guest_syntax.specs.Tokens.{Kind, name, keyword, number, symbol, bad, Spelling, IsLongest, IsIdentifier, keyword_text, symbol_text, value, is_letter, is_digit, is_name_byte}
+use Rattle.guest_syntax.specs.Scan.{name_or_keyword, capped, symbol_at, kind_by, kind_at}
 use Rattle.guest_syntax.proofs.Options.{map_some, some_is}
 use Rattle.guest_syntax.proofs.Bytes.{and_parts, or_left, or_right, letter_no_digit, name_byte_ascii, digit_ascii}
-use Rattle.guest_syntax.proofs.Scans.{sign_has_bytes}
+use Rattle.guest_syntax.proofs.Scans.{symbol_has_bytes}
 use Rattle.guest_syntax.proofs.Gaps.{Ascii}
 use Rattle.guest_syntax.proofs.Prefixes.{Front, front, prefix_is}
 
@@ -52,42 +52,42 @@ identifier_all : (s : List ℕ) → IsIdentifier s → list_all is_name_byte s �
 identifier_all [] h = elim h [ ]
 identifier_all (b ∷ s) h = both_true (is_name_byte b) _ (letter_name b h.0) h.1
 
-pub word_is_identifier : (w : Word) → IsIdentifier (word_text w)
-word_is_identifier words.Var = (refl, refl)
-word_is_identifier words.Mutex = (refl, refl)
-word_is_identifier words.Cond = (refl, refl)
-word_is_identifier words.Sem = (refl, refl)
-word_is_identifier words.Thread = (refl, refl)
-word_is_identifier words.Load = (refl, refl)
-word_is_identifier words.Store = (refl, refl)
-word_is_identifier words.Lock = (refl, refl)
-word_is_identifier words.Unlock = (refl, refl)
-word_is_identifier words.Wait = (refl, refl)
-word_is_identifier words.Signal = (refl, refl)
-word_is_identifier words.Broadcast = (refl, refl)
-word_is_identifier words.Acquire = (refl, refl)
-word_is_identifier words.Release = (refl, refl)
-word_is_identifier words.Set = (refl, refl)
-word_is_identifier words.If = (refl, refl)
-word_is_identifier words.Else = (refl, refl)
-word_is_identifier words.Repeat = (refl, refl)
-word_is_identifier words.Leave = (refl, refl)
-word_is_identifier words.Assert = (refl, refl)
+pub keyword_is_identifier : (w : Keyword) → IsIdentifier (keyword_text w)
+keyword_is_identifier keywords.Var = (refl, refl)
+keyword_is_identifier keywords.Mutex = (refl, refl)
+keyword_is_identifier keywords.Cond = (refl, refl)
+keyword_is_identifier keywords.Sem = (refl, refl)
+keyword_is_identifier keywords.Thread = (refl, refl)
+keyword_is_identifier keywords.Load = (refl, refl)
+keyword_is_identifier keywords.Store = (refl, refl)
+keyword_is_identifier keywords.Lock = (refl, refl)
+keyword_is_identifier keywords.Unlock = (refl, refl)
+keyword_is_identifier keywords.Wait = (refl, refl)
+keyword_is_identifier keywords.Signal = (refl, refl)
+keyword_is_identifier keywords.Broadcast = (refl, refl)
+keyword_is_identifier keywords.Acquire = (refl, refl)
+keyword_is_identifier keywords.Release = (refl, refl)
+keyword_is_identifier keywords.Set = (refl, refl)
+keyword_is_identifier keywords.If = (refl, refl)
+keyword_is_identifier keywords.Else = (refl, refl)
+keyword_is_identifier keywords.Repeat = (refl, refl)
+keyword_is_identifier keywords.Leave = (refl, refl)
+keyword_is_identifier keywords.Assert = (refl, refl)
 
-sign_head : (s : Sign) (c : ℕ) (t : List ℕ) → sign_text s ≡ c ∷ t → is_name_byte c ≡ false
-sign_head signs.Equal c t e = let is : 61 ≡ c = cc in subst (λ c. is_name_byte c ≡ false) is refl
-sign_head signs.NotEqual c t e = let is : 33 ≡ c = cc in subst (λ c. is_name_byte c ≡ false) is refl
-sign_head signs.LessOrEqual c t e = let is : 60 ≡ c = cc in subst (λ c. is_name_byte c ≡ false) is refl
-sign_head signs.GreaterOrEqual c t e = let is : 62 ≡ c = cc in subst (λ c. is_name_byte c ≡ false) is refl
-sign_head signs.Less c t e = let is : 60 ≡ c = cc in subst (λ c. is_name_byte c ≡ false) is refl
-sign_head signs.Greater c t e = let is : 62 ≡ c = cc in subst (λ c. is_name_byte c ≡ false) is refl
-sign_head signs.Plus c t e = let is : 43 ≡ c = cc in subst (λ c. is_name_byte c ≡ false) is refl
-sign_head signs.Minus c t e = let is : 45 ≡ c = cc in subst (λ c. is_name_byte c ≡ false) is refl
-sign_head signs.Times c t e = let is : 42 ≡ c = cc in subst (λ c. is_name_byte c ≡ false) is refl
-sign_head signs.Assign c t e = let is : 61 ≡ c = cc in subst (λ c. is_name_byte c ≡ false) is refl
-sign_head signs.Open c t e = let is : 123 ≡ c = cc in subst (λ c. is_name_byte c ≡ false) is refl
-sign_head signs.Close c t e = let is : 125 ≡ c = cc in subst (λ c. is_name_byte c ≡ false) is refl
-sign_head signs.End c t e = let is : 59 ≡ c = cc in subst (λ c. is_name_byte c ≡ false) is refl
+symbol_head : (s : Symbol) (c : ℕ) (t : List ℕ) → symbol_text s ≡ c ∷ t → is_name_byte c ≡ false
+symbol_head symbols.Equal c t e = let is : 61 ≡ c = cc in subst (λ c. is_name_byte c ≡ false) is refl
+symbol_head symbols.NotEqual c t e = let is : 33 ≡ c = cc in subst (λ c. is_name_byte c ≡ false) is refl
+symbol_head symbols.LessOrEqual c t e = let is : 60 ≡ c = cc in subst (λ c. is_name_byte c ≡ false) is refl
+symbol_head symbols.GreaterOrEqual c t e = let is : 62 ≡ c = cc in subst (λ c. is_name_byte c ≡ false) is refl
+symbol_head symbols.Less c t e = let is : 60 ≡ c = cc in subst (λ c. is_name_byte c ≡ false) is refl
+symbol_head symbols.Greater c t e = let is : 62 ≡ c = cc in subst (λ c. is_name_byte c ≡ false) is refl
+symbol_head symbols.Plus c t e = let is : 43 ≡ c = cc in subst (λ c. is_name_byte c ≡ false) is refl
+symbol_head symbols.Minus c t e = let is : 45 ≡ c = cc in subst (λ c. is_name_byte c ≡ false) is refl
+symbol_head symbols.Times c t e = let is : 42 ≡ c = cc in subst (λ c. is_name_byte c ≡ false) is refl
+symbol_head symbols.Assign c t e = let is : 61 ≡ c = cc in subst (λ c. is_name_byte c ≡ false) is refl
+symbol_head symbols.Open c t e = let is : 123 ≡ c = cc in subst (λ c. is_name_byte c ≡ false) is refl
+symbol_head symbols.Close c t e = let is : 125 ≡ c = cc in subst (λ c. is_name_byte c ≡ false) is refl
+symbol_head symbols.End c t e = let is : 59 ≡ c = cc in subst (λ c. is_name_byte c ≡ false) is refl
 
 -- ---- words
 
@@ -107,71 +107,71 @@ find_none : {A : Type 0} (p : A → Bool) (xs : List A) → find p xs ≡ None �
 find_none p [] e = tt
 find_none p (y ∷ ys) e = let h = find_none_by y (find p ys) (p y) e in (h.0, find_none p ys h.1)
 
-each_word : (P : Word → Type 0) → AllByRecursion P WORDS → (w : Word) → P w
-each_word P h words.Var = h.0
-each_word P h words.Mutex = h.1.0
-each_word P h words.Cond = h.1.1.0
-each_word P h words.Sem = h.1.1.1.0
-each_word P h words.Thread = h.1.1.1.1.0
-each_word P h words.Load = h.1.1.1.1.1.0
-each_word P h words.Store = h.1.1.1.1.1.1.0
-each_word P h words.Lock = h.1.1.1.1.1.1.1.0
-each_word P h words.Unlock = h.1.1.1.1.1.1.1.1.0
-each_word P h words.Wait = h.1.1.1.1.1.1.1.1.1.0
-each_word P h words.Signal = h.1.1.1.1.1.1.1.1.1.1.0
-each_word P h words.Broadcast = h.1.1.1.1.1.1.1.1.1.1.1.0
-each_word P h words.Acquire = h.1.1.1.1.1.1.1.1.1.1.1.1.0
-each_word P h words.Release = h.1.1.1.1.1.1.1.1.1.1.1.1.1.0
-each_word P h words.Set = h.1.1.1.1.1.1.1.1.1.1.1.1.1.1.0
-each_word P h words.If = h.1.1.1.1.1.1.1.1.1.1.1.1.1.1.1.0
-each_word P h words.Else = h.1.1.1.1.1.1.1.1.1.1.1.1.1.1.1.1.0
-each_word P h words.Repeat = h.1.1.1.1.1.1.1.1.1.1.1.1.1.1.1.1.1.0
-each_word P h words.Leave = h.1.1.1.1.1.1.1.1.1.1.1.1.1.1.1.1.1.1.0
-each_word P h words.Assert = h.1.1.1.1.1.1.1.1.1.1.1.1.1.1.1.1.1.1.1.0
+each_keyword : (P : Keyword → Type 0) → AllByRecursion P KEYWORDS → (w : Keyword) → P w
+each_keyword P h keywords.Var = h.0
+each_keyword P h keywords.Mutex = h.1.0
+each_keyword P h keywords.Cond = h.1.1.0
+each_keyword P h keywords.Sem = h.1.1.1.0
+each_keyword P h keywords.Thread = h.1.1.1.1.0
+each_keyword P h keywords.Load = h.1.1.1.1.1.0
+each_keyword P h keywords.Store = h.1.1.1.1.1.1.0
+each_keyword P h keywords.Lock = h.1.1.1.1.1.1.1.0
+each_keyword P h keywords.Unlock = h.1.1.1.1.1.1.1.1.0
+each_keyword P h keywords.Wait = h.1.1.1.1.1.1.1.1.1.0
+each_keyword P h keywords.Signal = h.1.1.1.1.1.1.1.1.1.1.0
+each_keyword P h keywords.Broadcast = h.1.1.1.1.1.1.1.1.1.1.1.0
+each_keyword P h keywords.Acquire = h.1.1.1.1.1.1.1.1.1.1.1.1.0
+each_keyword P h keywords.Release = h.1.1.1.1.1.1.1.1.1.1.1.1.1.0
+each_keyword P h keywords.Set = h.1.1.1.1.1.1.1.1.1.1.1.1.1.1.0
+each_keyword P h keywords.If = h.1.1.1.1.1.1.1.1.1.1.1.1.1.1.1.0
+each_keyword P h keywords.Else = h.1.1.1.1.1.1.1.1.1.1.1.1.1.1.1.1.0
+each_keyword P h keywords.Repeat = h.1.1.1.1.1.1.1.1.1.1.1.1.1.1.1.1.1.0
+each_keyword P h keywords.Leave = h.1.1.1.1.1.1.1.1.1.1.1.1.1.1.1.1.1.1.0
+each_keyword P h keywords.Assert = h.1.1.1.1.1.1.1.1.1.1.1.1.1.1.1.1.1.1.1.0
 
-abbrev looked_up : List ℕ → Option Word
-looked_up text = find (λ w. bytes_eq (word_text w) text) WORDS
+abbrev looked_up : List ℕ → Option Keyword
+looked_up text = find (λ w. bytes_eq (keyword_text w) text) KEYWORDS
 
-no_word : (text : List ℕ) → looked_up text ≡ None → (w : Word) → text ≢ word_text w
-no_word text e w is =
-    let none = each_word (λ w. bytes_eq (word_text w) text ≡ false) (find_none (λ w. bytes_eq (word_text w) text) WORDS e) w in
-    true≢false (sym ((bytes_eq-Decides (word_text w) text).1 (sym is)) ∙ none)
+no_keyword : (text : List ℕ) → looked_up text ≡ None → (w : Keyword) → text ≢ keyword_text w
+no_keyword text e w is =
+    let none = each_keyword (λ w. bytes_eq (keyword_text w) text ≡ false) (find_none (λ w. bytes_eq (keyword_text w) text) KEYWORDS e) w in
+    true≢false (sym ((bytes_eq-Decides (keyword_text w) text).1 (sym is)) ∙ none)
 
-word_found : (text : List ℕ) (w : Word) → looked_up text ≡ Some w → text ≡ word_text w
-word_found text w e = sym ((bytes_eq-Decides (word_text w) text).0 (find_some (λ w. bytes_eq (word_text w) text) WORDS w e))
+keyword_found : (text : List ℕ) (w : Keyword) → looked_up text ≡ Some w → text ≡ keyword_text w
+keyword_found text w e = sym ((bytes_eq-Decides (keyword_text w) text).0 (find_some (λ w. bytes_eq (keyword_text w) text) KEYWORDS w e))
 
-word_itself : (w : Word) → looked_up (word_text w) ≡ Some w
-word_itself words.Var = refl
-word_itself words.Mutex = refl
-word_itself words.Cond = refl
-word_itself words.Sem = refl
-word_itself words.Thread = refl
-word_itself words.Load = refl
-word_itself words.Store = refl
-word_itself words.Lock = refl
-word_itself words.Unlock = refl
-word_itself words.Wait = refl
-word_itself words.Signal = refl
-word_itself words.Broadcast = refl
-word_itself words.Acquire = refl
-word_itself words.Release = refl
-word_itself words.Set = refl
-word_itself words.If = refl
-word_itself words.Else = refl
-word_itself words.Repeat = refl
-word_itself words.Leave = refl
-word_itself words.Assert = refl
+keyword_itself : (w : Keyword) → looked_up (keyword_text w) ≡ Some w
+keyword_itself keywords.Var = refl
+keyword_itself keywords.Mutex = refl
+keyword_itself keywords.Cond = refl
+keyword_itself keywords.Sem = refl
+keyword_itself keywords.Thread = refl
+keyword_itself keywords.Load = refl
+keyword_itself keywords.Store = refl
+keyword_itself keywords.Lock = refl
+keyword_itself keywords.Unlock = refl
+keyword_itself keywords.Wait = refl
+keyword_itself keywords.Signal = refl
+keyword_itself keywords.Broadcast = refl
+keyword_itself keywords.Acquire = refl
+keyword_itself keywords.Release = refl
+keyword_itself keywords.Set = refl
+keyword_itself keywords.If = refl
+keyword_itself keywords.Else = refl
+keyword_itself keywords.Repeat = refl
+keyword_itself keywords.Leave = refl
+keyword_itself keywords.Assert = refl
 
-not_found : (text : List ℕ) (o : Option Word) → looked_up text ≡ o → ((w : Word) → text ≢ word_text w) → o ≡ None
+not_found : (text : List ℕ) (o : Option Keyword) → looked_up text ≡ o → ((w : Keyword) → text ≢ keyword_text w) → o ≡ None
 not_found text None e h = refl
-not_found text (Some w) e h = absurd (h w (word_found text w e))
+not_found text (Some w) e h = absurd (h w (keyword_found text w e))
 
 -- an identifier is a name or a word
-spelt_by : (text : List ℕ) (o : Option Word) → looked_up text ≡ o → IsIdentifier text → Spelling (option_map_or word o (name text)) text
-spelt_by text None e h = (refl, h, no_word text e)
-spelt_by text (Some w) e h = word_found text w e
+spelt_by : (text : List ℕ) (o : Option Keyword) → looked_up text ≡ o → IsIdentifier text → Spelling (option_map_or keyword o (name text)) text
+spelt_by text None e h = (refl, h, no_keyword text e)
+spelt_by text (Some w) e h = keyword_found text w e
 
-identifier_spelt : (text : List ℕ) → IsIdentifier text → Spelling (name_or_word text) text
+identifier_spelt : (text : List ℕ) → IsIdentifier text → Spelling (name_or_keyword text) text
 identifier_spelt text h = spelt_by text (looked_up text) refl h
 
 -- ---- what can't go on
@@ -182,9 +182,9 @@ false_true e h = true≢false (sym h ∙ e)
 -- an identifier that stops at its end
 name_longest : (c : ℕ) (text rest : List ℕ) → is_letter c ≡ true → ((b : ℕ) (more : List ℕ) → rest ≡ b ∷ more → is_name_byte b ≡ false) → IsLongest (c ∷ text) rest
 name_longest c text rest l next b more e (name s) h = false_true (next b more e) (all_last is_name_byte (c ∷ text) b (subst (λ t. list_all is_name_byte t ≡ true) (sym h.0) (identifier_all s h.1)))
-name_longest c text rest l next b more e (word w) h = false_true (next b more e) (all_last is_name_byte (c ∷ text) b (subst (λ t. list_all is_name_byte t ≡ true) (sym h) (identifier_all (word_text w) (word_is_identifier w))))
+name_longest c text rest l next b more e (keyword w) h = false_true (next b more e) (all_last is_name_byte (c ∷ text) b (subst (λ t. list_all is_name_byte t ≡ true) (sym h) (identifier_all (keyword_text w) (keyword_is_identifier w))))
 name_longest c text rest l next b more e (number n) h = false_true (next b more e) (digit_name b (all_last is_digit (c ∷ text) b h.1))
-name_longest c text rest l next b more e (sign s) h = false_true (sign_head s c (text ++ b ∷ []) (sym h)) (letter_name c l)
+name_longest c text rest l next b more e (symbol s) h = false_true (symbol_head s c (text ++ b ∷ []) (sym h)) (letter_name c l)
 name_longest c text rest l next b more e bad h = h
 
 identifier_head : (c : ℕ) (text s : List ℕ) → c ∷ text ≡ s → IsIdentifier s → is_letter c ≡ true
@@ -193,9 +193,9 @@ identifier_head c text (b ∷ s) e h = let is : b ≡ c = cc in subst (λ c. is_
 
 number_longest : (c : ℕ) (text rest : List ℕ) → is_digit c ≡ true → ((b : ℕ) (more : List ℕ) → rest ≡ b ∷ more → is_digit b ≡ false) → IsLongest (c ∷ text) rest
 number_longest c text rest d next b more e (name s) h = false_true (letter_no_digit c (identifier_head c (text ++ b ∷ []) s h.0 h.1)) d
-number_longest c text rest d next b more e (word w) h = false_true (letter_no_digit c (identifier_head c (text ++ b ∷ []) (word_text w) h (word_is_identifier w))) d
+number_longest c text rest d next b more e (keyword w) h = false_true (letter_no_digit c (identifier_head c (text ++ b ∷ []) (keyword_text w) h (keyword_is_identifier w))) d
 number_longest c text rest d next b more e (number n) h = false_true (next b more e) (all_last is_digit (c ∷ text) b h.1)
-number_longest c text rest d next b more e (sign s) h = false_true (sign_head s c (text ++ b ∷ []) (sym h)) (digit_name c d)
+number_longest c text rest d next b more e (symbol s) h = false_true (symbol_head s c (text ++ b ∷ []) (sym h)) (digit_name c d)
 number_longest c text rest d next b more e bad h = h
 
 -- ---- numbers
@@ -212,147 +212,147 @@ capped_is xs = capped_from xs 0 0 (omega arith)
 
 -- ---- signs
 
-sign_parts : (s : Sign) → (c : ℕ) × (t : List ℕ) × (sign_text s ≡ c ∷ t)
-sign_parts signs.Equal = (61, 61 ∷ [], refl)
-sign_parts signs.NotEqual = (33, 61 ∷ [], refl)
-sign_parts signs.LessOrEqual = (60, 61 ∷ [], refl)
-sign_parts signs.GreaterOrEqual = (62, 61 ∷ [], refl)
-sign_parts signs.Less = (60, [], refl)
-sign_parts signs.Greater = (62, [], refl)
-sign_parts signs.Plus = (43, [], refl)
-sign_parts signs.Minus = (45, [], refl)
-sign_parts signs.Times = (42, [], refl)
-sign_parts signs.Assign = (61, [], refl)
-sign_parts signs.Open = (123, [], refl)
-sign_parts signs.Close = (125, [], refl)
-sign_parts signs.End = (59, [], refl)
+symbol_parts : (s : Symbol) → (c : ℕ) × (t : List ℕ) × (symbol_text s ≡ c ∷ t)
+symbol_parts symbols.Equal = (61, 61 ∷ [], refl)
+symbol_parts symbols.NotEqual = (33, 61 ∷ [], refl)
+symbol_parts symbols.LessOrEqual = (60, 61 ∷ [], refl)
+symbol_parts symbols.GreaterOrEqual = (62, 61 ∷ [], refl)
+symbol_parts symbols.Less = (60, [], refl)
+symbol_parts symbols.Greater = (62, [], refl)
+symbol_parts symbols.Plus = (43, [], refl)
+symbol_parts symbols.Minus = (45, [], refl)
+symbol_parts symbols.Times = (42, [], refl)
+symbol_parts symbols.Assign = (61, [], refl)
+symbol_parts symbols.Open = (123, [], refl)
+symbol_parts symbols.Close = (125, [], refl)
+symbol_parts symbols.End = (59, [], refl)
 
 first_is : (a b : ℕ) (xs ys : List ℕ) → a ∷ xs ≡ b ∷ ys → a ≡ b
 first_is a b xs ys e = cc
 
 -- the sign that this one and `=` behind it are
-abbrev with_equals : Sign → Option Sign
-with_equals signs.Less = Some signs.LessOrEqual
-with_equals signs.Greater = Some signs.GreaterOrEqual
-with_equals signs.Assign = Some signs.Equal
+abbrev with_equals : Symbol → Option Symbol
+with_equals symbols.Less = Some symbols.LessOrEqual
+with_equals symbols.Greater = Some symbols.GreaterOrEqual
+with_equals symbols.Assign = Some symbols.Equal
 with_equals _ = None
 
 -- a sign that is another and one byte more
-longer : (u g : Sign) (b : ℕ) → sign_text u ≡ sign_text g ++ b ∷ [] → (with_equals g ≡ Some u) × (b ≡ 61)
-longer signs.Equal signs.Equal b e = absurd (let h = ap length e in omega (arith, h))
-longer signs.Equal signs.NotEqual b e = absurd (let h = ap length e in omega (arith, h))
-longer signs.Equal signs.LessOrEqual b e = absurd (let h = ap length e in omega (arith, h))
-longer signs.Equal signs.GreaterOrEqual b e = absurd (let h = ap length e in omega (arith, h))
-longer signs.Equal signs.Less b e = absurd (let h : 61 ≡ 60 = first_is _ _ _ _ e in omega arith)
-longer signs.Equal signs.Greater b e = absurd (let h : 61 ≡ 62 = first_is _ _ _ _ e in omega arith)
-longer signs.Equal signs.Plus b e = absurd (let h : 61 ≡ 43 = first_is _ _ _ _ e in omega arith)
-longer signs.Equal signs.Minus b e = absurd (let h : 61 ≡ 45 = first_is _ _ _ _ e in omega arith)
-longer signs.Equal signs.Times b e = absurd (let h : 61 ≡ 42 = first_is _ _ _ _ e in omega arith)
-longer signs.Equal signs.Assign b e = (refl, cc)
-longer signs.Equal signs.Open b e = absurd (let h : 61 ≡ 123 = first_is _ _ _ _ e in omega arith)
-longer signs.Equal signs.Close b e = absurd (let h : 61 ≡ 125 = first_is _ _ _ _ e in omega arith)
-longer signs.Equal signs.End b e = absurd (let h : 61 ≡ 59 = first_is _ _ _ _ e in omega arith)
-longer signs.NotEqual signs.Equal b e = absurd (let h = ap length e in omega (arith, h))
-longer signs.NotEqual signs.NotEqual b e = absurd (let h = ap length e in omega (arith, h))
-longer signs.NotEqual signs.LessOrEqual b e = absurd (let h = ap length e in omega (arith, h))
-longer signs.NotEqual signs.GreaterOrEqual b e = absurd (let h = ap length e in omega (arith, h))
-longer signs.NotEqual signs.Less b e = absurd (let h : 33 ≡ 60 = first_is _ _ _ _ e in omega arith)
-longer signs.NotEqual signs.Greater b e = absurd (let h : 33 ≡ 62 = first_is _ _ _ _ e in omega arith)
-longer signs.NotEqual signs.Plus b e = absurd (let h : 33 ≡ 43 = first_is _ _ _ _ e in omega arith)
-longer signs.NotEqual signs.Minus b e = absurd (let h : 33 ≡ 45 = first_is _ _ _ _ e in omega arith)
-longer signs.NotEqual signs.Times b e = absurd (let h : 33 ≡ 42 = first_is _ _ _ _ e in omega arith)
-longer signs.NotEqual signs.Assign b e = absurd (let h : 33 ≡ 61 = first_is _ _ _ _ e in omega arith)
-longer signs.NotEqual signs.Open b e = absurd (let h : 33 ≡ 123 = first_is _ _ _ _ e in omega arith)
-longer signs.NotEqual signs.Close b e = absurd (let h : 33 ≡ 125 = first_is _ _ _ _ e in omega arith)
-longer signs.NotEqual signs.End b e = absurd (let h : 33 ≡ 59 = first_is _ _ _ _ e in omega arith)
-longer signs.LessOrEqual signs.Equal b e = absurd (let h = ap length e in omega (arith, h))
-longer signs.LessOrEqual signs.NotEqual b e = absurd (let h = ap length e in omega (arith, h))
-longer signs.LessOrEqual signs.LessOrEqual b e = absurd (let h = ap length e in omega (arith, h))
-longer signs.LessOrEqual signs.GreaterOrEqual b e = absurd (let h = ap length e in omega (arith, h))
-longer signs.LessOrEqual signs.Less b e = (refl, cc)
-longer signs.LessOrEqual signs.Greater b e = absurd (let h : 60 ≡ 62 = first_is _ _ _ _ e in omega arith)
-longer signs.LessOrEqual signs.Plus b e = absurd (let h : 60 ≡ 43 = first_is _ _ _ _ e in omega arith)
-longer signs.LessOrEqual signs.Minus b e = absurd (let h : 60 ≡ 45 = first_is _ _ _ _ e in omega arith)
-longer signs.LessOrEqual signs.Times b e = absurd (let h : 60 ≡ 42 = first_is _ _ _ _ e in omega arith)
-longer signs.LessOrEqual signs.Assign b e = absurd (let h : 60 ≡ 61 = first_is _ _ _ _ e in omega arith)
-longer signs.LessOrEqual signs.Open b e = absurd (let h : 60 ≡ 123 = first_is _ _ _ _ e in omega arith)
-longer signs.LessOrEqual signs.Close b e = absurd (let h : 60 ≡ 125 = first_is _ _ _ _ e in omega arith)
-longer signs.LessOrEqual signs.End b e = absurd (let h : 60 ≡ 59 = first_is _ _ _ _ e in omega arith)
-longer signs.GreaterOrEqual signs.Equal b e = absurd (let h = ap length e in omega (arith, h))
-longer signs.GreaterOrEqual signs.NotEqual b e = absurd (let h = ap length e in omega (arith, h))
-longer signs.GreaterOrEqual signs.LessOrEqual b e = absurd (let h = ap length e in omega (arith, h))
-longer signs.GreaterOrEqual signs.GreaterOrEqual b e = absurd (let h = ap length e in omega (arith, h))
-longer signs.GreaterOrEqual signs.Less b e = absurd (let h : 62 ≡ 60 = first_is _ _ _ _ e in omega arith)
-longer signs.GreaterOrEqual signs.Greater b e = (refl, cc)
-longer signs.GreaterOrEqual signs.Plus b e = absurd (let h : 62 ≡ 43 = first_is _ _ _ _ e in omega arith)
-longer signs.GreaterOrEqual signs.Minus b e = absurd (let h : 62 ≡ 45 = first_is _ _ _ _ e in omega arith)
-longer signs.GreaterOrEqual signs.Times b e = absurd (let h : 62 ≡ 42 = first_is _ _ _ _ e in omega arith)
-longer signs.GreaterOrEqual signs.Assign b e = absurd (let h : 62 ≡ 61 = first_is _ _ _ _ e in omega arith)
-longer signs.GreaterOrEqual signs.Open b e = absurd (let h : 62 ≡ 123 = first_is _ _ _ _ e in omega arith)
-longer signs.GreaterOrEqual signs.Close b e = absurd (let h : 62 ≡ 125 = first_is _ _ _ _ e in omega arith)
-longer signs.GreaterOrEqual signs.End b e = absurd (let h : 62 ≡ 59 = first_is _ _ _ _ e in omega arith)
-longer signs.Less g b e = absurd (let h = ap length e in omega (arith, h, length-append (sign_text g) (b ∷ []), sign_has_bytes g))
-longer signs.Greater g b e = absurd (let h = ap length e in omega (arith, h, length-append (sign_text g) (b ∷ []), sign_has_bytes g))
-longer signs.Plus g b e = absurd (let h = ap length e in omega (arith, h, length-append (sign_text g) (b ∷ []), sign_has_bytes g))
-longer signs.Minus g b e = absurd (let h = ap length e in omega (arith, h, length-append (sign_text g) (b ∷ []), sign_has_bytes g))
-longer signs.Times g b e = absurd (let h = ap length e in omega (arith, h, length-append (sign_text g) (b ∷ []), sign_has_bytes g))
-longer signs.Assign g b e = absurd (let h = ap length e in omega (arith, h, length-append (sign_text g) (b ∷ []), sign_has_bytes g))
-longer signs.Open g b e = absurd (let h = ap length e in omega (arith, h, length-append (sign_text g) (b ∷ []), sign_has_bytes g))
-longer signs.Close g b e = absurd (let h = ap length e in omega (arith, h, length-append (sign_text g) (b ∷ []), sign_has_bytes g))
-longer signs.End g b e = absurd (let h = ap length e in omega (arith, h, length-append (sign_text g) (b ∷ []), sign_has_bytes g))
+longer : (u g : Symbol) (b : ℕ) → symbol_text u ≡ symbol_text g ++ b ∷ [] → (with_equals g ≡ Some u) × (b ≡ 61)
+longer symbols.Equal symbols.Equal b e = absurd (let h = ap length e in omega (arith, h))
+longer symbols.Equal symbols.NotEqual b e = absurd (let h = ap length e in omega (arith, h))
+longer symbols.Equal symbols.LessOrEqual b e = absurd (let h = ap length e in omega (arith, h))
+longer symbols.Equal symbols.GreaterOrEqual b e = absurd (let h = ap length e in omega (arith, h))
+longer symbols.Equal symbols.Less b e = absurd (let h : 61 ≡ 60 = first_is _ _ _ _ e in omega arith)
+longer symbols.Equal symbols.Greater b e = absurd (let h : 61 ≡ 62 = first_is _ _ _ _ e in omega arith)
+longer symbols.Equal symbols.Plus b e = absurd (let h : 61 ≡ 43 = first_is _ _ _ _ e in omega arith)
+longer symbols.Equal symbols.Minus b e = absurd (let h : 61 ≡ 45 = first_is _ _ _ _ e in omega arith)
+longer symbols.Equal symbols.Times b e = absurd (let h : 61 ≡ 42 = first_is _ _ _ _ e in omega arith)
+longer symbols.Equal symbols.Assign b e = (refl, cc)
+longer symbols.Equal symbols.Open b e = absurd (let h : 61 ≡ 123 = first_is _ _ _ _ e in omega arith)
+longer symbols.Equal symbols.Close b e = absurd (let h : 61 ≡ 125 = first_is _ _ _ _ e in omega arith)
+longer symbols.Equal symbols.End b e = absurd (let h : 61 ≡ 59 = first_is _ _ _ _ e in omega arith)
+longer symbols.NotEqual symbols.Equal b e = absurd (let h = ap length e in omega (arith, h))
+longer symbols.NotEqual symbols.NotEqual b e = absurd (let h = ap length e in omega (arith, h))
+longer symbols.NotEqual symbols.LessOrEqual b e = absurd (let h = ap length e in omega (arith, h))
+longer symbols.NotEqual symbols.GreaterOrEqual b e = absurd (let h = ap length e in omega (arith, h))
+longer symbols.NotEqual symbols.Less b e = absurd (let h : 33 ≡ 60 = first_is _ _ _ _ e in omega arith)
+longer symbols.NotEqual symbols.Greater b e = absurd (let h : 33 ≡ 62 = first_is _ _ _ _ e in omega arith)
+longer symbols.NotEqual symbols.Plus b e = absurd (let h : 33 ≡ 43 = first_is _ _ _ _ e in omega arith)
+longer symbols.NotEqual symbols.Minus b e = absurd (let h : 33 ≡ 45 = first_is _ _ _ _ e in omega arith)
+longer symbols.NotEqual symbols.Times b e = absurd (let h : 33 ≡ 42 = first_is _ _ _ _ e in omega arith)
+longer symbols.NotEqual symbols.Assign b e = absurd (let h : 33 ≡ 61 = first_is _ _ _ _ e in omega arith)
+longer symbols.NotEqual symbols.Open b e = absurd (let h : 33 ≡ 123 = first_is _ _ _ _ e in omega arith)
+longer symbols.NotEqual symbols.Close b e = absurd (let h : 33 ≡ 125 = first_is _ _ _ _ e in omega arith)
+longer symbols.NotEqual symbols.End b e = absurd (let h : 33 ≡ 59 = first_is _ _ _ _ e in omega arith)
+longer symbols.LessOrEqual symbols.Equal b e = absurd (let h = ap length e in omega (arith, h))
+longer symbols.LessOrEqual symbols.NotEqual b e = absurd (let h = ap length e in omega (arith, h))
+longer symbols.LessOrEqual symbols.LessOrEqual b e = absurd (let h = ap length e in omega (arith, h))
+longer symbols.LessOrEqual symbols.GreaterOrEqual b e = absurd (let h = ap length e in omega (arith, h))
+longer symbols.LessOrEqual symbols.Less b e = (refl, cc)
+longer symbols.LessOrEqual symbols.Greater b e = absurd (let h : 60 ≡ 62 = first_is _ _ _ _ e in omega arith)
+longer symbols.LessOrEqual symbols.Plus b e = absurd (let h : 60 ≡ 43 = first_is _ _ _ _ e in omega arith)
+longer symbols.LessOrEqual symbols.Minus b e = absurd (let h : 60 ≡ 45 = first_is _ _ _ _ e in omega arith)
+longer symbols.LessOrEqual symbols.Times b e = absurd (let h : 60 ≡ 42 = first_is _ _ _ _ e in omega arith)
+longer symbols.LessOrEqual symbols.Assign b e = absurd (let h : 60 ≡ 61 = first_is _ _ _ _ e in omega arith)
+longer symbols.LessOrEqual symbols.Open b e = absurd (let h : 60 ≡ 123 = first_is _ _ _ _ e in omega arith)
+longer symbols.LessOrEqual symbols.Close b e = absurd (let h : 60 ≡ 125 = first_is _ _ _ _ e in omega arith)
+longer symbols.LessOrEqual symbols.End b e = absurd (let h : 60 ≡ 59 = first_is _ _ _ _ e in omega arith)
+longer symbols.GreaterOrEqual symbols.Equal b e = absurd (let h = ap length e in omega (arith, h))
+longer symbols.GreaterOrEqual symbols.NotEqual b e = absurd (let h = ap length e in omega (arith, h))
+longer symbols.GreaterOrEqual symbols.LessOrEqual b e = absurd (let h = ap length e in omega (arith, h))
+longer symbols.GreaterOrEqual symbols.GreaterOrEqual b e = absurd (let h = ap length e in omega (arith, h))
+longer symbols.GreaterOrEqual symbols.Less b e = absurd (let h : 62 ≡ 60 = first_is _ _ _ _ e in omega arith)
+longer symbols.GreaterOrEqual symbols.Greater b e = (refl, cc)
+longer symbols.GreaterOrEqual symbols.Plus b e = absurd (let h : 62 ≡ 43 = first_is _ _ _ _ e in omega arith)
+longer symbols.GreaterOrEqual symbols.Minus b e = absurd (let h : 62 ≡ 45 = first_is _ _ _ _ e in omega arith)
+longer symbols.GreaterOrEqual symbols.Times b e = absurd (let h : 62 ≡ 42 = first_is _ _ _ _ e in omega arith)
+longer symbols.GreaterOrEqual symbols.Assign b e = absurd (let h : 62 ≡ 61 = first_is _ _ _ _ e in omega arith)
+longer symbols.GreaterOrEqual symbols.Open b e = absurd (let h : 62 ≡ 123 = first_is _ _ _ _ e in omega arith)
+longer symbols.GreaterOrEqual symbols.Close b e = absurd (let h : 62 ≡ 125 = first_is _ _ _ _ e in omega arith)
+longer symbols.GreaterOrEqual symbols.End b e = absurd (let h : 62 ≡ 59 = first_is _ _ _ _ e in omega arith)
+longer symbols.Less g b e = absurd (let h = ap length e in omega (arith, h, length-append (symbol_text g) (b ∷ []), symbol_has_bytes g))
+longer symbols.Greater g b e = absurd (let h = ap length e in omega (arith, h, length-append (symbol_text g) (b ∷ []), symbol_has_bytes g))
+longer symbols.Plus g b e = absurd (let h = ap length e in omega (arith, h, length-append (symbol_text g) (b ∷ []), symbol_has_bytes g))
+longer symbols.Minus g b e = absurd (let h = ap length e in omega (arith, h, length-append (symbol_text g) (b ∷ []), symbol_has_bytes g))
+longer symbols.Times g b e = absurd (let h = ap length e in omega (arith, h, length-append (symbol_text g) (b ∷ []), symbol_has_bytes g))
+longer symbols.Assign g b e = absurd (let h = ap length e in omega (arith, h, length-append (symbol_text g) (b ∷ []), symbol_has_bytes g))
+longer symbols.Open g b e = absurd (let h = ap length e in omega (arith, h, length-append (symbol_text g) (b ∷ []), symbol_has_bytes g))
+longer symbols.Close g b e = absurd (let h = ap length e in omega (arith, h, length-append (symbol_text g) (b ∷ []), symbol_has_bytes g))
+longer symbols.End g b e = absurd (let h = ap length e in omega (arith, h, length-append (symbol_text g) (b ∷ []), symbol_has_bytes g))
 
-abbrev NoLonger : Sign → List ℕ → Type 0
-NoLonger g rest = (b : ℕ) (more : List ℕ) → rest ≡ b ∷ more → (u : Sign) → sign_text u ≡ sign_text g ++ b ∷ [] → ⊥
+abbrev NoLonger : Symbol → List ℕ → Type 0
+NoLonger g rest = (b : ℕ) (more : List ℕ) → rest ≡ b ∷ more → (u : Symbol) → symbol_text u ≡ symbol_text g ++ b ∷ [] → ⊥
 
-sign_longest_by : (g : Sign) (rest : List ℕ) (c : ℕ) (t : List ℕ) → sign_text g ≡ c ∷ t → NoLonger g rest → (b : ℕ) (more : List ℕ) → rest ≡ b ∷ more → (k : Kind) → Spelling k (sign_text g ++ b ∷ []) → ⊥
-sign_longest_by g rest c t is none b more e (name s) h = false_true (sign_head g c t is) (letter_name c (identifier_head c (t ++ b ∷ []) s (ap (λ u. u ++ b ∷ []) (sym is) ∙ h.0) h.1))
-sign_longest_by g rest c t is none b more e (word w) h = false_true (sign_head g c t is) (letter_name c (identifier_head c (t ++ b ∷ []) (word_text w) (ap (λ u. u ++ b ∷ []) (sym is) ∙ h) (word_is_identifier w)))
-sign_longest_by g rest c t is none b more e (number n) h = false_true (sign_head g c t is) (digit_name c (and_parts (is_digit c) _ (subst (λ u. list_all is_digit (u ++ b ∷ []) ≡ true) is h.1)).0)
-sign_longest_by g rest c t is none b more e (sign u) h = none b more e u (sym h)
-sign_longest_by g rest c t is none b more e bad h = h
+symbol_longest_by : (g : Symbol) (rest : List ℕ) (c : ℕ) (t : List ℕ) → symbol_text g ≡ c ∷ t → NoLonger g rest → (b : ℕ) (more : List ℕ) → rest ≡ b ∷ more → (k : Kind) → Spelling k (symbol_text g ++ b ∷ []) → ⊥
+symbol_longest_by g rest c t is none b more e (name s) h = false_true (symbol_head g c t is) (letter_name c (identifier_head c (t ++ b ∷ []) s (ap (λ u. u ++ b ∷ []) (sym is) ∙ h.0) h.1))
+symbol_longest_by g rest c t is none b more e (keyword w) h = false_true (symbol_head g c t is) (letter_name c (identifier_head c (t ++ b ∷ []) (keyword_text w) (ap (λ u. u ++ b ∷ []) (sym is) ∙ h) (keyword_is_identifier w)))
+symbol_longest_by g rest c t is none b more e (number n) h = false_true (symbol_head g c t is) (digit_name c (and_parts (is_digit c) _ (subst (λ u. list_all is_digit (u ++ b ∷ []) ≡ true) is h.1)).0)
+symbol_longest_by g rest c t is none b more e (symbol u) h = none b more e u (sym h)
+symbol_longest_by g rest c t is none b more e bad h = h
 
-sign_longest : (g : Sign) (rest : List ℕ) → NoLonger g rest → IsLongest (sign_text g) rest
-sign_longest g rest none = let p = sign_parts g in sign_longest_by g rest p.0 p.1 p.2 none
+symbol_longest : (g : Symbol) (rest : List ℕ) → NoLonger g rest → IsLongest (symbol_text g) rest
+symbol_longest g rest none = let p = symbol_parts g in symbol_longest_by g rest p.0 p.1 p.2 none
 
-sign_starts : (s : List ℕ) (g : Sign) → sign_at s ≡ Some g → take (length (sign_text g)) s ≡ sign_text g
-sign_starts s g e = sym ((slice_eq-Decides Decides-eqb (sign_text g) (take (length (sign_text g)) s) _ refl).0 (find_some (λ g. starts_with nat_eq s (sign_text g)) SIGNS g e))
+symbol_starts : (s : List ℕ) (g : Symbol) → symbol_at s ≡ Some g → take (length (symbol_text g)) s ≡ symbol_text g
+symbol_starts s g e = sym ((slice_eq-Decides Decides-eqb (symbol_text g) (take (length (symbol_text g)) s) _ refl).0 (find_some (λ g. starts_with nat_eq s (symbol_text g)) SYMBOLS g e))
 
 -- a sign and `=` behind it is not read as the sign alone
-not_alone : (g u : Sign) (more : List ℕ) → with_equals g ≡ Some u → sign_at (sign_text g ++ 61 ∷ more) ≡ Some g → ⊥
-not_alone signs.Equal u more l e = absurd cc
-not_alone signs.NotEqual u more l e = absurd cc
-not_alone signs.LessOrEqual u more l e = absurd cc
-not_alone signs.GreaterOrEqual u more l e = absurd cc
-not_alone signs.Less u more l e = let same : signs.LessOrEqual ≡ signs.Less = some_is signs.LessOrEqual signs.Less e in absurd cc
-not_alone signs.Greater u more l e = let same : signs.GreaterOrEqual ≡ signs.Greater = some_is signs.GreaterOrEqual signs.Greater e in absurd cc
-not_alone signs.Plus u more l e = absurd cc
-not_alone signs.Minus u more l e = absurd cc
-not_alone signs.Times u more l e = absurd cc
-not_alone signs.Assign u more l e = let same : signs.Equal ≡ signs.Assign = some_is signs.Equal signs.Assign e in absurd cc
-not_alone signs.Open u more l e = absurd cc
-not_alone signs.Close u more l e = absurd cc
-not_alone signs.End u more l e = absurd cc
+not_alone : (g u : Symbol) (more : List ℕ) → with_equals g ≡ Some u → symbol_at (symbol_text g ++ 61 ∷ more) ≡ Some g → ⊥
+not_alone symbols.Equal u more l e = absurd cc
+not_alone symbols.NotEqual u more l e = absurd cc
+not_alone symbols.LessOrEqual u more l e = absurd cc
+not_alone symbols.GreaterOrEqual u more l e = absurd cc
+not_alone symbols.Less u more l e = let same : symbols.LessOrEqual ≡ symbols.Less = some_is symbols.LessOrEqual symbols.Less e in absurd cc
+not_alone symbols.Greater u more l e = let same : symbols.GreaterOrEqual ≡ symbols.Greater = some_is symbols.GreaterOrEqual symbols.Greater e in absurd cc
+not_alone symbols.Plus u more l e = absurd cc
+not_alone symbols.Minus u more l e = absurd cc
+not_alone symbols.Times u more l e = absurd cc
+not_alone symbols.Assign u more l e = let same : symbols.Equal ≡ symbols.Assign = some_is symbols.Equal symbols.Assign e in absurd cc
+not_alone symbols.Open u more l e = absurd cc
+not_alone symbols.Close u more l e = absurd cc
+not_alone symbols.End u more l e = absurd cc
 
-sign_no_longer : (s rest : List ℕ) (g : Sign) → s ≡ sign_text g ++ rest → sign_at s ≡ Some g → NoLonger g rest
-sign_no_longer s rest g is e b more re u h =
+symbol_no_longer : (s rest : List ℕ) (g : Symbol) → s ≡ symbol_text g ++ rest → symbol_at s ≡ Some g → NoLonger g rest
+symbol_no_longer s rest g is e b more re u h =
     let l = longer u g b h in
-    let whole : s ≡ sign_text g ++ 61 ∷ more = is ∙ ap (λ r. sign_text g ++ r) (re ∙ ap (λ b. b ∷ more) l.1) in
-    not_alone g u more l.0 (sym (ap sign_at whole) ∙ e)
+    let whole : s ≡ symbol_text g ++ 61 ∷ more = is ∙ ap (λ r. symbol_text g ++ r) (re ∙ ap (λ b. b ∷ more) l.1) in
+    not_alone g u more l.0 (sym (ap symbol_at whole) ∙ e)
 
-sign_ascii : (s : Sign) → Ascii (sign_text s)
-sign_ascii signs.Equal = (lit< tt, (lit< tt, tt))
-sign_ascii signs.NotEqual = (lit< tt, (lit< tt, tt))
-sign_ascii signs.LessOrEqual = (lit< tt, (lit< tt, tt))
-sign_ascii signs.GreaterOrEqual = (lit< tt, (lit< tt, tt))
-sign_ascii signs.Less = (lit< tt, tt)
-sign_ascii signs.Greater = (lit< tt, tt)
-sign_ascii signs.Plus = (lit< tt, tt)
-sign_ascii signs.Minus = (lit< tt, tt)
-sign_ascii signs.Times = (lit< tt, tt)
-sign_ascii signs.Assign = (lit< tt, tt)
-sign_ascii signs.Open = (lit< tt, tt)
-sign_ascii signs.Close = (lit< tt, tt)
-sign_ascii signs.End = (lit< tt, tt)
+symbol_ascii : (s : Symbol) → Ascii (symbol_text s)
+symbol_ascii symbols.Equal = (lit< tt, (lit< tt, tt))
+symbol_ascii symbols.NotEqual = (lit< tt, (lit< tt, tt))
+symbol_ascii symbols.LessOrEqual = (lit< tt, (lit< tt, tt))
+symbol_ascii symbols.GreaterOrEqual = (lit< tt, (lit< tt, tt))
+symbol_ascii symbols.Less = (lit< tt, tt)
+symbol_ascii symbols.Greater = (lit< tt, tt)
+symbol_ascii symbols.Plus = (lit< tt, tt)
+symbol_ascii symbols.Minus = (lit< tt, tt)
+symbol_ascii symbols.Times = (lit< tt, tt)
+symbol_ascii symbols.Assign = (lit< tt, tt)
+symbol_ascii symbols.Open = (lit< tt, tt)
+symbol_ascii symbols.Close = (lit< tt, tt)
+symbol_ascii symbols.End = (lit< tt, tt)
 
 -- ---- what was read is spelled so
 
@@ -365,7 +365,7 @@ front_head : (p : ℕ → Bool) (b : ℕ) (bs text rest : List ℕ) → Front p 
 front_head p b bs [] rest f e = absurd (false_true (f.next b bs (sym f.parts)) e)
 front_head p b bs (c ∷ t) rest f e = let is : b ≡ c = (let h = f.parts in cc) in (t, ap (λ c. c ∷ t) (sym is))
 
-name_reads : (b : ℕ) (bs text rest : List ℕ) → is_letter b ≡ true → Front is_name_byte (b ∷ bs) text rest → Spelling (name_or_word text) text × IsLongest text rest × Ascii text
+name_reads : (b : ℕ) (bs text rest : List ℕ) → is_letter b ≡ true → Front is_name_byte (b ∷ bs) text rest → Spelling (name_or_keyword text) text × IsLongest text rest × Ascii text
 name_reads b bs text rest l f =
     let h = front_head is_name_byte b bs text rest f (letter_name b l) in
     let all = and_parts (is_name_byte b) (list_all is_name_byte h.0) (subst (λ t. list_all is_name_byte t ≡ true) h.1 f.all) in
@@ -385,14 +385,14 @@ kind_by_reads b bs false true il id x e =
     let r = number_reads b bs _ _ id (front is_digit (b ∷ bs)) in
     subst (Reads (b ∷ bs)) (some_is _ x e) (record { spelt = r.0; longest = r.1; ascii = r.2 })
 kind_by_reads b bs false false il id x e =
-    let g = map_some (λ s. (sign s, length (sign_text s))) (sign_at (b ∷ bs)) x e in
-    let is = sign_starts (b ∷ bs) g.0 g.1 in
-    let rest = drop (length (sign_text g.0)) (b ∷ bs) in
-    let whole : b ∷ bs ≡ sign_text g.0 ++ rest = sym (take-append-drop (length (sign_text g.0)) (b ∷ bs)) ∙ ap (λ t. t ++ rest) is in
+    let g = map_some (λ s. (symbol s, length (symbol_text s))) (symbol_at (b ∷ bs)) x e in
+    let is = symbol_starts (b ∷ bs) g.0 g.1 in
+    let rest = drop (length (symbol_text g.0)) (b ∷ bs) in
+    let whole : b ∷ bs ≡ symbol_text g.0 ++ rest = sym (take-append-drop (length (symbol_text g.0)) (b ∷ bs)) ∙ ap (λ t. t ++ rest) is in
     subst (Reads (b ∷ bs)) g.2 (record {
       spelt = is;
-      longest = subst (λ t. IsLongest t rest) (sym is) (sign_longest g.0 rest (sign_no_longer (b ∷ bs) rest g.0 whole g.1));
-      ascii = subst Ascii (sym is) (sign_ascii g.0);
+      longest = subst (λ t. IsLongest t rest) (sym is) (symbol_longest g.0 rest (symbol_no_longer (b ∷ bs) rest g.0 whole g.1));
+      ascii = subst Ascii (sym is) (symbol_ascii g.0);
     })
 
 pub kind_reads : (b : ℕ) (bs : List ℕ) (x : Kind × ℕ) → kind_at (b ∷ bs) ≡ Some x → Reads (b ∷ bs) x
@@ -409,19 +409,19 @@ identifier_more : (text : List ℕ) (b : ℕ) → IsIdentifier text → is_name_
 identifier_more [] b h e = elim h [ ]
 identifier_more (c ∷ t) b h e = (h.0, all_then is_name_byte t b h.1 e)
 
-identifier_again : (text rest : List ℕ) → IsIdentifier text → IsLongest text rest → kind_at (text ++ rest) ≡ Some (name_or_word text, length text)
+identifier_again : (text rest : List ℕ) → IsIdentifier text → IsLongest text rest → kind_at (text ++ rest) ≡ Some (name_or_keyword text, length text)
 unfolding kind_at
 identifier_again [] rest h longest = elim h [ ]
 identifier_again (c ∷ t) rest h longest =
-    let next : (b : ℕ) (more : List ℕ) → rest ≡ b ∷ more → is_name_byte b ≡ false = λ b more e. not_true (is_name_byte b) (λ n. longest b more e (name_or_word ((c ∷ t) ++ b ∷ [])) (identifier_spelt ((c ∷ t) ++ b ∷ []) (identifier_more (c ∷ t) b h n))) in
+    let next : (b : ℕ) (more : List ℕ) → rest ≡ b ∷ more → is_name_byte b ≡ false = λ b more e. not_true (is_name_byte b) (λ n. longest b more e (name_or_keyword ((c ∷ t) ++ b ∷ [])) (identifier_spelt ((c ∷ t) ++ b ∷ []) (identifier_more (c ∷ t) b h n))) in
     let len : prefix_len is_name_byte ((c ∷ t) ++ rest) ≡ length (c ∷ t) = prefix_is is_name_byte (c ∷ t) rest (identifier_all (c ∷ t) h) next in
     let taken : take (length (c ∷ t)) ((c ∷ t) ++ rest) ≡ c ∷ t = take_at (c ∷ t) rest (length (c ∷ t)) refl in
     ap (λ l. kind_by l (is_digit c) ((c ∷ t) ++ rest)) h.0
-    ∙ ap (λ n. Some (name_or_word (take n ((c ∷ t) ++ rest)), n)) len
-    ∙ ap (λ u. Some (name_or_word u, length (c ∷ t))) taken
+    ∙ ap (λ n. Some (name_or_keyword (take n ((c ∷ t) ++ rest)), n)) len
+    ∙ ap (λ u. Some (name_or_keyword u, length (c ∷ t))) taken
 
-name_is_name : (s : List ℕ) → ((w : Word) → s ≢ word_text w) → name_or_word s ≡ name s
-name_is_name s h = ap (λ o. option_map_or word o (name s)) (not_found s (looked_up s) refl h)
+name_is_name : (s : List ℕ) → ((w : Keyword) → s ≢ keyword_text w) → name_or_keyword s ≡ name s
+name_is_name s h = ap (λ o. option_map_or keyword o (name s)) (not_found s (looked_up s) refl h)
 
 number_again : (n : ℕ) (text rest : List ℕ) → Spelling (number n) text → IsLongest text rest → kind_at (text ++ rest) ≡ Some (number n, length text)
 unfolding kind_at
@@ -438,49 +438,49 @@ number_again n (c ∷ t) rest h longest =
     ∙ ap (λ u. Some (number (capped u), length (c ∷ t))) taken
     ∙ ap (λ n. Some (number n, length (c ∷ t))) (capped_is (c ∷ t) ∙ sym h.2)
 
-less_again : (rest : List ℕ) → IsLongest (sign_text signs.Less) rest → kind_at (60 ∷ rest) ≡ Some (sign signs.Less, 1)
+less_again : (rest : List ℕ) → IsLongest (symbol_text symbols.Less) rest → kind_at (60 ∷ rest) ≡ Some (symbol symbols.Less, 1)
 unfolding kind_at
 less_again [] longest = refl
 less_again (b ∷ more) longest =
-    let other : (61 == b) ≡ false = not_true (61 == b) (λ e. longest b more refl (sign signs.LessOrEqual) (ap (λ b. 60 ∷ b ∷ []) (sym ((Decides-eqb 61 b).0 e)))) in
+    let other : (61 == b) ≡ false = not_true (61 == b) (λ e. longest b more refl (symbol symbols.LessOrEqual) (ap (λ b. 60 ∷ b ∷ []) (sym ((Decides-eqb 61 b).0 e)))) in
     rw other refl
 
-greater_again : (rest : List ℕ) → IsLongest (sign_text signs.Greater) rest → kind_at (62 ∷ rest) ≡ Some (sign signs.Greater, 1)
+greater_again : (rest : List ℕ) → IsLongest (symbol_text symbols.Greater) rest → kind_at (62 ∷ rest) ≡ Some (symbol symbols.Greater, 1)
 unfolding kind_at
 greater_again [] longest = refl
 greater_again (b ∷ more) longest =
-    let other : (61 == b) ≡ false = not_true (61 == b) (λ e. longest b more refl (sign signs.GreaterOrEqual) (ap (λ b. 62 ∷ b ∷ []) (sym ((Decides-eqb 61 b).0 e)))) in
+    let other : (61 == b) ≡ false = not_true (61 == b) (λ e. longest b more refl (symbol symbols.GreaterOrEqual) (ap (λ b. 62 ∷ b ∷ []) (sym ((Decides-eqb 61 b).0 e)))) in
     rw other refl
 
-assign_again : (rest : List ℕ) → IsLongest (sign_text signs.Assign) rest → kind_at (61 ∷ rest) ≡ Some (sign signs.Assign, 1)
+assign_again : (rest : List ℕ) → IsLongest (symbol_text symbols.Assign) rest → kind_at (61 ∷ rest) ≡ Some (symbol symbols.Assign, 1)
 unfolding kind_at
 assign_again [] longest = refl
 assign_again (b ∷ more) longest =
-    let other : (61 == b) ≡ false = not_true (61 == b) (λ e. longest b more refl (sign signs.Equal) (ap (λ b. 61 ∷ b ∷ []) (sym ((Decides-eqb 61 b).0 e)))) in
+    let other : (61 == b) ≡ false = not_true (61 == b) (λ e. longest b more refl (symbol symbols.Equal) (ap (λ b. 61 ∷ b ∷ []) (sym ((Decides-eqb 61 b).0 e)))) in
     rw other refl
 
-sign_again : (g : Sign) (rest : List ℕ) → IsLongest (sign_text g) rest → kind_at (sign_text g ++ rest) ≡ Some (sign g, length (sign_text g))
+symbol_again : (g : Symbol) (rest : List ℕ) → IsLongest (symbol_text g) rest → kind_at (symbol_text g ++ rest) ≡ Some (symbol g, length (symbol_text g))
 unfolding kind_at
-sign_again signs.Equal rest longest = refl
-sign_again signs.NotEqual rest longest = refl
-sign_again signs.LessOrEqual rest longest = refl
-sign_again signs.GreaterOrEqual rest longest = refl
-sign_again signs.Less rest longest = less_again rest longest
-sign_again signs.Greater rest longest = greater_again rest longest
-sign_again signs.Plus rest longest = refl
-sign_again signs.Minus rest longest = refl
-sign_again signs.Times rest longest = refl
-sign_again signs.Assign rest longest = assign_again rest longest
-sign_again signs.Open rest longest = refl
-sign_again signs.Close rest longest = refl
-sign_again signs.End rest longest = refl
+symbol_again symbols.Equal rest longest = refl
+symbol_again symbols.NotEqual rest longest = refl
+symbol_again symbols.LessOrEqual rest longest = refl
+symbol_again symbols.GreaterOrEqual rest longest = refl
+symbol_again symbols.Less rest longest = less_again rest longest
+symbol_again symbols.Greater rest longest = greater_again rest longest
+symbol_again symbols.Plus rest longest = refl
+symbol_again symbols.Minus rest longest = refl
+symbol_again symbols.Times rest longest = refl
+symbol_again symbols.Assign rest longest = assign_again rest longest
+symbol_again symbols.Open rest longest = refl
+symbol_again symbols.Close rest longest = refl
+symbol_again symbols.End rest longest = refl
 
 pub kind_again : (k : Kind) (text rest : List ℕ) → Spelling k text → IsLongest text rest → kind_at (text ++ rest) ≡ Some (k, length text)
 kind_again (name s) text rest h longest =
-    identifier_again text rest (subst IsIdentifier (sym h.0) h.1) longest ∙ ap (λ k. Some (k, length text)) (ap name_or_word h.0 ∙ name_is_name s h.2)
-kind_again (word w) text rest h longest =
-    identifier_again text rest (subst IsIdentifier (sym h) (word_is_identifier w)) longest ∙ ap (λ k. Some (k, length text)) (ap name_or_word h ∙ ap (λ o. option_map_or word o (name (word_text w))) (word_itself w))
+    identifier_again text rest (subst IsIdentifier (sym h.0) h.1) longest ∙ ap (λ k. Some (k, length text)) (ap name_or_keyword h.0 ∙ name_is_name s h.2)
+kind_again (keyword w) text rest h longest =
+    identifier_again text rest (subst IsIdentifier (sym h) (keyword_is_identifier w)) longest ∙ ap (λ k. Some (k, length text)) (ap name_or_keyword h ∙ ap (λ o. option_map_or keyword o (name (keyword_text w))) (keyword_itself w))
 kind_again (number n) text rest h longest = number_again n text rest h longest
-kind_again (sign g) text rest h longest =
-    ap (λ t. kind_at (t ++ rest)) h ∙ sign_again g rest (subst (λ t. IsLongest t rest) h longest) ∙ ap (λ t. Some (sign g, length t)) (sym h)
+kind_again (symbol g) text rest h longest =
+    ap (λ t. kind_at (t ++ rest)) h ∙ symbol_again g rest (subst (λ t. IsLongest t rest) h longest) ∙ ap (λ t. Some (symbol g, length t)) (sym h)
 kind_again bad text rest h longest = elim h [ ]

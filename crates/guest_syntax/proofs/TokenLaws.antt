@@ -5,15 +5,15 @@ use Rattle.std.proofs.lemmas.Bool.{leb-true, le-leb, ltb-true, lt-ltb}
 use denote.Enum.Bare.{same_true}
 use Rattle.guest_syntax.specs.declared.limits.TheConstants.{REPEATS}
 use Rattle.guest_syntax.specs.declared.place.Pos.{Pos}
-use Rattle.guest_syntax.specs.declared.token.Sign.{Sign}
-use Rattle.guest_syntax.specs.declared.token.Sign.TheVariants as signs
-use Rattle.guest_syntax.specs.contracts.token.Sign as sign-type
-use Rattle.guest_syntax.specs.contracts.token.SignPartialEq.TheImpl as sign-eq
-use Rattle.guest_syntax.specs.Tokens.{Kind, name, word, number, sign, bad, Token}
+use Rattle.guest_syntax.specs.declared.token.Symbol.{Symbol}
+use Rattle.guest_syntax.specs.declared.token.Symbol.TheVariants as symbols
+use Rattle.guest_syntax.specs.contracts.token.Symbol as symbol-type
+use Rattle.guest_syntax.specs.contracts.token.SymbolPartialEq.TheImpl as symbol-eq
+use Rattle.guest_syntax.specs.Tokens.{Kind, name, keyword, number, symbol, bad, Token}
 use Rattle.guest_syntax.specs.Tree.{Name}
 use Rattle.guest_syntax.specs.Forms.{IsToken, IsTokenAt, IsName, IsNumber}
 use Rattle.guest_syntax.specs.Grammar.{IsTimes}
-use Rattle.guest_syntax.specs.ReadTokens.{is_bad, token_at, is_sign, sign_from, name_in, name_from, number_in, number_from, times_from}
+use Rattle.guest_syntax.specs.ReadTokens.{is_bad, token_at, is_symbol, symbol_from, name_in, name_from, number_in, number_from, times_from}
 use Rattle.guest_syntax.proofs.Options.{bind_some, some_is, cond_ok, cond_no}
 
 pub token_takes : (ts : List Token) (x : Token × List Token) → token_at ts ≡ Some x → (is_bad x.0.kind ≡ false) × (ts ≡ x.0 ∷ x.1)
@@ -38,47 +38,47 @@ kind_again k ts rest h e = ap token_at h.1 ∙ token_again (record { kind = k; a
 pub kind_takes : (k : Kind) (ts : List Token) (x : Token × List Token) → token_at ts ≡ Some x → x.0.kind ≡ k → IsToken k ts x.1
 kind_takes k ts x e is = (x.0.at, (token_takes ts x e).1 ∙ ap (λ (k : Kind). record { kind = k; at = x.0.at } ∷ x.1) is)
 
-pub same_sign : (s u : Sign) → sign-eq.eq-value.it s u ≡ true → s ≡ u
-same_sign s u e = same_true sign-type.the_type (search rules) s u e
+pub same_symbol : (s u : Symbol) → symbol-eq.eq-value.it s u ≡ true → s ≡ u
+same_symbol s u e = same_true symbol-type.the_type (search rules) s u e
 
-pub sign_itself : (s : Sign) → sign-eq.eq-value.it s s ≡ true
-sign_itself signs.Equal = refl
-sign_itself signs.NotEqual = refl
-sign_itself signs.LessOrEqual = refl
-sign_itself signs.GreaterOrEqual = refl
-sign_itself signs.Less = refl
-sign_itself signs.Greater = refl
-sign_itself signs.Plus = refl
-sign_itself signs.Minus = refl
-sign_itself signs.Times = refl
-sign_itself signs.Assign = refl
-sign_itself signs.Open = refl
-sign_itself signs.Close = refl
-sign_itself signs.End = refl
+pub symbol_itself : (s : Symbol) → symbol-eq.eq-value.it s s ≡ true
+symbol_itself symbols.Equal = refl
+symbol_itself symbols.NotEqual = refl
+symbol_itself symbols.LessOrEqual = refl
+symbol_itself symbols.GreaterOrEqual = refl
+symbol_itself symbols.Less = refl
+symbol_itself symbols.Greater = refl
+symbol_itself symbols.Plus = refl
+symbol_itself symbols.Minus = refl
+symbol_itself symbols.Times = refl
+symbol_itself symbols.Assign = refl
+symbol_itself symbols.Open = refl
+symbol_itself symbols.Close = refl
+symbol_itself symbols.End = refl
 
-is_sign_kind : (s : Sign) (k : Kind) → is_sign s k ≡ true → k ≡ sign s
-is_sign_kind s (name n) e = absurd cc
-is_sign_kind s (word w) e = absurd cc
-is_sign_kind s (number n) e = absurd cc
-is_sign_kind s (sign u) e = ap sign (same_sign u s e)
-is_sign_kind s bad e = absurd cc
+is_symbol_kind : (s : Symbol) (k : Kind) → is_symbol s k ≡ true → k ≡ symbol s
+is_symbol_kind s (name n) e = absurd cc
+is_symbol_kind s (keyword w) e = absurd cc
+is_symbol_kind s (number n) e = absurd cc
+is_symbol_kind s (symbol u) e = ap symbol (same_symbol u s e)
+is_symbol_kind s bad e = absurd cc
 
-pub sign_takes : (s : Sign) (ts rest : List Token) → sign_from s ts ≡ Some rest → IsToken (sign s) ts rest
-unfolding sign_from
-sign_takes s ts rest e =
+pub symbol_takes : (s : Symbol) (ts rest : List Token) → symbol_from s ts ≡ Some rest → IsToken (symbol s) ts rest
+unfolding symbol_from
+symbol_takes s ts rest e =
     let t = bind_some (token_at ts) _ _ e in
-    let g = cond_ok (is_sign s t.0.0.kind) t.0.1 rest t.2 in
-    subst (IsToken (sign s) ts) g.1 (kind_takes (sign s) ts t.0 t.1 (is_sign_kind s t.0.0.kind g.0))
+    let g = cond_ok (is_symbol s t.0.0.kind) t.0.1 rest t.2 in
+    subst (IsToken (symbol s) ts) g.1 (kind_takes (symbol s) ts t.0 t.1 (is_symbol_kind s t.0.0.kind g.0))
 
-pub sign_again : (s : Sign) (ts rest : List Token) → IsToken (sign s) ts rest → sign_from s ts ≡ Some rest
-unfolding sign_from
-sign_again s ts rest h = rw (kind_again (sign s) ts rest h refl, sign_itself s) refl
+pub symbol_again : (s : Symbol) (ts rest : List Token) → IsToken (symbol s) ts rest → symbol_from s ts ≡ Some rest
+unfolding symbol_from
+symbol_again s ts rest h = rw (kind_again (symbol s) ts rest h refl, symbol_itself s) refl
 
 name_in_is : (t : Token) (k : Kind) (n : Name) → t.kind ≡ k → name_in t ≡ Some n → t ≡ record { kind = name n.text; at = n.at }
 name_in_is t (name s) n e h = let is : record { text = s; at = t.at } ≡ n = some_is _ n (rw e at h) in rw (← is) (ap (λ (k : Kind). record { kind = k; at = t.at }) e)
-name_in_is t (word w) n e h = absurd (let h : None ≡ Some n = rw e at h in cc)
+name_in_is t (keyword w) n e h = absurd (let h : None ≡ Some n = rw e at h in cc)
 name_in_is t (number w) n e h = absurd (let h : None ≡ Some n = rw e at h in cc)
-name_in_is t (sign w) n e h = absurd (let h : None ≡ Some n = rw e at h in cc)
+name_in_is t (symbol w) n e h = absurd (let h : None ≡ Some n = rw e at h in cc)
 name_in_is t bad n e h = absurd (let h : None ≡ Some n = rw e at h in cc)
 
 pub name_takes : (ts : List Token) (x : Name × List Token) → name_from ts ≡ Some x → IsName x.0 ts x.1
@@ -94,9 +94,9 @@ name_again n ts rest h = rw (kind_again (name n.text) ts rest (n.at, h) refl) re
 
 number_in_is : (limit : ℕ) (k : Kind) (n : ℕ) → number_in limit k ≡ Some n → (n ≤ limit) × (k ≡ number n)
 number_in_is limit (name s) n h = absurd cc
-number_in_is limit (word w) n h = absurd cc
+number_in_is limit (keyword w) n h = absurd cc
 number_in_is limit (number m) n h = let g = cond_ok (nat_le m limit) m n h in (omega (arith, leb-true m limit g.0, g.1), ap number g.1)
-number_in_is limit (sign w) n h = absurd cc
+number_in_is limit (symbol w) n h = absurd cc
 number_in_is limit bad n h = absurd cc
 
 pub number_takes : (limit : ℕ) (ts : List Token) (x : ℕ × List Token) → number_from limit ts ≡ Some x → IsNumber limit x.0 ts x.1

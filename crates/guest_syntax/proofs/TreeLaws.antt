@@ -2,22 +2,22 @@
 use Rattle.std.proofs.Common.{◌≡◌, ℕ, zero, suc, ◌<◌, false, inl, inr, List, [], ◌∷◌, length, Option, Some, None, refl, sym, ap, subst, ◌∙◌, arith}
 use Rattle.std.specs.Prelude.{pos}
 use Rattle.guest_syntax.specs.declared.limits.TheConstants.{DEPTH, COUNT}
-use Rattle.guest_syntax.specs.declared.token.Word.{Word}
-use Rattle.guest_syntax.specs.declared.token.Word.TheVariants as words
-use Rattle.guest_syntax.specs.declared.token.Sign.TheVariants as signs
+use Rattle.guest_syntax.specs.declared.token.Keyword.{Keyword}
+use Rattle.guest_syntax.specs.declared.token.Keyword.TheVariants as keywords
+use Rattle.guest_syntax.specs.declared.token.Symbol.TheVariants as symbols
 use Rattle.guest_syntax.specs.declared.tree.Object.{Object}
 use Rattle.guest_syntax.specs.declared.tree.Object.TheVariants as objects
-use Rattle.guest_syntax.specs.Tokens.{Kind, name, word, number, sign, bad, Token}
+use Rattle.guest_syntax.specs.Tokens.{Kind, name, keyword, number, symbol, bad, Token}
 use Rattle.guest_syntax.specs.Tree.{Name, Declaration, Thread, Tree}
 use Rattle.guest_syntax.specs.Forms.{Form, ◌then◌, IsToken, IsName, IsEnd, each}
 use Rattle.guest_syntax.specs.Grammar.{IsObject, IsDeclaration, IsThread, IsTree}
-use Rattle.guest_syntax.specs.ReadTokens.{Read, is_bad, next_at, token_at, sign_from, name_from, number_from}
+use Rattle.guest_syntax.specs.ReadTokens.{Read, is_bad, next_at, token_at, symbol_from, name_from, number_from}
 use Rattle.guest_syntax.specs.ReadExprs.{literal_from}
 use Rattle.guest_syntax.specs.ReadItems.{Turn, many_by, many, all_from}
 use Rattle.guest_syntax.specs.ReadStatements.{one_name_from, block_from}
 use Rattle.guest_syntax.specs.ReadTree.{variable_by, variable_from, plain_from, semaphore_from, declaration_by, declaration_next, declaration_turn, thread_from, thread_by, thread_next, thread_turn, tree_from}
 use Rattle.guest_syntax.proofs.Options.{bind_some, some_is, cond_no}
-use Rattle.guest_syntax.proofs.TokenLaws.{kind_again, kind_takes, sign_takes, sign_again, name_takes, name_again, number_takes, number_again}
+use Rattle.guest_syntax.proofs.TokenLaws.{kind_again, kind_takes, symbol_takes, symbol_again, name_takes, name_again, number_takes, number_again}
 use Rattle.guest_syntax.proofs.ExprLaws.{literal_takes, literal_again}
 use Rattle.guest_syntax.proofs.Shorter.{object_shorter, thread_shorter}
 use Rattle.guest_syntax.proofs.StatementLaws.{one_name_takes, one_name_again, block_takes, block_again, next_again}
@@ -72,52 +72,52 @@ all_again F turn again xs ts mid rest h e = each_again F turn again xs (suc (len
 
 -- ---- declarations
 
-variable_by_takes : (v : Name) (k : Kind) (before t1 t2 ts : List Token) (x : Declaration × List Token) → IsToken (word words.Var) before t1 → IsName v t1 t2 → IsToken k t2 ts → variable_by v k ts ≡ Some x → IsDeclaration x.0 before x.1
-variable_by_takes v (sign signs.Equal) before t1 t2 ts x w n h e = absurd cc
-variable_by_takes v (sign signs.NotEqual) before t1 t2 ts x w n h e = absurd cc
-variable_by_takes v (sign signs.LessOrEqual) before t1 t2 ts x w n h e = absurd cc
-variable_by_takes v (sign signs.GreaterOrEqual) before t1 t2 ts x w n h e = absurd cc
-variable_by_takes v (sign signs.Less) before t1 t2 ts x w n h e = absurd cc
-variable_by_takes v (sign signs.Greater) before t1 t2 ts x w n h e = absurd cc
-variable_by_takes v (sign signs.Plus) before t1 t2 ts x w n h e = absurd cc
-variable_by_takes v (sign signs.Minus) before t1 t2 ts x w n h e = absurd cc
-variable_by_takes v (sign signs.Times) before t1 t2 ts x w n h e = absurd cc
-variable_by_takes v (sign signs.Assign) before t1 t2 ts x w n h e =
+variable_by_takes : (v : Name) (k : Kind) (before t1 t2 ts : List Token) (x : Declaration × List Token) → IsToken (keyword keywords.Var) before t1 → IsName v t1 t2 → IsToken k t2 ts → variable_by v k ts ≡ Some x → IsDeclaration x.0 before x.1
+variable_by_takes v (symbol symbols.Equal) before t1 t2 ts x w n h e = absurd cc
+variable_by_takes v (symbol symbols.NotEqual) before t1 t2 ts x w n h e = absurd cc
+variable_by_takes v (symbol symbols.LessOrEqual) before t1 t2 ts x w n h e = absurd cc
+variable_by_takes v (symbol symbols.GreaterOrEqual) before t1 t2 ts x w n h e = absurd cc
+variable_by_takes v (symbol symbols.Less) before t1 t2 ts x w n h e = absurd cc
+variable_by_takes v (symbol symbols.Greater) before t1 t2 ts x w n h e = absurd cc
+variable_by_takes v (symbol symbols.Plus) before t1 t2 ts x w n h e = absurd cc
+variable_by_takes v (symbol symbols.Minus) before t1 t2 ts x w n h e = absurd cc
+variable_by_takes v (symbol symbols.Times) before t1 t2 ts x w n h e = absurd cc
+variable_by_takes v (symbol symbols.Assign) before t1 t2 ts x w n h e =
     let z = bind_some (literal_from ts) _ _ e in
-    let s = bind_some (sign_from signs.End z.0.1) _ _ z.2 in
+    let s = bind_some (symbol_from symbols.End z.0.1) _ _ z.2 in
     subst (λ (y : Declaration × List Token). IsDeclaration y.0 before y.1) (some_is (record { name = v; object = objects.Variable z.0.0 }, s.0) x s.2)
-    (inr (t1, w, (t2, n, (ts, h, (z.0.1, literal_takes ts z.0 z.1, sign_takes signs.End z.0.1 s.0 s.1)))))
-variable_by_takes v (sign signs.Open) before t1 t2 ts x w n h e = absurd cc
-variable_by_takes v (sign signs.Close) before t1 t2 ts x w n h e = absurd cc
-variable_by_takes v (sign signs.End) before t1 t2 ts x w n h e = subst (λ (y : Declaration × List Token). IsDeclaration y.0 before y.1) (some_is (record { name = v; object = objects.Variable (pos 0) }, ts) x e) (inl (refl, (t1, w, (t2, n, h))))
+    (inr (t1, w, (t2, n, (ts, h, (z.0.1, literal_takes ts z.0 z.1, symbol_takes symbols.End z.0.1 s.0 s.1)))))
+variable_by_takes v (symbol symbols.Open) before t1 t2 ts x w n h e = absurd cc
+variable_by_takes v (symbol symbols.Close) before t1 t2 ts x w n h e = absurd cc
+variable_by_takes v (symbol symbols.End) before t1 t2 ts x w n h e = subst (λ (y : Declaration × List Token). IsDeclaration y.0 before y.1) (some_is (record { name = v; object = objects.Variable (pos 0) }, ts) x e) (inl (refl, (t1, w, (t2, n, h))))
 variable_by_takes v (name s) before t1 t2 ts x w n h e = absurd cc
-variable_by_takes v (word s) before t1 t2 ts x w n h e = absurd cc
+variable_by_takes v (keyword s) before t1 t2 ts x w n h e = absurd cc
 variable_by_takes v (number s) before t1 t2 ts x w n h e = absurd cc
 variable_by_takes v bad before t1 t2 ts x w n h e = absurd cc
 
-variable_takes : (before ts : List Token) (x : Declaration × List Token) → IsToken (word words.Var) before ts → variable_from ts ≡ Some x → IsDeclaration x.0 before x.1
+variable_takes : (before ts : List Token) (x : Declaration × List Token) → IsToken (keyword keywords.Var) before ts → variable_from ts ≡ Some x → IsDeclaration x.0 before x.1
 unfolding variable_from
 variable_takes before ts x w e =
     let n = bind_some (name_from ts) _ _ e in
     let t = bind_some (token_at n.0.1) _ _ n.2 in
     variable_by_takes n.0.0 t.0.0.kind before ts n.0.1 t.0.1 x w (name_takes ts n.0 n.1) (kind_takes t.0.0.kind n.0.1 t.0 t.1 refl) t.2
 
-plain_takes : (w : Word) (o : Object) → ((n : Name) (ts rest : List Token) → (IsToken (word w) then IsName n then IsEnd) ts rest → IsObject n o ts rest)
-    → (before ts : List Token) (x : Declaration × List Token) → IsToken (word w) before ts → plain_from o ts ≡ Some x → IsDeclaration x.0 before x.1
+plain_takes : (w : Keyword) (o : Object) → ((n : Name) (ts rest : List Token) → (IsToken (keyword w) then IsName n then IsEnd) ts rest → IsObject n o ts rest)
+    → (before ts : List Token) (x : Declaration × List Token) → IsToken (keyword w) before ts → plain_from o ts ≡ Some x → IsDeclaration x.0 before x.1
 unfolding plain_from
 plain_takes w o is before ts x h e =
     let n = bind_some (one_name_from ts) _ _ e in
     subst (λ (y : Declaration × List Token). IsDeclaration y.0 before y.1) (some_is (record { name = n.0.0; object = o }, n.0.1) x n.2) (is n.0.0 before n.0.1 (ts, h, one_name_takes ts n.0 n.1))
 
-semaphore_takes : (before ts : List Token) (x : Declaration × List Token) → IsToken (word words.Sem) before ts → semaphore_from ts ≡ Some x → IsDeclaration x.0 before x.1
+semaphore_takes : (before ts : List Token) (x : Declaration × List Token) → IsToken (keyword keywords.Sem) before ts → semaphore_from ts ≡ Some x → IsDeclaration x.0 before x.1
 unfolding semaphore_from
 semaphore_takes before ts x w e =
     let v = bind_some (name_from ts) _ _ e in
-    let a = bind_some (sign_from signs.Assign v.0.1) _ _ v.2 in
+    let a = bind_some (symbol_from symbols.Assign v.0.1) _ _ v.2 in
     let n = bind_some (number_from COUNT a.0) _ _ a.2 in
-    let s = bind_some (sign_from signs.End n.0.1) _ _ n.2 in
+    let s = bind_some (symbol_from symbols.End n.0.1) _ _ n.2 in
     subst (λ (y : Declaration × List Token). IsDeclaration y.0 before y.1) (some_is (record { name = v.0.0; object = objects.Semaphore n.0.0 }, s.0) x s.2)
-    (ts, w, (v.0.1, name_takes ts v.0 v.1, (a.0, sign_takes signs.Assign v.0.1 a.0 a.1, (n.0.1, number_takes COUNT a.0 n.0 n.1, sign_takes signs.End n.0.1 s.0 s.1))))
+    (ts, w, (v.0.1, name_takes ts v.0 v.1, (a.0, symbol_takes symbols.Assign v.0.1 a.0 a.1, (n.0.1, number_takes COUNT a.0 n.0 n.1, symbol_takes symbols.End n.0.1 s.0 s.1))))
 
 -- nothing
 abbrev Same : Form
@@ -142,36 +142,36 @@ next_kind k ts rest h e = ap next_at h.1 ∙ rw e refl
 declaration_by_takes : (k : Kind) (before behind : List Token) (x : Option Declaration × List Token) → IsToken k before behind → declaration_by k before behind ≡ Some x → IsGiven IsDeclaration Same x.0 before x.1
 declaration_by_takes (name s) before behind x h e = subst (λ (y : Option Declaration × List Token). IsGiven IsDeclaration Same y.0 before y.1) (some_is (None, before) x e) refl
 declaration_by_takes (number n) before behind x h e = subst (λ (y : Option Declaration × List Token). IsGiven IsDeclaration Same y.0 before y.1) (some_is (None, before) x e) refl
-declaration_by_takes (sign s) before behind x h e = subst (λ (y : Option Declaration × List Token). IsGiven IsDeclaration Same y.0 before y.1) (some_is (None, before) x e) refl
+declaration_by_takes (symbol s) before behind x h e = subst (λ (y : Option Declaration × List Token). IsGiven IsDeclaration Same y.0 before y.1) (some_is (None, before) x e) refl
 declaration_by_takes bad before behind x h e = subst (λ (y : Option Declaration × List Token). IsGiven IsDeclaration Same y.0 before y.1) (some_is (None, before) x e) refl
-declaration_by_takes (word words.Var) before behind x h e =
+declaration_by_takes (keyword keywords.Var) before behind x h e =
     let v = bind_some (variable_from behind) _ _ e in
     subst (λ (y : Option Declaration × List Token). IsGiven IsDeclaration Same y.0 before y.1) (some_is (Some v.0.0, v.0.1) x v.2) (variable_takes before behind v.0 h v.1)
-declaration_by_takes (word words.Mutex) before behind x h e =
+declaration_by_takes (keyword keywords.Mutex) before behind x h e =
     let v = bind_some (plain_from objects.Mutex behind) _ _ e in
-    subst (λ (y : Option Declaration × List Token). IsGiven IsDeclaration Same y.0 before y.1) (some_is (Some v.0.0, v.0.1) x v.2) (plain_takes words.Mutex objects.Mutex (λ n ts rest h. h) before behind v.0 h v.1)
-declaration_by_takes (word words.Cond) before behind x h e =
+    subst (λ (y : Option Declaration × List Token). IsGiven IsDeclaration Same y.0 before y.1) (some_is (Some v.0.0, v.0.1) x v.2) (plain_takes keywords.Mutex objects.Mutex (λ n ts rest h. h) before behind v.0 h v.1)
+declaration_by_takes (keyword keywords.Cond) before behind x h e =
     let v = bind_some (plain_from objects.Condition behind) _ _ e in
-    subst (λ (y : Option Declaration × List Token). IsGiven IsDeclaration Same y.0 before y.1) (some_is (Some v.0.0, v.0.1) x v.2) (plain_takes words.Cond objects.Condition (λ n ts rest h. h) before behind v.0 h v.1)
-declaration_by_takes (word words.Sem) before behind x h e =
+    subst (λ (y : Option Declaration × List Token). IsGiven IsDeclaration Same y.0 before y.1) (some_is (Some v.0.0, v.0.1) x v.2) (plain_takes keywords.Cond objects.Condition (λ n ts rest h. h) before behind v.0 h v.1)
+declaration_by_takes (keyword keywords.Sem) before behind x h e =
     let v = bind_some (semaphore_from behind) _ _ e in
     subst (λ (y : Option Declaration × List Token). IsGiven IsDeclaration Same y.0 before y.1) (some_is (Some v.0.0, v.0.1) x v.2) (semaphore_takes before behind v.0 h v.1)
-declaration_by_takes (word words.Thread) before behind x h e = subst (λ (y : Option Declaration × List Token). IsGiven IsDeclaration Same y.0 before y.1) (some_is (None, before) x e) refl
-declaration_by_takes (word words.Load) before behind x h e = subst (λ (y : Option Declaration × List Token). IsGiven IsDeclaration Same y.0 before y.1) (some_is (None, before) x e) refl
-declaration_by_takes (word words.Store) before behind x h e = subst (λ (y : Option Declaration × List Token). IsGiven IsDeclaration Same y.0 before y.1) (some_is (None, before) x e) refl
-declaration_by_takes (word words.Lock) before behind x h e = subst (λ (y : Option Declaration × List Token). IsGiven IsDeclaration Same y.0 before y.1) (some_is (None, before) x e) refl
-declaration_by_takes (word words.Unlock) before behind x h e = subst (λ (y : Option Declaration × List Token). IsGiven IsDeclaration Same y.0 before y.1) (some_is (None, before) x e) refl
-declaration_by_takes (word words.Wait) before behind x h e = subst (λ (y : Option Declaration × List Token). IsGiven IsDeclaration Same y.0 before y.1) (some_is (None, before) x e) refl
-declaration_by_takes (word words.Signal) before behind x h e = subst (λ (y : Option Declaration × List Token). IsGiven IsDeclaration Same y.0 before y.1) (some_is (None, before) x e) refl
-declaration_by_takes (word words.Broadcast) before behind x h e = subst (λ (y : Option Declaration × List Token). IsGiven IsDeclaration Same y.0 before y.1) (some_is (None, before) x e) refl
-declaration_by_takes (word words.Acquire) before behind x h e = subst (λ (y : Option Declaration × List Token). IsGiven IsDeclaration Same y.0 before y.1) (some_is (None, before) x e) refl
-declaration_by_takes (word words.Release) before behind x h e = subst (λ (y : Option Declaration × List Token). IsGiven IsDeclaration Same y.0 before y.1) (some_is (None, before) x e) refl
-declaration_by_takes (word words.Set) before behind x h e = subst (λ (y : Option Declaration × List Token). IsGiven IsDeclaration Same y.0 before y.1) (some_is (None, before) x e) refl
-declaration_by_takes (word words.If) before behind x h e = subst (λ (y : Option Declaration × List Token). IsGiven IsDeclaration Same y.0 before y.1) (some_is (None, before) x e) refl
-declaration_by_takes (word words.Else) before behind x h e = subst (λ (y : Option Declaration × List Token). IsGiven IsDeclaration Same y.0 before y.1) (some_is (None, before) x e) refl
-declaration_by_takes (word words.Repeat) before behind x h e = subst (λ (y : Option Declaration × List Token). IsGiven IsDeclaration Same y.0 before y.1) (some_is (None, before) x e) refl
-declaration_by_takes (word words.Leave) before behind x h e = subst (λ (y : Option Declaration × List Token). IsGiven IsDeclaration Same y.0 before y.1) (some_is (None, before) x e) refl
-declaration_by_takes (word words.Assert) before behind x h e = subst (λ (y : Option Declaration × List Token). IsGiven IsDeclaration Same y.0 before y.1) (some_is (None, before) x e) refl
+declaration_by_takes (keyword keywords.Thread) before behind x h e = subst (λ (y : Option Declaration × List Token). IsGiven IsDeclaration Same y.0 before y.1) (some_is (None, before) x e) refl
+declaration_by_takes (keyword keywords.Load) before behind x h e = subst (λ (y : Option Declaration × List Token). IsGiven IsDeclaration Same y.0 before y.1) (some_is (None, before) x e) refl
+declaration_by_takes (keyword keywords.Store) before behind x h e = subst (λ (y : Option Declaration × List Token). IsGiven IsDeclaration Same y.0 before y.1) (some_is (None, before) x e) refl
+declaration_by_takes (keyword keywords.Lock) before behind x h e = subst (λ (y : Option Declaration × List Token). IsGiven IsDeclaration Same y.0 before y.1) (some_is (None, before) x e) refl
+declaration_by_takes (keyword keywords.Unlock) before behind x h e = subst (λ (y : Option Declaration × List Token). IsGiven IsDeclaration Same y.0 before y.1) (some_is (None, before) x e) refl
+declaration_by_takes (keyword keywords.Wait) before behind x h e = subst (λ (y : Option Declaration × List Token). IsGiven IsDeclaration Same y.0 before y.1) (some_is (None, before) x e) refl
+declaration_by_takes (keyword keywords.Signal) before behind x h e = subst (λ (y : Option Declaration × List Token). IsGiven IsDeclaration Same y.0 before y.1) (some_is (None, before) x e) refl
+declaration_by_takes (keyword keywords.Broadcast) before behind x h e = subst (λ (y : Option Declaration × List Token). IsGiven IsDeclaration Same y.0 before y.1) (some_is (None, before) x e) refl
+declaration_by_takes (keyword keywords.Acquire) before behind x h e = subst (λ (y : Option Declaration × List Token). IsGiven IsDeclaration Same y.0 before y.1) (some_is (None, before) x e) refl
+declaration_by_takes (keyword keywords.Release) before behind x h e = subst (λ (y : Option Declaration × List Token). IsGiven IsDeclaration Same y.0 before y.1) (some_is (None, before) x e) refl
+declaration_by_takes (keyword keywords.Set) before behind x h e = subst (λ (y : Option Declaration × List Token). IsGiven IsDeclaration Same y.0 before y.1) (some_is (None, before) x e) refl
+declaration_by_takes (keyword keywords.If) before behind x h e = subst (λ (y : Option Declaration × List Token). IsGiven IsDeclaration Same y.0 before y.1) (some_is (None, before) x e) refl
+declaration_by_takes (keyword keywords.Else) before behind x h e = subst (λ (y : Option Declaration × List Token). IsGiven IsDeclaration Same y.0 before y.1) (some_is (None, before) x e) refl
+declaration_by_takes (keyword keywords.Repeat) before behind x h e = subst (λ (y : Option Declaration × List Token). IsGiven IsDeclaration Same y.0 before y.1) (some_is (None, before) x e) refl
+declaration_by_takes (keyword keywords.Leave) before behind x h e = subst (λ (y : Option Declaration × List Token). IsGiven IsDeclaration Same y.0 before y.1) (some_is (None, before) x e) refl
+declaration_by_takes (keyword keywords.Assert) before behind x h e = subst (λ (y : Option Declaration × List Token). IsGiven IsDeclaration Same y.0 before y.1) (some_is (None, before) x e) refl
 
 declaration_next_takes : (o : Option Token) (before behind : List Token) (x : Option Declaration × List Token) → IsNext o before behind → declaration_next o before behind ≡ Some x → IsGiven IsDeclaration Same x.0 before x.1
 declaration_next_takes None before behind x n e = subst (λ (y : Option Declaration × List Token). IsGiven IsDeclaration Same y.0 before y.1) (some_is (None, before) x e) refl
@@ -186,20 +186,20 @@ declaration_turn_takes ts x e =
 object_again : (n : Name) (o : Object) (ts rest : List Token) → IsObject n o ts rest → declaration_turn ts ≡ Some (Some (record { name = n; object = o }), rest)
 unfolding declaration_turn variable_from plain_from semaphore_from
 object_again n (objects.Variable z) ts rest (inl (is, (a, w, (b, h, e)))) =
-    rw (next_kind (word words.Var) ts a w refl, name_again n a b h, kind_again (sign signs.End) b rest e refl, is) refl
+    rw (next_kind (keyword keywords.Var) ts a w refl, name_again n a b h, kind_again (symbol symbols.End) b rest e refl, is) refl
 object_again n (objects.Variable z) ts rest (inr (a, w, (b, h, (c, s, (d, l, e))))) =
-    rw (next_kind (word words.Var) ts a w refl, name_again n a b h, kind_again (sign signs.Assign) b c s refl, literal_again z c d l, sign_again signs.End d rest e) refl
-object_again n objects.Mutex ts rest (a, w, h) = rw (next_kind (word words.Mutex) ts a w refl, one_name_again n a rest h) refl
-object_again n objects.Condition ts rest (a, w, h) = rw (next_kind (word words.Cond) ts a w refl, one_name_again n a rest h) refl
+    rw (next_kind (keyword keywords.Var) ts a w refl, name_again n a b h, kind_again (symbol symbols.Assign) b c s refl, literal_again z c d l, symbol_again symbols.End d rest e) refl
+object_again n objects.Mutex ts rest (a, w, h) = rw (next_kind (keyword keywords.Mutex) ts a w refl, one_name_again n a rest h) refl
+object_again n objects.Condition ts rest (a, w, h) = rw (next_kind (keyword keywords.Cond) ts a w refl, one_name_again n a rest h) refl
 object_again n (objects.Semaphore k) ts rest (a, w, (b, h, (c, s, (d, l, e)))) =
-    rw (next_kind (word words.Sem) ts a w refl, name_again n a b h, sign_again signs.Assign b c s, number_again COUNT k c d l, sign_again signs.End d rest e) refl
+    rw (next_kind (keyword keywords.Sem) ts a w refl, name_again n a b h, symbol_again symbols.Assign b c s, number_again COUNT k c d l, symbol_again symbols.End d rest e) refl
 
 declaration_again : TurnAgain IsDeclaration declaration_turn
 declaration_again d ts rest h = (object_again d.name d.object ts rest h, object_shorter d.name d.object ts rest h)
 
 -- ---- threads
 
-thread_takes : (before ts : List Token) (x : Thread × List Token) → IsToken (word words.Thread) before ts → thread_from ts ≡ Some x → IsThread x.0 before x.1
+thread_takes : (before ts : List Token) (x : Thread × List Token) → IsToken (keyword keywords.Thread) before ts → thread_from ts ≡ Some x → IsThread x.0 before x.1
 unfolding thread_from
 thread_takes before ts x w e =
     let n = bind_some (name_from ts) _ _ e in
@@ -209,30 +209,30 @@ thread_takes before ts x w e =
 thread_by_takes : (k : Kind) (before behind : List Token) (x : Option Thread × List Token) → IsToken k before behind → thread_by k behind ≡ Some x → IsGiven IsThread (IsNext None) x.0 before x.1
 thread_by_takes (name s) before behind x h e = absurd cc
 thread_by_takes (number n) before behind x h e = absurd cc
-thread_by_takes (sign s) before behind x h e = absurd cc
+thread_by_takes (symbol s) before behind x h e = absurd cc
 thread_by_takes bad before behind x h e = absurd cc
-thread_by_takes (word words.Var) before behind x h e = absurd cc
-thread_by_takes (word words.Mutex) before behind x h e = absurd cc
-thread_by_takes (word words.Cond) before behind x h e = absurd cc
-thread_by_takes (word words.Sem) before behind x h e = absurd cc
-thread_by_takes (word words.Thread) before behind x h e =
+thread_by_takes (keyword keywords.Var) before behind x h e = absurd cc
+thread_by_takes (keyword keywords.Mutex) before behind x h e = absurd cc
+thread_by_takes (keyword keywords.Cond) before behind x h e = absurd cc
+thread_by_takes (keyword keywords.Sem) before behind x h e = absurd cc
+thread_by_takes (keyword keywords.Thread) before behind x h e =
     let v = bind_some (thread_from behind) _ _ e in
     subst (λ (y : Option Thread × List Token). IsGiven IsThread (IsNext None) y.0 before y.1) (some_is (Some v.0.0, v.0.1) x v.2) (thread_takes before behind v.0 h v.1)
-thread_by_takes (word words.Load) before behind x h e = absurd cc
-thread_by_takes (word words.Store) before behind x h e = absurd cc
-thread_by_takes (word words.Lock) before behind x h e = absurd cc
-thread_by_takes (word words.Unlock) before behind x h e = absurd cc
-thread_by_takes (word words.Wait) before behind x h e = absurd cc
-thread_by_takes (word words.Signal) before behind x h e = absurd cc
-thread_by_takes (word words.Broadcast) before behind x h e = absurd cc
-thread_by_takes (word words.Acquire) before behind x h e = absurd cc
-thread_by_takes (word words.Release) before behind x h e = absurd cc
-thread_by_takes (word words.Set) before behind x h e = absurd cc
-thread_by_takes (word words.If) before behind x h e = absurd cc
-thread_by_takes (word words.Else) before behind x h e = absurd cc
-thread_by_takes (word words.Repeat) before behind x h e = absurd cc
-thread_by_takes (word words.Leave) before behind x h e = absurd cc
-thread_by_takes (word words.Assert) before behind x h e = absurd cc
+thread_by_takes (keyword keywords.Load) before behind x h e = absurd cc
+thread_by_takes (keyword keywords.Store) before behind x h e = absurd cc
+thread_by_takes (keyword keywords.Lock) before behind x h e = absurd cc
+thread_by_takes (keyword keywords.Unlock) before behind x h e = absurd cc
+thread_by_takes (keyword keywords.Wait) before behind x h e = absurd cc
+thread_by_takes (keyword keywords.Signal) before behind x h e = absurd cc
+thread_by_takes (keyword keywords.Broadcast) before behind x h e = absurd cc
+thread_by_takes (keyword keywords.Acquire) before behind x h e = absurd cc
+thread_by_takes (keyword keywords.Release) before behind x h e = absurd cc
+thread_by_takes (keyword keywords.Set) before behind x h e = absurd cc
+thread_by_takes (keyword keywords.If) before behind x h e = absurd cc
+thread_by_takes (keyword keywords.Else) before behind x h e = absurd cc
+thread_by_takes (keyword keywords.Repeat) before behind x h e = absurd cc
+thread_by_takes (keyword keywords.Leave) before behind x h e = absurd cc
+thread_by_takes (keyword keywords.Assert) before behind x h e = absurd cc
 
 thread_next_takes : (o : Option Token) (before behind : List Token) (x : Option Thread × List Token) → IsNext o before behind → thread_next o behind ≡ Some x → IsGiven IsThread (IsNext None) x.0 before x.1
 thread_next_takes None before behind x n e = subst (λ (y : Option Thread × List Token). IsGiven IsThread (IsNext None) y.0 before y.1) (some_is (None, behind) x e) n
@@ -246,7 +246,7 @@ thread_turn_takes ts x e =
 
 thread_read : (t : Thread) (ts rest : List Token) → IsThread t ts rest → thread_turn ts ≡ Some (Some t, rest)
 unfolding thread_turn thread_from
-thread_read t ts rest (a, w, (b, n, h)) = rw (next_kind (word words.Thread) ts a w refl, name_again t.name a b n, block_again t.body (suc DEPTH) b rest h) refl
+thread_read t ts rest (a, w, (b, n, h)) = rw (next_kind (keyword keywords.Thread) ts a w refl, name_again t.name a b n, block_again t.body (suc DEPTH) b rest h) refl
 
 thread_again : TurnAgain IsThread thread_turn
 thread_again t ts rest h = (thread_read t ts rest h, thread_shorter t ts rest h)
@@ -261,7 +261,7 @@ no_declaration_end = refl
 no_declaration : (xs : List Thread) (ts : List Token) → each IsThread xs ts [] → declaration_turn ts ≡ Some (None, ts)
 unfolding declaration_turn
 no_declaration [] ts h = ap declaration_turn h ∙ (no_declaration_end ∙ ap (λ (us : List Token). Some (None, us)) (sym h))
-no_declaration (x ∷ xs) ts (mid, (a, w, h), more) = rw (next_kind (word words.Thread) ts a w refl) refl
+no_declaration (x ∷ xs) ts (mid, (a, w, h), more) = rw (next_kind (keyword keywords.Thread) ts a w refl) refl
 
 no_thread : thread_turn [] ≡ Some (None, [])
 unfolding thread_turn next_at

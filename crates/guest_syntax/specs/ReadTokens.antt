@@ -1,10 +1,10 @@
 -- Reading single tokens from the front of a list of tokens.
 use Rattle.std.specs.Prelude.{ℕ, List, [], ◌∷◌, Bool, true, false, nat_le, nat_lt, Option, Some, None, if◌then◌else◌}
 use Rattle.guest_syntax.specs.declared.limits.TheConstants.{REPEATS}
-use Rattle.guest_syntax.specs.declared.token.Sign.{Sign}
-use Rattle.guest_syntax.specs.contracts.token.SignPartialEq.TheImpl as sign-eq
+use Rattle.guest_syntax.specs.declared.token.Symbol.{Symbol}
+use Rattle.guest_syntax.specs.contracts.token.SymbolPartialEq.TheImpl as symbol-eq
 use Rattle.guest_syntax.specs.declared.lexer.Cursor.{Cursor}
-use Rattle.guest_syntax.specs.Tokens.{Kind, name, word, number, sign, bad, Token}
+use Rattle.guest_syntax.specs.Tokens.{Kind, name, keyword, number, symbol, bad, Token}
 use Rattle.guest_syntax.specs.Scan.{◌>>=◌, tokens_from}
 use Rattle.guest_syntax.specs.Tree.{Name}
 
@@ -18,9 +18,9 @@ Read A = Option (A × List Token)
 
 abbrev pub is_bad : Kind → Bool
 is_bad (name s) = false
-is_bad (word w) = false
+is_bad (keyword w) = false
 is_bad (number n) = false
-is_bad (sign s) = false
+is_bad (symbol s) = false
 is_bad bad = true
 
 -- the next token, or the end
@@ -33,21 +33,21 @@ unfoldable pub token_at : List Token → Read Token
 token_at [] = None
 token_at (t ∷ ts) = if is_bad t.kind then None else Some (t, ts)
 
-abbrev pub is_sign : Sign → Kind → Bool
-is_sign wanted (name s) = false
-is_sign wanted (word w) = false
-is_sign wanted (number n) = false
-is_sign wanted (sign s) = sign-eq.eq-value.it s wanted
-is_sign wanted bad = false
+abbrev pub is_symbol : Symbol → Kind → Bool
+is_symbol wanted (name s) = false
+is_symbol wanted (keyword w) = false
+is_symbol wanted (number n) = false
+is_symbol wanted (symbol s) = symbol-eq.eq-value.it s wanted
+is_symbol wanted bad = false
 
 -- this operator or mark
-unfoldable pub sign_from : Sign → List Token → Option (List Token)
-sign_from wanted ts = do
+unfoldable pub symbol_from : Symbol → List Token → Option (List Token)
+symbol_from wanted ts = do
   t ← token_at ts
-  if is_sign wanted t.0.kind then Some t.1 else None
+  if is_symbol wanted t.0.kind then Some t.1 else None
 
 abbrev pub name_in : Token → Option Name
-name_in t = elim t.kind [ name s ↦ Some (record { text = s; at = t.at }) | word w ↦ None | number n ↦ None | sign s ↦ None | bad ↦ None ]
+name_in t = elim t.kind [ name s ↦ Some (record { text = s; at = t.at }) | keyword w ↦ None | number n ↦ None | symbol s ↦ None | bad ↦ None ]
 
 -- a name
 unfoldable pub name_from : List Token → Read Name
@@ -58,9 +58,9 @@ name_from ts = do
 
 abbrev pub number_in : ℕ → Kind → Option ℕ
 number_in limit (name s) = None
-number_in limit (word w) = None
+number_in limit (keyword w) = None
 number_in limit (number n) = if nat_le n limit then Some n else None
-number_in limit (sign s) = None
+number_in limit (symbol s) = None
 number_in limit bad = None
 
 -- a number up to a limit

@@ -1,23 +1,23 @@
 -- Reading declarations, threads and a whole text from a list of tokens.
 use Rattle.std.specs.Prelude.{suc, pos, List, Option, Some, None}
 use Rattle.guest_syntax.specs.declared.limits.TheConstants.{DEPTH, COUNT}
-use Rattle.guest_syntax.specs.declared.token.Word.TheVariants as words
-use Rattle.guest_syntax.specs.declared.token.Sign.TheVariants as signs
+use Rattle.guest_syntax.specs.declared.token.Keyword.TheVariants as keywords
+use Rattle.guest_syntax.specs.declared.token.Symbol.TheVariants as symbols
 use Rattle.guest_syntax.specs.declared.tree.Object.{Object}
 use Rattle.guest_syntax.specs.declared.tree.Object.TheVariants as objects
-use Rattle.guest_syntax.specs.Tokens.{Kind, word, sign, Token}
+use Rattle.guest_syntax.specs.Tokens.{Kind, keyword, symbol, Token}
 use Rattle.guest_syntax.specs.Scan.{◌>>=◌}
 use Rattle.guest_syntax.specs.Tree.{Name, Declaration, Thread, Tree}
-use Rattle.guest_syntax.specs.ReadTokens.{Read, next_at, token_at, sign_from, name_from, number_from}
+use Rattle.guest_syntax.specs.ReadTokens.{Read, next_at, token_at, symbol_from, name_from, number_from}
 use Rattle.guest_syntax.specs.ReadExprs.{literal_from}
 use Rattle.guest_syntax.specs.ReadItems.{Turn, all_from}
 use Rattle.guest_syntax.specs.ReadStatements.{one_name_from, block_from}
 
 abbrev pub variable_by : Name → Kind → List Token → Read Declaration
-variable_by x (sign signs.End) ts = Some (record { name = x; object = objects.Variable (pos 0) }, ts)
-variable_by x (sign signs.Assign) ts = do
+variable_by x (symbol symbols.End) ts = Some (record { name = x; object = objects.Variable (pos 0) }, ts)
+variable_by x (symbol symbols.Assign) ts = do
   z ← literal_from ts
-  e ← sign_from signs.End z.1
+  e ← symbol_from symbols.End z.1
   Some (record { name = x; object = objects.Variable z.0 }, e)
 variable_by x _ ts = None
 
@@ -38,16 +38,16 @@ plain_from o ts = do
 unfoldable pub semaphore_from : List Token → Read Declaration
 semaphore_from ts = do
   x ← name_from ts
-  s ← sign_from signs.Assign x.1
+  s ← symbol_from symbols.Assign x.1
   n ← number_from COUNT s
-  e ← sign_from signs.End n.1
+  e ← symbol_from symbols.End n.1
   Some (record { name = x.0; object = objects.Semaphore n.0 }, e)
 
 abbrev pub declaration_by : Kind → List Token → List Token → Read (Option Declaration)
-declaration_by (word words.Var) before behind = variable_from behind >>= λ d. Some (Some d.0, d.1)
-declaration_by (word words.Mutex) before behind = plain_from objects.Mutex behind >>= λ d. Some (Some d.0, d.1)
-declaration_by (word words.Cond) before behind = plain_from objects.Condition behind >>= λ d. Some (Some d.0, d.1)
-declaration_by (word words.Sem) before behind = semaphore_from behind >>= λ d. Some (Some d.0, d.1)
+declaration_by (keyword keywords.Var) before behind = variable_from behind >>= λ d. Some (Some d.0, d.1)
+declaration_by (keyword keywords.Mutex) before behind = plain_from objects.Mutex behind >>= λ d. Some (Some d.0, d.1)
+declaration_by (keyword keywords.Cond) before behind = plain_from objects.Condition behind >>= λ d. Some (Some d.0, d.1)
+declaration_by (keyword keywords.Sem) before behind = semaphore_from behind >>= λ d. Some (Some d.0, d.1)
 declaration_by _ before behind = Some (None, before)
 
 abbrev pub declaration_next : Option Token → List Token → List Token → Read (Option Declaration)
@@ -69,7 +69,7 @@ thread_from ts = do
   Some (record { name = x.0; body = b.0 }, b.1)
 
 abbrev pub thread_by : Kind → List Token → Read (Option Thread)
-thread_by (word words.Thread) ts = thread_from ts >>= λ x. Some (Some x.0, x.1)
+thread_by (keyword keywords.Thread) ts = thread_from ts >>= λ x. Some (Some x.0, x.1)
 thread_by _ ts = None
 
 abbrev pub thread_next : Option Token → List Token → Read (Option Thread)

@@ -6,11 +6,11 @@ use Rattle.std.specs.List.{prefix_len, starts_with}
 use Rattle.guest_syntax.specs.declared.place.Pos.{Pos}
 use Rattle.guest_syntax.specs.declared.lexer.Step.{Step}
 use Rattle.guest_syntax.specs.declared.lexer.Step.TheVariants.{Passed, Stops, NotAscii}
-use Rattle.guest_syntax.specs.declared.token.Sign.{Sign}
-use Rattle.guest_syntax.specs.declared.token.TheConstants.{WORDS, SIGNS}
+use Rattle.guest_syntax.specs.declared.token.Symbol.{Symbol}
+use Rattle.guest_syntax.specs.declared.token.TheConstants.{KEYWORDS, SYMBOLS}
 use Rattle.guest_syntax.specs.Place.{past, after}
 use Rattle.guest_syntax.specs.Gap.{gap_step}
-use Rattle.guest_syntax.specs.Tokens.{Kind, name, word, number, sign, bad, Token, word_text, sign_text, is_digit, is_letter, is_name_byte}
+use Rattle.guest_syntax.specs.Tokens.{Kind, name, keyword, number, symbol, bad, Token, keyword_text, symbol_text, is_digit, is_letter, is_name_byte}
 
 infixl 10 ◌>>=◌
 abbrev pub ◌>>=◌ : {A B : Type 0} → Option A → (A → Option B) → Option B
@@ -27,21 +27,21 @@ unfoldable pub skipped : Bool → Pos → List ℕ → Option (Pos × List ℕ)
 skipped comment at [] = Some (at, [])
 skipped comment at (b ∷ bs) = skip_by (gap_step comment b) (λ c. skipped c (past at b) bs) at (b ∷ bs)
 
-abbrev pub name_or_word : List ℕ → Kind
-name_or_word text = option_map_or word (find (λ w. bytes_eq (word_text w) text) WORDS) (name text)
+abbrev pub name_or_keyword : List ℕ → Kind
+name_or_keyword text = option_map_or keyword (find (λ w. bytes_eq (keyword_text w) text) KEYWORDS) (name text)
 
 -- the value of digits, cut at 2 ^ 64 - 1
 abbrev pub capped : List ℕ → ℕ
 capped digits = fold (λ n b. min (min (n * 10) (2 ^ 64 - 1) + (b - 48)) (2 ^ 64 - 1)) 0 digits
 
-abbrev pub sign_at : List ℕ → Option Sign
-sign_at text = find (λ s. starts_with nat_eq text (sign_text s)) SIGNS
+abbrev pub symbol_at : List ℕ → Option Symbol
+symbol_at text = find (λ s. starts_with nat_eq text (symbol_text s)) SYMBOLS
 
 -- the token that begins with the first byte, and its length
 abbrev pub kind_by : Bool → Bool → List ℕ → Option (Kind × ℕ)
-kind_by true digit bytes = Some (name_or_word (take (prefix_len is_name_byte bytes) bytes), prefix_len is_name_byte bytes)
+kind_by true digit bytes = Some (name_or_keyword (take (prefix_len is_name_byte bytes) bytes), prefix_len is_name_byte bytes)
 kind_by false true bytes = Some (number (capped (take (prefix_len is_digit bytes) bytes)), prefix_len is_digit bytes)
-kind_by false false bytes = option_map (λ s. (sign s, length (sign_text s))) (sign_at bytes)
+kind_by false false bytes = option_map (λ s. (symbol s, length (symbol_text s))) (symbol_at bytes)
 
 unfoldable pub kind_at : List ℕ → Option (Kind × ℕ)
 kind_at bytes = kind_by (is_letter (slice_index bytes 0)) (is_digit (slice_index bytes 0)) bytes

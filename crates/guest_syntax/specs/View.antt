@@ -6,9 +6,9 @@ use Rattle.guest_syntax.specs.Tokens as tokens
 
 abbrev pub kind_view : Kind → tokens.Kind
 kind_view (kinds.Name s) = tokens.name s.now
-kind_view (kinds.Word w) = tokens.word w
+kind_view (kinds.Keyword w) = tokens.keyword w
 kind_view (kinds.Number n) = tokens.number n
-kind_view (kinds.Sign s) = tokens.sign s
+kind_view (kinds.Symbol s) = tokens.symbol s
 
 abbrev pub token_view : Token → tokens.Token
 token_view t = record { kind = kind_view t.kind; at = t.at }

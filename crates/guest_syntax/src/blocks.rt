@@ -13,8 +13,8 @@ use crate::expressions::expr;
 use crate::lexer::Cursor;
 use crate::place::Pos;
 use crate::statements::simple;
-use crate::token::{Kind, Sign, Word};
-use crate::tokens::{sign, times, token};
+use crate::token::{Kind, Symbol, Keyword};
+use crate::tokens::{symbol, times, token};
 use crate::tree::Statement;
 use std::alloc::Global;
 
@@ -22,7 +22,7 @@ use std::alloc::Global;
 fn is_else(kind: Kind) -> bool
     ensures { result ≡ is_else (kind_view kind.entry) }
 {
-    matches!(kind, Kind::Word(Word::Else))
+    matches!(kind, Kind::Keyword(Keyword::Else))
 }
 
 #[tactic(auto, unfolding(crate::specs::ReadStatements::choice_from))]
@@ -79,18 +79,18 @@ fn repetition<'a>(
 #[cycle(block)]
 fn statement<'a>(
     alloc: Global,
-    word: Word,
+    keyword: Keyword,
     at: Pos,
     text: Cursor<'a>,
     room: u32,
 ) -> Result<(Statement, Cursor<'a>), SyntaxError>
-    ensures gives { Gives (λ x. (stmt_view x.0, rest_of x.1)) result (statement_by (block_from room) word at (rest_of text.entry)) }
+    ensures gives { Gives (λ x. (stmt_view x.0, rest_of x.1)) result (statement_by (block_from room) keyword at (rest_of text.entry)) }
     ensures shorter { IfOk result (λ x. length (rest_of x.1) < length (rest_of text.entry)) }
 {
-    match word {
-        Word::If => choice(alloc, text, room),
-        Word::Repeat => repetition(alloc, text, room),
-        _ => simple(alloc, word, at, text),
+    match keyword {
+        Keyword::If => choice(alloc, text, room),
+        Keyword::Repeat => repetition(alloc, text, room),
+        _ => simple(alloc, keyword, at, text),
     }
 }
 
@@ -107,9 +107,9 @@ fn turn<'a>(
 {
     let (token, after) = token(text)?;
     match token.kind {
-        Kind::Sign(Sign::Close) => Ok((None, after)),
-        Kind::Word(word) => {
-            let (statement, after) = statement(alloc, word, token.at, after, room)?;
+        Kind::Symbol(Symbol::Close) => Ok((None, after)),
+        Kind::Keyword(keyword) => {
+            let (statement, after) = statement(alloc, keyword, token.at, after, room)?;
             Ok((Some(statement), after))
         }
         _ => Err(SyntaxError::Expected(token.at)),
@@ -149,7 +149,7 @@ pub fn block<'a>(
     ensures gives { Gives (λ x. (block_view x.0.items, rest_of x.1)) result (block_from room (rest_of text.entry)) }
     ensures shorter { IfOk result (λ x. length (rest_of x.1) < length (rest_of text.entry)) }
 {
-    let (brace, after) = sign(text, Sign::Open)?;
+    let (brace, after) = symbol(text, Symbol::Open)?;
     if room == 0 {
         return Err(SyntaxError::TooDeep(brace));
     }

@@ -10,7 +10,7 @@ ghost use Rattle.guest_syntax.specs.ReadExprs.{literal_by, literal_from, operand
 use crate::error::SyntaxError;
 use crate::lexer::Cursor;
 use crate::limits::NUMBER;
-use crate::token::{Kind, Sign, Token};
+use crate::token::{Kind, Symbol, Token};
 use crate::tokens::{number, token};
 use crate::tree::{Expr, Name, Op, Operand};
 use std::alloc::Global;
@@ -23,7 +23,7 @@ fn literal_behind<'a>(token: Token, after: Cursor<'a>) -> Result<(i64, Cursor<'a
     match token.kind {
         Kind::Number(n) if n <= NUMBER => Ok((n as i64, after)),
         Kind::Number(_) => Err(SyntaxError::NumberTooBig(token.at)),
-        Kind::Sign(Sign::Minus) => {
+        Kind::Symbol(Symbol::Minus) => {
             let (n, after) = number(after, NUMBER)?;
             Ok((-(n as i64), after))
         }
@@ -61,15 +61,15 @@ fn op_of(kind: Kind) -> Option<Op>
     ensures { result ≡ op_of (kind_view kind.entry) }
 {
     match kind {
-        Kind::Sign(Sign::Plus) => Some(Op::Add),
-        Kind::Sign(Sign::Minus) => Some(Op::Subtract),
-        Kind::Sign(Sign::Times) => Some(Op::Multiply),
-        Kind::Sign(Sign::Equal) => Some(Op::Equal),
-        Kind::Sign(Sign::NotEqual) => Some(Op::NotEqual),
-        Kind::Sign(Sign::Less) => Some(Op::Less),
-        Kind::Sign(Sign::LessOrEqual) => Some(Op::LessOrEqual),
-        Kind::Sign(Sign::Greater) => Some(Op::Greater),
-        Kind::Sign(Sign::GreaterOrEqual) => Some(Op::GreaterOrEqual),
+        Kind::Symbol(Symbol::Plus) => Some(Op::Add),
+        Kind::Symbol(Symbol::Minus) => Some(Op::Subtract),
+        Kind::Symbol(Symbol::Times) => Some(Op::Multiply),
+        Kind::Symbol(Symbol::Equal) => Some(Op::Equal),
+        Kind::Symbol(Symbol::NotEqual) => Some(Op::NotEqual),
+        Kind::Symbol(Symbol::Less) => Some(Op::Less),
+        Kind::Symbol(Symbol::LessOrEqual) => Some(Op::LessOrEqual),
+        Kind::Symbol(Symbol::Greater) => Some(Op::Greater),
+        Kind::Symbol(Symbol::GreaterOrEqual) => Some(Op::GreaterOrEqual),
         _ => None,
     }
 }

@@ -13,8 +13,8 @@ use crate::expressions::literal;
 use crate::lexer::Cursor;
 use crate::limits::{COUNT, DEPTH};
 use crate::statements::one_name;
-use crate::token::{Kind, Sign, Word};
-use crate::tokens::{name, next_token, number, sign, token};
+use crate::token::{Kind, Symbol, Keyword};
+use crate::tokens::{name, next_token, number, symbol, token};
 use crate::tree::{Declaration, Object, Thread, Tree};
 use std::alloc::Global;
 
@@ -27,13 +27,13 @@ fn variable<'a>(alloc: Global, text: Cursor<'a>) -> Result<(Declaration, Cursor<
     let (name, text) = name(alloc, text)?;
     let (token, after) = token(text)?;
     match token.kind {
-        Kind::Sign(Sign::End) => {
+        Kind::Symbol(Symbol::End) => {
             let object = Object::Variable(0);
             Ok((Declaration { name, object }, after))
         }
-        Kind::Sign(Sign::Assign) => {
+        Kind::Symbol(Symbol::Assign) => {
             let (start, text) = literal(after)?;
-            let (_, text) = sign(text, Sign::End)?;
+            let (_, text) = symbol(text, Symbol::End)?;
             let object = Object::Variable(start);
             Ok((Declaration { name, object }, text))
         }
@@ -62,9 +62,9 @@ fn semaphore<'a>(alloc: Global, text: Cursor<'a>) -> Result<(Declaration, Cursor
     ensures shorter { IfOk result (λ x. length (rest_of x.1) < length (rest_of text.entry)) }
 {
     let (name, text) = name(alloc, text)?;
-    let (_, text) = sign(text, Sign::Assign)?;
+    let (_, text) = symbol(text, Symbol::Assign)?;
     let (count, text) = number(text, COUNT)?;
-    let (_, text) = sign(text, Sign::End)?;
+    let (_, text) = symbol(text, Symbol::End)?;
     let object = Object::Semaphore(count as u16);
     Ok((Declaration { name, object }, text))
 }
@@ -83,10 +83,10 @@ fn declaration_turn<'a>(
         return Ok((None, text));
     };
     let (declaration, after) = match token.kind {
-        Kind::Word(Word::Var) => variable(alloc, after)?,
-        Kind::Word(Word::Mutex) => plain(alloc, Object::Mutex, after)?,
-        Kind::Word(Word::Cond) => plain(alloc, Object::Condition, after)?,
-        Kind::Word(Word::Sem) => semaphore(alloc, after)?,
+        Kind::Keyword(Keyword::Var) => variable(alloc, after)?,
+        Kind::Keyword(Keyword::Mutex) => plain(alloc, Object::Mutex, after)?,
+        Kind::Keyword(Keyword::Cond) => plain(alloc, Object::Condition, after)?,
+        Kind::Keyword(Keyword::Sem) => semaphore(alloc, after)?,
         _ => return Ok((None, text)),
     };
     Ok((Some(declaration), after))
@@ -136,7 +136,7 @@ fn thread_turn<'a>(
         return Ok((None, after));
     };
     match token.kind {
-        Kind::Word(Word::Thread) => {
+        Kind::Keyword(Keyword::Thread) => {
             let (thread, after) = thread(alloc, after)?;
             Ok((Some(thread), after))
         }

@@ -10,8 +10,8 @@ use crate::error::SyntaxError;
 use crate::expressions::{expr, operand};
 use crate::lexer::Cursor;
 use crate::place::Pos;
-use crate::token::{Sign, Word};
-use crate::tokens::{name, sign};
+use crate::token::{Symbol, Keyword};
+use crate::tokens::{name, symbol};
 use crate::tree::{Name, Statement};
 use std::alloc::Global;
 
@@ -22,7 +22,7 @@ pub fn one_name<'a>(alloc: Global, text: Cursor<'a>) -> Result<(Name, Cursor<'a>
     ensures shorter { IfOk result (λ x. length (rest_of x.1) < length (rest_of text.entry)) }
 {
     let (name, text) = name(alloc, text)?;
-    let (_, text) = sign(text, Sign::End)?;
+    let (_, text) = symbol(text, Symbol::End)?;
     Ok((name, text))
 }
 
@@ -34,7 +34,7 @@ fn two_names<'a>(alloc: Global, text: Cursor<'a>) -> Result<((Name, Name), Curso
 {
     let (first, text) = name(alloc, text)?;
     let (second, text) = name(alloc, text)?;
-    let (_, text) = sign(text, Sign::End)?;
+    let (_, text) = symbol(text, Symbol::End)?;
     Ok(((first, second), text))
 }
 
@@ -45,7 +45,7 @@ fn store<'a>(alloc: Global, text: Cursor<'a>) -> Result<(Statement, Cursor<'a>),
 {
     let (variable, text) = name(alloc, text)?;
     let (value, text) = operand(alloc, text)?;
-    let (_, text) = sign(text, Sign::End)?;
+    let (_, text) = symbol(text, Symbol::End)?;
     Ok((Statement::Store { variable, value }, text))
 }
 
@@ -56,7 +56,7 @@ fn set<'a>(alloc: Global, text: Cursor<'a>) -> Result<(Statement, Cursor<'a>), S
 {
     let (local, text) = name(alloc, text)?;
     let (value, text) = expr(alloc, text)?;
-    let (_, text) = sign(text, Sign::End)?;
+    let (_, text) = symbol(text, Symbol::End)?;
     Ok((Statement::Set { local, value }, text))
 }
 
@@ -66,42 +66,42 @@ fn assertion<'a>(alloc: Global, text: Cursor<'a>) -> Result<(Statement, Cursor<'
     ensures shorter { IfOk result (λ x. length (rest_of x.1) < length (rest_of text.entry)) }
 {
     let (test, text) = expr(alloc, text)?;
-    let (_, text) = sign(text, Sign::End)?;
+    let (_, text) = symbol(text, Symbol::End)?;
     Ok((Statement::Assert(test), text))
 }
 
 /// A statement of one name, behind its word, which stands at this place.
 fn named<'a>(
     alloc: Global,
-    word: Word,
+    keyword: Keyword,
     at: Pos,
     text: Cursor<'a>,
 ) -> Result<(Statement, Cursor<'a>), SyntaxError>
-    ensures gives { Gives (λ x. (stmt_view x.0, rest_of x.1)) result (named_by word (rest_of text.entry)) }
+    ensures gives { Gives (λ x. (stmt_view x.0, rest_of x.1)) result (named_by keyword (rest_of text.entry)) }
     ensures shorter { IfOk result (λ x. length (rest_of x.1) < length (rest_of text.entry)) }
 {
-    match word {
-        Word::Lock => {
+    match keyword {
+        Keyword::Lock => {
             let (mutex, text) = one_name(alloc, text)?;
             Ok((Statement::Lock(mutex), text))
         }
-        Word::Unlock => {
+        Keyword::Unlock => {
             let (mutex, text) = one_name(alloc, text)?;
             Ok((Statement::Unlock(mutex), text))
         }
-        Word::Signal => {
+        Keyword::Signal => {
             let (condition, text) = one_name(alloc, text)?;
             Ok((Statement::Signal(condition), text))
         }
-        Word::Broadcast => {
+        Keyword::Broadcast => {
             let (condition, text) = one_name(alloc, text)?;
             Ok((Statement::Broadcast(condition), text))
         }
-        Word::Acquire => {
+        Keyword::Acquire => {
             let (semaphore, text) = one_name(alloc, text)?;
             Ok((Statement::Acquire(semaphore), text))
         }
-        Word::Release => {
+        Keyword::Release => {
             let (semaphore, text) = one_name(alloc, text)?;
             Ok((Statement::Release(semaphore), text))
         }
@@ -112,29 +112,29 @@ fn named<'a>(
 /// A statement without a block, behind its word, which stands at this place.
 pub fn simple<'a>(
     alloc: Global,
-    word: Word,
+    keyword: Keyword,
     at: Pos,
     text: Cursor<'a>,
 ) -> Result<(Statement, Cursor<'a>), SyntaxError>
-    ensures gives { Gives (λ x. (stmt_view x.0, rest_of x.1)) result (simple_by word at (rest_of text.entry)) }
+    ensures gives { Gives (λ x. (stmt_view x.0, rest_of x.1)) result (simple_by keyword at (rest_of text.entry)) }
     ensures shorter { IfOk result (λ x. length (rest_of x.1) < length (rest_of text.entry)) }
 {
-    match word {
-        Word::Load => {
+    match keyword {
+        Keyword::Load => {
             let ((local, variable), text) = two_names(alloc, text)?;
             Ok((Statement::Load { local, variable }, text))
         }
-        Word::Wait => {
+        Keyword::Wait => {
             let ((condition, mutex), text) = two_names(alloc, text)?;
             Ok((Statement::Wait { condition, mutex }, text))
         }
-        Word::Store => store(alloc, text),
-        Word::Set => set(alloc, text),
-        Word::Assert => assertion(alloc, text),
-        Word::Leave => {
-            let (_, text) = sign(text, Sign::End)?;
+        Keyword::Store => store(alloc, text),
+        Keyword::Set => set(alloc, text),
+        Keyword::Assert => assertion(alloc, text),
+        Keyword::Leave => {
+            let (_, text) = symbol(text, Symbol::End)?;
             Ok((Statement::Leave(at), text))
         }
-        _ => named(alloc, word, at, text),
+        _ => named(alloc, keyword, at, text),
     }
 }

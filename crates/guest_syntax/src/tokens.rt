@@ -4,13 +4,13 @@ ghost use Rattle.std.specs.Prelude.{◌≡◌, ◌<◌, ◌≤◌, length, IfOk,
 ghost use Rattle.guest_syntax.specs.Gives.{Gives};
 ghost use Rattle.guest_syntax.specs.View.{kind_view, token_view};
 ghost use Rattle.guest_syntax.specs.Tree.{name_view};
-ghost use Rattle.guest_syntax.specs.ReadTokens.{rest_of, next_at, token_at, sign_from, name_from, number_in, number_from, times_from};
+ghost use Rattle.guest_syntax.specs.ReadTokens.{rest_of, next_at, token_at, symbol_from, name_from, number_in, number_from, times_from};
 
 use crate::error::SyntaxError;
 use crate::lexer::{Cursor, first};
 use crate::limits::REPEATS;
 use crate::place::Pos;
-use crate::token::{Kind, Sign, Token};
+use crate::token::{Kind, Symbol, Token};
 use crate::tree::Name;
 use std::alloc::Global;
 
@@ -35,14 +35,14 @@ pub fn token<'a>(text: Cursor<'a>) -> Result<(Token<'a>, Cursor<'a>), SyntaxErro
 }
 
 /// This operator or mark. Answers its place.
-#[tactic(auto, unfolding(crate::specs::ReadTokens::sign_from))]
-pub fn sign<'a>(text: Cursor<'a>, wanted: Sign) -> Result<(Pos, Cursor<'a>), SyntaxError>
-    ensures gives { Gives (λ x. rest_of x.1) result (sign_from wanted (rest_of text.entry)) }
+#[tactic(auto, unfolding(crate::specs::ReadTokens::symbol_from))]
+pub fn symbol<'a>(text: Cursor<'a>, wanted: Symbol) -> Result<(Pos, Cursor<'a>), SyntaxError>
+    ensures gives { Gives (λ x. rest_of x.1) result (symbol_from wanted (rest_of text.entry)) }
     ensures shorter { IfOk result (λ x. length (rest_of x.1) < length (rest_of text.entry)) }
 {
     let (token, after) = token(text)?;
     match token.kind {
-        Kind::Sign(found) if found == wanted => Ok((token.at, after)),
+        Kind::Symbol(found) if found == wanted => Ok((token.at, after)),
         _ => Err(SyntaxError::Expected(token.at)),
     }
 }
