@@ -3,24 +3,17 @@
 ghost use Rattle.std.specs.Prelude.{◌≡◌, ◌+◌, ◌<◌, ◌≤◌, ◌^◌, length, false, IfOk, IfSome, None, [], option_map, find, nat_eq};
 ghost use Rattle.std.specs.List.{starts_with, prefix_len};
 ghost use Rattle.std.specs.Str.{bytes_eq};
-ghost use Rattle.guest_syntax.specs.Gap.{gap_step};
-ghost use Rattle.guest_syntax.specs.Scan.{skipped, name_or_keyword, capped, symbol_at, kind_at, first};
-ghost use Rattle.guest_syntax.specs.Gives.{Gives};
-ghost use Rattle.guest_syntax.specs.View.{kind_view, token_view};
+ghost use Rattle.guest_syntax.specs.reader.BlankBytes.{gap_step};
+ghost use Rattle.guest_syntax.specs.reader.Scanner.{skipped, name_or_keyword, capped, symbol_at, kind_at, first};
+ghost use Rattle.guest_syntax.specs.reader.Gives.{Gives};
+ghost use Rattle.guest_syntax.specs.reader.Reads.{Scans};
+ghost use Rattle.guest_syntax.specs.reader.TokenViews.{kind_view, token_view};
 ghost use Rattle.guest_syntax.specs.Tokens.{keyword_text, symbol_text, is_space, is_letter, is_digit, is_name_byte};
 
+use crate::cursor::Cursor;
 use crate::error::SyntaxError;
 use crate::place::Pos;
-use crate::token::{Kind, SYMBOLS, Symbol, Token, KEYWORDS, Keyword};
-
-/// What is left of a text, and its place.
-#[derive(Clone, Copy)]
-pub struct Cursor<'a> {
-    pub rest: &'a [u8],
-    pub at: Pos,
-    ghost lines: { at.line + length rest.now < 2 ^ 32 },
-    ghost cols: { at.col + length rest.now < 2 ^ 32 },
-}
+use crate::token::{KEYWORDS, Keyword, Kind, SYMBOLS, Symbol, Token};
 
 /// What a byte is to spaces and comments.
 enum Step {
@@ -144,7 +137,7 @@ fn digits_len(text: &[u8]) -> usize
 }
 
 /// The token that begins with the first byte, and its length.
-#[tactic(auto, unfolding(crate::specs::Scan::kind_at))]
+#[tactic(auto, unfolding(crate::specs::reader::Scanner::kind_at))]
 fn kind_at(text: &[u8]) -> Option<(Kind<'_>, usize)>
     requires { 0 < length text.now }
     ensures kind { option_map (λ x. (kind_view x.0, x.1)) result ≡ kind_at text.now }
@@ -163,9 +156,9 @@ fn kind_at(text: &[u8]) -> Option<(Kind<'_>, usize)>
 }
 
 /// The next token and what stands behind it, or nothing and the end of the text.
-#[tactic(auto, unfolding(crate::specs::Scan::first))]
+#[tactic(auto, unfolding(crate::specs::reader::Scanner::first))]
 pub fn first<'a>(text: Cursor<'a>) -> Result<(Option<Token<'a>>, Cursor<'a>), SyntaxError>
-    ensures gives { Gives (λ x. option_map (λ t. (token_view t, x.1.at, x.1.rest.now)) x.0) result (first text.entry.at text.entry.rest.now) }
+    ensures gives { Scans result text.entry }
     ensures end { IfOk result (λ x. x.0 ≡ None → x.1.rest.now ≡ []) }
 {
     let (at, bytes) = skip(text.rest, text.at)?;
@@ -176,7 +169,7 @@ pub fn first<'a>(text: Cursor<'a>) -> Result<(Option<Token<'a>>, Cursor<'a>), Sy
         return Err(SyntaxError::BadChar(at));
     };
     let (spelling, rest) = bytes.split_at(len);
-    let at_end = at.behind(spelling);
+    let at_end = at.after(spelling);
     let after = Cursor { rest, at: at_end };
     Ok((Some(Token { kind, at }), after))
 }

@@ -1,25 +1,25 @@
 //! Statements that hold no block.
 
 ghost use Rattle.std.specs.Prelude.{◌≡◌, ◌<◌, length, IfOk};
-ghost use Rattle.guest_syntax.specs.Gives.{Gives};
+ghost use Rattle.guest_syntax.specs.reader.Gives.{Gives};
 ghost use Rattle.guest_syntax.specs.Tree.{name_view, stmt_view};
-ghost use Rattle.guest_syntax.specs.ReadTokens.{rest_of};
-ghost use Rattle.guest_syntax.specs.ReadStatements.{one_name_from, two_names_from, store_from, set_from, assert_from, named_by, simple_by};
+ghost use Rattle.guest_syntax.specs.reader.Reads.{Reads, TakesToken};
+ghost use Rattle.guest_syntax.specs.reader.Statements.{one_name_from, two_names_from, store_from, set_from, assert_from, named_by, simple_by};
 
+use crate::cursor::Cursor;
 use crate::error::SyntaxError;
 use crate::expressions::{expr, operand};
-use crate::lexer::Cursor;
 use crate::place::Pos;
-use crate::token::{Symbol, Keyword};
+use crate::token::{Keyword, Symbol};
 use crate::tokens::{name, symbol};
 use crate::tree::{Name, Statement};
 use std::alloc::Global;
 
 /// A name, and the mark that ends what it stands in.
-#[tactic(auto, unfolding(crate::specs::ReadStatements::one_name_from))]
+#[tactic(auto, unfolding(crate::specs::reader::Statements::one_name_from))]
 pub fn one_name<'a>(alloc: Global, text: Cursor<'a>) -> Result<(Name, Cursor<'a>), SyntaxError>
-    ensures gives { Gives (λ x. (name_view x.0, rest_of x.1)) result (one_name_from (rest_of text.entry)) }
-    ensures shorter { IfOk result (λ x. length (rest_of x.1) < length (rest_of text.entry)) }
+    ensures gives { Reads name_view result one_name_from text.entry }
+    ensures shorter { TakesToken result text.entry }
 {
     let (name, text) = name(alloc, text)?;
     let (_, text) = symbol(text, Symbol::End)?;
@@ -27,10 +27,10 @@ pub fn one_name<'a>(alloc: Global, text: Cursor<'a>) -> Result<(Name, Cursor<'a>
 }
 
 /// Two names, and the mark that ends their statement.
-#[tactic(auto, unfolding(crate::specs::ReadStatements::two_names_from))]
+#[tactic(auto, unfolding(crate::specs::reader::Statements::two_names_from))]
 fn two_names<'a>(alloc: Global, text: Cursor<'a>) -> Result<((Name, Name), Cursor<'a>), SyntaxError>
-    ensures gives { Gives (λ x. ((name_view x.0.0, name_view x.0.1), rest_of x.1)) result (two_names_from (rest_of text.entry)) }
-    ensures shorter { IfOk result (λ x. length (rest_of x.1) < length (rest_of text.entry)) }
+    ensures gives { Reads (λ x. (name_view x.0, name_view x.1)) result two_names_from text.entry }
+    ensures shorter { TakesToken result text.entry }
 {
     let (first, text) = name(alloc, text)?;
     let (second, text) = name(alloc, text)?;
@@ -38,10 +38,10 @@ fn two_names<'a>(alloc: Global, text: Cursor<'a>) -> Result<((Name, Name), Curso
     Ok(((first, second), text))
 }
 
-#[tactic(auto, unfolding(crate::specs::ReadStatements::store_from))]
+#[tactic(auto, unfolding(crate::specs::reader::Statements::store_from))]
 fn store<'a>(alloc: Global, text: Cursor<'a>) -> Result<(Statement, Cursor<'a>), SyntaxError>
-    ensures gives { Gives (λ x. (stmt_view x.0, rest_of x.1)) result (store_from (rest_of text.entry)) }
-    ensures shorter { IfOk result (λ x. length (rest_of x.1) < length (rest_of text.entry)) }
+    ensures gives { Reads stmt_view result store_from text.entry }
+    ensures shorter { TakesToken result text.entry }
 {
     let (variable, text) = name(alloc, text)?;
     let (value, text) = operand(alloc, text)?;
@@ -49,10 +49,10 @@ fn store<'a>(alloc: Global, text: Cursor<'a>) -> Result<(Statement, Cursor<'a>),
     Ok((Statement::Store { variable, value }, text))
 }
 
-#[tactic(auto, unfolding(crate::specs::ReadStatements::set_from))]
+#[tactic(auto, unfolding(crate::specs::reader::Statements::set_from))]
 fn set<'a>(alloc: Global, text: Cursor<'a>) -> Result<(Statement, Cursor<'a>), SyntaxError>
-    ensures gives { Gives (λ x. (stmt_view x.0, rest_of x.1)) result (set_from (rest_of text.entry)) }
-    ensures shorter { IfOk result (λ x. length (rest_of x.1) < length (rest_of text.entry)) }
+    ensures gives { Reads stmt_view result set_from text.entry }
+    ensures shorter { TakesToken result text.entry }
 {
     let (local, text) = name(alloc, text)?;
     let (value, text) = expr(alloc, text)?;
@@ -60,10 +60,10 @@ fn set<'a>(alloc: Global, text: Cursor<'a>) -> Result<(Statement, Cursor<'a>), S
     Ok((Statement::Set { local, value }, text))
 }
 
-#[tactic(auto, unfolding(crate::specs::ReadStatements::assert_from))]
+#[tactic(auto, unfolding(crate::specs::reader::Statements::assert_from))]
 fn assertion<'a>(alloc: Global, text: Cursor<'a>) -> Result<(Statement, Cursor<'a>), SyntaxError>
-    ensures gives { Gives (λ x. (stmt_view x.0, rest_of x.1)) result (assert_from (rest_of text.entry)) }
-    ensures shorter { IfOk result (λ x. length (rest_of x.1) < length (rest_of text.entry)) }
+    ensures gives { Reads stmt_view result assert_from text.entry }
+    ensures shorter { TakesToken result text.entry }
 {
     let (test, text) = expr(alloc, text)?;
     let (_, text) = symbol(text, Symbol::End)?;
@@ -77,8 +77,8 @@ fn named<'a>(
     at: Pos,
     text: Cursor<'a>,
 ) -> Result<(Statement, Cursor<'a>), SyntaxError>
-    ensures gives { Gives (λ x. (stmt_view x.0, rest_of x.1)) result (named_by keyword (rest_of text.entry)) }
-    ensures shorter { IfOk result (λ x. length (rest_of x.1) < length (rest_of text.entry)) }
+    ensures gives { Reads stmt_view result (named_by keyword) text.entry }
+    ensures shorter { TakesToken result text.entry }
 {
     match keyword {
         Keyword::Lock => {
@@ -116,8 +116,8 @@ pub fn simple<'a>(
     at: Pos,
     text: Cursor<'a>,
 ) -> Result<(Statement, Cursor<'a>), SyntaxError>
-    ensures gives { Gives (λ x. (stmt_view x.0, rest_of x.1)) result (simple_by keyword at (rest_of text.entry)) }
-    ensures shorter { IfOk result (λ x. length (rest_of x.1) < length (rest_of text.entry)) }
+    ensures gives { Reads stmt_view result (simple_by keyword at) text.entry }
+    ensures shorter { TakesToken result text.entry }
 {
     match keyword {
         Keyword::Load => {

@@ -8,7 +8,7 @@ use Rattle.guest_syntax.specs.declared.tree.Object.TheVariants as objects
 use Rattle.guest_syntax.specs.Tree.{Name, Operand, local, literal, Expr, single, both, Stmt, load, store, lock, unlock, wait, signal, broadcast, acquire, release, set, assert, if_then, if_else, repeat, leave, Block, nothing, next, Declaration, Thread, Tree}
 use Rattle.guest_syntax.specs.Forms.{Form, ◌then◌, IsToken, IsName, IsNumber, IsLiteral, in_braces, each}
 use Rattle.guest_syntax.specs.Grammar.{IsOperand, IsOp, IsExpr, IsTimes, IsStatement, AreStatements, IsObject, IsDeclaration, IsThread, IsTree}
-use Rattle.guest_syntax.specs.ReadTokens.{is_bad}
+use Rattle.guest_syntax.specs.reader.SingleTokens.{is_bad}
 
 abbrev pub Clean : List Token → Type 0
 Clean [] = Unit {0}

@@ -7,10 +7,10 @@ use Rattle.guest_syntax.specs.declared.place.Pos.{Pos}
 use Rattle.guest_syntax.specs.declared.lexer.Step.{Step}
 use Rattle.guest_syntax.specs.declared.lexer.Step.TheVariants.{Passed, Stops, NotAscii}
 use Rattle.guest_syntax.specs.Place.{past, after}
-use Rattle.guest_syntax.specs.Gap.{gap_step}
+use Rattle.guest_syntax.specs.reader.BlankBytes.{gap_step}
 use Rattle.guest_syntax.specs.Tokens.{is_space, blank}
-use Rattle.guest_syntax.specs.Scan.{skip_by, skipped}
-use Rattle.guest_syntax.proofs.Options.{some_is}
+use Rattle.guest_syntax.specs.reader.Scanner.{skip_by, skipped}
+use Rattle.guest_syntax.proofs.OptionCases.{some_is}
 
 abbrev pub Ascii : List ℕ → Type 0
 Ascii = AllByRecursion (λ b. b < 128)

@@ -3,18 +3,10 @@ use Rattle.std.specs.Prelude.{ℕ, List, [], ◌∷◌, Bool, true, false, nat_l
 use Rattle.guest_syntax.specs.declared.limits.TheConstants.{REPEATS}
 use Rattle.guest_syntax.specs.declared.token.Symbol.{Symbol}
 use Rattle.guest_syntax.specs.contracts.token.SymbolPartialEq.TheImpl as symbol-eq
-use Rattle.guest_syntax.specs.declared.lexer.Cursor.{Cursor}
 use Rattle.guest_syntax.specs.Tokens.{Kind, name, keyword, number, symbol, bad, Token}
-use Rattle.guest_syntax.specs.Scan.{◌>>=◌, tokens_from}
+use Rattle.guest_syntax.specs.reader.Scanner.{◌>>=◌}
+use Rattle.guest_syntax.specs.reader.Reads.{Read}
 use Rattle.guest_syntax.specs.Tree.{Name}
-
--- the tokens that a cursor has before it
-abbrev pub rest_of : Cursor → List Token
-rest_of c = tokens_from c.at c.rest.now
-
--- what was read, and the tokens behind it
-abbrev pub Read : Type 0 → Type 0
-Read A = Option (A × List Token)
 
 abbrev pub is_bad : Kind → Bool
 is_bad (name s) = false

@@ -6,12 +6,13 @@ use Rattle.guest_syntax.specs.declared.token.Symbol.TheVariants as symbols
 use Rattle.guest_syntax.specs.declared.tree.Object.{Object}
 use Rattle.guest_syntax.specs.declared.tree.Object.TheVariants as objects
 use Rattle.guest_syntax.specs.Tokens.{Kind, keyword, symbol, Token}
-use Rattle.guest_syntax.specs.Scan.{◌>>=◌}
+use Rattle.guest_syntax.specs.reader.Scanner.{◌>>=◌}
 use Rattle.guest_syntax.specs.Tree.{Name, Declaration, Thread, Tree}
-use Rattle.guest_syntax.specs.ReadTokens.{Read, next_at, token_at, symbol_from, name_from, number_from}
-use Rattle.guest_syntax.specs.ReadExprs.{literal_from}
-use Rattle.guest_syntax.specs.ReadItems.{Turn, all_from}
-use Rattle.guest_syntax.specs.ReadStatements.{one_name_from, block_from}
+use Rattle.guest_syntax.specs.reader.Reads.{Read}
+use Rattle.guest_syntax.specs.reader.SingleTokens.{next_at, token_at, symbol_from, name_from, number_from}
+use Rattle.guest_syntax.specs.reader.Expressions.{literal_from}
+use Rattle.guest_syntax.specs.reader.Items.{Turn, all_from}
+use Rattle.guest_syntax.specs.reader.Statements.{one_name_from, block_from}
 
 abbrev pub variable_by : Name → Kind → List Token → Read Declaration
 variable_by x (symbol symbols.End) ts = Some (record { name = x; object = objects.Variable (pos 0) }, ts)
@@ -44,15 +45,15 @@ semaphore_from ts = do
   Some (record { name = x.0; object = objects.Semaphore n.0 }, e)
 
 abbrev pub declaration_by : Kind → List Token → List Token → Read (Option Declaration)
-declaration_by (keyword keywords.Var) before behind = variable_from behind >>= λ d. Some (Some d.0, d.1)
-declaration_by (keyword keywords.Mutex) before behind = plain_from objects.Mutex behind >>= λ d. Some (Some d.0, d.1)
-declaration_by (keyword keywords.Cond) before behind = plain_from objects.Condition behind >>= λ d. Some (Some d.0, d.1)
-declaration_by (keyword keywords.Sem) before behind = semaphore_from behind >>= λ d. Some (Some d.0, d.1)
-declaration_by _ before behind = Some (None, before)
+declaration_by (keyword keywords.Var) before following = variable_from following >>= λ d. Some (Some d.0, d.1)
+declaration_by (keyword keywords.Mutex) before following = plain_from objects.Mutex following >>= λ d. Some (Some d.0, d.1)
+declaration_by (keyword keywords.Cond) before following = plain_from objects.Condition following >>= λ d. Some (Some d.0, d.1)
+declaration_by (keyword keywords.Sem) before following = semaphore_from following >>= λ d. Some (Some d.0, d.1)
+declaration_by _ before following = Some (None, before)
 
 abbrev pub declaration_next : Option Token → List Token → List Token → Read (Option Declaration)
-declaration_next None before behind = Some (None, before)
-declaration_next (Some t) before behind = declaration_by t.kind before behind
+declaration_next None before following = Some (None, before)
+declaration_next (Some t) before following = declaration_by t.kind before following
 
 -- a declaration, or nothing where something else stands
 unfoldable pub declaration_turn : Turn Declaration

@@ -9,7 +9,7 @@ use Rattle.guest_syntax.specs.declared.lexer.Step.TheVariants.{Passed, Stops, No
 use Rattle.guest_syntax.specs.declared.token.Symbol.{Symbol}
 use Rattle.guest_syntax.specs.declared.token.TheConstants.{KEYWORDS, SYMBOLS}
 use Rattle.guest_syntax.specs.Place.{past, after}
-use Rattle.guest_syntax.specs.Gap.{gap_step}
+use Rattle.guest_syntax.specs.reader.BlankBytes.{gap_step}
 use Rattle.guest_syntax.specs.Tokens.{Kind, name, keyword, number, symbol, bad, Token, keyword_text, symbol_text, is_digit, is_letter, is_name_byte}
 
 infixl 10 ◌>>=◌

@@ -13,12 +13,12 @@ use Rattle.guest_syntax.specs.declared.token.Keyword.TheVariants as keywords
 use Rattle.guest_syntax.specs.declared.token.Symbol.TheVariants as symbols
 use Rattle.guest_syntax.specs.declared.token.TheConstants.{KEYWORDS, SYMBOLS}
 use Rattle.guest_syntax.specs.Tokens.{Kind, name, keyword, number, symbol, bad, Spelling, IsLongest, IsIdentifier, keyword_text, symbol_text, value, is_letter, is_digit, is_name_byte}
-use Rattle.guest_syntax.specs.Scan.{name_or_keyword, capped, symbol_at, kind_by, kind_at}
-use Rattle.guest_syntax.proofs.Options.{map_some, some_is}
-use Rattle.guest_syntax.proofs.Bytes.{and_parts, or_left, or_right, letter_no_digit, name_byte_ascii, digit_ascii}
-use Rattle.guest_syntax.proofs.Scans.{symbol_has_bytes}
-use Rattle.guest_syntax.proofs.Gaps.{Ascii}
-use Rattle.guest_syntax.proofs.Prefixes.{Front, front, prefix_is}
+use Rattle.guest_syntax.specs.reader.Scanner.{name_or_keyword, capped, symbol_at, kind_by, kind_at}
+use Rattle.guest_syntax.proofs.OptionCases.{map_some, some_is}
+use Rattle.guest_syntax.proofs.ByteClasses.{and_parts, or_left, or_right, letter_no_digit, name_byte_ascii, digit_ascii}
+use Rattle.guest_syntax.proofs.ScannerProgress.{symbol_has_bytes}
+use Rattle.guest_syntax.proofs.BlankRuns.{Ascii}
+use Rattle.guest_syntax.proofs.LongestPrefix.{Front, front, prefix_is}
 
 -- ---- lists of bytes that pass
 

@@ -13,8 +13,8 @@ use Rattle.guest_syntax.specs.Tokens.{Kind, name, keyword, number, symbol, bad, 
 use Rattle.guest_syntax.specs.Tree.{Name}
 use Rattle.guest_syntax.specs.Forms.{IsToken, IsTokenAt, IsName, IsNumber}
 use Rattle.guest_syntax.specs.Grammar.{IsTimes}
-use Rattle.guest_syntax.specs.ReadTokens.{is_bad, token_at, is_symbol, symbol_from, name_in, name_from, number_in, number_from, times_from}
-use Rattle.guest_syntax.proofs.Options.{bind_some, some_is, cond_ok, cond_no}
+use Rattle.guest_syntax.specs.reader.SingleTokens.{is_bad, token_at, is_symbol, symbol_from, name_in, name_from, number_in, number_from, times_from}
+use Rattle.guest_syntax.proofs.OptionCases.{bind_some, some_is, cond_ok, cond_no}
 
 pub token_takes : (ts : List Token) (x : Token × List Token) → token_at ts ≡ Some x → (is_bad x.0.kind ≡ false) × (ts ≡ x.0 ∷ x.1)
 unfolding token_at

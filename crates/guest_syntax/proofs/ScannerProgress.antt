@@ -7,10 +7,10 @@ use Rattle.guest_syntax.specs.declared.token.Symbol.TheVariants as symbols
 use Rattle.guest_syntax.specs.declared.lexer.Step.{Step}
 use Rattle.guest_syntax.specs.declared.lexer.Step.TheVariants.{Passed, Stops, NotAscii}
 use Rattle.guest_syntax.specs.Place.{past}
-use Rattle.guest_syntax.specs.Gap.{gap_step}
+use Rattle.guest_syntax.specs.reader.BlankBytes.{gap_step}
 use Rattle.guest_syntax.specs.Tokens.{Kind, symbol, Token, is_letter, is_digit, is_name_byte, symbol_text}
-use Rattle.guest_syntax.specs.Scan.{skip_by, skipped, symbol_at, kind_by, kind_at, first_from, first, scan_with, scan, tokens_from}
-use Rattle.guest_syntax.proofs.Options.{bind_some, map_some, some_is}
+use Rattle.guest_syntax.specs.reader.Scanner.{skip_by, skipped, symbol_at, kind_by, kind_at, first_from, first, scan_with, scan, tokens_from}
+use Rattle.guest_syntax.proofs.OptionCases.{bind_some, map_some, some_is}
 
 skip_by_len : (b : ℕ) (bs : List ℕ) (at : Pos) (x : Pos × List ℕ) (s : Step) (more : Bool → Option (Pos × List ℕ))
     → ((d : Bool) → more d ≡ Some x → length x.1 ≤ length bs) → skip_by s more at (b ∷ bs) ≡ Some x → length x.1 ≤ length (b ∷ bs)

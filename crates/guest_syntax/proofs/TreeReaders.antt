@@ -11,16 +11,17 @@ use Rattle.guest_syntax.specs.Tokens.{Kind, name, keyword, number, symbol, bad, 
 use Rattle.guest_syntax.specs.Tree.{Name, Declaration, Thread, Tree}
 use Rattle.guest_syntax.specs.Forms.{Form, ◌then◌, IsToken, IsName, IsEnd, each}
 use Rattle.guest_syntax.specs.Grammar.{IsObject, IsDeclaration, IsThread, IsTree}
-use Rattle.guest_syntax.specs.ReadTokens.{Read, is_bad, next_at, token_at, symbol_from, name_from, number_from}
-use Rattle.guest_syntax.specs.ReadExprs.{literal_from}
-use Rattle.guest_syntax.specs.ReadItems.{Turn, many_by, many, all_from}
-use Rattle.guest_syntax.specs.ReadStatements.{one_name_from, block_from}
-use Rattle.guest_syntax.specs.ReadTree.{variable_by, variable_from, plain_from, semaphore_from, declaration_by, declaration_next, declaration_turn, thread_from, thread_by, thread_next, thread_turn, tree_from}
-use Rattle.guest_syntax.proofs.Options.{bind_some, some_is, cond_no}
-use Rattle.guest_syntax.proofs.TokenLaws.{kind_again, kind_takes, symbol_takes, symbol_again, name_takes, name_again, number_takes, number_again}
-use Rattle.guest_syntax.proofs.ExprLaws.{literal_takes, literal_again}
-use Rattle.guest_syntax.proofs.Shorter.{object_shorter, thread_shorter}
-use Rattle.guest_syntax.proofs.StatementLaws.{one_name_takes, one_name_again, block_takes, block_again, next_again}
+use Rattle.guest_syntax.specs.reader.Reads.{Read}
+use Rattle.guest_syntax.specs.reader.SingleTokens.{is_bad, next_at, token_at, symbol_from, name_from, number_from}
+use Rattle.guest_syntax.specs.reader.Expressions.{literal_from}
+use Rattle.guest_syntax.specs.reader.Items.{Turn, many_by, many, all_from}
+use Rattle.guest_syntax.specs.reader.Statements.{one_name_from, block_from}
+use Rattle.guest_syntax.specs.reader.Trees.{variable_by, variable_from, plain_from, semaphore_from, declaration_by, declaration_next, declaration_turn, thread_from, thread_by, thread_next, thread_turn, tree_from}
+use Rattle.guest_syntax.proofs.OptionCases.{bind_some, some_is, cond_no}
+use Rattle.guest_syntax.proofs.TokenReaders.{kind_again, kind_takes, symbol_takes, symbol_again, name_takes, name_again, number_takes, number_again}
+use Rattle.guest_syntax.proofs.ExpressionReaders.{literal_takes, literal_again}
+use Rattle.guest_syntax.proofs.TakesTokens.{object_shorter, thread_shorter}
+use Rattle.guest_syntax.proofs.StatementReaders.{one_name_takes, one_name_again, block_takes, block_again, next_again}
 
 -- ---- items in turn
 
@@ -139,43 +140,43 @@ next_kind : (k : Kind) (ts rest : List Token) (h : IsToken k ts rest) → is_bad
 unfolding next_at
 next_kind k ts rest h e = ap next_at h.1 ∙ rw e refl
 
-declaration_by_takes : (k : Kind) (before behind : List Token) (x : Option Declaration × List Token) → IsToken k before behind → declaration_by k before behind ≡ Some x → IsGiven IsDeclaration Same x.0 before x.1
-declaration_by_takes (name s) before behind x h e = subst (λ (y : Option Declaration × List Token). IsGiven IsDeclaration Same y.0 before y.1) (some_is (None, before) x e) refl
-declaration_by_takes (number n) before behind x h e = subst (λ (y : Option Declaration × List Token). IsGiven IsDeclaration Same y.0 before y.1) (some_is (None, before) x e) refl
-declaration_by_takes (symbol s) before behind x h e = subst (λ (y : Option Declaration × List Token). IsGiven IsDeclaration Same y.0 before y.1) (some_is (None, before) x e) refl
-declaration_by_takes bad before behind x h e = subst (λ (y : Option Declaration × List Token). IsGiven IsDeclaration Same y.0 before y.1) (some_is (None, before) x e) refl
-declaration_by_takes (keyword keywords.Var) before behind x h e =
-    let v = bind_some (variable_from behind) _ _ e in
-    subst (λ (y : Option Declaration × List Token). IsGiven IsDeclaration Same y.0 before y.1) (some_is (Some v.0.0, v.0.1) x v.2) (variable_takes before behind v.0 h v.1)
-declaration_by_takes (keyword keywords.Mutex) before behind x h e =
-    let v = bind_some (plain_from objects.Mutex behind) _ _ e in
-    subst (λ (y : Option Declaration × List Token). IsGiven IsDeclaration Same y.0 before y.1) (some_is (Some v.0.0, v.0.1) x v.2) (plain_takes keywords.Mutex objects.Mutex (λ n ts rest h. h) before behind v.0 h v.1)
-declaration_by_takes (keyword keywords.Cond) before behind x h e =
-    let v = bind_some (plain_from objects.Condition behind) _ _ e in
-    subst (λ (y : Option Declaration × List Token). IsGiven IsDeclaration Same y.0 before y.1) (some_is (Some v.0.0, v.0.1) x v.2) (plain_takes keywords.Cond objects.Condition (λ n ts rest h. h) before behind v.0 h v.1)
-declaration_by_takes (keyword keywords.Sem) before behind x h e =
-    let v = bind_some (semaphore_from behind) _ _ e in
-    subst (λ (y : Option Declaration × List Token). IsGiven IsDeclaration Same y.0 before y.1) (some_is (Some v.0.0, v.0.1) x v.2) (semaphore_takes before behind v.0 h v.1)
-declaration_by_takes (keyword keywords.Thread) before behind x h e = subst (λ (y : Option Declaration × List Token). IsGiven IsDeclaration Same y.0 before y.1) (some_is (None, before) x e) refl
-declaration_by_takes (keyword keywords.Load) before behind x h e = subst (λ (y : Option Declaration × List Token). IsGiven IsDeclaration Same y.0 before y.1) (some_is (None, before) x e) refl
-declaration_by_takes (keyword keywords.Store) before behind x h e = subst (λ (y : Option Declaration × List Token). IsGiven IsDeclaration Same y.0 before y.1) (some_is (None, before) x e) refl
-declaration_by_takes (keyword keywords.Lock) before behind x h e = subst (λ (y : Option Declaration × List Token). IsGiven IsDeclaration Same y.0 before y.1) (some_is (None, before) x e) refl
-declaration_by_takes (keyword keywords.Unlock) before behind x h e = subst (λ (y : Option Declaration × List Token). IsGiven IsDeclaration Same y.0 before y.1) (some_is (None, before) x e) refl
-declaration_by_takes (keyword keywords.Wait) before behind x h e = subst (λ (y : Option Declaration × List Token). IsGiven IsDeclaration Same y.0 before y.1) (some_is (None, before) x e) refl
-declaration_by_takes (keyword keywords.Signal) before behind x h e = subst (λ (y : Option Declaration × List Token). IsGiven IsDeclaration Same y.0 before y.1) (some_is (None, before) x e) refl
-declaration_by_takes (keyword keywords.Broadcast) before behind x h e = subst (λ (y : Option Declaration × List Token). IsGiven IsDeclaration Same y.0 before y.1) (some_is (None, before) x e) refl
-declaration_by_takes (keyword keywords.Acquire) before behind x h e = subst (λ (y : Option Declaration × List Token). IsGiven IsDeclaration Same y.0 before y.1) (some_is (None, before) x e) refl
-declaration_by_takes (keyword keywords.Release) before behind x h e = subst (λ (y : Option Declaration × List Token). IsGiven IsDeclaration Same y.0 before y.1) (some_is (None, before) x e) refl
-declaration_by_takes (keyword keywords.Set) before behind x h e = subst (λ (y : Option Declaration × List Token). IsGiven IsDeclaration Same y.0 before y.1) (some_is (None, before) x e) refl
-declaration_by_takes (keyword keywords.If) before behind x h e = subst (λ (y : Option Declaration × List Token). IsGiven IsDeclaration Same y.0 before y.1) (some_is (None, before) x e) refl
-declaration_by_takes (keyword keywords.Else) before behind x h e = subst (λ (y : Option Declaration × List Token). IsGiven IsDeclaration Same y.0 before y.1) (some_is (None, before) x e) refl
-declaration_by_takes (keyword keywords.Repeat) before behind x h e = subst (λ (y : Option Declaration × List Token). IsGiven IsDeclaration Same y.0 before y.1) (some_is (None, before) x e) refl
-declaration_by_takes (keyword keywords.Leave) before behind x h e = subst (λ (y : Option Declaration × List Token). IsGiven IsDeclaration Same y.0 before y.1) (some_is (None, before) x e) refl
-declaration_by_takes (keyword keywords.Assert) before behind x h e = subst (λ (y : Option Declaration × List Token). IsGiven IsDeclaration Same y.0 before y.1) (some_is (None, before) x e) refl
+declaration_by_takes : (k : Kind) (before following : List Token) (x : Option Declaration × List Token) → IsToken k before following → declaration_by k before following ≡ Some x → IsGiven IsDeclaration Same x.0 before x.1
+declaration_by_takes (name s) before following x h e = subst (λ (y : Option Declaration × List Token). IsGiven IsDeclaration Same y.0 before y.1) (some_is (None, before) x e) refl
+declaration_by_takes (number n) before following x h e = subst (λ (y : Option Declaration × List Token). IsGiven IsDeclaration Same y.0 before y.1) (some_is (None, before) x e) refl
+declaration_by_takes (symbol s) before following x h e = subst (λ (y : Option Declaration × List Token). IsGiven IsDeclaration Same y.0 before y.1) (some_is (None, before) x e) refl
+declaration_by_takes bad before following x h e = subst (λ (y : Option Declaration × List Token). IsGiven IsDeclaration Same y.0 before y.1) (some_is (None, before) x e) refl
+declaration_by_takes (keyword keywords.Var) before following x h e =
+    let v = bind_some (variable_from following) _ _ e in
+    subst (λ (y : Option Declaration × List Token). IsGiven IsDeclaration Same y.0 before y.1) (some_is (Some v.0.0, v.0.1) x v.2) (variable_takes before following v.0 h v.1)
+declaration_by_takes (keyword keywords.Mutex) before following x h e =
+    let v = bind_some (plain_from objects.Mutex following) _ _ e in
+    subst (λ (y : Option Declaration × List Token). IsGiven IsDeclaration Same y.0 before y.1) (some_is (Some v.0.0, v.0.1) x v.2) (plain_takes keywords.Mutex objects.Mutex (λ n ts rest h. h) before following v.0 h v.1)
+declaration_by_takes (keyword keywords.Cond) before following x h e =
+    let v = bind_some (plain_from objects.Condition following) _ _ e in
+    subst (λ (y : Option Declaration × List Token). IsGiven IsDeclaration Same y.0 before y.1) (some_is (Some v.0.0, v.0.1) x v.2) (plain_takes keywords.Cond objects.Condition (λ n ts rest h. h) before following v.0 h v.1)
+declaration_by_takes (keyword keywords.Sem) before following x h e =
+    let v = bind_some (semaphore_from following) _ _ e in
+    subst (λ (y : Option Declaration × List Token). IsGiven IsDeclaration Same y.0 before y.1) (some_is (Some v.0.0, v.0.1) x v.2) (semaphore_takes before following v.0 h v.1)
+declaration_by_takes (keyword keywords.Thread) before following x h e = subst (λ (y : Option Declaration × List Token). IsGiven IsDeclaration Same y.0 before y.1) (some_is (None, before) x e) refl
+declaration_by_takes (keyword keywords.Load) before following x h e = subst (λ (y : Option Declaration × List Token). IsGiven IsDeclaration Same y.0 before y.1) (some_is (None, before) x e) refl
+declaration_by_takes (keyword keywords.Store) before following x h e = subst (λ (y : Option Declaration × List Token). IsGiven IsDeclaration Same y.0 before y.1) (some_is (None, before) x e) refl
+declaration_by_takes (keyword keywords.Lock) before following x h e = subst (λ (y : Option Declaration × List Token). IsGiven IsDeclaration Same y.0 before y.1) (some_is (None, before) x e) refl
+declaration_by_takes (keyword keywords.Unlock) before following x h e = subst (λ (y : Option Declaration × List Token). IsGiven IsDeclaration Same y.0 before y.1) (some_is (None, before) x e) refl
+declaration_by_takes (keyword keywords.Wait) before following x h e = subst (λ (y : Option Declaration × List Token). IsGiven IsDeclaration Same y.0 before y.1) (some_is (None, before) x e) refl
+declaration_by_takes (keyword keywords.Signal) before following x h e = subst (λ (y : Option Declaration × List Token). IsGiven IsDeclaration Same y.0 before y.1) (some_is (None, before) x e) refl
+declaration_by_takes (keyword keywords.Broadcast) before following x h e = subst (λ (y : Option Declaration × List Token). IsGiven IsDeclaration Same y.0 before y.1) (some_is (None, before) x e) refl
+declaration_by_takes (keyword keywords.Acquire) before following x h e = subst (λ (y : Option Declaration × List Token). IsGiven IsDeclaration Same y.0 before y.1) (some_is (None, before) x e) refl
+declaration_by_takes (keyword keywords.Release) before following x h e = subst (λ (y : Option Declaration × List Token). IsGiven IsDeclaration Same y.0 before y.1) (some_is (None, before) x e) refl
+declaration_by_takes (keyword keywords.Set) before following x h e = subst (λ (y : Option Declaration × List Token). IsGiven IsDeclaration Same y.0 before y.1) (some_is (None, before) x e) refl
+declaration_by_takes (keyword keywords.If) before following x h e = subst (λ (y : Option Declaration × List Token). IsGiven IsDeclaration Same y.0 before y.1) (some_is (None, before) x e) refl
+declaration_by_takes (keyword keywords.Else) before following x h e = subst (λ (y : Option Declaration × List Token). IsGiven IsDeclaration Same y.0 before y.1) (some_is (None, before) x e) refl
+declaration_by_takes (keyword keywords.Repeat) before following x h e = subst (λ (y : Option Declaration × List Token). IsGiven IsDeclaration Same y.0 before y.1) (some_is (None, before) x e) refl
+declaration_by_takes (keyword keywords.Leave) before following x h e = subst (λ (y : Option Declaration × List Token). IsGiven IsDeclaration Same y.0 before y.1) (some_is (None, before) x e) refl
+declaration_by_takes (keyword keywords.Assert) before following x h e = subst (λ (y : Option Declaration × List Token). IsGiven IsDeclaration Same y.0 before y.1) (some_is (None, before) x e) refl
 
-declaration_next_takes : (o : Option Token) (before behind : List Token) (x : Option Declaration × List Token) → IsNext o before behind → declaration_next o before behind ≡ Some x → IsGiven IsDeclaration Same x.0 before x.1
-declaration_next_takes None before behind x n e = subst (λ (y : Option Declaration × List Token). IsGiven IsDeclaration Same y.0 before y.1) (some_is (None, before) x e) refl
-declaration_next_takes (Some t) before behind x n e = declaration_by_takes t.kind before behind x (t.at, n.1) e
+declaration_next_takes : (o : Option Token) (before following : List Token) (x : Option Declaration × List Token) → IsNext o before following → declaration_next o before following ≡ Some x → IsGiven IsDeclaration Same x.0 before x.1
+declaration_next_takes None before following x n e = subst (λ (y : Option Declaration × List Token). IsGiven IsDeclaration Same y.0 before y.1) (some_is (None, before) x e) refl
+declaration_next_takes (Some t) before following x n e = declaration_by_takes t.kind before following x (t.at, n.1) e
 
 declaration_turn_takes : TurnTakes IsDeclaration Same declaration_turn
 unfolding declaration_turn
@@ -206,37 +207,37 @@ thread_takes before ts x w e =
     let b = bind_some (block_from (suc DEPTH) n.0.1) _ _ n.2 in
     subst (λ (y : Thread × List Token). IsThread y.0 before y.1) (some_is (record { name = n.0.0; body = b.0.0 }, b.0.1) x b.2) (ts, w, (n.0.1, name_takes ts n.0 n.1, block_takes (suc DEPTH) n.0.1 b.0 b.1))
 
-thread_by_takes : (k : Kind) (before behind : List Token) (x : Option Thread × List Token) → IsToken k before behind → thread_by k behind ≡ Some x → IsGiven IsThread (IsNext None) x.0 before x.1
-thread_by_takes (name s) before behind x h e = absurd cc
-thread_by_takes (number n) before behind x h e = absurd cc
-thread_by_takes (symbol s) before behind x h e = absurd cc
-thread_by_takes bad before behind x h e = absurd cc
-thread_by_takes (keyword keywords.Var) before behind x h e = absurd cc
-thread_by_takes (keyword keywords.Mutex) before behind x h e = absurd cc
-thread_by_takes (keyword keywords.Cond) before behind x h e = absurd cc
-thread_by_takes (keyword keywords.Sem) before behind x h e = absurd cc
-thread_by_takes (keyword keywords.Thread) before behind x h e =
-    let v = bind_some (thread_from behind) _ _ e in
-    subst (λ (y : Option Thread × List Token). IsGiven IsThread (IsNext None) y.0 before y.1) (some_is (Some v.0.0, v.0.1) x v.2) (thread_takes before behind v.0 h v.1)
-thread_by_takes (keyword keywords.Load) before behind x h e = absurd cc
-thread_by_takes (keyword keywords.Store) before behind x h e = absurd cc
-thread_by_takes (keyword keywords.Lock) before behind x h e = absurd cc
-thread_by_takes (keyword keywords.Unlock) before behind x h e = absurd cc
-thread_by_takes (keyword keywords.Wait) before behind x h e = absurd cc
-thread_by_takes (keyword keywords.Signal) before behind x h e = absurd cc
-thread_by_takes (keyword keywords.Broadcast) before behind x h e = absurd cc
-thread_by_takes (keyword keywords.Acquire) before behind x h e = absurd cc
-thread_by_takes (keyword keywords.Release) before behind x h e = absurd cc
-thread_by_takes (keyword keywords.Set) before behind x h e = absurd cc
-thread_by_takes (keyword keywords.If) before behind x h e = absurd cc
-thread_by_takes (keyword keywords.Else) before behind x h e = absurd cc
-thread_by_takes (keyword keywords.Repeat) before behind x h e = absurd cc
-thread_by_takes (keyword keywords.Leave) before behind x h e = absurd cc
-thread_by_takes (keyword keywords.Assert) before behind x h e = absurd cc
+thread_by_takes : (k : Kind) (before following : List Token) (x : Option Thread × List Token) → IsToken k before following → thread_by k following ≡ Some x → IsGiven IsThread (IsNext None) x.0 before x.1
+thread_by_takes (name s) before following x h e = absurd cc
+thread_by_takes (number n) before following x h e = absurd cc
+thread_by_takes (symbol s) before following x h e = absurd cc
+thread_by_takes bad before following x h e = absurd cc
+thread_by_takes (keyword keywords.Var) before following x h e = absurd cc
+thread_by_takes (keyword keywords.Mutex) before following x h e = absurd cc
+thread_by_takes (keyword keywords.Cond) before following x h e = absurd cc
+thread_by_takes (keyword keywords.Sem) before following x h e = absurd cc
+thread_by_takes (keyword keywords.Thread) before following x h e =
+    let v = bind_some (thread_from following) _ _ e in
+    subst (λ (y : Option Thread × List Token). IsGiven IsThread (IsNext None) y.0 before y.1) (some_is (Some v.0.0, v.0.1) x v.2) (thread_takes before following v.0 h v.1)
+thread_by_takes (keyword keywords.Load) before following x h e = absurd cc
+thread_by_takes (keyword keywords.Store) before following x h e = absurd cc
+thread_by_takes (keyword keywords.Lock) before following x h e = absurd cc
+thread_by_takes (keyword keywords.Unlock) before following x h e = absurd cc
+thread_by_takes (keyword keywords.Wait) before following x h e = absurd cc
+thread_by_takes (keyword keywords.Signal) before following x h e = absurd cc
+thread_by_takes (keyword keywords.Broadcast) before following x h e = absurd cc
+thread_by_takes (keyword keywords.Acquire) before following x h e = absurd cc
+thread_by_takes (keyword keywords.Release) before following x h e = absurd cc
+thread_by_takes (keyword keywords.Set) before following x h e = absurd cc
+thread_by_takes (keyword keywords.If) before following x h e = absurd cc
+thread_by_takes (keyword keywords.Else) before following x h e = absurd cc
+thread_by_takes (keyword keywords.Repeat) before following x h e = absurd cc
+thread_by_takes (keyword keywords.Leave) before following x h e = absurd cc
+thread_by_takes (keyword keywords.Assert) before following x h e = absurd cc
 
-thread_next_takes : (o : Option Token) (before behind : List Token) (x : Option Thread × List Token) → IsNext o before behind → thread_next o behind ≡ Some x → IsGiven IsThread (IsNext None) x.0 before x.1
-thread_next_takes None before behind x n e = subst (λ (y : Option Thread × List Token). IsGiven IsThread (IsNext None) y.0 before y.1) (some_is (None, behind) x e) n
-thread_next_takes (Some t) before behind x n e = thread_by_takes t.kind before behind x (t.at, n.1) e
+thread_next_takes : (o : Option Token) (before following : List Token) (x : Option Thread × List Token) → IsNext o before following → thread_next o following ≡ Some x → IsGiven IsThread (IsNext None) x.0 before x.1
+thread_next_takes None before following x n e = subst (λ (y : Option Thread × List Token). IsGiven IsThread (IsNext None) y.0 before y.1) (some_is (None, following) x e) n
+thread_next_takes (Some t) before following x n e = thread_by_takes t.kind before following x (t.at, n.1) e
 
 thread_turn_takes : TurnTakes IsThread (IsNext None) thread_turn
 unfolding thread_turn

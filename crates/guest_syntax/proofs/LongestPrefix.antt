@@ -1,7 +1,7 @@
 -- The longest front of bytes that pass a test.
 use Rattle.std.proofs.Common.{◌≡◌, ℕ, ◌+◌, Bool, true, false, cond, ◌&&◌, List, [], ◌∷◌, ◌++◌, length, take, drop, refl, ap, subst, one-add}
 use Rattle.std.specs.List.{prefix_len, list_all}
-use Rattle.guest_syntax.proofs.Bytes.{and_parts}
+use Rattle.guest_syntax.proofs.ByteClasses.{and_parts}
 
 and_both : (a b : Bool) → a ≡ true → b ≡ true → (a && b) ≡ true
 and_both true b e h = h

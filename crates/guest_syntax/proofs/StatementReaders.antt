@@ -6,18 +6,19 @@ use Rattle.guest_syntax.specs.declared.token.Symbol.{Symbol}
 use Rattle.guest_syntax.specs.declared.token.Keyword.TheVariants as keywords
 use Rattle.guest_syntax.specs.declared.token.Symbol.TheVariants as symbols
 use Rattle.guest_syntax.specs.Tokens.{Kind, name, keyword, number, symbol, bad, Token}
-use Rattle.guest_syntax.specs.Scan.{◌>>=◌}
+use Rattle.guest_syntax.specs.reader.Scanner.{◌>>=◌}
 use Rattle.guest_syntax.specs.Tree.{Name, Operand, Expr, Stmt, load, store, lock, unlock, wait, signal, broadcast, acquire, release, set, assert, if_then, if_else, repeat, leave, Block, nothing, next, block_of}
 use Rattle.guest_syntax.specs.Forms.{Form, ◌then◌, IsTokenAt, IsToken, IsName, IsEnd, in_braces}
 use Rattle.guest_syntax.specs.Grammar.{IsOperand, IsExpr, IsTimes, IsStatement, AreStatements, IsBlock}
-use Rattle.guest_syntax.specs.ReadTokens.{Read, token_at, symbol_from, name_from, times_from}
-use Rattle.guest_syntax.specs.ReadExprs.{operand_from, op_of, expr_from}
-use Rattle.guest_syntax.specs.ReadItems.{Turn, many_by, many, all_from}
-use Rattle.guest_syntax.specs.ReadStatements.{is_else, one_name_from, two_names_from, store_from, set_from, assert_from, named_by, simple_by, choice_by, choice_from, repeat_from, statement_by, turn_by, turn_from, block_from}
-use Rattle.guest_syntax.proofs.Options.{bind_some, some_is}
-use Rattle.guest_syntax.proofs.TokenLaws.{token_takes, kind_again, kind_takes, symbol_takes, symbol_again, name_takes, name_again, times_takes, times_again}
-use Rattle.guest_syntax.proofs.ExprLaws.{operand_takes, operand_again, Ends, expr_takes, expr_again}
-use Rattle.guest_syntax.proofs.Shorter.{statement_shorter}
+use Rattle.guest_syntax.specs.reader.Reads.{Read}
+use Rattle.guest_syntax.specs.reader.SingleTokens.{token_at, symbol_from, name_from, times_from}
+use Rattle.guest_syntax.specs.reader.Expressions.{operand_from, op_of, expr_from}
+use Rattle.guest_syntax.specs.reader.Items.{Turn, many_by, many, all_from}
+use Rattle.guest_syntax.specs.reader.Statements.{is_else, one_name_from, two_names_from, store_from, set_from, assert_from, named_by, simple_by, choice_by, choice_from, repeat_from, statement_by, turn_by, turn_from, block_from}
+use Rattle.guest_syntax.proofs.OptionCases.{bind_some, some_is}
+use Rattle.guest_syntax.proofs.TokenReaders.{token_takes, kind_again, kind_takes, symbol_takes, symbol_again, name_takes, name_again, times_takes, times_again}
+use Rattle.guest_syntax.proofs.ExpressionReaders.{operand_takes, operand_again, Ends, expr_takes, expr_again}
+use Rattle.guest_syntax.proofs.TakesTokens.{statement_shorter}
 
 -- ---- what was read is spelled so
 
@@ -158,14 +159,14 @@ is_else_kind (keyword keywords.Repeat) e = absurd cc
 is_else_kind (keyword keywords.Leave) e = absurd cc
 is_else_kind (keyword keywords.Assert) e = absurd cc
 
-choice_by_takes : (block : Reader) (room : ℕ) → Takes block room → (before ts : List Token) (x : Stmt × List Token) (e : Expr) (b : Block) (t1 t2 behind : List Token) (k : Kind) (o : Bool) → is_else k ≡ o
-    → IsToken (keyword keywords.If) before ts → IsExpr e ts t1 → IsBlock b room t1 t2 → IsToken k t2 behind → choice_by block e b t2 behind o ≡ Some x → IsStatement x.0 room before x.1
-choice_by_takes block room ih before ts x e b t1 t2 behind k false is w he hb hk h =
+choice_by_takes : (block : Reader) (room : ℕ) → Takes block room → (before ts : List Token) (x : Stmt × List Token) (e : Expr) (b : Block) (t1 t2 following : List Token) (k : Kind) (o : Bool) → is_else k ≡ o
+    → IsToken (keyword keywords.If) before ts → IsExpr e ts t1 → IsBlock b room t1 t2 → IsToken k t2 following → choice_by block e b t2 following o ≡ Some x → IsStatement x.0 room before x.1
+choice_by_takes block room ih before ts x e b t1 t2 following k false is w he hb hk h =
     subst (λ (y : Stmt × List Token). IsStatement y.0 room before y.1) (some_is (if_then e b, t2) x h) (ts, w, (t1, he, hb))
-choice_by_takes block room ih before ts x e b t1 t2 behind k true is w he hb hk h =
-    let c = bind_some (block behind) _ _ h in
+choice_by_takes block room ih before ts x e b t1 t2 following k true is w he hb hk h =
+    let c = bind_some (block following) _ _ h in
     subst (λ (y : Stmt × List Token). IsStatement y.0 room before y.1) (some_is (if_else e b c.0.0, c.0.1) x c.2)
-    (ts, w, (t1, he, (t2, hb, (behind, subst (λ k. IsToken k t2 behind) (is_else_kind k is) hk, ih behind c.0 c.1))))
+    (ts, w, (t1, he, (t2, hb, (following, subst (λ k. IsToken k t2 following) (is_else_kind k is) hk, ih following c.0 c.1))))
 
 choice_takes : (block : Reader) (room : ℕ) → Takes block room → (before ts : List Token) (x : Stmt × List Token) → IsToken (keyword keywords.If) before ts → choice_from block ts ≡ Some x → IsStatement x.0 room before x.1
 unfolding choice_from

@@ -1,6 +1,6 @@
 use Rattle.std.proofs.Common.{sym, arith}
-use Rattle.guest_syntax.proofs.Skips.{after_step, after_end}
-use Rattle.guest_syntax.proofs.place.Pos.behind.Goals as goal
+use Rattle.guest_syntax.proofs.ByteLoops.{after_step, after_end}
+use Rattle.guest_syntax.proofs.place.Pos.after.Goals as goal
 
 pub loop-byte-preserved : goal.loop-byte-preserved
 loop-byte-preserved c = record {

@@ -5,10 +5,11 @@ use Rattle.guest_syntax.specs.declared.token.Symbol.TheVariants as symbols
 use Rattle.guest_syntax.specs.declared.tree.Op.{Op}
 use Rattle.guest_syntax.specs.declared.tree.Op.TheVariants as ops
 use Rattle.guest_syntax.specs.Tokens.{Kind, name, keyword, number, symbol, bad, Token}
-use Rattle.guest_syntax.specs.Scan.{◌>>=◌}
+use Rattle.guest_syntax.specs.reader.Scanner.{◌>>=◌}
 use Rattle.guest_syntax.specs.Tree as tree
 use Rattle.guest_syntax.specs.Tree.{Operand, Expr}
-use Rattle.guest_syntax.specs.ReadTokens.{Read, token_at, number_from}
+use Rattle.guest_syntax.specs.reader.Reads.{Read}
+use Rattle.guest_syntax.specs.reader.SingleTokens.{token_at, number_from}
 
 abbrev pub negated : ℕ → ℤ
 negated n = pos 0 -ℤ pos n
@@ -50,8 +51,8 @@ op_of _ = None
 
 -- an expression, whose first operand was read, and what may be an operator
 abbrev pub expr_by : Operand → List Token → List Token → Option Op → Read Expr
-expr_by a before behind None = Some (tree.single a, before)
-expr_by a before behind (Some op) = operand_from behind >>= λ b. Some (tree.both a op b.0, b.1)
+expr_by a before following None = Some (tree.single a, before)
+expr_by a before following (Some op) = operand_from following >>= λ b. Some (tree.both a op b.0, b.1)
 
 unfoldable pub expr_from : List Token → Read Expr
 expr_from ts = do

@@ -4,15 +4,16 @@ use Rattle.std.specs.Prelude.{IfOk, IsSome}
 use Rattle.guest_syntax.specs.declared.place.Pos.{Pos}
 use Rattle.guest_syntax.specs.declared.error.SyntaxError.{SyntaxError}
 use Rattle.guest_syntax.specs.declared.error.SyntaxError.TheVariants as errors
-use Rattle.guest_syntax.specs.declared.lexer.Cursor.{Cursor}
+use Rattle.guest_syntax.specs.declared.cursor.Cursor.{Cursor}
 use Rattle.guest_syntax.specs.declared.token.Token.{Token}
 use Rattle.guest_syntax.specs.declared.token.Kind.{Kind}
 use Rattle.guest_syntax.specs.declared.token.Kind.TheVariants as kinds
-use Rattle.guest_syntax.specs.View.{kind_view, token_view}
-use Rattle.guest_syntax.specs.Gives.{Fails, Gives}
-use Rattle.guest_syntax.specs.Scan.{skipped, first, scan, tokens_from}
-use Rattle.guest_syntax.specs.ReadTokens.{rest_of, is_bad, next_at}
-use Rattle.guest_syntax.proofs.Scans.{tokens_first}
+use Rattle.guest_syntax.specs.reader.TokenViews.{kind_view, token_view}
+use Rattle.guest_syntax.specs.reader.Gives.{Fails, Gives}
+use Rattle.guest_syntax.specs.reader.Scanner.{skipped, first, scan, tokens_from}
+use Rattle.guest_syntax.specs.reader.Reads.{rest_of}
+use Rattle.guest_syntax.specs.reader.SingleTokens.{is_bad, next_at}
+use Rattle.guest_syntax.proofs.ScannerProgress.{tokens_first}
 
 -- a fault stays a fault
 pub fails_then : {A B : Type 0} (e : SyntaxError) (o : Option A) (p : Option B) → (o ≡ None → p ≡ None) → Fails e o → Fails e p

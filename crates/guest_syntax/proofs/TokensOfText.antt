@@ -8,15 +8,15 @@ use Rattle.guest_syntax.specs.declared.token.Symbol.{Symbol}
 use Rattle.guest_syntax.specs.declared.token.Symbol.TheVariants as symbols
 use Rattle.guest_syntax.specs.declared.lexer.Step.TheVariants.{Stops}
 use Rattle.guest_syntax.specs.Place.{after}
-use Rattle.guest_syntax.specs.Gap.{gap_step}
+use Rattle.guest_syntax.specs.reader.BlankBytes.{gap_step}
 use Rattle.guest_syntax.specs.Tokens.{Kind, name, keyword, number, symbol, bad, Token, Tokens, Begins, Spelling, IsIdentifier, keyword_text, symbol_text, blank, is_digit}
-use Rattle.guest_syntax.specs.Scan.{◌>>=◌, skipped, kind_at, first_from, first, scan_with, scan, tokens_from}
-use Rattle.guest_syntax.proofs.Options.{bind_some, some_is}
-use Rattle.guest_syntax.proofs.Scans.{first_len}
-use Rattle.guest_syntax.proofs.Clean.{Clean}
-use Rattle.guest_syntax.proofs.Bytes.{and_parts, letter_stops, digit_stops}
-use Rattle.guest_syntax.proofs.Gaps.{Ascii, ascii_append, ascii_parts, Gap, skip_takes, skip_again, stop_again}
-use Rattle.guest_syntax.proofs.Spelt.{kind_reads, kind_again, keyword_is_identifier}
+use Rattle.guest_syntax.specs.reader.Scanner.{◌>>=◌, skipped, kind_at, first_from, first, scan_with, scan, tokens_from}
+use Rattle.guest_syntax.proofs.OptionCases.{bind_some, some_is}
+use Rattle.guest_syntax.proofs.ScannerProgress.{first_len}
+use Rattle.guest_syntax.proofs.NoBadTokens.{Clean}
+use Rattle.guest_syntax.proofs.ByteClasses.{and_parts, letter_stops, digit_stops}
+use Rattle.guest_syntax.proofs.BlankRuns.{Ascii, ascii_append, ascii_parts, Gap, skip_takes, skip_again, stop_again}
+use Rattle.guest_syntax.proofs.TokenSpelling.{kind_reads, kind_again, keyword_is_identifier}
 
 -- ---- what is read is spelled
 

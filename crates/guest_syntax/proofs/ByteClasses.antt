@@ -2,7 +2,7 @@
 use Rattle.std.proofs.Common.{◌≡◌, ℕ, ◌<◌, Bool, true, false, ◌&&◌, ◌||◌, ◌⊎◌, inl, inr, refl, arith}
 use Rattle.std.proofs.lemmas.Bool.Decides.{nat_tests}
 use Rattle.guest_syntax.specs.declared.lexer.Step.TheVariants.{Stops}
-use Rattle.guest_syntax.specs.Gap.{gap_step}
+use Rattle.guest_syntax.specs.reader.BlankBytes.{gap_step}
 use Rattle.guest_syntax.specs.Tokens.{is_letter, is_digit, is_name_byte}
 
 pub and_parts : (a b : Bool) → (a && b) ≡ true → (a ≡ true) × (b ≡ true)

@@ -6,15 +6,16 @@ use Rattle.guest_syntax.specs.declared.place.Pos.{Pos}
 use Rattle.guest_syntax.specs.declared.error.SyntaxError.{SyntaxError}
 use Rattle.guest_syntax.specs.declared.error.SyntaxError.TheVariants as errors
 use Rattle.guest_syntax.specs.declared.tree.Tree as code
-use Rattle.guest_syntax.specs.Gives.{Gives, Answers}
+use Rattle.guest_syntax.specs.reader.Gives.{Gives}
+use Rattle.guest_syntax.specs.Answers.{Answers}
 use Rattle.guest_syntax.specs.Tree.{Tree, tree_view}
 use Rattle.guest_syntax.specs.Grammar.{Spells}
-use Rattle.guest_syntax.specs.Scan.{tokens_from}
-use Rattle.guest_syntax.specs.ReadTree.{tree_from}
-use Rattle.guest_syntax.proofs.Options.{some_is}
-use Rattle.guest_syntax.proofs.TreeLaws.{tree_takes, tree_again}
-use Rattle.guest_syntax.proofs.Clean.{tree_clean}
-use Rattle.guest_syntax.proofs.Lexing.{tokens_takes, tokens_again}
+use Rattle.guest_syntax.specs.reader.Scanner.{tokens_from}
+use Rattle.guest_syntax.specs.reader.Trees.{tree_from}
+use Rattle.guest_syntax.proofs.OptionCases.{some_is}
+use Rattle.guest_syntax.proofs.TreeReaders.{tree_takes, tree_again}
+use Rattle.guest_syntax.proofs.NoBadTokens.{tree_clean}
+use Rattle.guest_syntax.proofs.TokensOfText.{tokens_takes, tokens_again}
 
 abbrev pub start : Pos
 start = record { line = 1; col = 1 }

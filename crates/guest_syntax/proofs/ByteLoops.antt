@@ -5,8 +5,8 @@ use Rattle.std.proofs.Math.Seq.{drop-length}
 use Rattle.guest_syntax.specs.declared.place.Pos.{Pos}
 use Rattle.guest_syntax.specs.declared.lexer.Step.{Step}
 use Rattle.guest_syntax.specs.Place.{past, after}
-use Rattle.guest_syntax.specs.Gap.{gap_step}
-use Rattle.guest_syntax.specs.Scan.{skip_by, skipped}
+use Rattle.guest_syntax.specs.reader.BlankBytes.{gap_step}
+use Rattle.guest_syntax.specs.reader.Scanner.{skip_by, skipped}
 
 -- &s[i..]
 pub from_at : {A : Type 0} (s : List A) (i : ℕ) → take (length s - i) (drop i s) ≡ drop i s

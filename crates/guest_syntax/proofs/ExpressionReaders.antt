@@ -11,11 +11,11 @@ use Rattle.guest_syntax.specs.Tokens.{Kind, name, keyword, number, symbol, bad, 
 use Rattle.guest_syntax.specs.Tree.{Operand, local, literal, Expr, single, both}
 use Rattle.guest_syntax.specs.Forms.{IsToken, IsLiteral}
 use Rattle.guest_syntax.specs.Grammar.{IsOperand, IsOp, IsExpr}
-use Rattle.guest_syntax.specs.ReadTokens.{is_bad, token_at, number_from}
-use Rattle.guest_syntax.specs.ReadExprs.{negated, literal_by, literal_from, operand_by, operand_from, op_of, expr_by, expr_from}
-use Rattle.guest_syntax.specs.ReadStatements.{is_else}
-use Rattle.guest_syntax.proofs.Options.{bind_some, some_is, cond_ok}
-use Rattle.guest_syntax.proofs.TokenLaws.{token_takes, token_again, kind_again, kind_takes, number_takes, number_again}
+use Rattle.guest_syntax.specs.reader.SingleTokens.{is_bad, token_at, number_from}
+use Rattle.guest_syntax.specs.reader.Expressions.{negated, literal_by, literal_from, operand_by, operand_from, op_of, expr_by, expr_from}
+use Rattle.guest_syntax.specs.reader.Statements.{is_else}
+use Rattle.guest_syntax.proofs.OptionCases.{bind_some, some_is, cond_ok}
+use Rattle.guest_syntax.proofs.TokenReaders.{token_takes, token_again, kind_again, kind_takes, number_takes, number_again}
 
 -- ---- literals
 
@@ -137,11 +137,11 @@ pub record Ends (ts : List Token) : Type 0 where
   pub no_op : op_of first.kind ≡ None
   pub no_else : is_else first.kind ≡ false
 
-expr_by_takes : (a : Operand) (k : Kind) (o : Option Op) → op_of k ≡ o → (ts before behind : List Token) (x : Expr × List Token) → IsOperand a ts before → IsToken k before behind → expr_by a before behind o ≡ Some x → IsExpr x.0 ts x.1
-expr_by_takes a k None ok ts before behind x ha hk e = subst (λ (y : Expr × List Token). IsExpr y.0 ts y.1) (some_is (single a, before) x e) ha
-expr_by_takes a k (Some op) ok ts before behind x ha hk e =
-    let b = bind_some (operand_from behind) _ _ e in
-    subst (λ (y : Expr × List Token). IsExpr y.0 ts y.1) (some_is (both a op b.0.0, b.0.1) x b.2) (before, ha, (behind, op_of_is k op ok before behind hk, operand_takes behind b.0 b.1))
+expr_by_takes : (a : Operand) (k : Kind) (o : Option Op) → op_of k ≡ o → (ts before following : List Token) (x : Expr × List Token) → IsOperand a ts before → IsToken k before following → expr_by a before following o ≡ Some x → IsExpr x.0 ts x.1
+expr_by_takes a k None ok ts before following x ha hk e = subst (λ (y : Expr × List Token). IsExpr y.0 ts y.1) (some_is (single a, before) x e) ha
+expr_by_takes a k (Some op) ok ts before following x ha hk e =
+    let b = bind_some (operand_from following) _ _ e in
+    subst (λ (y : Expr × List Token). IsExpr y.0 ts y.1) (some_is (both a op b.0.0, b.0.1) x b.2) (before, ha, (following, op_of_is k op ok before following hk, operand_takes following b.0 b.1))
 
 pub expr_takes : (ts : List Token) (x : Expr × List Token) → expr_from ts ≡ Some x → IsExpr x.0 ts x.1
 unfolding expr_from
@@ -153,6 +153,6 @@ expr_takes ts x e =
 pub expr_again : (x : Expr) (ts rest : List Token) → IsExpr x ts rest → Ends rest → expr_from ts ≡ Some (x, rest)
 unfolding expr_from
 expr_again (single a) ts rest h ends = rw (operand_again a ts rest h, ends.read, ends.no_op) refl
-expr_again (both a op b) ts rest (mid, ha, (behind, ho, hb)) ends =
-    let o = op_read op mid behind ho in
-    rw (operand_again a ts mid ha, o.1, o.2, operand_again b behind rest hb) refl
+expr_again (both a op b) ts rest (mid, ha, (following, ho, hb)) ends =
+    let o = op_read op mid following ho in
+    rw (operand_again a ts mid ha, o.1, o.2, operand_again b following rest hb) refl

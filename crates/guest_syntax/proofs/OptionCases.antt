@@ -1,6 +1,6 @@
 -- Steps that did not fail.
 use Rattle.std.proofs.Common.{◌≡◌, Bool, true, false, cond, Option, Some, None, option_map, refl}
-use Rattle.guest_syntax.specs.Scan.{◌>>=◌}
+use Rattle.guest_syntax.specs.reader.Scanner.{◌>>=◌}
 
 pub bind_some : {A B : Type 0} (o : Option A) (f : A → Option B) (y : B) → (o >>= f) ≡ Some y → (x : A) × (o ≡ Some x) × (f x ≡ Some y)
 bind_some (Some x) f y e = (x, refl, e)

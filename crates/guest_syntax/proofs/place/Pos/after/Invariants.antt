@@ -1,6 +1,6 @@
 use Rattle.std.proofs.Common.{◌≡◌, ◌+◌, ◌≤◌, drop}
 use Rattle.guest_syntax.specs.Place.{after}
-use Rattle.guest_syntax.proofs.place.Pos.behind.Given as goal
+use Rattle.guest_syntax.proofs.place.Pos.after.Given as goal
 
 abbrev pub invariant-loop-byte : goal.invariant-loop-byte
 invariant-loop-byte l = record {

@@ -3,11 +3,11 @@ use Rattle.std.proofs.Common.{◌≡◌, ℕ, zero, suc, ◌<◌, List, [], ◌�
 use Rattle.std.proofs.lemmas.List.{append-nil}
 use Rattle.guest_syntax.specs.declared.error.SyntaxError.{SyntaxError}
 use Rattle.guest_syntax.specs.Tokens.{Token}
-use Rattle.guest_syntax.specs.Gives.{Fails}
-use Rattle.guest_syntax.specs.Scan.{◌>>=◌}
-use Rattle.guest_syntax.specs.ReadTokens.{Read}
-use Rattle.guest_syntax.specs.ReadItems.{Turn, many_by, many, all_from}
-use Rattle.guest_syntax.proofs.Nexts.{fails_then}
+use Rattle.guest_syntax.specs.reader.Gives.{Fails}
+use Rattle.guest_syntax.specs.reader.Scanner.{◌>>=◌}
+use Rattle.guest_syntax.specs.reader.Reads.{Read}
+use Rattle.guest_syntax.specs.reader.Items.{Turn, many_by, many, all_from}
+use Rattle.guest_syntax.proofs.NextToken.{fails_then}
 
 -- what was read before, and what is still read
 abbrev pub with_front : {A : Type 0} → List A → Read (List A) → Read (List A)

@@ -5,12 +5,13 @@ use Rattle.guest_syntax.specs.declared.token.Keyword.{Keyword}
 use Rattle.guest_syntax.specs.declared.token.Keyword.TheVariants as keywords
 use Rattle.guest_syntax.specs.declared.token.Symbol.TheVariants as symbols
 use Rattle.guest_syntax.specs.Tokens.{Kind, keyword, symbol, Token}
-use Rattle.guest_syntax.specs.Scan.{◌>>=◌}
+use Rattle.guest_syntax.specs.reader.Scanner.{◌>>=◌}
 use Rattle.guest_syntax.specs.Tree as tree
 use Rattle.guest_syntax.specs.Tree.{Name, Expr, Stmt, Block, block_of}
-use Rattle.guest_syntax.specs.ReadTokens.{Read, token_at, symbol_from, name_from, times_from}
-use Rattle.guest_syntax.specs.ReadExprs.{operand_from, expr_from}
-use Rattle.guest_syntax.specs.ReadItems.{Turn, all_from}
+use Rattle.guest_syntax.specs.reader.Reads.{Read}
+use Rattle.guest_syntax.specs.reader.SingleTokens.{token_at, symbol_from, name_from, times_from}
+use Rattle.guest_syntax.specs.reader.Expressions.{operand_from, expr_from}
+use Rattle.guest_syntax.specs.reader.Items.{Turn, all_from}
 
 -- a name and the end
 unfoldable pub one_name_from : List Token → Read Name
@@ -73,8 +74,8 @@ is_else _ = false
 
 -- a choice, whose first block was read, and what may be `else`
 abbrev pub choice_by : (List Token → Read Block) → Expr → Block → List Token → List Token → Bool → Read Stmt
-choice_by block e b before behind false = Some (tree.if_then e b, before)
-choice_by block e b before behind true = block behind >>= λ c. Some (tree.if_else e b c.0, c.1)
+choice_by block e b before following false = Some (tree.if_then e b, before)
+choice_by block e b before following true = block following >>= λ c. Some (tree.if_else e b c.0, c.1)
 
 unfoldable pub choice_from : (List Token → Read Block) → List Token → Read Stmt
 choice_from block ts = do
