@@ -14,3 +14,5 @@ pub mod Rising
 pub mod Waiters
 pub mod Mask
 pub mod Reachable
+pub mod FinalKinds
+pub mod OperatorTable
