@@ -15,3 +15,5 @@ pub mod Waiters
 pub mod Mask
 pub mod Reachable
 pub mod Execution
+pub mod FinalKinds
+pub mod OperatorTable
