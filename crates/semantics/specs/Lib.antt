@@ -16,3 +16,4 @@ pub mod Mask
 pub mod Reachable
 pub mod FinalKinds
 pub mod OperatorTable
+pub mod Dependence
