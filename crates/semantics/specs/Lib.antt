@@ -17,3 +17,4 @@ pub mod Reachable
 pub mod FinalKinds
 pub mod OperatorTable
 pub mod Dependence
+pub mod Effects
