@@ -18,3 +18,4 @@ pub mod FinalKinds
 pub mod OperatorTable
 pub mod Dependence
 pub mod Effects
+pub mod Increments
