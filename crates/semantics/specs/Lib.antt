@@ -14,3 +14,4 @@ pub mod Rising
 pub mod Waiters
 pub mod Mask
 pub mod Reachable
+pub mod Execution
