@@ -32,6 +32,7 @@ fault_text (Check (check.CodeTooLong t)) = codes "check C6 CodeTooLong in thread
 fault_text (Check (check.LeaveOutside at)) = codes "check C7 LeaveOutside at " ++ place_text at
 fault_text (Check check.OutOfMemory) = codes "memory"
 fault_text (Schedule (schedule.BadSchedule at)) = codes "schedule Q1 BadSchedule at " ++ decimal at
+fault_text (Schedule (schedule.TooLong at)) = codes "schedule Q3 TooLong at " ++ decimal at
 fault_text (Schedule schedule.OutOfMemory) = codes "memory"
 fault_text (Replay (replay.NoSuchThread at)) = codes "schedule P1 NoSuchThread at " ++ decimal at
 fault_text (Replay (replay.NotEnabled at)) = codes "schedule P2 NotEnabled at " ++ decimal at
