@@ -3,7 +3,7 @@ use std::alloc::Global;
 use std::test::*;
 
 /// Texts and the lines that are printed for their first faults.
-const FAULTS: [(&str, &str); 18] = [
+const FAULTS: [(&str, &str); 27] = [
     ("thread A { assert 0;", "syntax S3 Expected at 1:21"),
     (
         "thread A { assert 0; # no end\n ",
@@ -37,10 +37,22 @@ const FAULTS: [(&str, &str); 18] = [
     ("lock m;", "syntax S3 Expected at 1:1"),
     ("thread A { } var x;", "syntax S3 Expected at 1:14"),
     ("thread A { } else { }", "syntax S3 Expected at 1:14"),
+    ("var add;", "syntax S3 Expected at 1:5"),
+    ("sem cas = 1;", "syntax S3 Expected at 1:5"),
+    ("thread A { adds r x 1; }", "syntax S3 Expected at 1:12"),
+    ("thread A { add r x }", "syntax S3 Expected at 1:20"),
+    ("thread A { add r 1 2; }", "syntax S3 Expected at 1:18"),
+    ("thread A { add r x 1 2; }", "syntax S3 Expected at 1:22"),
+    ("thread A { cas r x 0; }", "syntax S3 Expected at 1:21"),
+    ("thread A { cas r x 0 1 2; }", "syntax S3 Expected at 1:24"),
+    (
+        "thread A { cas r x 0 9223372036854775808; }",
+        "syntax S4 NumberTooBig at 1:22",
+    ),
 ];
 
 /// Statements, and how the body of a thread with them is shown.
-const STATEMENTS: [(&str, &str); 19] = [
+const STATEMENTS: [(&str, &str); 23] = [
     (
         "load r x;",
         "[Load { local: Name { text: [114], at: Pos { line: 1, col: 17 } }, variable: Name { text: [120], at: Pos { line: 1, col: 19 } } }]",
@@ -52,6 +64,22 @@ const STATEMENTS: [(&str, &str); 19] = [
     (
         "store x r;",
         "[Store { variable: Name { text: [120], at: Pos { line: 1, col: 18 } }, value: Local(Name { text: [114], at: Pos { line: 1, col: 20 } }) }]",
+    ),
+    (
+        "add r x -3;",
+        "[Add { local: Name { text: [114], at: Pos { line: 1, col: 16 } }, variable: Name { text: [120], at: Pos { line: 1, col: 18 } }, value: Literal(-3) }]",
+    ),
+    (
+        "add r x q;",
+        "[Add { local: Name { text: [114], at: Pos { line: 1, col: 16 } }, variable: Name { text: [120], at: Pos { line: 1, col: 18 } }, value: Local(Name { text: [113], at: Pos { line: 1, col: 20 } }) }]",
+    ),
+    (
+        "cas r x 0 -1;",
+        "[Cas { local: Name { text: [114], at: Pos { line: 1, col: 16 } }, variable: Name { text: [120], at: Pos { line: 1, col: 18 } }, expected: Literal(0), new: Literal(-1) }]",
+    ),
+    (
+        "cas r x r q;",
+        "[Cas { local: Name { text: [114], at: Pos { line: 1, col: 16 } }, variable: Name { text: [120], at: Pos { line: 1, col: 18 } }, expected: Local(Name { text: [114], at: Pos { line: 1, col: 20 } }), new: Local(Name { text: [113], at: Pos { line: 1, col: 22 } }) }]",
     ),
     (
         "lock m;",
