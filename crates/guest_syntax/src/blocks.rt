@@ -77,7 +77,7 @@ fn repetition<'a>(
     Ok((Statement::Repeat { times, body }, text))
 }
 
-/// A statement behind its word, which stands at this place.
+/// A statement after its keyword, which is at this place.
 #[cycle(block)]
 fn statement<'a>(
     alloc: Global,
@@ -144,7 +144,7 @@ fn statements<'a>(
     }
 }
 
-/// A block, where this many blocks may stand inside one another.
+/// A block, where this many blocks may be inside one another.
 #[tactic(auto, unfolding(crate::specs::reader::Statements::block_from))]
 #[cycle(block)]
 pub fn block<'a>(

@@ -33,7 +33,7 @@ fn literal_after<'a>(token: Token, after: Cursor<'a>) -> Result<(i64, Cursor<'a>
     }
 }
 
-/// A number, or a number behind a minus.
+/// A number, or a number after a minus.
 #[tactic(auto, unfolding(crate::specs::reader::Expressions::literal_from))]
 pub fn literal<'a>(text: Cursor<'a>) -> Result<(i64, Cursor<'a>), SyntaxError>
     ensures gives { Reads (λ x. x) result literal_from text.entry }

@@ -20,7 +20,7 @@ use crate::token::{KEYWORDS, Keyword, Kind, SYMBOLS, Symbol, Token};
 
 /// What a byte is to spaces and comments.
 enum Step {
-    /// It is one of them. The flag says whether a comment goes on behind it.
+    /// It is one of them. The flag says whether a comment goes on after it.
     Passed(bool),
     /// It is none of them.
     Stops,
@@ -189,7 +189,7 @@ fn kind_at(text: &[u8]) -> Option<(Kind<'_>, usize)>
     }
 }
 
-/// The next token and what stands behind it, or nothing and the end of the text.
+/// The next token and what comes after it, or nothing and the end of the text.
 #[tactic(auto, unfolding(crate::specs::reader::Scanner::first))]
 pub fn first<'a>(text: Cursor<'a>) -> Result<(Option<Token<'a>>, Cursor<'a>), SyntaxError>
     ensures gives { Scans result text.entry }

@@ -20,7 +20,7 @@ use crate::tokens::{name, next_token, number, symbol, token};
 use crate::tree::{Declaration, Object, Thread, Tree};
 use std::alloc::Global;
 
-/// A variable behind its word.
+/// A variable, after its keyword.
 #[tactic(auto, unfolding(crate::specs::reader::Trees::variable_from))]
 fn variable<'a>(alloc: Global, text: Cursor<'a>) -> Result<(Declaration, Cursor<'a>), SyntaxError>
     ensures gives { Reads declaration_view result variable_from text.entry }
@@ -44,7 +44,7 @@ fn variable<'a>(alloc: Global, text: Cursor<'a>) -> Result<(Declaration, Cursor<
     }
 }
 
-/// An object without an opening value, behind its word.
+/// An object without an opening value, after its keyword.
 #[tactic(auto, unfolding(crate::specs::reader::Trees::plain_from))]
 fn plain<'a>(
     alloc: Global,
@@ -59,7 +59,7 @@ fn plain<'a>(
     Ok((Declaration { name, object }, text))
 }
 
-/// A semaphore behind its word.
+/// A semaphore, after its keyword.
 #[tactic(auto, unfolding(crate::specs::reader::Trees::semaphore_from))]
 fn semaphore<'a>(alloc: Global, text: Cursor<'a>) -> Result<(Declaration, Cursor<'a>), SyntaxError>
     ensures gives { Reads declaration_view result semaphore_from text.entry }
@@ -74,7 +74,7 @@ fn semaphore<'a>(alloc: Global, text: Cursor<'a>) -> Result<(Declaration, Cursor
     Ok((Declaration { name, object }, text))
 }
 
-/// The next declaration, or nothing where something else stands.
+/// The next declaration, or nothing where something else comes.
 #[tactic(auto, unfolding(crate::specs::reader::Trees::declaration_turn))]
 fn declaration_turn<'a>(
     alloc: Global,
@@ -98,7 +98,7 @@ fn declaration_turn<'a>(
     Ok((Some(declaration), after))
 }
 
-/// The declarations, up to where something else stands.
+/// The declarations, up to where something else comes.
 fn declarations<'a>(
     alloc: Global,
     text: Cursor<'a>,
@@ -118,7 +118,7 @@ fn declarations<'a>(
     }
 }
 
-/// A thread behind its word.
+/// A thread, after its keyword.
 #[tactic(auto, unfolding(crate::specs::reader::Trees::thread_from))]
 fn thread<'a>(alloc: Global, text: Cursor<'a>) -> Result<(Thread, Cursor<'a>), SyntaxError>
     ensures gives { Reads thread_view result thread_from text.entry }

@@ -21,14 +21,14 @@ use std::alloc::Global;
 ///
 /// # Errors
 ///
-/// `TooLong` where the text has more than 65,536 bytes; else the first fault in text order, with
+/// `TooLong` where the text has more than [`TEXT_BYTES`](crate::TEXT_BYTES) bytes; else the first fault in text order, with
 /// its place; `OutOfMemory` where memory runs out before that.
 pub fn parse(alloc: Global, text: &[u8]) -> Result<Tree, SyntaxError>
     // What is answered is spelled by the text.
     ensures found { IfOk result (λ t. Spells text.now (tree_view t)) }
     // What the text spells is answered, unless memory runs out; it is never refused.
     ensures only { (t : model.Tree) → Spells text.now t → Answers result t }
-    // A text that is refused, other than for want of memory, spells nothing.
+    // A text that is refused, other than because memory ran out, spells nothing.
     ensures refused { IfErr result (λ e. e ≢ OutOfMemory → (t : model.Tree) → Spells text.now t → ⊥) }
     // A refusal is at a place of the text, and it says too long only where the text is.
     ensures place { IfErr result (RefusalIn start text.now) }

@@ -15,7 +15,7 @@ use crate::tokens::{name, symbol};
 use crate::tree::{Name, Statement};
 use std::alloc::Global;
 
-/// A name, and the mark that ends what it stands in.
+/// A name, and the mark that ends what it is in.
 #[tactic(auto, unfolding(crate::specs::reader::Statements::one_name_from))]
 pub fn one_name<'a>(alloc: Global, text: Cursor<'a>) -> Result<(Name, Cursor<'a>), SyntaxError>
     ensures gives { Reads name_view result one_name_from text.entry }
@@ -113,7 +113,7 @@ fn assertion<'a>(alloc: Global, text: Cursor<'a>) -> Result<(Statement, Cursor<'
     Ok((Statement::Assert(test), text))
 }
 
-/// A statement of one name, behind its word, which stands at this place.
+/// A statement of one name, after its keyword, which is at this place.
 fn named<'a>(
     alloc: Global,
     keyword: Keyword,
@@ -154,7 +154,7 @@ fn named<'a>(
     }
 }
 
-/// A statement without a block, behind its word, which stands at this place.
+/// A statement without a block, after its keyword, which is at this place.
 pub fn simple<'a>(
     alloc: Global,
     keyword: Keyword,

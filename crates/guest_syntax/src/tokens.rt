@@ -18,7 +18,7 @@ use crate::token::{Kind, Symbol, Token};
 use crate::tree::Name;
 use std::alloc::Global;
 
-/// The next token and what stands behind it, or nothing and the end of the text.
+/// The next token and what comes after it, or nothing and the end of the text.
 pub fn next_token<'a>(text: Cursor<'a>) -> Result<(Option<Token<'a>>, Cursor<'a>), SyntaxError>
     ensures gives { Reads (option_map token_view) result next_at text.entry }
     ensures place { IfOk result (λ x. IfSome x.0 (λ t. IsPlaceOf text.entry t.at)) }
