@@ -10,7 +10,7 @@ ghost use Rattle.semantics.specs.Mask.{has};
 ghost use Rattle.semantics.specs.declared.state.Action.TheVariants.{OnVariable, OnMutex, Wait as Waits, OnCondition, OnSemaphore};
 
 use crate::action::{action_at, mutex_allows, owns, semaphore_allows};
-use crate::local::{operand_at, resume};
+use crate::local::{add, compare_and_swap, operand_at, resume};
 use crate::mask::Mask;
 use crate::opening::{opening_counts, opening_threads, opening_values};
 use crate::queue::Queue;
@@ -76,6 +76,12 @@ pub enum VariableAction {
     Load(usize),
     /// The variable becomes this value.
     Store(Value),
+    /// The local of this number becomes the variable's old value, and the variable the sum of it and
+    /// this value.
+    Add(usize, Value),
+    /// Where the variable equals the first value it becomes the second one, and the local of this
+    /// number 1; else the local becomes 0.
+    Cas(usize, Value, Value),
 }
 
 /// What a step does with a mutex alone.
@@ -280,6 +286,10 @@ impl State {
         match action {
             VariableAction::Load(r) => thread.locals[r] = self.variables[x],
             VariableAction::Store(value) => self.variables[x] = operand_at(&thread.locals, value),
+            VariableAction::Add(r, value) => add(&mut self.variables[x], thread, r, value),
+            VariableAction::Cas(r, expected, new) => {
+                compare_and_swap(&mut self.variables[x], thread, r, expected, new);
+            }
         }
         resume(p.code(t), thread);
     }
