@@ -4,7 +4,7 @@ ghost use Rattle.std.specs.Prelude.{◌≡◌, ◌<◌, ◌≤◌, ℕ, length, 
 ghost use Rattle.std.specs.List.{list_any, list_all};
 ghost use Rattle.guest_code.specs.Program.{Program, code_of, IsValidValue};
 ghost use Rattle.semantics.specs.Machine.{Snapshot, start, step, performed, is_enabled, next_of, thread_at, queue_of, value_of_operand, sem_allows, count_of};
-ghost use Rattle.semantics.specs.Reachable.{IsOf, IsValidAction, StandsInCode, IsAbout};
+ghost use Rattle.semantics.specs.Reachable.{IsOf, IsValidAction, StandsInCode, IsReady};
 ghost use Rattle.semantics.specs.Ends.{is_terminal, kind_of, view_of, final_kind, is_stopped, is_ended, stop_of};
 ghost use Rattle.semantics.specs.Mask.{has};
 ghost use Rattle.semantics.specs.declared.state.Action.TheVariants.{OnVariable, OnMutex, Wait as Waits, OnCondition, OnSemaphore};
@@ -258,7 +258,7 @@ impl State {
 
     // What the thread is about to do.
     fn execute(&mut self, program: &Program, thread: u8, action: Action)
-        requires { IsAbout program.now self.old thread action }
+        requires { IsReady program.now self.old thread action }
         ensures { self.new ≡ performed program.now self.old thread action }
     {
         match action {
@@ -272,7 +272,7 @@ impl State {
 
     // A step on a variable.
     fn step_variable(&mut self, program: &Program, thread: u8, x: usize, action: VariableAction)
-        requires { IsAbout program.now self.old thread (OnVariable x action) }
+        requires { IsReady program.now self.old thread (OnVariable x action) }
         ensures { self.new ≡ performed program.now self.old thread (OnVariable x action) }
     {
         let runner = &mut self.threads[thread as usize];
@@ -289,7 +289,7 @@ impl State {
 
     // A step on a mutex alone.
     fn step_mutex(&mut self, program: &Program, thread: u8, m: usize, action: MutexAction)
-        requires { IsAbout program.now self.old thread (OnMutex m action) }
+        requires { IsReady program.now self.old thread (OnMutex m action) }
         ensures { self.new ≡ performed program.now self.old thread (OnMutex m action) }
     {
         let runner = &mut self.threads[thread as usize];
@@ -308,7 +308,7 @@ impl State {
 
     // The first step of a `wait`.
     fn begin_wait(&mut self, program: &Program, thread: u8, c: usize, m: usize)
-        requires { IsAbout program.now self.old thread (Waits c m) }
+        requires { IsReady program.now self.old thread (Waits c m) }
         ensures { self.new ≡ performed program.now self.old thread (Waits c m) }
     {
         let runner = &mut self.threads[thread as usize];
@@ -323,7 +323,7 @@ impl State {
 
     // A step on a condition alone.
     fn step_condition(&mut self, program: &Program, thread: u8, c: usize, action: ConditionAction)
-        requires { IsAbout program.now self.old thread (OnCondition c action) }
+        requires { IsReady program.now self.old thread (OnCondition c action) }
         ensures { self.new ≡ performed program.now self.old thread (OnCondition c action) }
     {
         let mut runner = self.threads[thread as usize];
@@ -334,7 +334,7 @@ impl State {
 
     // A step on a semaphore.
     fn step_semaphore(&mut self, program: &Program, thread: u8, k: usize, action: SemaphoreAction)
-        requires { IsAbout program.now self.old thread (OnSemaphore k action) }
+        requires { IsReady program.now self.old thread (OnSemaphore k action) }
         ensures { self.new ≡ performed program.now self.old thread (OnSemaphore k action) }
     {
         let runner = &mut self.threads[thread as usize];
