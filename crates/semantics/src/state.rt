@@ -35,9 +35,9 @@ pub enum Stop {
 /// Whether a thread goes on.
 #[derive(Clone, Copy, Debug, PartialEq, Eq)]
 pub enum Status {
-    /// It stands at a visible statement.
+    /// It is at a visible statement.
     Running,
-    /// It stands in the queue of the condition of this number.
+    /// It is in the queue of the condition of this number.
     Waiting(usize),
     /// It was called, and has to take its mutex again.
     Woken,
@@ -59,10 +59,10 @@ impl Status {
     }
 }
 
-/// Where a thread stands, and its locals.
+/// Where a thread is, and its locals.
 #[derive(Clone, Copy, Debug)]
 pub struct Thread {
-    /// The number of the instruction where it stands; the length of its code where it ended.
+    /// The number of the instruction where it is; the length of its code where it ended.
     pub pc: usize,
     /// The values of its locals; those that it doesn't have stay 0.
     pub locals: [i64; LOCALS],
