@@ -19,3 +19,4 @@ pub mod OperatorTable
 pub mod Dependence
 pub mod Effects
 pub mod Increments
+pub mod Execution

@@ -5,12 +5,12 @@ ghost use Rattle.std.specs.List.{list_any, list_all};
 ghost use Rattle.guest_code.specs.Program.{Program, code_of, IsValidValue};
 ghost use Rattle.semantics.specs.Machine.{Snapshot, start, step, acts, is_enabled, next_of, thread_at, queue_of, value_of_operand, sem_allows, count_of};
 ghost use Rattle.semantics.specs.Reachable.{IsOf, IsValidAction};
-ghost use Rattle.semantics.specs.Ends.{is_terminal, kind_of, view_of, final_kind, is_stopped, is_ended};
+ghost use Rattle.semantics.specs.Ends.{is_terminal, kind_of, view_of, final_kind, is_stopped, is_ended, stop_of};
 ghost use Rattle.semantics.specs.Mask.{has};
 ghost use Rattle.semantics.specs.declared.state.Action.TheVariants.{OnVariable, OnMutex, Wait as Waits, OnCondition, OnSemaphore};
 
 use crate::action::{action_at, mutex_allows, owns, semaphore_allows};
-use crate::local::{operand_at, resume};
+use crate::local::{add, compare_and_swap, operand_at, resume};
 use crate::mask::Mask;
 use crate::opening::{opening_counts, opening_threads, opening_values};
 use crate::queue::Queue;
@@ -47,6 +47,18 @@ pub enum Status {
     Stopped(Stop),
 }
 
+impl Status {
+    /// Why the thread stopped, if it did.
+    pub fn stop(self) -> Option<Stop>
+        ensures { result ≡ stop_of self }
+    {
+        match self {
+            Status::Stopped(why) => Some(why),
+            Status::Running | Status::Waiting(_) | Status::Woken | Status::Ended => None,
+        }
+    }
+}
+
 /// Where a thread stands, and its locals.
 #[derive(Clone, Copy, Debug)]
 pub struct Thread {
@@ -64,6 +76,12 @@ pub enum VariableAction {
     Load(usize),
     /// The variable becomes this value.
     Store(Value),
+    /// The local of this number becomes the variable's old value, and the variable the sum of it and
+    /// this value.
+    Add(usize, Value),
+    /// Where the variable equals the first value it becomes the second one, and the local of this
+    /// number 1; else the local becomes 0.
+    Cas(usize, Value, Value),
 }
 
 /// What a step does with a mutex alone.
@@ -268,6 +286,10 @@ impl State {
         match action {
             VariableAction::Load(r) => thread.locals[r] = self.variables[x],
             VariableAction::Store(value) => self.variables[x] = operand_at(&thread.locals, value),
+            VariableAction::Add(r, value) => add(&mut self.variables[x], thread, r, value),
+            VariableAction::Cas(r, expected, new) => {
+                compare_and_swap(&mut self.variables[x], thread, r, expected, new);
+            }
         }
         resume(p.code(t), thread);
     }
