@@ -9,7 +9,7 @@ use Rattle.guest_code.specs.declared.program.Value.TheVariants.{Local, Literal}
 use Rattle.guest_code.specs.declared.program.Expression.{Expression}
 use Rattle.guest_code.specs.declared.program.Expression.TheVariants.{Single, Both}
 use Rattle.guest_code.specs.declared.program.Instruction.{Instruction}
-use Rattle.guest_code.specs.declared.program.Instruction.TheVariants.{Load, Store, Lock, Unlock, Wait, Signal, Broadcast, Acquire, Release, Set, Assert, SkipIfZero, Skip}
+use Rattle.guest_code.specs.declared.program.Instruction.TheVariants.{Load, Store, Add, Cas, Lock, Unlock, Wait, Signal, Broadcast, Acquire, Release, Set, Assert, SkipIfZero, Skip}
 use Rattle.guest_code.specs.contracts.program.ValuePartialEq.TheImpl.{eq-value as same-value}
 use Rattle.guest_code.specs.contracts.program.ExpressionPartialEq.TheImpl.{eq-value as same-expression}
 use Rattle.guest_code.specs.contracts.program.InstructionPartialEq.TheImpl.{eq-value as same-instruction}
@@ -46,6 +46,15 @@ expression_is _ _ e = absurd cc
 pub instruction_is : (a b : Instruction) → same-instruction.it a b ≡ true → a ≡ b
 instruction_is (Load r x) (Load q y) e = let t = both _ _ e in λ i. Load ((unsigned_Decides r q).0 t.0 i) ((unsigned_Decides x y).0 t.1 i)
 instruction_is (Store x a) (Store y b) e = let t = both _ _ e in λ i. Store ((unsigned_Decides x y).0 t.0 i) (value_is a b t.1 i)
+instruction_is (Add r x a) (Add q y b) e =
+    let t = both _ _ e in
+    let u = both _ _ t.1 in
+    λ i. Add ((unsigned_Decides r q).0 t.0 i) ((unsigned_Decides x y).0 u.0 i) (value_is a b u.1 i)
+instruction_is (Cas r x a b) (Cas q y c d) e =
+    let t = both _ _ e in
+    let u = both _ _ t.1 in
+    let v = both _ _ u.1 in
+    λ i. Cas ((unsigned_Decides r q).0 t.0 i) ((unsigned_Decides x y).0 u.0 i) (value_is a c v.0 i) (value_is b d v.1 i)
 instruction_is (Lock m) (Lock n) e = ap (λ (k : ℕ). Lock k) ((unsigned_Decides m n).0 e)
 instruction_is (Unlock m) (Unlock n) e = ap (λ (k : ℕ). Unlock k) ((unsigned_Decides m n).0 e)
 instruction_is (Wait c m) (Wait d n) e = let t = both _ _ e in λ i. Wait ((unsigned_Decides c d).0 t.0 i) ((unsigned_Decides m n).0 t.1 i)

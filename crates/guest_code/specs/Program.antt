@@ -6,7 +6,7 @@ use Rattle.guest_code.specs.declared.program.Value.TheVariants.{Local, Literal}
 use Rattle.guest_code.specs.declared.program.Expression.{Expression}
 use Rattle.guest_code.specs.declared.program.Expression.TheVariants.{Single, Both}
 use Rattle.guest_code.specs.declared.program.Instruction.{Instruction}
-use Rattle.guest_code.specs.declared.program.Instruction.TheVariants.{Load, Store, Lock, Unlock, Wait, Signal, Broadcast, Acquire, Release, Set, Assert, SkipIfZero, Skip}
+use Rattle.guest_code.specs.declared.program.Instruction.TheVariants.{Load, Store, Add, Cas, Lock, Unlock, Wait, Signal, Broadcast, Acquire, Release, Set, Assert, SkipIfZero, Skip}
 use Rattle.guest_code.specs.declared.program.Variable as code-variable
 use Rattle.guest_code.specs.declared.program.Semaphore as code-semaphore
 use Rattle.guest_code.specs.declared.program.Thread as code-thread
@@ -84,6 +84,8 @@ IsValidExpression (Both a op b) = IsValidValue a × IsValidValue b
 abbrev pub IsValid : Program → Instruction → Type 0
 IsValid p (Load r x) = (r < LOCALS) × (x < length p.variables)
 IsValid p (Store x a) = (x < length p.variables) × IsValidValue a
+IsValid p (Add r x a) = (r < LOCALS) × (x < length p.variables) × IsValidValue a
+IsValid p (Cas r x a b) = (r < LOCALS) × (x < length p.variables) × IsValidValue a × IsValidValue b
 IsValid p (Lock m) = m < length p.mutexes
 IsValid p (Unlock m) = m < length p.mutexes
 IsValid p (Wait c m) = (c < length p.conditions) × (m < length p.mutexes)

@@ -31,15 +31,40 @@ pub enum Expression {
 #[derive(Clone, Copy, Debug, PartialEq, Eq)]
 pub enum Instruction {
     /// The local becomes the variable's value.
-    Load { local: usize, variable: usize },
+    Load {
+        local: usize,
+        variable: usize,
+    },
     /// The variable becomes the value.
-    Store { variable: usize, value: Value },
+    Store {
+        variable: usize,
+        value: Value,
+    },
+    /// The local becomes the variable's value, and the variable becomes that value plus this one,
+    /// in one step. The value is read before the local is written.
+    Add {
+        local: usize,
+        variable: usize,
+        value: Value,
+    },
+    /// Where the variable's value is the expected one it becomes the new one and the local 1;
+    /// else the local becomes 0, and the variable keeps its value. All in one step, and the two
+    /// values are read before the local is written.
+    Cas {
+        local: usize,
+        variable: usize,
+        expected: Value,
+        new: Value,
+    },
     /// Takes the mutex of this number.
     Lock(usize),
     /// Gives the mutex of this number back.
     Unlock(usize),
     /// Gives the mutex back, waits for the condition, and takes the mutex again.
-    Wait { condition: usize, mutex: usize },
+    Wait {
+        condition: usize,
+        mutex: usize,
+    },
     /// Wakes the thread that has waited longest for the condition of this number.
     Signal(usize),
     /// Wakes all threads that wait for the condition of this number.
@@ -49,7 +74,10 @@ pub enum Instruction {
     /// Raises the count of the semaphore of this number.
     Release(usize),
     /// The local becomes the expression's value.
-    Set { local: usize, value: Expression },
+    Set {
+        local: usize,
+        value: Expression,
+    },
     /// Stops the thread where the expression is 0.
     Assert(Expression),
     /// Passes over so many of the next instructions where the expression is 0.

@@ -28,20 +28,20 @@ const FAULTS: [(&str, &str); 18] = [
     ),
     ("mutex m; mutex m;", "check C1 Duplicate at 1:16"),
     (
-        "var x; thread A { repeat 100 { store x 1; store x 2; store x 3; } }",
+        "var x; thread A { repeat 100 { store x 1; store x 2; store x 3; store x 4; store x 5; store x 6; store x 7; store x 8; store x 9; store x 10; store x 11; } }",
         "check C6 CodeTooLong in thread 0",
     ),
     (
-        "thread A { } thread B { repeat 100 { assert 1; assert 1; assert 1; } }",
+        "thread A { } thread B { repeat 100 { repeat 11 { assert 1; } } }",
         "check C6 CodeTooLong in thread 1",
     ),
     (
-        "thread A { repeat 100 { assert 1; assert 1; assert 1; } } thread B { leave; }",
-        "check C7 LeaveOutside at 1:70",
+        "thread A { repeat 100 { repeat 11 { assert 1; } } } thread B { leave; }",
+        "check C7 LeaveOutside at 1:64",
     ),
     (
-        "thread A { } thread B { } thread C { } thread D { } thread E { } thread F { } thread G { } thread H { } thread I { } ",
-        "check C5 TooMany at 1:112",
+        "thread A { } thread B { } thread C { } thread D { } thread E { } thread F { } thread G { } thread H { } thread I { } thread J { } thread K { } thread L { } thread M { } thread N { } thread O { } thread P { } thread Q { } ",
+        "check C5 TooMany at 1:216",
     ),
     (
         "var a; var b; var c; var d; var e; var f; var g; var h; var i; var j; var k; var l; var m; var n; var o; var p; var q; thread A { }",
@@ -124,9 +124,19 @@ fn nested_copies(rt: HostRuntime) -> Result<(), Fail> {
     let text = nested(alloc, "")?;
     let program = program_of(alloc, &text)?;
     assert_eq!(rt; program.code(0).len(), 0);
-    let text = "var x; thread A { repeat 64 { store x 1; store x 2; store x 3; store x 4; } }";
-    let program = program_of(alloc, text)?;
-    assert_eq!(rt; program.code(0).len(), 256);
+    Ok(())
+}
+
+#[test]
+fn largest_programs(rt: HostRuntime) -> Result<(), Fail> {
+    let alloc = rt.alloc();
+    let text = "var x; thread A { repeat 64 { repeat 16 { store x 1; } } }";
+    assert_eq!(rt; program_of(alloc, text)?.code(0).len(), 1_024);
+    let text = "var x; thread A { repeat 100 { store x 1; store x 2; store x 3; } }";
+    assert_eq!(rt; program_of(alloc, text)?.code(0).len(), 300);
+    let text =
+        "thread A { } thread B { } thread C { } thread D { } thread E { } thread F { } thread G { } thread H { } thread I { }";
+    assert_eq!(rt; program_of(alloc, text)?.threads(), 9);
     Ok(())
 }
 

@@ -10,7 +10,7 @@ use Rattle.semantics.specs.declared.state.Status.{Status}
 use Rattle.semantics.specs.declared.state.Status.TheVariants.{Running, Waiting, Woken, Ended, Stopped}
 use Rattle.semantics.specs.declared.state.Thread.{Thread}
 use Rattle.semantics.specs.declared.state.VariableAction.{VariableAction}
-use Rattle.semantics.specs.declared.state.VariableAction.TheVariants.{Load as Loads, Store as Stores}
+use Rattle.semantics.specs.declared.state.VariableAction.TheVariants.{Load as Loads, Store as Stores, Add as Adds, Cas as Swaps}
 use Rattle.semantics.specs.declared.state.MutexAction.{MutexAction}
 use Rattle.semantics.specs.declared.state.MutexAction.TheVariants.{Lock as Locks, Unlock as Unlocks, Retake as Retakes}
 use Rattle.semantics.specs.declared.state.Action.{Action}
@@ -86,6 +86,8 @@ module _ (p : Program) (s : Snapshot) (t : ℕ) (th : Thread) where
       kept : (d : VariableAction) → (Writes (OnVariable y d) (variable x) → ⊥) → y ≡ x → var_after d th.locals (value_of s y) ≡ value_of s x
       kept (Loads r) clear e = ap (value_of s) e
       kept (Stores a) clear e = absurd (clear (0, omega arith, ap writes_var e))
+      kept (Adds r a) clear e = absurd (clear (0, omega arith, ap writes_var e))
+      kept (Swaps r a b) clear e = absurd (clear (0, omega arith, ap writes_var e))
   acts_variables (OnMutex m d) x clear = refl
   acts_variables (Waits c m) x clear = refl
   acts_variables (OnCondition c d) x clear = refl

@@ -19,6 +19,17 @@ fn action_of(i: Instruction) -> Option<Action>
             variable,
             VariableAction::Store(value),
         )),
+        Instruction::Add {
+            local,
+            variable,
+            value,
+        } => Some(Action::OnVariable(variable, VariableAction::Add(local, value))),
+        Instruction::Cas {
+            local,
+            variable,
+            expected,
+            new,
+        } => Some(Action::OnVariable(variable, VariableAction::Cas(local, expected, new))),
         Instruction::Lock(m) => Some(Action::OnMutex(m, MutexAction::Lock)),
         Instruction::Unlock(m) => Some(Action::OnMutex(m, MutexAction::Unlock)),
         Instruction::Wait { condition, mutex } => Some(Action::Wait(condition, mutex)),
@@ -43,7 +54,9 @@ pub fn action_at(status: Status, i: Option<Instruction>) -> Option<Action>
             mutex,
             MutexAction::Retake,
         )),
-        _ => None,
+        (Status::Running, None)
+        | (Status::Woken, _)
+        | (Status::Waiting(_) | Status::Ended | Status::Stopped(_), _) => None,
     }
 }
 

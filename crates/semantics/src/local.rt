@@ -2,7 +2,8 @@
 
 ghost use Rattle.std.specs.Prelude.{◌≡◌, ◌<◌, ◌≤◌, ◌+◌, length, drop, IsTrue, IsFalse};
 ghost use Rattle.guest_code.specs.Program.{Program, IsValidCode, IsValidValue, IsValidExpression};
-ghost use Rattle.semantics.specs.Machine.{value_of_operand, of_both, value_of_expression, is_zero, advance, local_run, resumed};
+ghost use Rattle.semantics.specs.Machine.{value_of_operand, of_both, value_of_expression, is_zero, advance, local_run, resumed, var_after, reader_after, is_expected};
+ghost use Rattle.semantics.specs.declared.state.VariableAction.TheVariants.{Add as Adds, Cas as Swaps};
 
 use crate::state::{Status, Stop, Thread};
 use guest_code::limits::LOCALS;
@@ -18,6 +19,48 @@ pub fn operand_at(locals: &[i64; LOCALS], value: Value) -> i64
         Value::Local(r) => locals[r],
         Value::Literal(n) => n,
     }
+}
+
+/// Adds a value to a variable; a local becomes the variable's old value.
+pub fn add(variable: &mut i64, thread: &mut Thread, local: usize, value: Value)
+    requires local { local < LOCALS }
+    requires value { IsValidValue value }
+    ensures variable { variable.new ≡ var_after (Adds local value) thread.old.locals variable.old }
+    ensures thread { thread.new ≡ reader_after (Adds local value) thread.old variable.old }
+{
+    let old = *variable;
+    *variable = old.wrapping_add(operand_at(&thread.locals, value));
+    thread.locals[local] = old;
+}
+
+// Whether a variable of this value has the value that is expected.
+fn is_expected(locals: &[i64; LOCALS], expected: Value, variable: i64) -> bool
+    requires { IsValidValue expected }
+    ensures { result ≡ is_expected locals.now expected variable }
+{
+    variable == operand_at(locals, expected)
+}
+
+/// Where a variable has the value that is expected, it becomes the new one; a local tells whether
+/// it had.
+pub fn compare_and_swap(
+    variable: &mut i64,
+    thread: &mut Thread,
+    local: usize,
+    expected: Value,
+    new: Value,
+)
+    requires local { local < LOCALS }
+    requires expected { IsValidValue expected }
+    requires new { IsValidValue new }
+    ensures variable { variable.new ≡ var_after (Swaps local expected new) thread.old.locals variable.old }
+    ensures thread { thread.new ≡ reader_after (Swaps local expected new) thread.old variable.old }
+{
+    let hit = is_expected(&thread.locals, expected, *variable);
+    if hit {
+        *variable = operand_at(&thread.locals, new);
+    }
+    thread.locals[local] = i64::from(hit);
 }
 
 // What an operator makes of two values. Sums, differences and products wrap.
@@ -103,7 +146,17 @@ fn turn(code: &[Instruction], thread: &mut Thread) -> bool
             pass(code, thread, n);
             true
         }
-        _ => false,
+        Instruction::Load { .. }
+        | Instruction::Store { .. }
+        | Instruction::Add { .. }
+        | Instruction::Cas { .. }
+        | Instruction::Lock(_)
+        | Instruction::Unlock(_)
+        | Instruction::Wait { .. }
+        | Instruction::Signal(_)
+        | Instruction::Broadcast(_)
+        | Instruction::Acquire(_)
+        | Instruction::Release(_) => false,
     }
 }
 
