@@ -4,7 +4,7 @@ ghost use Rattle.std.specs.Prelude.{◌≡◌, ◌+◌, ◌≤◌, length, map, 
 ghost use Rattle.guest_syntax.specs.Tree.{stmt_view, block_view, thread_view};
 ghost use Rattle.guest_code.specs.Sizes.{size, block_size};
 ghost use Rattle.guest_code.specs.Fault.{too_long};
-ghost use Rattle.guest_code.specs.Walk.{passed};
+ghost use Rattle.guest_code.specs.inner.Walk.{passed};
 
 use crate::error::CheckError;
 use crate::limits::{INSTRUCTIONS, THREADS};

@@ -1,8 +1,7 @@
 //! Programs as flat code, with all names resolved.
 
-ghost use Rattle.std.specs.Prelude.{◌≡◌, ◌↔◌, ◌<◌, ◌≤◌, IsTrue, [], length, map, slice_index_or, List, ℕ};
-ghost use Rattle.guest_code.specs.Program as model;
-ghost use Rattle.guest_code.specs.Program.{IsWellFormed, IsValidCode, variable_view, semaphore_view, thread_view, code_of, variable_at, semaphore_at, thread_at};
+ghost use Rattle.std.specs.Prelude.{◌≡◌, ◌↔◌, ◌<◌, ◌≤◌, IsTrue, [], length, slice_index_or};
+ghost use Rattle.guest_code.specs.Program.{IsWellFormed, IsValidCode, program_view, code_of, variable_at, semaphore_at, thread_at};
 
 use crate::limits::*;
 use guest_syntax::tree::Op;
@@ -121,15 +120,14 @@ pub struct Program {
 }
 
 impl Model for Program {
-    ghost use Rattle.std.specs.Prelude.{map};
     ghost use Rattle.guest_code.specs.Program as model;
-    ghost use Rattle.guest_code.specs.Program.{IsWellFormed, variable_view, semaphore_view, thread_view};
+    ghost use Rattle.guest_code.specs.Program.{IsWellFormed, program_view};
 
     ghost Value = { model.Program };
 
-    ghost view = { λ p. record { variables = map variable_view p.variables.items; mutexes = map (λ n. n.items) p.mutexes.items; conditions = map (λ n. n.items) p.conditions.items; semaphores = map semaphore_view p.semaphores.items; threads = map thread_view p.threads.items } };
+    ghost view = { λ p. program_view p.variables p.mutexes p.conditions p.semaphores p.threads };
 
-    ghost invariant = { λ p. IsWellFormed (record { variables = map variable_view p.variables.items; mutexes = map (λ n. n.items) p.mutexes.items; conditions = map (λ n. n.items) p.conditions.items; semaphores = map semaphore_view p.semaphores.items; threads = map thread_view p.threads.items }) };
+    ghost invariant = { λ p. IsWellFormed (program_view p.variables p.mutexes p.conditions p.semaphores p.threads) };
 }
 
 impl PartialEq for Program {
@@ -164,8 +162,8 @@ impl Program {
         semaphores: Vec<Semaphore>,
         threads: Vec<Thread>,
     ) -> Program
-        requires { IsWellFormed (record { variables = map variable_view variables.items; mutexes = map (λ n. n.items) mutexes.items; conditions = map (λ n. n.items) conditions.items; semaphores = map semaphore_view semaphores.items; threads = map thread_view threads.items }) }
-        ensures { result ≡ record { variables = map variable_view variables.items; mutexes = map (λ n. n.items) mutexes.items; conditions = map (λ n. n.items) conditions.items; semaphores = map semaphore_view semaphores.items; threads = map thread_view threads.items } }
+        requires { IsWellFormed (program_view variables mutexes conditions semaphores threads) }
+        ensures { result ≡ program_view variables mutexes conditions semaphores threads }
     {
         Program {
             variables,
@@ -181,6 +179,13 @@ impl Program {
         ensures { IsTrue result ↔ (self.now ≡ other.now) }
     {
         *self == *other
+    }
+
+    /// It keeps every limit, and each number in its code is in range. Does nothing.
+    pub fn keeps_limits(&self)
+        ensures { IsWellFormed self.now }
+    {
+        let _ = &self.threads;
     }
 
     /// How many threads it has, 1 to `THREADS`.
@@ -224,76 +229,77 @@ impl Program {
     }
 
     /// The opening value of a variable.
-    pub fn opening(&self, variable: u8) -> i64
+    pub fn opening(&self, variable: usize) -> i64
         requires { variable < length self.now.variables }
         ensures { result ≡ (variable_at self.now variable).opening }
     {
-        self.variables[variable as usize].opening
+        self.variables[variable].opening
     }
 
     /// The opening count of a semaphore.
-    pub fn count(&self, semaphore: u8) -> u16
+    pub fn count(&self, semaphore: usize) -> u16
         requires { semaphore < length self.now.semaphores }
         ensures count { result ≡ (semaphore_at self.now semaphore).count }
         ensures few { result ≤ COUNT }
     {
-        self.semaphores[semaphore as usize].count
+        self.semaphores[semaphore].count
     }
 
     /// The code of a thread.
-    pub fn code(&self, t: u8) -> &[Instruction]
-        requires { t < length self.now.threads }
-        ensures code { result.now ≡ code_of self.now t }
-        ensures fine { IsValidCode self.now result.now }
+    pub fn code(&self, thread: u8) -> &[Instruction]
+        requires { thread < length self.now.threads }
+        ensures code { result.now ≡ code_of self.now thread }
+        ensures valid { IsValidCode self.now result.now }
     {
-        self.threads[t as usize].code.as_slice()
+        self.threads[thread as usize].code.as_slice()
     }
 
     /// How many locals a thread has.
-    pub fn locals(&self, t: u8) -> usize
-        requires { t < length self.now.threads }
-        ensures { result ≡ (thread_at self.now t).locals }
+    pub fn locals(&self, thread: u8) -> usize
+        requires { thread < length self.now.threads }
+        ensures locals { result ≡ (thread_at self.now thread).locals }
+        ensures few { result ≤ LOCALS }
     {
-        self.threads[t as usize].locals
+        self.threads[thread as usize].locals
     }
 
     /// The name of a variable.
-    pub fn variable_name(&self, variable: u8) -> &[u8]
+    pub fn variable_name(&self, variable: usize) -> &[u8]
         requires { variable < length self.now.variables }
         ensures { result.now ≡ (variable_at self.now variable).name }
     {
-        self.variables[variable as usize].name.as_slice()
+        self.variables[variable].name.as_slice()
     }
 
     /// The name of a mutex.
-    pub fn mutex_name(&self, mutex: u8) -> &[u8]
+    pub fn mutex_name(&self, mutex: usize) -> &[u8]
         requires { mutex < length self.now.mutexes }
         ensures { result.now ≡ slice_index_or self.now.mutexes mutex [] }
     {
-        self.mutexes[mutex as usize].as_slice()
+        self.mutexes[mutex].as_slice()
     }
 
     /// The name of a condition.
-    pub fn condition_name(&self, condition: u8) -> &[u8]
+    pub fn condition_name(&self, condition: usize) -> &[u8]
         requires { condition < length self.now.conditions }
         ensures { result.now ≡ slice_index_or self.now.conditions condition [] }
     {
-        self.conditions[condition as usize].as_slice()
+        self.conditions[condition].as_slice()
     }
 
     /// The name of a semaphore.
-    pub fn semaphore_name(&self, semaphore: u8) -> &[u8]
+    pub fn semaphore_name(&self, semaphore: usize) -> &[u8]
         requires { semaphore < length self.now.semaphores }
         ensures { result.now ≡ (semaphore_at self.now semaphore).name }
     {
-        self.semaphores[semaphore as usize].name.as_slice()
+        self.semaphores[semaphore].name.as_slice()
     }
 
     /// The name of a thread.
-    pub fn thread_name(&self, t: u8) -> &[u8]
-        requires { t < length self.now.threads }
-        ensures { result.now ≡ (thread_at self.now t).name }
+    pub fn thread_name(&self, thread: u8) -> &[u8]
+        requires { thread < length self.now.threads }
+        ensures { result.now ≡ (thread_at self.now thread).name }
     {
-        self.threads[t as usize].name.as_slice()
+        self.threads[thread as usize].name.as_slice()
     }
 }

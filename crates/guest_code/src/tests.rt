@@ -1,12 +1,13 @@
 use crate::error::CheckError;
-use crate::lowering::{first_stands, lower};
+use crate::laws::{first_fault_is_first, limits_are, programs_are_well_formed};
+use crate::lowering::lower;
 use crate::program::{Expression, Instruction, Program, Value};
 use guest_syntax::parse;
 use std::alloc::Global;
 use std::test::*;
 
 /// Texts, and the lines that are printed for their first faults.
-const FAULTS: [(&str, &str); 18] = [
+const FAULTS: [(&str, &str); 21] = [
     ("", "check C4 NoThreads"),
     ("var x; mutex x; thread A { }", "check C1 Duplicate at 1:14"),
     ("var x; thread x { }", "check C1 Duplicate at 1:15"),
@@ -55,11 +56,42 @@ const FAULTS: [(&str, &str); 18] = [
         "thread A { set a 0; set b 0; set c 0; set d 0; set e 0; set f 0; set g 0; set h 0; set i 0; set j 0; set k 0; set l 0; set m 0; set n 0; set o 0; set p 0; set a 0; repeat 1 { if r { } } }",
         "check C5 TooMany at 1:179",
     ),
+    (
+        "mutex a; mutex b; mutex c; mutex d; mutex e; mutex f; mutex g; mutex h; mutex i; thread A { }",
+        "check C5 TooMany at 1:79",
+    ),
+    (
+        "cond a; cond b; cond c; cond d; cond e; cond f; cond g; cond h; cond i; thread A { }",
+        "check C5 TooMany at 1:70",
+    ),
+    (
+        "sem a = 0; sem b = 0; sem c = 0; sem d = 0; sem e = 0; sem f = 0; sem g = 0; sem h = 0; sem i = 0; thread A { }",
+        "check C5 TooMany at 1:93",
+    ),
 ];
 
 /// A text that is cut at each byte.
 const CUT: &[u8] =
     b"mutex m; cond c; thread A { lock m; wait c m; unlock m; } thread B { lock m; wait c m; unlock m; } thread C { lock m; broadcast c; unlock m; }";
+
+/// A text with as many objects of each kind, threads, locals and instructions as the limits allow.
+fn fullest(alloc: Global) -> Result<String, Fail> {
+    let mut text = String::new(alloc);
+    for i in 0..16 {
+        text.push_str(format!(in alloc; "var v{i} = {i}; ")?.as_str())?;
+    }
+    for i in 0..8 {
+        text.push_str(format!(in alloc; "mutex m{i}; cond c{i}; sem s{i} = {i}; ")?.as_str())?;
+    }
+    for t in 0..16 {
+        text.push_str(format!(in alloc; "thread t{t} {{ ")?.as_str())?;
+        for i in 0..16 {
+            text.push_str(format!(in alloc; "load r{i} v{i}; ")?.as_str())?;
+        }
+        text.push_str("repeat 63 { repeat 16 { store v15 r15; } } } ")?;
+    }
+    Ok(text)
+}
 
 /// The program of a text that spells a tree.
 fn program_of(alloc: Global, text: &str) -> Result<Program, Fail> {
@@ -82,7 +114,7 @@ fn nested(alloc: Global, innermost: &str) -> Result<String, Fail> {
 
 #[test]
 fn first_faults(rt: HostRuntime) -> Result<(), Fail> {
-    first_stands();
+    first_fault_is_first();
     let alloc = rt.alloc();
     for (text, want) in FAULTS {
         let tree = parse(alloc, text.as_bytes())?;
@@ -130,13 +162,34 @@ fn nested_copies(rt: HostRuntime) -> Result<(), Fail> {
 #[test]
 fn largest_programs(rt: HostRuntime) -> Result<(), Fail> {
     let alloc = rt.alloc();
-    let text = "var x; thread A { repeat 64 { repeat 16 { store x 1; } } }";
-    assert_eq!(rt; program_of(alloc, text)?.code(0).len(), 1_024);
     let text = "var x; thread A { repeat 100 { store x 1; store x 2; store x 3; } }";
     assert_eq!(rt; program_of(alloc, text)?.code(0).len(), 300);
     let text =
         "thread A { } thread B { } thread C { } thread D { } thread E { } thread F { } thread G { } thread H { } thread I { }";
     assert_eq!(rt; program_of(alloc, text)?.threads(), 9);
+    let program = program_of(alloc, fullest(alloc)?.as_str())?;
+    limits_are();
+    programs_are_well_formed(&program);
+    assert_eq!(rt; (program.threads(), program.variables()), (16, 16));
+    assert_eq!(rt;
+        (
+            program.mutexes(),
+            program.conditions(),
+            program.semaphores()
+        ),
+        (8, 8, 8)
+    );
+    assert_eq!(rt; (program.opening(15), program.count(7)), (15, 7));
+    assert_eq!(rt; program.thread_name(15), b"t15".as_slice());
+    for t in 0..16 {
+        assert_eq!(rt; program.locals(t), 16);
+        assert_eq!(rt; program.code(t).len(), 1_024);
+    }
+    let last = Instruction::Store {
+        variable: 15,
+        value: Value::Local(15),
+    };
+    assert_eq!(rt; program.code(15).last(), Some(&last));
     Ok(())
 }
 

@@ -1,6 +1,6 @@
 use Rattle.std.proofs.Common.{arith}
 use Rattle.std.proofs.lemmas.Result.{err_from_is_err_and}
-use Rattle.guest_code.proofs.Ends.{all_not, none_there, long_not, all_right}
+use Rattle.guest_code.proofs.CheckAnswers.{all_not, none_there, long_not, all_right}
 use Rattle.guest_code.proofs.check.check.Goals as goal
 
 pub returns-in_err-all-clause-gives : goal.returns-in_err-all-clause-gives

@@ -1,5 +1,5 @@
 use Rattle.std.proofs.Common.{false, sym, ◌∙◌}
-use Rattle.guest_code.proofs.Looks.{thread_at}
+use Rattle.guest_code.proofs.NameLookup.{thread_at}
 use Rattle.guest_code.proofs.check.kind_of_thread.Goals as goal
 
 pub loop-thread-preserved : goal.loop-thread-preserved

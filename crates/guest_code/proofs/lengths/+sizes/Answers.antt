@@ -1,5 +1,5 @@
 use Rattle.std.proofs.Common.{arith}
-use Rattle.guest_code.proofs.Looks.{block_size_at, block_size_end}
+use Rattle.guest_code.proofs.CodeLengths.{block_size_at, block_size_end}
 use Rattle.guest_code.proofs.lengths.+sizes.Goals as goal
 
 pub size_of_block-loop-statement-preserved : goal.size_of_block-loop-statement-preserved

@@ -1,7 +1,7 @@
 use Rattle.std.proofs.Common.{◌∙◌, ap}
 use Rattle.guest_code.specs.Program.{semaphore_view}
 use Rattle.guest_code.specs.Code.{semaphore_of}
-use Rattle.guest_code.proofs.Objects.{objects_more, objects_same, is_semaphore, not_semaphore, counts_more}
+use Rattle.guest_code.proofs.LoweredObjects.{objects_more, objects_same, is_semaphore, not_semaphore, counts_more}
 use Rattle.guest_code.proofs.lowering.lower_semaphores.Goals as goal
 use Rattle.guest_code.proofs.lowering.lower_semaphores.Goals.{in-Semaphore+in_ok-semaphore+in_ok-push, in_default}
 

@@ -1,4 +1,4 @@
-use Rattle.guest_code.proofs.Threads.{locals_at}
+use Rattle.guest_code.proofs.ThreadLocals.{locals_at}
 use Rattle.guest_code.proofs.lowering.lower_threads.Goals as goal
 
 pub lower_thread-requires-clause-locals : goal.lower_thread-requires-clause-locals

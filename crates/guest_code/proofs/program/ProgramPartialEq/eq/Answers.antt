@@ -4,7 +4,7 @@ use Rattle.guest_code.specs.contracts.program.VariablePartialEq.TheImpl.{eq-valu
 use Rattle.guest_code.specs.contracts.program.SemaphorePartialEq.TheImpl.{eq-value as semaphore-eq}
 use Rattle.guest_code.specs.contracts.program.ThreadPartialEq.TheImpl.{eq-value as thread-eq}
 use Rattle.guest_code.specs.Same.{same_program}
-use Rattle.guest_code.proofs.Equal.{same_items, then_so, else_so, whole}
+use Rattle.guest_code.proofs.ProgramEquality.{same_items, then_so, else_so, whole}
 use Rattle.guest_code.proofs.program.ProgramPartialEq.eq.Goals as goal
 use Rattle.guest_code.proofs.program.ProgramPartialEq.eq.Goals.{then-eq, else-eq, then-eq-2, else-eq-2, then-eq-3, else-eq-3}
 

@@ -13,11 +13,12 @@ use Rattle.guest_code.specs.declared.kinds.Kind.TheVariants as kinds
 use Rattle.guest_code.specs.declared.error.CheckError.{CheckError}
 use Rattle.guest_code.specs.declared.error.CheckError.TheVariants as errors
 use Rattle.guest_code.specs.declared.limits.TheConstants.{THREADS}
-use Rattle.guest_code.specs.Uses.{Use, kind_of, declarations_uses, threads_uses, uses, kind_in, how_many, thread_locals}
-use Rattle.guest_code.specs.Fault.{declares_refusal, or_else, first, too_long, no_threads, fault}
-use Rattle.guest_code.specs.Walk.{all_uses, locals_view, passed, block_check}
-use Rattle.guest_code.specs.Gives.{Refuses, fault_of}
-use Rattle.guest_code.proofs.Steps.{passed_ok, passed_err, declaration_step, thread_step, threads_left, threads_not, body_leaves}
+use Rattle.guest_code.specs.Uses.{Use, kind_of, block_uses, declarations_uses, threads_uses, uses, kind_in, how_many, thread_locals}
+use Rattle.std.specs.Option.{option_or}
+use Rattle.guest_code.specs.Program.{locals_view}
+use Rattle.guest_code.specs.Fault.{declares_refusal, first, too_long, no_threads, fault, Refuses}
+use Rattle.guest_code.specs.inner.Walk.{all_uses, passed, walk, fault_of}
+use Rattle.guest_code.proofs.UsesOneByOne.{passed_ok, passed_err, declaration_step, thread_step, threads_left, threads_not, body_leaves}
 
 refuses_same : (d : CheckError) (o : Option CheckError) → o ≡ Some d → Refuses d o
 refuses_same errors.OutOfMemory o e = tt
@@ -29,21 +30,21 @@ refuses_same (errors.TooMany q) o e = e
 refuses_same (errors.CodeTooLong k) o e = e
 refuses_same (errors.LeaveOutside q) o e = e
 
-or_else_some : (d : CheckError) (o p : Option CheckError) → o ≡ Some d → or_else o p ≡ Some d
-or_else_some d o p e = rw e refl
+option_or-some : (d : CheckError) (o p : Option CheckError) → o ≡ Some d → option_or o p ≡ Some d
+option_or-some d o p e = rw e refl
 
-refuses_or : (d : CheckError) (o p : Option CheckError) → Refuses d o → Refuses d (or_else o p)
+refuses_or : (d : CheckError) (o p : Option CheckError) → Refuses d o → Refuses d (option_or o p)
 refuses_or errors.OutOfMemory o p e = tt
-refuses_or (errors.Duplicate q) o p e = or_else_some (errors.Duplicate q) o p e
-refuses_or (errors.Unknown q) o p e = or_else_some (errors.Unknown q) o p e
-refuses_or (errors.WrongKind q) o p e = or_else_some (errors.WrongKind q) o p e
-refuses_or errors.NoThreads o p e = or_else_some errors.NoThreads o p e
-refuses_or (errors.TooMany q) o p e = or_else_some (errors.TooMany q) o p e
-refuses_or (errors.CodeTooLong k) o p e = or_else_some (errors.CodeTooLong k) o p e
-refuses_or (errors.LeaveOutside q) o p e = or_else_some (errors.LeaveOutside q) o p e
+refuses_or (errors.Duplicate q) o p e = option_or-some (errors.Duplicate q) o p e
+refuses_or (errors.Unknown q) o p e = option_or-some (errors.Unknown q) o p e
+refuses_or (errors.WrongKind q) o p e = option_or-some (errors.WrongKind q) o p e
+refuses_or errors.NoThreads o p e = option_or-some errors.NoThreads o p e
+refuses_or (errors.TooMany q) o p e = option_or-some (errors.TooMany q) o p e
+refuses_or (errors.CodeTooLong k) o p e = option_or-some (errors.CodeTooLong k) o p e
+refuses_or (errors.LeaveOutside q) o p e = option_or-some (errors.LeaveOutside q) o p e
 
-or_else_none : (o p : Option CheckError) → o ≡ None → or_else o p ≡ p
-or_else_none o p e = rw e refl
+option_or-none : (o p : Option CheckError) → o ≡ None → option_or o p ≡ p
+option_or-none o p e = rw e refl
 
 -- ---- declarations
 
@@ -54,7 +55,7 @@ pub declaration_goes : (all : List Use) (ds : List Declaration) (i : ℕ) (x : D
     → first all (declarations_uses (map declaration_view (take (i + 1) ds))) (declarations_uses (map declaration_view (drop (i + 1) ds))) ≡ whole
 declaration_goes all ds i x k count u whole lt is ke ce ok h =
     let free = passed_ok (declares_refusal (kind_of x.object) (name_view x.name) (kind_in (uses (map declaration_view (take i ds)) []) x.name.text.items) (how_many (kind_of x.object) (uses (map declaration_view (take i ds)) []))) u (rw (ce, ke) at ok) in
-    sym (declaration_step all ds i x lt is ∙ or_else_none _ _ free) ∙ h
+    sym (declaration_step all ds i x lt is ∙ option_or-none _ _ free) ∙ h
 
 -- ---- threads
 
@@ -72,27 +73,27 @@ pub thread_not : (all : List Use) (ds : List tree.Declaration) (ts : List Thread
     → first all (uses ds (map thread_view (take i ts))) (threads_uses (map thread_view (drop i ts))) ≡ whole
     → Refuses d whole
 thread_not all ds ts i x u d whole lt is err h =
-    refuses_same d whole (sym h ∙ (thread_step all ds ts i x lt is ∙ or_else_some d _ _ (passed_err _ u d err)))
+    refuses_same d whole (sym h ∙ (thread_step all ds ts i x lt is ∙ option_or-some d _ _ (passed_err _ u d err)))
 
 pub body_not : (all : List Use) (ds : List tree.Declaration) (ts : List Thread) (i : ℕ) (x : Thread) (u : Unit {0}) (d : CheckError) (whole : Option CheckError) → i < length ts → x ≡ get_or ts i x
     → Ok u ≡ passed (declares_refusal kinds.Thread (name_view x.name) (kind_in (uses ds (map thread_view (take i ts))) x.name.text.items) i) u
-    → Refuses d (fault_of (block_check all false (block_view x.body.items) []))
+    → Refuses d (fault_of (walk all [] (block_uses false (block_view x.body.items))))
     → first all (uses ds (map thread_view (take i ts))) (threads_uses (map thread_view (drop i ts))) ≡ whole
     → Refuses d whole
 body_not all ds ts i x u d whole lt is ok err h =
-    let same : whole ≡ or_else (fault_of (block_check all false (block_view x.body.items) [])) (first all (uses ds (map thread_view (take (i + 1) ts))) (threads_uses (map thread_view (drop (i + 1) ts)))) = sym h ∙ (thread_step all ds ts i x lt is ∙ or_else_none _ _ (passed_ok _ u ok)) in
-    rw same (refuses_or d (fault_of (block_check all false (block_view x.body.items) [])) (first all (uses ds (map thread_view (take (i + 1) ts))) (threads_uses (map thread_view (drop (i + 1) ts)))) err)
+    let same : whole ≡ option_or (fault_of (walk all [] (block_uses false (block_view x.body.items)))) (first all (uses ds (map thread_view (take (i + 1) ts))) (threads_uses (map thread_view (drop (i + 1) ts)))) = sym h ∙ (thread_step all ds ts i x lt is ∙ option_or-none _ _ (passed_ok _ u ok)) in
+    rw same (refuses_or d (fault_of (walk all [] (block_uses false (block_view x.body.items)))) (first all (uses ds (map thread_view (take (i + 1) ts))) (threads_uses (map thread_view (drop (i + 1) ts)))) err)
 
 pub thread_goes : (all : List Use) (ds : List tree.Declaration) (ts : List Thread) (i : ℕ) (x : Thread) (u : Unit {0}) (ns : List (List ℕ)) (whole : Option CheckError) → i < length ts → x ≡ get_or ts i x
     → Ok u ≡ passed (declares_refusal kinds.Thread (name_view x.name) (kind_in (uses ds (map thread_view (take i ts))) x.name.text.items) i) u
-    → block_check all false (block_view x.body.items) [] ≡ Ok ns
+    → walk all [] (block_uses false (block_view x.body.items)) ≡ Ok ns
     → first all (uses ds (map thread_view (take i ts))) (threads_uses (map thread_view (drop i ts))) ≡ whole
     → first all (uses ds (map thread_view (take (i + 1) ts))) (threads_uses (map thread_view (drop (i + 1) ts))) ≡ whole
 thread_goes all ds ts i x u ns whole lt is ok body h =
-    sym (thread_step all ds ts i x lt is ∙ (or_else_none _ _ (passed_ok _ u ok) ∙ or_else_none _ _ (ap fault_of body))) ∙ h
+    sym (thread_step all ds ts i x lt is ∙ (option_or-none _ _ (passed_ok _ u ok) ∙ option_or-none _ _ (ap fault_of body))) ∙ h
 
 pub locals_go : (all : List Use) (vs new : List (Vec (Vec ℕ Global) Global)) (v : Vec (Vec ℕ Global) Global) (ts : List Thread) (i : ℕ) (x : Thread) → i < length ts → x ≡ get_or ts i x
-    → new ≡ vs ++ v ∷ [] → block_check all false (block_view x.body.items) [] ≡ Ok (locals_view v) → map locals_view vs ≡ map thread_locals (map thread_view (take i ts))
+    → new ≡ vs ++ v ∷ [] → walk all [] (block_uses false (block_view x.body.items)) ≡ Ok (locals_view v) → map locals_view vs ≡ map thread_locals (map thread_view (take i ts))
     → map locals_view new ≡ map thread_locals (map thread_view (take (i + 1) ts))
 locals_go all vs new v ts i x lt is e body h =
     let here : locals_view v ≡ thread_locals (thread_view x) = body_leaves all (thread_view x) (locals_view v) body in
@@ -116,13 +117,13 @@ few_go n o i u e = few_refusal n o i (passed_ok _ u e)
 
 pub all_not : (t : code-tree.Tree) (d : CheckError) → Refuses d (first (all_uses t) [] (all_uses t)) → Refuses d (fault (tree_view t))
 unfolding all_uses
-all_not t d e = refuses_or d (first (all_uses t) [] (all_uses t)) (or_else (no_threads ((tree_view t).threads)) (too_long 0 ((tree_view t).threads))) e
+all_not t d e = refuses_or d (first (all_uses t) [] (all_uses t)) (option_or (no_threads ((tree_view t).threads)) (too_long 0 ((tree_view t).threads))) e
 
 pub none_there : (t : code-tree.Tree) (ts : List Thread) → map thread_view ts ≡ (tree_view t).threads → first (all_uses t) [] (all_uses t) ≡ None → length ts ≡ 0 → fault (tree_view t) ≡ Some errors.NoThreads
 unfolding all_uses
 none_there t ts same e l =
     let nil : ts ≡ [] = nil_from_length ts l in
-    or_else_none _ _ e ∙ rw (← same, nil) refl
+    option_or-none _ _ e ∙ rw (← same, nil) refl
 
 some_there : (ts : List Thread) → 0 < length ts → no_threads (map thread_view ts) ≡ None
 some_there [] lt = absurd (omega arith)
@@ -132,7 +133,7 @@ pub fault_is : (t : code-tree.Tree) (ts : List Thread) → map thread_view ts �
 unfolding all_uses
 fault_is t ts same e lt =
     let some : no_threads (tree_view t).threads ≡ None = ap no_threads (sym same) ∙ some_there ts lt in
-    or_else_none _ _ e ∙ (or_else_none _ _ some ∙ ap (too_long 0) (sym same))
+    option_or-none _ _ e ∙ (option_or-none _ _ some ∙ ap (too_long 0) (sym same))
 
 pub long_not : (t : code-tree.Tree) (ts : List Thread) (u : Unit {0}) (d : CheckError) → map thread_view ts ≡ (tree_view t).threads → first (all_uses t) [] (all_uses t) ≡ None → 0 < length ts → Err d ≡ passed (too_long 0 (map thread_view ts)) u → Refuses d (fault (tree_view t))
 long_not t ts u d same e lt err = refuses_same d _ (fault_is t ts same e lt ∙ passed_err _ u d err)

@@ -14,15 +14,15 @@ use Rattle.guest_code.specs.declared.program.Instruction.{Instruction}
 use Rattle.guest_code.specs.declared.program.Instruction.TheVariants.{SkipIfZero, Skip}
 use Rattle.guest_code.specs.declared.error.CheckError.{CheckError}
 use Rattle.guest_code.specs.declared.error.CheckError.TheVariants as errors
-use Rattle.guest_code.specs.Program.{Program, IsValidValue, IsValidExpression, IsValid}
+use Rattle.guest_code.specs.Program.{Program, IsValidValue, IsValidExpression, IsValid, IsValueBelow, IsExpressionBelow, LocalsBelow}
 use Rattle.guest_code.specs.Uses.{Use, declares, object, local, outside, same, operand_uses, expr_uses, stmt_uses, block_uses, kind_in, knows, with_name, locals_from}
 use Rattle.guest_code.specs.Sizes.{block_size}
 use Rattle.guest_code.specs.Fault.{object_refusal, local_refusal}
-use Rattle.guest_code.specs.Walk.{Checked, passed, and_then}
-use Rattle.guest_code.specs.Code.{Names, slot, place, value_of, expression_of, stmt_code, block_code, copies}
-use Rattle.guest_code.proofs.Plain.{Plain}
-use Rattle.guest_code.proofs.Laws.{walk, walk_leaves}
-use Rattle.guest_code.proofs.Counts.{same_is, place_less}
+use Rattle.guest_code.specs.inner.Walk.{Checked, passed, and_then, walk}
+use Rattle.guest_code.specs.Code.{Names, object_index, local_number, value_of, expression_of, stmt_code, block_code, unrolled}
+use Rattle.guest_code.proofs.BodiesDeclareNothing.{DeclaresNothing}
+use Rattle.guest_code.proofs.CheckIsFault.{walk_leaves}
+use Rattle.guest_code.proofs.DeclarationCounts.{same_is, local_index-less}
 
 -- ---- names that are right
 
@@ -81,7 +81,7 @@ with_itself ns name = go (knows ns name) refl
     go true e = e
     go false e = knows_last ns name
 
-stays : (us : List Use) (ns : List (List ℕ)) (name : List ℕ) → Plain us → knows ns name ≡ true → knows (locals_from ns us) name ≡ true
+stays : (us : List Use) (ns : List (List ℕ)) (name : List ℕ) → DeclaresNothing us → knows ns name ≡ true → knows (locals_from ns us) name ≡ true
 stays [] ns name p e = e
 stays (declares k n ∷ us) ns name p e = absurd p
 stays (object k n ∷ us) ns name p e = stays us ns name p e
@@ -101,7 +101,7 @@ object_right k n (Some j) e = ap (λ (i : Kind). Some i) (same_is j k (go (same 
     go true e = refl
     go false e = absurd cc
 
-pub walk_right : (all us : List Use) (ns ms : List (List ℕ)) → Plain us → walk all ns us ≡ Ok ms → Right all ms us
+pub walk_right : (all us : List Use) (ns ms : List (List ℕ)) → DeclaresNothing us → walk all ns us ≡ Ok ms → Right all ms us
 walk_right all [] ns ms p e = tt
 walk_right all (declares k n ∷ us) ns ms p e = absurd p
 walk_right all (object k n ∷ us) ns ms p e =
@@ -126,7 +126,7 @@ with_few n None ns e le = go (knows ns n.text) e
     go true e = le
     go false e = omega (arith, ltb-true (length ns) LOCALS (small (ltb (length ns) LOCALS) e), length-append ns (n.text ∷ []))
 
-pub walk_few : (all us : List Use) (ns ms : List (List ℕ)) → Plain us → walk all ns us ≡ Ok ms → length ns ≤ LOCALS → length ms ≤ LOCALS
+pub walk_few : (all us : List Use) (ns ms : List (List ℕ)) → DeclaresNothing us → walk all ns us ≡ Ok ms → length ns ≤ LOCALS → length ms ≤ LOCALS
 walk_few all [] ns ms p e le = let is : ns ≡ ms = cc in rw (← is) le
 walk_few all (declares k n ∷ us) ns ms p e le = absurd p
 walk_few all (object k n ∷ us) ns ms p e le = walk_few all us ns ms p (passed_then (object_refusal k n (kind_in all n.text)) ns ms (λ q. walk all q us) e).1 le
@@ -138,55 +138,76 @@ walk_few all (outside at ∷ us) ns ms p e le = absurd cc
 -- ---- code
 
 -- the names of a thread have numbers in the range of the program
-pub record Sound (p : Program) (ns : Names) (all : List Use) : Type 0 where
+pub record NamesInRange (p : Program) (ns : Names) (all : List Use) : Type 0 where
   pub locals : length ns.locals ≤ LOCALS
-  pub variable : (name : List ℕ) → kind_in all name ≡ Some kinds.Variable → slot kinds.Variable ns.declarations name < length p.variables
-  pub mutex : (name : List ℕ) → kind_in all name ≡ Some kinds.Mutex → slot kinds.Mutex ns.declarations name < length p.mutexes
-  pub condition : (name : List ℕ) → kind_in all name ≡ Some kinds.Condition → slot kinds.Condition ns.declarations name < length p.conditions
-  pub semaphore : (name : List ℕ) → kind_in all name ≡ Some kinds.Semaphore → slot kinds.Semaphore ns.declarations name < length p.semaphores
+  pub variable : (name : List ℕ) → kind_in all name ≡ Some kinds.Variable → object_index kinds.Variable ns.declarations name < length p.variables
+  pub mutex : (name : List ℕ) → kind_in all name ≡ Some kinds.Mutex → object_index kinds.Mutex ns.declarations name < length p.mutexes
+  pub condition : (name : List ℕ) → kind_in all name ≡ Some kinds.Condition → object_index kinds.Condition ns.declarations name < length p.conditions
+  pub semaphore : (name : List ℕ) → kind_in all name ≡ Some kinds.Semaphore → object_index kinds.Semaphore ns.declarations name < length p.semaphores
 
-fine_place : (p : Program) (ns : Names) (all : List Use) (g : Sound p ns all) (name : List ℕ) → knows ns.locals name ≡ true → place ns.locals name < LOCALS
-fine_place p ns all g name e = omega (arith, place_less ns.locals name e, g.locals)
+-- an instruction is valid in a program, and names only locals below a number
+abbrev pub IsInRange : Program → ℕ → Instruction → Type 0
+IsInRange p n i = IsValid p i × LocalsBelow n i
 
-fine_value : (p : Program) (ns : Names) (all : List Use) (g : Sound p ns all) (a : Operand) → Right all ns.locals (operand_uses a) → IsValidValue (value_of ns a)
-fine_value p ns all g (tree.local n) r = fine_place p ns all g n.text r.0
-fine_value p ns all g (tree.literal z) r = tt
+local_in_range : (p : Program) (ns : Names) (all : List Use) (g : NamesInRange p ns all) (r : Name) → knows ns.locals r.text ≡ true → (local_number ns r < LOCALS) × (local_number ns r < length ns.locals)
+local_in_range p ns all g r e = let less = local_index-less ns.locals r.text e in (omega (arith, less, g.locals), less)
 
-fine_expression : (p : Program) (ns : Names) (all : List Use) (g : Sound p ns all) (e : Expr) → Right all ns.locals (expr_uses e) → IsValidExpression (expression_of ns e)
-fine_expression p ns all g (tree.single a) r = fine_value p ns all g a r
-fine_expression p ns all g (tree.both a op b) r = (fine_value p ns all g a (right_front all ns.locals (operand_uses a) (operand_uses b) r), fine_value p ns all g b (right_back all ns.locals (operand_uses a) (operand_uses b) r))
+value_in_range : (p : Program) (ns : Names) (all : List Use) (g : NamesInRange p ns all) (a : Operand) → Right all ns.locals (operand_uses a) → IsValidValue (value_of ns a) × IsValueBelow (length ns.locals) (value_of ns a)
+value_in_range p ns all g (tree.local n) r = local_in_range p ns all g n r.0
+value_in_range p ns all g (tree.literal z) r = (tt, tt)
 
-only : (p : Program) (i : Instruction) → IsValid p i → All (IsValid p) (i ∷ [])
-only p i f = All-cons (IsValid p) i [] f (All-nil (IsValid p))
+expression_in_range : (p : Program) (ns : Names) (all : List Use) (g : NamesInRange p ns all) (e : Expr) → Right all ns.locals (expr_uses e) → IsValidExpression (expression_of ns e) × IsExpressionBelow (length ns.locals) (expression_of ns e)
+expression_in_range p ns all g (tree.single a) r = value_in_range p ns all g a r
+expression_in_range p ns all g (tree.both a op b) r =
+    let u = value_in_range p ns all g a (right_front all ns.locals (operand_uses a) (operand_uses b) r) in
+    let v = value_in_range p ns all g b (right_back all ns.locals (operand_uses a) (operand_uses b) r) in
+    ((u.0, v.0), (u.1, v.1))
 
-fine_copies : (p : Program) (body : ℕ → List Instruction) (len n : ℕ) → ((k : ℕ) → All (IsValid p) (body k)) → All (IsValid p) (copies body len n)
-fine_copies p body len zero h = All-nil (IsValid p)
-fine_copies p body len (suc n) h = All-append (IsValid p) (body (n * len)) (copies body len n) (h (n * len)) (fine_copies p body len n h)
+only : (p : Program) (n : ℕ) (i : Instruction) → IsInRange p n i → All (IsInRange p n) (i ∷ [])
+only p n i f = All-cons (IsInRange p n) i [] f (All-nil (IsInRange p n))
+
+unrolled_in_range : (p : Program) (m : ℕ) (body : ℕ → List Instruction) (len n : ℕ) → ((k : ℕ) → All (IsInRange p m) (body k)) → All (IsInRange p m) (unrolled body len n)
+unrolled_in_range p m body len zero h = All-nil (IsInRange p m)
+unrolled_in_range p m body len (suc n) h = All-append (IsInRange p m) (body (n * len)) (unrolled body len n) (h (n * len)) (unrolled_in_range p m body len n h)
 
 mutual
-  pub fine_stmt : (p : Program) (ns : Names) (all : List Use) (g : Sound p ns all) (inside : Bool) (s : Stmt) (behind : ℕ) → Right all ns.locals (stmt_uses inside s) → All (IsValid p) (stmt_code ns s behind)
-  fine_stmt p ns all g inside (tree.load r x) behind h = only p _ (fine_place p ns all g r.text h.0, g.variable x.text h.1.0)
-  fine_stmt p ns all g inside (tree.store x a) behind h = only p _ (g.variable x.text h.0, fine_value p ns all g a h.1)
-  fine_stmt p ns all g inside (tree.lock m) behind h = only p _ (g.mutex m.text h.0)
-  fine_stmt p ns all g inside (tree.unlock m) behind h = only p _ (g.mutex m.text h.0)
-  fine_stmt p ns all g inside (tree.wait c m) behind h = only p _ (g.condition c.text h.0, g.mutex m.text h.1.0)
-  fine_stmt p ns all g inside (tree.signal c) behind h = only p _ (g.condition c.text h.0)
-  fine_stmt p ns all g inside (tree.broadcast c) behind h = only p _ (g.condition c.text h.0)
-  fine_stmt p ns all g inside (tree.acquire s) behind h = only p _ (g.semaphore s.text h.0)
-  fine_stmt p ns all g inside (tree.release s) behind h = only p _ (g.semaphore s.text h.0)
-  fine_stmt p ns all g inside (tree.set r e) behind h = only p _ (fine_place p ns all g r.text h.0, fine_expression p ns all g e h.1)
-  fine_stmt p ns all g inside (tree.assert e) behind h = only p _ (fine_expression p ns all g e h)
-  fine_stmt p ns all g inside (tree.if_then e b) behind h =
-      All-cons (IsValid p) (SkipIfZero (expression_of ns e) (block_size b)) (block_code ns b behind) (fine_expression p ns all g e (right_front all ns.locals (expr_uses e) (block_uses inside b) h)) (fine_block p ns all g inside b behind (right_back all ns.locals (expr_uses e) (block_uses inside b) h))
-  fine_stmt p ns all g inside (tree.if_else e b c) behind h =
+  pub stmt_in_range : (p : Program) (ns : Names) (all : List Use) (g : NamesInRange p ns all) (inside : Bool) (s : Stmt) (exit : ℕ) → Right all ns.locals (stmt_uses inside s) → All (IsInRange p (length ns.locals)) (stmt_code ns s exit)
+  stmt_in_range p ns all g inside (tree.load r x) exit h =
+      let l = local_in_range p ns all g r h.0 in
+      only p _ _ ((l.0, g.variable x.text h.1.0), l.1)
+  stmt_in_range p ns all g inside (tree.store x a) exit h =
+      let v = value_in_range p ns all g a h.1 in
+      only p _ _ ((g.variable x.text h.0, v.0), v.1)
+  stmt_in_range p ns all g inside (tree.lock m) exit h = only p _ _ (g.mutex m.text h.0, tt)
+  stmt_in_range p ns all g inside (tree.unlock m) exit h = only p _ _ (g.mutex m.text h.0, tt)
+  stmt_in_range p ns all g inside (tree.wait c m) exit h = only p _ _ ((g.condition c.text h.0, g.mutex m.text h.1.0), tt)
+  stmt_in_range p ns all g inside (tree.signal c) exit h = only p _ _ (g.condition c.text h.0, tt)
+  stmt_in_range p ns all g inside (tree.broadcast c) exit h = only p _ _ (g.condition c.text h.0, tt)
+  stmt_in_range p ns all g inside (tree.acquire s) exit h = only p _ _ (g.semaphore s.text h.0, tt)
+  stmt_in_range p ns all g inside (tree.release s) exit h = only p _ _ (g.semaphore s.text h.0, tt)
+  stmt_in_range p ns all g inside (tree.set r e) exit h =
+      let l = local_in_range p ns all g r h.0 in
+      let v = expression_in_range p ns all g e h.1 in
+      only p _ _ ((l.0, v.0), (l.1, v.1))
+  stmt_in_range p ns all g inside (tree.assert e) exit h = only p _ _ (expression_in_range p ns all g e h)
+  stmt_in_range p ns all g inside (tree.if_then e b) exit h =
+      let test = expression_in_range p ns all g e (right_front all ns.locals (expr_uses e) (block_uses inside b) h) in
+      let body = block_in_range p ns all g inside b exit (right_back all ns.locals (expr_uses e) (block_uses inside b) h) in
+      All-cons (IsInRange p (length ns.locals)) (SkipIfZero (expression_of ns e) (block_size b)) (block_code ns b exit) test body
+  stmt_in_range p ns all g inside (tree.if_else e b c) exit h =
+      let test = expression_in_range p ns all g e (right_front all ns.locals (expr_uses e) (block_uses inside b ++ block_uses inside c) h) in
       let bodies = right_back all ns.locals (expr_uses e) (block_uses inside b ++ block_uses inside c) h in
-      let yes = fine_block p ns all g inside b (behind + 1 + block_size c) (right_front all ns.locals (block_uses inside b) (block_uses inside c) bodies) in
-      let no = fine_block p ns all g inside c behind (right_back all ns.locals (block_uses inside b) (block_uses inside c) bodies) in
-      All-cons (IsValid p) (SkipIfZero (expression_of ns e) (block_size b + 1)) (block_code ns b (behind + 1 + block_size c) ++ (Skip (block_size c) ∷ block_code ns c behind)) (fine_expression p ns all g e (right_front all ns.locals (expr_uses e) (block_uses inside b ++ block_uses inside c) h))
-      (All-append (IsValid p) (block_code ns b (behind + 1 + block_size c)) (Skip (block_size c) ∷ block_code ns c behind) yes (All-cons (IsValid p) (Skip (block_size c)) (block_code ns c behind) tt no))
-  fine_stmt p ns all g inside (tree.repeat n b) behind h = fine_copies p (block_code ns b) (block_size b) n (λ k. fine_block p ns all g true b k h)
-  fine_stmt p ns all g inside (tree.leave at) behind h = only p (Skip behind) tt
+      let yes = block_in_range p ns all g inside b (exit + 1 + block_size c) (right_front all ns.locals (block_uses inside b) (block_uses inside c) bodies) in
+      let other = block_in_range p ns all g inside c exit (right_back all ns.locals (block_uses inside b) (block_uses inside c) bodies) in
+      let rest = All-cons (IsInRange p (length ns.locals)) (Skip (block_size c)) (block_code ns c exit) (tt, tt) other in
+      All-cons (IsInRange p (length ns.locals)) (SkipIfZero (expression_of ns e) (block_size b + 1)) (block_code ns b (exit + 1 + block_size c) ++ (Skip (block_size c) ∷ block_code ns c exit)) test
+      (All-append (IsInRange p (length ns.locals)) (block_code ns b (exit + 1 + block_size c)) (Skip (block_size c) ∷ block_code ns c exit) yes rest)
+  stmt_in_range p ns all g inside (tree.repeat n b) exit h = unrolled_in_range p _ (block_code ns b) (block_size b) n (λ k. block_in_range p ns all g true b k h)
+  stmt_in_range p ns all g inside (tree.leave at) exit h = only p _ (Skip exit) (tt, tt)
 
-  pub fine_block : (p : Program) (ns : Names) (all : List Use) (g : Sound p ns all) (inside : Bool) (b : Block) (behind : ℕ) → Right all ns.locals (block_uses inside b) → All (IsValid p) (block_code ns b behind)
-  fine_block p ns all g inside tree.nothing behind h = All-nil (IsValid p)
-  fine_block p ns all g inside (tree.next s b) behind h = All-append (IsValid p) (stmt_code ns s (behind + block_size b)) (block_code ns b behind) (fine_stmt p ns all g inside s (behind + block_size b) (right_front all ns.locals (stmt_uses inside s) (block_uses inside b) h)) (fine_block p ns all g inside b behind (right_back all ns.locals (stmt_uses inside s) (block_uses inside b) h))
+  pub block_in_range : (p : Program) (ns : Names) (all : List Use) (g : NamesInRange p ns all) (inside : Bool) (b : Block) (exit : ℕ) → Right all ns.locals (block_uses inside b) → All (IsInRange p (length ns.locals)) (block_code ns b exit)
+  block_in_range p ns all g inside tree.nothing exit h = All-nil (IsInRange p (length ns.locals))
+  block_in_range p ns all g inside (tree.next s b) exit h =
+      All-append (IsInRange p (length ns.locals)) (stmt_code ns s (exit + block_size b)) (block_code ns b exit)
+      (stmt_in_range p ns all g inside s (exit + block_size b) (right_front all ns.locals (stmt_uses inside s) (block_uses inside b) h))
+      (block_in_range p ns all g inside b exit (right_back all ns.locals (stmt_uses inside s) (block_uses inside b) h))

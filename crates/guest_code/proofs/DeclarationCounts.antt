@@ -13,13 +13,14 @@ use Rattle.guest_code.specs.declared.error.CheckError.{CheckError}
 use Rattle.guest_code.specs.declared.error.CheckError.TheVariants as errors
 use Rattle.guest_code.specs.Program.{Variable, Semaphore}
 use Rattle.guest_code.specs.Uses.{Use, declares, object, local, outside, kind_of, same, block_uses, declarations_uses, threads_uses, uses, kind_in, how_many, knows}
-use Rattle.guest_code.specs.Fault.{limit_of, declares_refusal, refusal, or_else, first}
-use Rattle.guest_code.specs.Code.{slot, place, objects_by, variable_of, mutex_of, condition_of, semaphore_of}
-use Rattle.guest_code.proofs.Plain.{plain_block, kind_skips}
+use Rattle.std.specs.Option.{option_or}
+use Rattle.guest_code.specs.Fault.{limit_of, declares_refusal, refusal, first}
+use Rattle.guest_code.specs.Code.{object_index, local_index, objects_by, variable_of, mutex_of, condition_of, semaphore_of}
+use Rattle.guest_code.proofs.BodiesDeclareNothing.{block_declares_nothing, kind_skips}
 
 -- ---- no refusal
 
-pub or_none : (o p : Option CheckError) → or_else o p ≡ None → (o ≡ None) × (p ≡ None)
+pub or_none : (o p : Option CheckError) → option_or o p ≡ None → (o ≡ None) × (p ≡ None)
 or_none None p e = (refl, e)
 or_none (Some d) p e = absurd cc
 
@@ -152,22 +153,22 @@ thread_hit false k o e h = h e
 thread_kind : (ts : List Thread) (name : List ℕ) (k : Kind) → kind_in (threads_uses ts) name ≡ Some k → k ≡ kinds.Thread
 thread_kind [] name k e = absurd cc
 thread_kind (t ∷ ts) name k e =
-    thread_hit (bytes_eq t.name.text name) k (kind_in (block_uses false t.body ++ threads_uses ts) name) e (λ h. thread_kind ts name k (sym (kind_skips (block_uses false t.body) (threads_uses ts) name (plain_block false t.body)) ∙ h))
+    thread_hit (bytes_eq t.name.text name) k (kind_in (block_uses false t.body ++ threads_uses ts) name) e (λ h. thread_kind ts name k (sym (kind_skips (block_uses false t.body) (threads_uses ts) name (block_declares_nothing false t.body)) ∙ h))
 
-one_slot : (hit mine : Bool) (j k : Kind) (s m : ℕ) (o : Option Kind) → same j k ≡ mine → (if hit then Some j else o) ≡ Some k → (o ≡ Some k → s < m) → (if hit then 0 else if mine then suc s else s) < (if mine then suc m else m)
-one_slot true true j k s m o e f h = omega arith
-one_slot true false j k s m o e f h = let is : j ≡ k = cc in let t : same k k ≡ true = same_self k in absurd cc
-one_slot false true j k s m o e f h = omega (arith, h f)
-one_slot false false j k s m o e f h = h f
+one_object : (hit mine : Bool) (j k : Kind) (s m : ℕ) (o : Option Kind) → same j k ≡ mine → (if hit then Some j else o) ≡ Some k → (o ≡ Some k → s < m) → (if hit then 0 else if mine then suc s else s) < (if mine then suc m else m)
+one_object true true j k s m o e f h = omega arith
+one_object true false j k s m o e f h = let is : j ≡ k = cc in let t : same k k ≡ true = same_self k in absurd cc
+one_object false true j k s m o e f h = omega (arith, h f)
+one_object false false j k s m o e f h = h f
 
-pub slot_less : (k : Kind) (ds : List Declaration) (ts : List Thread) (name : List ℕ) → same kinds.Thread k ≡ false → kind_in (uses ds ts) name ≡ Some k → slot k ds name < how_many k (declarations_uses ds)
-slot_less k [] ts name other e = let is : k ≡ kinds.Thread = thread_kind ts name k e in let t : same k k ≡ true = same_self k in absurd cc
-slot_less k (d ∷ ds) ts name other e = one_slot (bytes_eq d.name.text name) (same (kind_of d.object) k) (kind_of d.object) k (slot k ds name) (how_many k (declarations_uses ds)) (kind_in (uses ds ts) name) refl e (slot_less k ds ts name other)
+pub object_index-less : (k : Kind) (ds : List Declaration) (ts : List Thread) (name : List ℕ) → same kinds.Thread k ≡ false → kind_in (uses ds ts) name ≡ Some k → object_index k ds name < how_many k (declarations_uses ds)
+object_index-less k [] ts name other e = let is : k ≡ kinds.Thread = thread_kind ts name k e in let t : same k k ≡ true = same_self k in absurd cc
+object_index-less k (d ∷ ds) ts name other e = one_object (bytes_eq d.name.text name) (same (kind_of d.object) k) (kind_of d.object) k (object_index k ds name) (how_many k (declarations_uses ds)) (kind_in (uses ds ts) name) refl e (object_index-less k ds ts name other)
 
-one_place : (hit : Bool) (b : Bool) (p n : ℕ) → (hit || b) ≡ true → (b ≡ true → p < n) → (if hit then 0 else suc p) < suc n
-one_place true b p n e h = omega arith
-one_place false b p n e h = omega (arith, h e)
+one_local : (hit : Bool) (b : Bool) (p n : ℕ) → (hit || b) ≡ true → (b ≡ true → p < n) → (if hit then 0 else suc p) < suc n
+one_local true b p n e h = omega arith
+one_local false b p n e h = omega (arith, h e)
 
-pub place_less : (ns : List (List ℕ)) (name : List ℕ) → knows ns name ≡ true → place ns name < length ns
-place_less [] name e = absurd cc
-place_less (n ∷ ns) name e = one_place (bytes_eq n name) (knows ns name) (place ns name) (length ns) e (place_less ns name)
+pub local_index-less : (ns : List (List ℕ)) (name : List ℕ) → knows ns name ≡ true → local_index ns name < length ns
+local_index-less [] name e = absurd cc
+local_index-less (n ∷ ns) name e = one_local (bytes_eq n name) (knows ns name) (local_index ns name) (length ns) e (local_index-less ns name)

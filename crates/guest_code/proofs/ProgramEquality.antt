@@ -11,7 +11,7 @@ use Rattle.guest_code.specs.contracts.program.SemaphorePartialEq.TheImpl.{eq-val
 use Rattle.guest_code.specs.contracts.program.ThreadPartialEq.TheImpl.{eq-value as thread-eq}
 use Rattle.guest_code.specs.Program.{Variable, Semaphore, Thread, Program, variable_view, semaphore_view, thread_view}
 use Rattle.guest_code.specs.Same.{same_variable, same_semaphore, same_thread, same_program, programs_equivalence}
-use Rattle.guest_code.proofs.Same.{both, instruction_is}
+use Rattle.guest_code.proofs.InstructionEquality.{both, instruction_is}
 
 -- ---- what `==` says of what is seen
 

@@ -1,10 +1,11 @@
--- The first refusal stands somewhere, with none in front of it.
+-- The first refusal is at one use, with none in front of it.
 use Rattle.std.proofs.Common.{◌≡◌, List, [], ◌∷◌, ◌++◌, Option, Some, None, refl, ap, ◌∙◌, append_assoc}
 use Rattle.std.proofs.lemmas.List.{append-nil}
 use Rattle.guest_code.specs.declared.error.CheckError.{CheckError}
 use Rattle.guest_code.specs.Uses.{Use}
-use Rattle.guest_code.specs.Fault.{refusal, first, or_else}
-use Rattle.guest_code.specs.Found.{Found}
+use Rattle.std.specs.Option.{option_or}
+use Rattle.guest_code.specs.Fault.{refusal, first}
+use Rattle.guest_code.specs.FirstFault.{IsFirstFault}
 
 no_parts : (xs : List Use) (u : Use) (ys : List Use) → [] ≡ xs ++ u ∷ ys → ⊥
 no_parts [] u ys e = cc
@@ -22,20 +23,20 @@ clean_step all before v front r h (x ∷ xs) u ys e =
     rw (head, ← append_assoc before (v ∷ []) xs) (h xs u ys tail)
 
 found_at : (all before : List Use) (v : Use) (us : List Use) (e : CheckError) (o : Option CheckError) → refusal all before v ≡ o
-    → (first all (before ++ v ∷ []) us ≡ Some e → Found all (before ++ v ∷ []) us e) → or_else o (first all (before ++ v ∷ []) us) ≡ Some e → Found all before (v ∷ us) e
+    → (first all (before ++ v ∷ []) us ≡ Some e → IsFirstFault all (before ++ v ∷ []) us e) → option_or o (first all (before ++ v ∷ []) us) ≡ Some e → IsFirstFault all before (v ∷ us) e
 found_at all before v us e (Some d) r h s =
-    record { front = []; here = v; behind = us; parts = refl; clean = λ xs u ys p. absurd (no_parts xs u ys p); refused = rw (append-nil before) (r ∙ s) }
+    record { front = []; here = v; after = us; parts = refl; clean = λ xs u ys p. absurd (no_parts xs u ys p); refused = rw (append-nil before) (r ∙ s) }
 found_at all before v us e None r h s =
-    let f : Found all (before ++ v ∷ []) us e = h s in
+    let f : IsFirstFault all (before ++ v ∷ []) us e = h s in
     record {
       front = v ∷ f.front;
       here = f.here;
-      behind = f.behind;
+      after = f.after;
       parts = ap (λ (xs : List Use). v ∷ xs) f.parts;
       clean = clean_step all before v f.front r f.clean;
       refused = rw (← append_assoc before (v ∷ []) f.front) f.refused;
     }
 
-pub first_found : (all before us : List Use) (e : CheckError) → first all before us ≡ Some e → Found all before us e
+pub first_found : (all before us : List Use) (e : CheckError) → first all before us ≡ Some e → IsFirstFault all before us e
 first_found all before [] e s = absurd cc
 first_found all before (v ∷ us) e s = found_at all before v us e (refusal all before v) refl (first_found all (before ++ v ∷ []) us e) s

@@ -11,11 +11,11 @@ use Rattle.guest_syntax.specs.Tree.{declaration_view, thread_view, name_view, st
 use Rattle.guest_code.specs.declared.kinds.Kind.TheVariants as kinds
 use Rattle.guest_code.specs.declared.error.CheckError.{CheckError}
 use Rattle.guest_code.specs.Uses.{Use, declares, kind_of, block_uses, thread_uses, declarations_uses, threads_uses, uses, kind_in, how_many, thread_locals}
-use Rattle.guest_code.specs.Fault.{declares_refusal, or_else, first}
-use Rattle.guest_code.specs.Walk.{passed, Checked, block_check}
-use Rattle.guest_code.specs.Gives.{fault_of}
-use Rattle.guest_code.proofs.Plain.{plain_block, many_skips}
-use Rattle.guest_code.proofs.Laws.{walk, block_walks, first_walks, first_append, locals_append, walk_leaves}
+use Rattle.std.specs.Option.{option_or}
+use Rattle.guest_code.specs.Fault.{declares_refusal, first}
+use Rattle.guest_code.specs.inner.Walk.{passed, walk, fault_of}
+use Rattle.guest_code.proofs.BodiesDeclareNothing.{block_declares_nothing, many_skips}
+use Rattle.guest_code.proofs.CheckIsFault.{first_walks, first_append, locals_append, walk_leaves}
 
 pub passed_ok : (o : Option CheckError) (x : Unit {0}) → Ok x ≡ passed o x → o ≡ None
 passed_ok None x e = refl
@@ -37,7 +37,7 @@ d_more ds i x lt is = rw (add-one, take-suc ds i x, ← is, d_append (take i ds)
 
 pub declaration_step : (all : List Use) (ds : List Declaration) (i : ℕ) (x : Declaration) → i < length ds → x ≡ get_or ds i x
     → first all (declarations_uses (map declaration_view (take i ds))) (declarations_uses (map declaration_view (drop i ds)))
-    ≡ or_else (declares_refusal (kind_of x.object) (name_view x.name) (kind_in (uses (map declaration_view (take i ds)) []) x.name.text.items) (how_many (kind_of x.object) (uses (map declaration_view (take i ds)) [])))
+    ≡ option_or (declares_refusal (kind_of x.object) (name_view x.name) (kind_in (uses (map declaration_view (take i ds)) []) x.name.text.items) (how_many (kind_of x.object) (uses (map declaration_view (take i ds)) [])))
     (first all (declarations_uses (map declaration_view (take (i + 1) ds))) (declarations_uses (map declaration_view (drop (i + 1) ds))))
 declaration_step all ds i x lt is = rw (append-nil (declarations_uses (map declaration_view (take i ds))), d_more ds i x lt is, add-one, drop-cons ds i x, ← is) refl
 
@@ -62,21 +62,21 @@ many_none (d ∷ ds) us = no_thread d.object d.name (declarations_uses ds ++ us)
 
 pub many_threads : (ts : List tree.Thread) → how_many kinds.Thread (threads_uses ts) ≡ length ts
 many_threads [] = refl
-many_threads (t ∷ ts) = ap suc (many_skips (block_uses false t.body) (threads_uses ts) kinds.Thread (plain_block false t.body) ∙ many_threads ts)
+many_threads (t ∷ ts) = ap suc (many_skips (block_uses false t.body) (threads_uses ts) kinds.Thread (block_declares_nothing false t.body) ∙ many_threads ts)
 
 -- one thread, and then the rest
 pub one_thread : (all before : List Use) (t : tree.Thread) (rest : List Use)
     → first all before (thread_uses t ++ rest)
-    ≡ or_else (declares_refusal kinds.Thread t.name (kind_in before t.name.text) (how_many kinds.Thread before)) (or_else (fault_of (block_check all false t.body [])) (first all (before ++ thread_uses t) rest))
+    ≡ option_or (declares_refusal kinds.Thread t.name (kind_in before t.name.text) (how_many kinds.Thread before)) (option_or (fault_of (walk all [] (block_uses false t.body))) (first all (before ++ thread_uses t) rest))
 one_thread all before t rest =
     let d = declares kinds.Thread t.name in
     let bu = block_uses false t.body in
-    let split : first all (before ++ d ∷ []) (bu ++ rest) ≡ or_else (first all (before ++ d ∷ []) bu) (first all ((before ++ d ∷ []) ++ bu) rest) = first_append all (before ++ d ∷ []) bu rest in
-    let here : first all (before ++ d ∷ []) bu ≡ fault_of (block_check all false t.body []) =
-    first_walks all (before ++ d ∷ []) bu (plain_block false t.body) ∙ (ap (λ (ns : List (List ℕ)). fault_of (walk all ns bu)) (locals_append [] before (d ∷ [])) ∙ ap (λ (r : Checked). fault_of r) (sym (block_walks all false t.body []))) in
+    let split : first all (before ++ d ∷ []) (bu ++ rest) ≡ option_or (first all (before ++ d ∷ []) bu) (first all ((before ++ d ∷ []) ++ bu) rest) = first_append all (before ++ d ∷ []) bu rest in
+    let here : first all (before ++ d ∷ []) bu ≡ fault_of (walk all [] (block_uses false t.body)) =
+    first_walks all (before ++ d ∷ []) bu (block_declares_nothing false t.body) ∙ ap (λ (ns : List (List ℕ)). fault_of (walk all ns bu)) (locals_append [] before (d ∷ [])) in
     let joined : (before ++ d ∷ []) ++ bu ≡ before ++ thread_uses t = append_assoc before (d ∷ []) bu in
-    ap (or_else (declares_refusal kinds.Thread t.name (kind_in before t.name.text) (how_many kinds.Thread before)))
-    (split ∙ (ap (λ (o : Option CheckError). or_else o (first all ((before ++ d ∷ []) ++ bu) rest)) here ∙ ap (λ (us : List Use). or_else (fault_of (block_check all false t.body [])) (first all us rest)) joined))
+    ap (option_or (declares_refusal kinds.Thread t.name (kind_in before t.name.text) (how_many kinds.Thread before)))
+    (split ∙ (ap (λ (o : Option CheckError). option_or o (first all ((before ++ d ∷ []) ++ bu) rest)) here ∙ ap (λ (us : List Use). option_or (fault_of (walk all [] (block_uses false t.body))) (first all us rest)) joined))
 
 length_taken : {A : Type 0} → (xs : List A) (i : ℕ) → i ≤ length xs → length (take i xs) ≡ i
 length_taken xs zero le = refl
@@ -89,8 +89,8 @@ length_mapped f (x ∷ xs) = ap suc (length_mapped f xs)
 
 pub thread_step : (all : List Use) (ds : List tree.Declaration) (ts : List Thread) (i : ℕ) (x : Thread) → i < length ts → x ≡ get_or ts i x
     → first all (uses ds (map thread_view (take i ts))) (threads_uses (map thread_view (drop i ts)))
-    ≡ or_else (declares_refusal kinds.Thread (name_view x.name) (kind_in (uses ds (map thread_view (take i ts))) x.name.text.items) i)
-    (or_else (fault_of (block_check all false (block_view x.body.items) [])) (first all (uses ds (map thread_view (take (i + 1) ts))) (threads_uses (map thread_view (drop (i + 1) ts)))))
+    ≡ option_or (declares_refusal kinds.Thread (name_view x.name) (kind_in (uses ds (map thread_view (take i ts))) x.name.text.items) i)
+    (option_or (fault_of (walk all [] (block_uses false (block_view x.body.items)))) (first all (uses ds (map thread_view (take (i + 1) ts))) (threads_uses (map thread_view (drop (i + 1) ts)))))
 thread_step all ds ts i x lt is =
     let count : how_many kinds.Thread (uses ds (map thread_view (take i ts))) ≡ i =
     many_none ds (threads_uses (map thread_view (take i ts))) ∙ (many_threads (map thread_view (take i ts)) ∙ (length_mapped thread_view (take i ts) ∙ length_taken ts i (omega arith))) in
@@ -99,17 +99,17 @@ thread_step all ds ts i x lt is =
     append_assoc (declarations_uses ds) (threads_uses (map thread_view (take i ts))) (thread_uses (thread_view x)) ∙ ap (λ (us : List Use). declarations_uses ds ++ us) (sym (t_more ts i x lt is)) in
     let one = one_thread all (uses ds (map thread_view (take i ts))) (thread_view x) (threads_uses (map thread_view (drop (i + 1) ts))) in
     ap (λ (us : List Use). first all (uses ds (map thread_view (take i ts))) us) cut ∙ (one ∙
-    (ap (λ (k : ℕ). or_else (declares_refusal kinds.Thread (name_view x.name) (kind_in (uses ds (map thread_view (take i ts))) x.name.text.items) k) (or_else (fault_of (block_check all false (block_view x.body.items) [])) (first all (uses ds (map thread_view (take i ts)) ++ thread_uses (thread_view x)) (threads_uses (map thread_view (drop (i + 1) ts)))))) count
-    ∙ ap (λ (us : List Use). or_else (declares_refusal kinds.Thread (name_view x.name) (kind_in (uses ds (map thread_view (take i ts))) x.name.text.items) i) (or_else (fault_of (block_check all false (block_view x.body.items) [])) (first all us (threads_uses (map thread_view (drop (i + 1) ts)))))) more))
+    (ap (λ (k : ℕ). option_or (declares_refusal kinds.Thread (name_view x.name) (kind_in (uses ds (map thread_view (take i ts))) x.name.text.items) k) (option_or (fault_of (walk all [] (block_uses false (block_view x.body.items)))) (first all (uses ds (map thread_view (take i ts)) ++ thread_uses (thread_view x)) (threads_uses (map thread_view (drop (i + 1) ts)))))) count
+    ∙ ap (λ (us : List Use). option_or (declares_refusal kinds.Thread (name_view x.name) (kind_in (uses ds (map thread_view (take i ts))) x.name.text.items) i) (option_or (fault_of (walk all [] (block_uses false (block_view x.body.items)))) (first all us (threads_uses (map thread_view (drop (i + 1) ts)))))) more))
 
 -- the declarations are right: the threads are left
 pub threads_left : (all : List Use) (ds : List tree.Declaration) (us : List Use) → first all [] (declarations_uses ds) ≡ None → first all [] (declarations_uses ds ++ us) ≡ first all (declarations_uses ds ++ []) us
-threads_left all ds us e = first_append all [] (declarations_uses ds) us ∙ (ap (λ (o : Option CheckError). or_else o (first all (declarations_uses ds) us)) e ∙ rw (append-nil (declarations_uses ds)) refl)
+threads_left all ds us e = first_append all [] (declarations_uses ds) us ∙ (ap (λ (o : Option CheckError). option_or o (first all (declarations_uses ds) us)) e ∙ rw (append-nil (declarations_uses ds)) refl)
 
 -- the declarations are not right
 pub threads_not : (all : List Use) (ds : List tree.Declaration) (us : List Use) (d : CheckError) → first all [] (declarations_uses ds) ≡ Some d → first all [] (declarations_uses ds ++ us) ≡ Some d
-threads_not all ds us d e = first_append all [] (declarations_uses ds) us ∙ ap (λ (o : Option CheckError). or_else o (first all (declarations_uses ds) us)) e
+threads_not all ds us d e = first_append all [] (declarations_uses ds) us ∙ ap (λ (o : Option CheckError). option_or o (first all (declarations_uses ds) us)) e
 
 -- the locals of a thread, as its walk leaves them
-pub body_leaves : (all : List Use) (t : tree.Thread) (ns : List (List ℕ)) → block_check all false t.body [] ≡ Ok ns → ns ≡ thread_locals t
-body_leaves all t ns e = sym (walk_leaves all (block_uses false t.body) [] ns (plain_block false t.body) (sym (block_walks all false t.body []) ∙ e))
+pub body_leaves : (all : List Use) (t : tree.Thread) (ns : List (List ℕ)) → walk all [] (block_uses false t.body) ≡ Ok ns → ns ≡ thread_locals t
+body_leaves all t ns e = sym (walk_leaves all (block_uses false t.body) [] ns (block_declares_nothing false t.body) e)

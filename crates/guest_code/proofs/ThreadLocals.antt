@@ -3,7 +3,7 @@ use Rattle.std.proofs.Common.{◌≡◌, ℕ, zero, suc, ◌<◌, List, [], ◌�
 use Rattle.guest_syntax.specs.declared.tree.Thread.{Thread}
 use Rattle.guest_syntax.specs.Tree.{thread_view}
 use Rattle.guest_code.specs.Uses.{thread_locals}
-use Rattle.guest_code.specs.Walk.{locals_view}
+use Rattle.guest_code.specs.Program.{locals_view}
 
 pub locals_at : (ls : List (Vec (Vec ℕ Global) Global)) (ts : List Thread) (i : ℕ) (y : Vec (Vec ℕ Global) Global) (x : Thread) → map locals_view ls ≡ map thread_locals (map thread_view ts) → i < length ts → y ≡ get_or ls i y → x ≡ get_or ts i x
     → locals_view y ≡ thread_locals (thread_view x)
