@@ -44,8 +44,10 @@ expression_is (Both a o b) (Both c p d) e =
 expression_is _ _ e = absurd cc
 
 pub instruction_is : (a b : Instruction) → same-instruction.it a b ≡ true → a ≡ b
-instruction_is (Load r x) (Load q y) e = let t = both _ _ e in λ i. Load ((unsigned_Decides r q).0 t.0 i) ((unsigned_Decides x y).0 t.1 i)
-instruction_is (Store x a) (Store y b) e = let t = both _ _ e in λ i. Store ((unsigned_Decides x y).0 t.0 i) (value_is a b t.1 i)
+instruction_is (Load r x) (Load q y) e = let t = both _ _ e in λ i. Load
+    ((unsigned_Decides r q).0 t.0 i) ((unsigned_Decides x y).0 t.1 i)
+instruction_is (Store x a) (Store y b) e = let t = both _ _ e in λ i. Store
+    ((unsigned_Decides x y).0 t.0 i) (value_is a b t.1 i)
 instruction_is (Add r x a) (Add q y b) e =
     let t = both _ _ e in
     let u = both _ _ t.1 in
@@ -54,16 +56,21 @@ instruction_is (Cas r x a b) (Cas q y c d) e =
     let t = both _ _ e in
     let u = both _ _ t.1 in
     let v = both _ _ u.1 in
-    λ i. Cas ((unsigned_Decides r q).0 t.0 i) ((unsigned_Decides x y).0 u.0 i) (value_is a c v.0 i) (value_is b d v.1 i)
+    λ i. Cas ((unsigned_Decides r q).0 t.0 i) ((unsigned_Decides x y).0 u.0 i)
+    (value_is a c v.0 i) (value_is b d v.1 i)
 instruction_is (Lock m) (Lock n) e = ap (λ (k : ℕ). Lock k) ((unsigned_Decides m n).0 e)
 instruction_is (Unlock m) (Unlock n) e = ap (λ (k : ℕ). Unlock k) ((unsigned_Decides m n).0 e)
-instruction_is (Wait c m) (Wait d n) e = let t = both _ _ e in λ i. Wait ((unsigned_Decides c d).0 t.0 i) ((unsigned_Decides m n).0 t.1 i)
+instruction_is (Wait c m) (Wait d n) e = let t = both _ _ e in λ i. Wait
+    ((unsigned_Decides c d).0 t.0 i) ((unsigned_Decides m n).0 t.1 i)
 instruction_is (Signal m) (Signal n) e = ap (λ (k : ℕ). Signal k) ((unsigned_Decides m n).0 e)
-instruction_is (Broadcast m) (Broadcast n) e = ap (λ (k : ℕ). Broadcast k) ((unsigned_Decides m n).0 e)
+instruction_is (Broadcast m) (Broadcast n) e = ap (λ (k : ℕ). Broadcast k)
+    ((unsigned_Decides m n).0 e)
 instruction_is (Acquire m) (Acquire n) e = ap (λ (k : ℕ). Acquire k) ((unsigned_Decides m n).0 e)
 instruction_is (Release m) (Release n) e = ap (λ (k : ℕ). Release k) ((unsigned_Decides m n).0 e)
-instruction_is (Set r a) (Set q b) e = let t = both _ _ e in λ i. Set ((unsigned_Decides r q).0 t.0 i) (expression_is a b t.1 i)
+instruction_is (Set r a) (Set q b) e = let t = both _ _ e in λ i. Set
+    ((unsigned_Decides r q).0 t.0 i) (expression_is a b t.1 i)
 instruction_is (Assert a) (Assert b) e = ap (λ (v : Expression). Assert v) (expression_is a b e)
-instruction_is (SkipIfZero a m) (SkipIfZero b n) e = let t = both _ _ e in λ i. SkipIfZero (expression_is a b t.0 i) ((unsigned_Decides m n).0 t.1 i)
+instruction_is (SkipIfZero a m) (SkipIfZero b n) e = let t = both _ _ e in λ i. SkipIfZero
+    (expression_is a b t.0 i) ((unsigned_Decides m n).0 t.1 i)
 instruction_is (Skip m) (Skip n) e = ap (λ (k : ℕ). Skip k) ((unsigned_Decides m n).0 e)
 instruction_is _ _ e = absurd cc

@@ -12,7 +12,7 @@ use Rattle.guest_code.specs.declared.program.Value.TheVariants.{Local, Literal}
 use Rattle.guest_code.specs.declared.program.Expression.{Expression}
 use Rattle.guest_code.specs.declared.program.Expression.TheVariants.{Single, Both}
 use Rattle.guest_code.specs.declared.program.Instruction.{Instruction}
-use Rattle.guest_code.specs.declared.program.Instruction.TheVariants.{Load, Store, Lock, Unlock, Wait, Signal, Broadcast, Acquire, Release, Set, Assert, SkipIfZero, Skip}
+use Rattle.guest_code.specs.declared.program.Instruction.TheVariants.{Load, Store, Add, Cas, Lock, Unlock, Wait, Signal, Broadcast, Acquire, Release, Set, Assert, SkipIfZero, Skip}
 use Rattle.guest_code.specs.Program.{Variable, Semaphore, Thread, Program}
 use Rattle.guest_code.specs.Uses.{kind_of, same, thread_locals}
 use Rattle.guest_code.specs.Sizes.{block_size}
@@ -22,7 +22,10 @@ use Rattle.guest_code.specs.Sizes.{block_size}
 -- the number of an object: how many of its kind are declared before its name
 abbrev pub object_index : Kind → List Declaration → List ℕ → ℕ
 object_index k [] name = 0
-object_index k (d ∷ ds) name = if bytes_eq d.name.text name then 0 else if same (kind_of d.object) k then suc (object_index k ds name) else object_index k ds name
+object_index k (d ∷ ds) name =
+    if bytes_eq d.name.text name then 0
+    else if same (kind_of d.object) k then suc (object_index k ds name)
+    else object_index k ds name
 
 -- the number of a local: how many locals come before it
 abbrev pub local_index : List (List ℕ) → List ℕ → ℕ
@@ -66,11 +69,16 @@ abbrev pub unrolled : (ℕ → List Instruction) → ℕ → ℕ → List Instru
 unrolled body len zero = []
 unrolled body len (suc n) = body (n * len) ++ unrolled body len n
 
--- the code of a statement and of a block; `exit` is its distance to exit: how many instructions come after it, to the end of the last copy of the nearest `repeat` round it
+-- the code of a statement and of a block; `exit` is its distance to exit: how many instructions
+-- come after it, to the end of the last copy of the nearest `repeat` round it
 abbrev mutual
   pub stmt_code : Names → Stmt → ℕ → List Instruction
   stmt_code ns (tree.load r x) exit = Load (local_number ns r) (variable_number ns x) ∷ []
   stmt_code ns (tree.store x a) exit = Store (variable_number ns x) (value_of ns a) ∷ []
+  stmt_code ns (tree.add r x a) exit =
+      Add (local_number ns r) (variable_number ns x) (value_of ns a) ∷ []
+  stmt_code ns (tree.cas r x a b) exit =
+      Cas (local_number ns r) (variable_number ns x) (value_of ns a) (value_of ns b) ∷ []
   stmt_code ns (tree.lock m) exit = Lock (mutex_number ns m) ∷ []
   stmt_code ns (tree.unlock m) exit = Unlock (mutex_number ns m) ∷ []
   stmt_code ns (tree.wait c m) exit = Wait (condition_number ns c) (mutex_number ns m) ∷ []
@@ -80,9 +88,11 @@ abbrev mutual
   stmt_code ns (tree.release s) exit = Release (semaphore_number ns s) ∷ []
   stmt_code ns (tree.set r e) exit = Set (local_number ns r) (expression_of ns e) ∷ []
   stmt_code ns (tree.assert e) exit = Assert (expression_of ns e) ∷ []
-  stmt_code ns (tree.if_then e b) exit = SkipIfZero (expression_of ns e) (block_size b) ∷ block_code ns b exit
+  stmt_code ns (tree.if_then e b) exit =
+      SkipIfZero (expression_of ns e) (block_size b) ∷ block_code ns b exit
   stmt_code ns (tree.if_else e b c) exit =
-      SkipIfZero (expression_of ns e) (block_size b + 1) ∷ (block_code ns b (exit + 1 + block_size c) ++ (Skip (block_size c) ∷ block_code ns c exit))
+      SkipIfZero (expression_of ns e) (block_size b + 1) ∷
+      (block_code ns b (exit + 1 + block_size c) ++ (Skip (block_size c) ∷ block_code ns c exit))
   stmt_code ns (tree.repeat n b) exit = unrolled (block_code ns b) (block_size b) n
   stmt_code ns (tree.leave at) exit = Skip exit ∷ []
 
@@ -115,7 +125,11 @@ objects_by of ds = filter_map (λ d. of d.name.text d.object) ds
 
 -- a thread with its code, its names resolved
 abbrev pub thread_code : List Declaration → tree.Thread → Thread
-thread_code ds t = record { name = t.name.text; locals = length (thread_locals t); code = block_code (record { declarations = ds; locals = thread_locals t }) t.body 0 }
+thread_code ds t = record {
+  name = t.name.text;
+  locals = length (thread_locals t);
+  code = block_code (record { declarations = ds; locals = thread_locals t }) t.body 0;
+}
 
 -- the program of a tree that has no fault
 abbrev pub code : Tree → Program

@@ -33,7 +33,10 @@ object_refusal k n (Some j) = if same j k then None else Some (WrongKind n.at)
 -- of a name where a local must be, given what it is declared as, and the locals before it
 abbrev pub local_refusal : Name → Option Kind → List (List ℕ) → Option CheckError
 local_refusal n (Some j) ns = Some (WrongKind n.at)
-local_refusal n None ns = if knows ns n.text then None else if ltb (length ns) LOCALS then None else Some (TooMany n.at)
+local_refusal n None ns =
+    if knows ns n.text then None
+    else if ltb (length ns) LOCALS then None
+    else Some (TooMany n.at)
 
 -- of a use, given all uses of the text and those before it
 abbrev pub refusal : List Use → List Use → Use → Option CheckError
@@ -57,15 +60,19 @@ no_threads (t ∷ ts) = None
 -- the first thread that is too long, the first of the list having number k
 abbrev pub too_long : ℕ → List Thread → Option CheckError
 too_long k [] = None
-too_long k (t ∷ ts) = if ltb INSTRUCTIONS (block_size t.body) then Some (CodeTooLong k) else too_long (k + 1) ts
+too_long k (t ∷ ts) =
+    if ltb INSTRUCTIONS (block_size t.body) then Some (CodeTooLong k) else too_long (k + 1) ts
 
 -- the first refusal among the names of a tree
 abbrev pub first_of_names : List Use → Option CheckError
 first_of_names all = first all [] all
 
--- the refusal of a tree, if there is one: the first among its names, then that there is no thread, then a length
+-- the refusal of a tree, if there is one: the first among its names, then that there is no thread,
+-- then a length
 abbrev pub fault : Tree → Option CheckError
-fault t = option_or (first_of_names (uses t.declarations t.threads)) (option_or (no_threads t.threads) (too_long 0 t.threads))
+fault t =
+    option_or (first_of_names (uses t.declarations t.threads))
+    (option_or (no_threads t.threads) (too_long 0 t.threads))
 
 -- ---- what is answered
 

@@ -10,5 +10,6 @@ pub record IsFirstFault (all before us : List Use) (e : CheckError) : Type 0 whe
   pub here : Use
   pub after : List Use
   pub parts : us ≡ front ++ here ∷ after
-  pub clean : (xs : List Use) (u : Use) (ys : List Use) → front ≡ xs ++ u ∷ ys → refusal all (before ++ xs) u ≡ None
+  pub clean : (xs : List Use) (u : Use) (ys : List Use) → front ≡ xs ++ u ∷ ys
+      → refusal all (before ++ xs) u ≡ None
   pub refused : refusal all (before ++ front) here ≡ Some e

@@ -65,7 +65,9 @@ abbrev pub threads_view : Vec code-thread.Thread Global → List Thread
 threads_view v = map thread_view v.items
 
 -- the program of these parts
-abbrev pub program_view : Vec code-variable.Variable Global → (mutexes conditions : Vec (Vec ℕ Global) Global) → Vec code-semaphore.Semaphore Global → Vec code-thread.Thread Global → Program
+abbrev pub program_view : Vec code-variable.Variable Global
+    → (mutexes conditions : Vec (Vec ℕ Global) Global) → Vec code-semaphore.Semaphore Global
+    → Vec code-thread.Thread Global → Program
 program_view variables mutexes conditions semaphores threads = record {
   variables = variables_view variables;
   mutexes = names_view mutexes.items;
@@ -178,7 +180,8 @@ skip_of (Skip k) = k
 
 -- each jump goes to an instruction of the code, or to its end
 abbrev pub JumpsWithin : List Instruction → Type 0
-JumpsWithin code = (k : ℕ) → k < length code → k + 1 + skip_of (slice_index_or code k (Skip 0)) ≤ length code
+JumpsWithin code = (k : ℕ) → k < length code
+    → k + 1 + skip_of (slice_index_or code k (Skip 0)) ≤ length code
 
 -- the limits are kept, every number of an object or a local is in range, and each jump is within its code
 pub record IsWellFormed (p : Program) : Type 0 where

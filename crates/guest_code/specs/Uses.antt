@@ -46,6 +46,9 @@ abbrev mutual
   pub stmt_uses : Bool → Stmt → List Use
   stmt_uses inside (tree.load r x) = local r ∷ object kinds.Variable x ∷ []
   stmt_uses inside (tree.store x a) = object kinds.Variable x ∷ operand_uses a
+  stmt_uses inside (tree.add r x a) = local r ∷ object kinds.Variable x ∷ operand_uses a
+  stmt_uses inside (tree.cas r x a b) =
+      local r ∷ object kinds.Variable x ∷ (operand_uses a ++ operand_uses b)
   stmt_uses inside (tree.lock m) = object kinds.Mutex m ∷ []
   stmt_uses inside (tree.unlock m) = object kinds.Mutex m ∷ []
   stmt_uses inside (tree.wait c m) = object kinds.Condition c ∷ object kinds.Mutex m ∷ []
@@ -56,7 +59,8 @@ abbrev mutual
   stmt_uses inside (tree.set r e) = local r ∷ expr_uses e
   stmt_uses inside (tree.assert e) = expr_uses e
   stmt_uses inside (tree.if_then e b) = expr_uses e ++ block_uses inside b
-  stmt_uses inside (tree.if_else e b c) = expr_uses e ++ (block_uses inside b ++ block_uses inside c)
+  stmt_uses inside (tree.if_else e b c) = expr_uses e
+      ++ (block_uses inside b ++ block_uses inside c)
   stmt_uses inside (tree.repeat n b) = block_uses true b
   stmt_uses inside (tree.leave at) = if inside then [] else outside at ∷ []
 

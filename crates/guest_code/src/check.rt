@@ -203,6 +203,22 @@ fn check_store(
     check_operand(scope, locals, value)
 }
 
+/// The same of an `add`.
+fn check_add(
+    scope: Scope<'_>,
+    locals: &mut Vec<Vec<u8>>,
+    local: &Name,
+    variable: &Name,
+    value: &Operand,
+) -> Result<(), CheckError>
+    ensures { Meets result scope.entry locals.old locals.new
+        (used.local (name_view local.now) ∷ object Kind.Variable (name_view variable.now) ∷
+        operand_uses (operand_view value.now)) }
+{
+    check_load(scope, locals, local, variable)?;
+    check_operand(scope, locals, value)
+}
+
 /// The same of a `set`.
 fn check_set(
     scope: Scope<'_>,
@@ -241,6 +257,20 @@ fn check_statement(
     match statement {
         Statement::Load { local, variable } => check_load(scope, locals, local, variable),
         Statement::Store { variable, value } => check_store(scope, locals, variable, value),
+        Statement::Add {
+            local,
+            variable,
+            value,
+        } => check_add(scope, locals, local, variable, value),
+        Statement::Cas {
+            local,
+            variable,
+            expected,
+            new,
+        } => {
+            check_load(scope, locals, local, variable)?;
+            check_operands(scope, locals, expected, new)
+        }
         Statement::Lock(name) | Statement::Unlock(name) => check_object(tree, Kind::Mutex, name),
         Statement::Wait { condition, mutex } => check_wait(tree, condition, mutex),
         Statement::Signal(name) | Statement::Broadcast(name) => {

@@ -45,6 +45,42 @@ fn store(names: Names<'_>, variable: &Name, value: &Operand) -> Instruction
     }
 }
 
+/// The instruction that adds a value to a variable.
+fn add(names: Names<'_>, local: &Name, variable: &Name, value: &Operand) -> Instruction
+    ensures { result ≡ Instruction.Add
+        (local_number (names_of names.entry) (name_view local.now))
+        (variable_number (names_of names.entry) (name_view variable.now))
+        (value_of (names_of names.entry) (operand_view value.now)) }
+{
+    Instruction::Add {
+        local: names.local(local),
+        variable: names.variable(variable),
+        value: names.value(value),
+    }
+}
+
+/// The instruction that compares a variable and sets it.
+fn cas(
+    names: Names<'_>,
+    local: &Name,
+    variable: &Name,
+    expected: &Operand,
+    new: &Operand,
+) -> Instruction
+    ensures { result ≡ Instruction.Cas
+        (local_number (names_of names.entry) (name_view local.now))
+        (variable_number (names_of names.entry) (name_view variable.now))
+        (value_of (names_of names.entry) (operand_view expected.now))
+        (value_of (names_of names.entry) (operand_view new.now)) }
+{
+    Instruction::Cas {
+        local: names.local(local),
+        variable: names.variable(variable),
+        expected: names.value(expected),
+        new: names.value(new),
+    }
+}
+
 /// The instruction that waits on a condition with a mutex.
 fn wait(names: Names<'_>, condition: &Name, mutex: &Name) -> Instruction
     ensures { result ≡ Instruction.Wait
@@ -91,6 +127,17 @@ fn emit_statement(
     match statement {
         Statement::Load { local, variable } => put(code, load(names, local, variable)),
         Statement::Store { variable, value } => put(code, store(names, variable, value)),
+        Statement::Add {
+            local,
+            variable,
+            value,
+        } => put(code, add(names, local, variable, value)),
+        Statement::Cas {
+            local,
+            variable,
+            expected,
+            new,
+        } => put(code, cas(names, local, variable, expected, new)),
         Statement::Lock(name) => put(code, Instruction::Lock(names.mutex(name))),
         Statement::Unlock(name) => put(code, Instruction::Unlock(names.mutex(name))),
         Statement::Wait { condition, mutex } => put(code, wait(names, condition, mutex)),
@@ -165,7 +212,7 @@ fn emit_choice(
     emit_block(code, context, other)
 }
 
-/// Adds copies of a block. An empty block takes no turn.
+/// Adds copies of a block. Copies of an empty block cost no time.
 #[cycle(emit)]
 fn emit_copies(
     code: &mut Vec<Instruction>,

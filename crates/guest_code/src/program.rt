@@ -88,24 +88,29 @@ pub enum Instruction {
 /// A variable's name and opening value.
 #[derive(Debug, PartialEq, Eq, Drop)]
 pub struct Variable {
+    /// As the text spells it.
     pub name: Vec<u8>,
+    /// Its value before the first step.
     pub opening: i64,
 }
 
 /// A semaphore's name and opening count.
 #[derive(Debug, PartialEq, Eq, Drop)]
 pub struct Semaphore {
+    /// As the text spells it.
     pub name: Vec<u8>,
+    /// Its count before the first step, at most `COUNT`.
     pub count: u16,
 }
 
 /// A thread's name, how many locals it has, and its code.
 #[derive(Debug, PartialEq, Eq, Drop)]
 pub struct Thread {
+    /// As the text spells it.
     pub name: Vec<u8>,
-    /// At most `LOCALS`.
+    /// How many locals it has, at most `LOCALS`.
     pub locals: usize,
-    /// At most `INSTRUCTIONS`, all jumps forwards.
+    /// At most `INSTRUCTIONS`, all jumps forwards and within it.
     pub code: Vec<Instruction>,
 }
 
@@ -254,7 +259,7 @@ impl Program {
         self.threads[thread as usize].code.as_slice()
     }
 
-    /// How many locals a thread has.
+    /// How many locals a thread has, at most `LOCALS`.
     pub fn locals(&self, thread: u8) -> usize
         requires { thread < length self.now.threads }
         ensures locals { result ≡ (thread_at self.now thread).locals }

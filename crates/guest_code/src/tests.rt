@@ -7,7 +7,7 @@ use std::alloc::Global;
 use std::test::*;
 
 /// Texts, and the lines that are printed for their first faults.
-const FAULTS: [(&str, &str); 21] = [
+const FAULTS: [(&str, &str); 27] = [
     ("", "check C4 NoThreads"),
     ("var x; mutex x; thread A { }", "check C1 Duplicate at 1:14"),
     ("var x; thread x { }", "check C1 Duplicate at 1:15"),
@@ -67,6 +67,27 @@ const FAULTS: [(&str, &str); 21] = [
     (
         "sem a = 0; sem b = 0; sem c = 0; sem d = 0; sem e = 0; sem f = 0; sem g = 0; sem h = 0; sem i = 0; thread A { }",
         "check C5 TooMany at 1:93",
+    ),
+    ("thread A { add r x 1; }", "check C2 Unknown at 1:18"),
+    (
+        "var x; thread A { add x x 1; }",
+        "check C3 WrongKind at 1:23",
+    ),
+    (
+        "var x; thread A { add r x x; }",
+        "check C3 WrongKind at 1:27",
+    ),
+    (
+        "mutex m; thread A { cas r m 0 1; }",
+        "check C3 WrongKind at 1:27",
+    ),
+    (
+        "var x; thread A { cas r x x B; } thread B { }",
+        "check C3 WrongKind at 1:27",
+    ),
+    (
+        "var x; thread A { cas r x q B; } thread B { }",
+        "check C3 WrongKind at 1:29",
     ),
 ];
 
@@ -219,6 +240,35 @@ fn jumps(rt: HostRuntime) -> Result<(), Fail> {
     ];
     assert_eq!(rt; program.code(0), &want[..]);
     assert_eq!(rt; program.locals(0), 2);
+    Ok(())
+}
+
+#[test]
+fn atomic_updates(rt: HostRuntime) -> Result<(), Fail> {
+    let text = "var x; var y; thread A { set q 0; cas r y s t; add s y q; add s x -1; }";
+    let program = program_of(rt.alloc(), text)?;
+    let set = Instruction::Set {
+        local: 0,
+        value: Expression::Single(Value::Literal(0)),
+    };
+    let cas = Instruction::Cas {
+        local: 1,
+        variable: 1,
+        expected: Value::Local(2),
+        new: Value::Local(3),
+    };
+    let add = Instruction::Add {
+        local: 2,
+        variable: 1,
+        value: Value::Local(0),
+    };
+    let subtract = Instruction::Add {
+        local: 2,
+        variable: 0,
+        value: Value::Literal(-1),
+    };
+    assert_eq!(rt; program.code(0), &[set, cas, add, subtract][..]);
+    assert_eq!(rt; program.locals(0), 4);
     Ok(())
 }
 

@@ -4,7 +4,7 @@ ghost use Rattle.std.specs.Prelude.{◌≡◌, ◌<◌, length, IfOk};
 ghost use Rattle.guest_syntax.specs.reader.Gives.{Gives};
 ghost use Rattle.guest_syntax.specs.Tree.{name_view, stmt_view};
 ghost use Rattle.guest_syntax.specs.reader.Reads.{Reads, TakesToken};
-ghost use Rattle.guest_syntax.specs.reader.Statements.{one_name_from, two_names_from, store_from, set_from, assert_from, named_by, simple_by};
+ghost use Rattle.guest_syntax.specs.reader.Statements.{one_name_from, two_names_from, store_from, add_from, cas_from, set_from, assert_from, named_by, simple_by};
 
 use crate::cursor::Cursor;
 use crate::error::SyntaxError;
@@ -47,6 +47,42 @@ fn store<'a>(alloc: Global, text: Cursor<'a>) -> Result<(Statement, Cursor<'a>),
     let (value, text) = operand(alloc, text)?;
     let (_, text) = symbol(text, Symbol::End)?;
     Ok((Statement::Store { variable, value }, text))
+}
+
+#[tactic(auto, unfolding(crate::specs::reader::Statements::add_from))]
+fn add<'a>(alloc: Global, text: Cursor<'a>) -> Result<(Statement, Cursor<'a>), SyntaxError>
+    ensures gives { Reads stmt_view result add_from text.entry }
+    ensures shorter { TakesToken result text.entry }
+{
+    let (local, text) = name(alloc, text)?;
+    let (variable, text) = name(alloc, text)?;
+    let (value, text) = operand(alloc, text)?;
+    let (_, text) = symbol(text, Symbol::End)?;
+    let statement = Statement::Add {
+        local,
+        variable,
+        value,
+    };
+    Ok((statement, text))
+}
+
+#[tactic(auto, unfolding(crate::specs::reader::Statements::cas_from))]
+fn cas<'a>(alloc: Global, text: Cursor<'a>) -> Result<(Statement, Cursor<'a>), SyntaxError>
+    ensures gives { Reads stmt_view result cas_from text.entry }
+    ensures shorter { TakesToken result text.entry }
+{
+    let (local, text) = name(alloc, text)?;
+    let (variable, text) = name(alloc, text)?;
+    let (expected, text) = operand(alloc, text)?;
+    let (new, text) = operand(alloc, text)?;
+    let (_, text) = symbol(text, Symbol::End)?;
+    let statement = Statement::Cas {
+        local,
+        variable,
+        expected,
+        new,
+    };
+    Ok((statement, text))
 }
 
 #[tactic(auto, unfolding(crate::specs::reader::Statements::set_from))]
@@ -129,6 +165,8 @@ pub fn simple<'a>(
             Ok((Statement::Wait { condition, mutex }, text))
         }
         Keyword::Store => store(alloc, text),
+        Keyword::Add => add(alloc, text),
+        Keyword::Cas => cas(alloc, text),
         Keyword::Set => set(alloc, text),
         Keyword::Assert => assertion(alloc, text),
         Keyword::Leave => {

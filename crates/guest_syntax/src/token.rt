@@ -15,6 +15,8 @@ pub enum Keyword {
     Thread,
     Load,
     Store,
+    Add,
+    Cas,
     Lock,
     Unlock,
     Wait,
@@ -66,7 +68,7 @@ pub struct Token<'a> {
 }
 
 /// All words.
-pub const KEYWORDS: [Keyword; 20] = [
+pub const KEYWORDS: [Keyword; 22] = [
     Keyword::Var,
     Keyword::Mutex,
     Keyword::Cond,
@@ -74,6 +76,8 @@ pub const KEYWORDS: [Keyword; 20] = [
     Keyword::Thread,
     Keyword::Load,
     Keyword::Store,
+    Keyword::Add,
+    Keyword::Cas,
     Keyword::Lock,
     Keyword::Unlock,
     Keyword::Wait,
@@ -119,6 +123,8 @@ impl Keyword {
             Keyword::Thread => b"thread",
             Keyword::Load => b"load",
             Keyword::Store => b"store",
+            Keyword::Add => b"add",
+            Keyword::Cas => b"cas",
             Keyword::Lock => b"lock",
             Keyword::Unlock => b"unlock",
             Keyword::Wait => b"wait",

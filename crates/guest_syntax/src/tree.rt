@@ -58,6 +58,20 @@ pub enum Statement {
         variable: Name,
         value: Operand,
     },
+    /// Adds the value to the variable in one step; the local gets the variable's old value.
+    Add {
+        local: Name,
+        variable: Name,
+        value: Operand,
+    },
+    /// Compares the variable with the expected value and, where they are equal, sets the new one,
+    /// in one step; the local gets 1 where they were, else 0.
+    Cas {
+        local: Name,
+        variable: Name,
+        expected: Operand,
+        new: Operand,
+    },
     Lock(Name),
     Unlock(Name),
     Wait {

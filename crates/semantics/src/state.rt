@@ -1,9 +1,9 @@
 //! States of a program, and their steps.
 
-ghost use Rattle.std.specs.Prelude.{◌≡◌, ◌<◌, ◌≤◌, ℕ, length, All, IfOk, IfSome, IsTrue};
+ghost use Rattle.std.specs.Prelude.{◌≡◌, ◌<◌, ◌≤◌, ℕ, length, slice_get, All, IfOk, IfSome, IsTrue};
 ghost use Rattle.std.specs.List.{list_any, list_all};
 ghost use Rattle.guest_code.specs.Program.{Program, code_of, IsValidValue};
-ghost use Rattle.semantics.specs.Machine.{Snapshot, start, step, performed, is_enabled, next_of, thread_at, queue_of, value_of_operand, sem_allows, count_of};
+ghost use Rattle.semantics.specs.Machine.{Snapshot, start, step, performed, is_enabled, next_of, thread_at, owner_of, queue_of, count_of, value_of_operand};
 ghost use Rattle.semantics.specs.Reachable.{IsOf, IsValidAction, StandsInCode, IsReady};
 ghost use Rattle.semantics.specs.Ends.{is_terminal, kind_of, view_of, final_kind, is_stopped, is_ended, stop_of};
 ghost use Rattle.semantics.specs.Mask.{has};
@@ -35,9 +35,9 @@ pub enum Stop {
 /// Whether a thread goes on.
 #[derive(Clone, Copy, Debug, PartialEq, Eq)]
 pub enum Status {
-    /// It stands at a visible statement.
+    /// It is at a visible statement.
     Running,
-    /// It stands in the queue of the condition of this number.
+    /// It is in the queue of the condition of this number.
     Waiting(usize),
     /// It was called, and has to take its mutex again.
     Woken,
@@ -59,10 +59,10 @@ impl Status {
     }
 }
 
-/// Where a thread stands, and its locals.
+/// Where a thread is, and its locals.
 #[derive(Clone, Copy, Debug)]
 pub struct Thread {
-    /// The number of the instruction where it stands; the length of its code where it ended.
+    /// The number of the instruction where it is; the length of its code where it ended.
     pub pc: usize,
     /// The values of its locals; those that it doesn't have stay 0.
     pub locals: [i64; LOCALS],
@@ -188,6 +188,55 @@ impl State {
         self.variables.as_slice()
     }
 
+    /// The thread that owns a mutex; `None` where it is free.
+    pub fn owner(&self, mutex: usize) -> Option<u8>
+        requires { mutex < length self.now.owners }
+        ensures { result ≡ owner_of self.now mutex }
+    {
+        self.owners[mutex]
+    }
+
+    /// How many threads are in the queue of a condition.
+    pub fn queue_length(&self, condition: usize) -> usize
+        requires { condition < length self.now.queues }
+        ensures { result ≡ length (queue_of self.now condition) }
+    {
+        self.queues[condition].threads().len()
+    }
+
+    /// The thread at a place of a condition's queue, counted from 0: the one that waits longest is
+    /// first. `None` past the last one.
+    pub fn queued(&self, condition: usize, place: usize) -> Option<u8>
+        requires { condition < length self.now.queues }
+        ensures { result ≡ slice_get (queue_of self.now condition) place }
+    {
+        self.queues[condition].threads().get(place).copied()
+    }
+
+    /// The count of a semaphore.
+    pub fn count(&self, semaphore: usize) -> u16
+        requires { semaphore < length self.now.counts }
+        ensures { result ≡ count_of self.now semaphore }
+    {
+        self.counts[semaphore]
+    }
+
+    /// The number of the instruction that a thread has come to; the length of its code at the end.
+    pub fn pc(&self, thread: u8) -> usize
+        requires { thread < length self.now.threads }
+        ensures { result ≡ (thread_at self.now thread).pc }
+    {
+        self.threads[thread as usize].pc
+    }
+
+    /// The values of a thread's locals, `LOCALS` of them; those that the thread doesn't have are 0.
+    pub fn locals(&self, thread: u8) -> &[i64; LOCALS]
+        requires { thread < length self.now.threads }
+        ensures { result.now ≡ (thread_at self.now thread).locals }
+    {
+        &self.threads[thread as usize].locals
+    }
+
     /// Whether a thread goes on.
     pub fn status(&self, thread: u8) -> Status
         requires { thread < length self.now.threads }
@@ -202,7 +251,7 @@ impl State {
         requires fine { IsValidValue value }
         ensures { result ≡ value_of_operand (thread_at self.now thread).locals value }
     {
-        operand_at(&self.threads[thread as usize].locals, value)
+        operand_at(self.locals(thread), value)
     }
 
     /// What a thread is about to do, if it doesn't wait and is not over.

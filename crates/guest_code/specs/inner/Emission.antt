@@ -15,10 +15,15 @@ use Rattle.guest_code.specs.Code.{Names, stmt_code, block_code, unrolled, object
 
 -- what names in memory stand for
 abbrev pub names_of : code-names.Names → Names
-names_of ns = record { declarations = map declaration_view ns.declarations.now; locals = names_view ns.locals.now }
+names_of ns = record {
+  declarations = map declaration_view ns.declarations.now;
+  locals =
+      names_view ns.locals.now;
+}
 
 -- a code that gained these instructions, unless the call failed
-abbrev pub Adds : {X E : Type 0} → Result X E → (old new : Vec Instruction Global) → List Instruction → Type 0
+abbrev pub Adds : {X E : Type 0} → Result X E → (old new : Vec Instruction Global)
+    → List Instruction → Type 0
 Adds result old new is = OnOk result (new.items ≡ old.items ++ is)
 
 -- the code of a statement and of a block in this context
@@ -34,15 +39,18 @@ size_of body = block_size (block_view body)
 
 -- so many copies of these statements
 abbrev pub copies_of : code-names.Names → List Statement → ℕ → List Instruction
-copies_of names body times = unrolled (block_code (names_of names) (block_view body)) (size_of body) times
+copies_of names body times = unrolled (block_code (names_of names) (block_view body))
+    (size_of body) times
 
 -- the objects of a kind among these declarations
-abbrev pub objects_in : {X : Type 0} → (List ℕ → Object → Option X) → List code-declaration.Declaration → List X
+abbrev pub objects_in : {X : Type 0} → (List ℕ → Object → Option X)
+    → List code-declaration.Declaration → List X
 objects_in of ds = objects_by of (map declaration_view ds)
 
 -- the code of a thread, and of each of these threads
 abbrev pub thread_code_in : List code-declaration.Declaration → code-thread.Thread → Thread
 thread_code_in ds t = thread_code (map declaration_view ds) (thread_view t)
 
-abbrev pub threads_code_in : List code-declaration.Declaration → List code-thread.Thread → List Thread
+abbrev pub threads_code_in : List code-declaration.Declaration → List code-thread.Thread
+    → List Thread
 threads_code_in ds ts = map (thread_code (map declaration_view ds)) (map thread_view ts)

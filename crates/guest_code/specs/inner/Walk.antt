@@ -43,8 +43,10 @@ and_then (Err e) f = Err e
 abbrev pub walk : List Use → List (List ℕ) → List Use → Checked
 walk all ns [] = Ok ns
 walk all ns (declares k n ∷ us) = walk all ns us
-walk all ns (object k n ∷ us) = and_then (passed (object_refusal k n (kind_in all n.text)) ns) (λ ms. walk all ms us)
-walk all ns (local n ∷ us) = and_then (passed (local_refusal n (kind_in all n.text) ns) (with_name ns n.text)) (λ ms. walk all ms us)
+walk all ns (object k n ∷ us) = and_then (passed (object_refusal k n (kind_in all n.text)) ns)
+    (λ ms. walk all ms us)
+walk all ns (local n ∷ us) = and_then
+    (passed (local_refusal n (kind_in all n.text) ns) (with_name ns n.text)) (λ ms. walk all ms us)
 walk all ns (outside at ∷ us) = Err (LeaveOutside at)
 
 -- ---- what is answered
@@ -65,10 +67,13 @@ Gives (Ok x) y checked = checked ≡ Ok y
 Gives (Err e) y checked = Refuses e (fault_of checked)
 
 -- what a function returned that met these uses, with the locals before and after it
-abbrev pub Meets : {X : Type 0} → Result X CheckError → code-scope.Scope → (old new : Vec (Vec ℕ Global) Global) → List Use → Type 0
-Meets result scope old new us = Gives result (locals_view new) (walk (all_uses scope.tree.now) (locals_view old) us)
+abbrev pub Meets : {X : Type 0} → Result X CheckError → code-scope.Scope
+    → (old new : Vec (Vec ℕ Global) Global) → List Use → Type 0
+Meets result scope old new us = Gives result (locals_view new)
+    (walk (all_uses scope.tree.now) (locals_view old) us)
 
 -- what a function returned that looked for the locals of these uses
-abbrev pub Finds : Result (Vec (Vec ℕ Global) Global) CheckError → code-tree.Tree → List Use → Type 0
+abbrev pub Finds : Result (Vec (Vec ℕ Global) Global) CheckError → code-tree.Tree → List Use
+    → Type 0
 Finds (Ok v) tree us = walk (all_uses tree) [] us ≡ Ok (locals_view v)
 Finds (Err e) tree us = Refuses e (fault_of (walk (all_uses tree) [] us))

@@ -35,6 +35,23 @@ store_from ts = do
   e ← symbol_from symbols.End a.1
   Some (tree.store x.0 a.0, e)
 
+unfoldable pub add_from : List Token → Read Stmt
+add_from ts = do
+  r ← name_from ts
+  x ← name_from r.1
+  a ← operand_from x.1
+  e ← symbol_from symbols.End a.1
+  Some (tree.add r.0 x.0 a.0, e)
+
+unfoldable pub cas_from : List Token → Read Stmt
+cas_from ts = do
+  r ← name_from ts
+  x ← name_from r.1
+  a ← operand_from x.1
+  b ← operand_from a.1
+  e ← symbol_from symbols.End b.1
+  Some (tree.cas r.0 x.0 a.0 b.0, e)
+
 unfoldable pub set_from : List Token → Read Stmt
 set_from ts = do
   r ← name_from ts
@@ -63,6 +80,8 @@ abbrev pub simple_by : Keyword → Pos → List Token → Read Stmt
 simple_by keywords.Load at ts = two_names_from ts >>= λ n. Some (tree.load n.0.0 n.0.1, n.1)
 simple_by keywords.Wait at ts = two_names_from ts >>= λ n. Some (tree.wait n.0.0 n.0.1, n.1)
 simple_by keywords.Store at ts = store_from ts
+simple_by keywords.Add at ts = add_from ts
+simple_by keywords.Cas at ts = cas_from ts
 simple_by keywords.Set at ts = set_from ts
 simple_by keywords.Assert at ts = assert_from ts
 simple_by keywords.Leave at ts = symbol_from symbols.End ts >>= λ e. Some (tree.leave at, e)

@@ -24,5 +24,7 @@ decreases-check_repeat l = 3 * goal.size-check_repeat l + 2
 
 abbrev pub invariant-check_block-loop-statement : goal.invariant-check_block-loop-statement
 invariant-check_block-loop-statement l =
-    walk (all_uses l.scope.tree.now) (locals_view l.locals) (block_uses l.scope.inside (block_view (drop l.statement-index l.block)))
-    ≡ walk (all_uses l.scope.tree.now) (locals_view l.fn.locals) (block_uses l.scope.inside (block_view l.block))
+    walk (all_uses l.scope.tree.now) (locals_view l.locals)
+    (block_uses l.scope.inside (block_view (drop l.statement-index l.block)))
+    ≡ walk (all_uses l.scope.tree.now) (locals_view l.fn.locals)
+    (block_uses l.scope.inside (block_view l.block))

@@ -9,7 +9,10 @@ use Rattle.guest_code.proofs.check.check_names.Given as goal
 
 abbrev pub invariant-loop-i : goal.invariant-loop-i
 invariant-loop-i l = record {
-  same : first (all_uses l.tree) (uses (map declaration_view l.declarations) (map thread_view (take l.i l.threads))) (threads_uses (map thread_view (drop l.i l.threads))) ≡ first (all_uses l.tree) [] (all_uses l.tree);
+  same : first (all_uses l.tree)
+      (uses (map declaration_view l.declarations) (map thread_view (take l.i l.threads)))
+      (threads_uses (map thread_view (drop l.i l.threads))) ≡ first (all_uses l.tree) []
+      (all_uses l.tree);
   locals : map locals_view l.all.items ≡ map thread_locals (map thread_view (take l.i l.threads));
   few : l.i ≤ THREADS;
 }

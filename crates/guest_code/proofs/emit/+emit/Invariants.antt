@@ -27,13 +27,16 @@ decreases-emit_copies-loop-left l = l.left
 
 abbrev pub invariant-emit_copies-loop-left : goal.invariant-emit_copies-loop-left
 invariant-emit_copies-loop-left l = record {
-  same : l.code.items ++ unrolled (block_code (names_of l.names) (block_view l.body)) l.len l.left ≡ l.fn.code.items ++ unrolled (block_code (names_of l.names) (block_view l.body)) l.len l.times;
+  same : l.code.items ++ unrolled (block_code (names_of l.names) (block_view l.body)) l.len l.left
+      ≡ l.fn.code.items ++ unrolled (block_code (names_of l.names) (block_view l.body)) l.len
+      l.times;
   less : l.left ≤ l.times;
 }
 
 abbrev pub invariant-emit_block-loop-statement : goal.invariant-emit_block-loop-statement
 invariant-emit_block-loop-statement l = record {
-  same : l.code.items ++ block_code_in l.context (block_view (drop l.statement-index l.block)) ≡ l.fn.code.items ++ block_code_in l.context (block_view l.block);
+  same : l.code.items ++ block_code_in l.context (block_view (drop l.statement-index l.block))
+      ≡ l.fn.code.items ++ block_code_in l.context (block_view l.block);
   left : l.left ≡ size_of (drop l.statement-index l.block);
   small : l.left ≤ INSTRUCTIONS;
   near : l.context.distance_to_exit + l.left < 2 ^ 32;

@@ -5,6 +5,8 @@ use Rattle.guest_code.proofs.names.index_of_object.Given as goal
 
 abbrev pub invariant-loop-declaration : goal.invariant-loop-declaration
 invariant-loop-declaration l = record {
-  same : l.index + object_index l.kind (map declaration_view (drop l.declaration-index l.declarations)) l.name ≡ object_index l.kind (map declaration_view l.declarations) l.name;
+  same : l.index + object_index l.kind
+      (map declaration_view (drop l.declaration-index l.declarations)) l.name ≡ object_index
+      l.kind (map declaration_view l.declarations) l.name;
   small : l.index ≤ l.declaration-index;
 }
