@@ -10,7 +10,7 @@ both : (a b : Bool) → (a && b) ≡ true → (a ≡ true) × (b ≡ true)
 both true b h = (refl, h)
 both false b h = absurd (false≢true h)
 
--- a schedule with a bad place behind steps that run doesn't run
+-- a schedule with a bad place after steps that run doesn't run
 bad_fails : (p : Program) (s : Snapshot) (w : List ℕ) (k : ℕ) → k < length w → runs p s (take k w) ≡ true → is_enabled p (state_after p s (take k w)) (get_or w k 0) ≡ false → runs p s w ≡ false
 bad_fails p s [] k inside h bad = absurd (omega (arith, inside))
 bad_fails p s (t ∷ w) zero inside h bad = ap (λ b. b && runs p (step p s t) w) bad

@@ -26,30 +26,30 @@ values_text-push p x (first ∷ vs) v =
     ap (λ text. value_text p x first ++ text) (values_text-push p (x + 1) vs v ∙ ap (λ n. values_text p (x + 1) vs ++ value_text p n v) e)
     ∙ sym (append_assoc (value_text p x first) (values_text p (x + 1) vs) (value_text p (x + suc (length vs)) v))
 
--- text behind text
+-- text after text
 
-pub behind : (old mid new x y : List ℕ) → mid ≡ old ++ x → new ≡ mid ++ y → new ≡ old ++ (x ++ y)
-behind old mid new x y e f = f ∙ (ap (λ text. text ++ y) e ∙ append_assoc old x y)
+pub appended : (old mid new x y : List ℕ) → mid ≡ old ++ x → new ≡ mid ++ y → new ≡ old ++ (x ++ y)
+appended old mid new x y e f = f ∙ (ap (λ text. text ++ y) e ∙ append_assoc old x y)
 
-two_behind : (old mid new x y z : List ℕ) → mid ≡ old ++ x → new ≡ mid ++ (y ++ z) → new ≡ old ++ (x ++ y ++ z)
-two_behind old mid new x y z e f = behind old mid new x (y ++ z) e f ∙ ap (λ text. old ++ text) (sym (append_assoc x y z))
+two_appended : (old mid new x y z : List ℕ) → mid ≡ old ++ x → new ≡ mid ++ (y ++ z) → new ≡ old ++ (x ++ y ++ z)
+two_appended old mid new x y z e f = appended old mid new x (y ++ z) e f ∙ ap (λ text. old ++ text) (sym (append_assoc x y z))
 
-three_behind : (old mid new x a b d : List ℕ) → mid ≡ old ++ x → new ≡ mid ++ (a ++ b ++ d) → new ≡ old ++ (x ++ a ++ b ++ d)
-three_behind old mid new x a b d e f = two_behind old mid new x (a ++ b) d e f ∙ ap (λ text. old ++ (text ++ d)) (sym (append_assoc x a b))
+three_appended : (old mid new x a b d : List ℕ) → mid ≡ old ++ x → new ≡ mid ++ (a ++ b ++ d) → new ≡ old ++ (x ++ a ++ b ++ d)
+three_appended old mid new x a b d e f = two_appended old mid new x (a ++ b) d e f ∙ ap (λ text. old ++ (text ++ d)) (sym (append_assoc x a b))
 
 -- the parts of a step's line
 pub step_parts : (p : Program) (k : ℕ) (line : Line) (old placed named acted new name mark stop : List ℕ) → placed ≡ old ++ decimal k → named ≡ placed ++ (codes " " ++ name ++ codes " ") → name ≡ thread_name p line.thread → acted ≡ named ++ act_text p line.act → new ≡ acted ++ (mark ++ stop ++ codes "\n") → mark ≡ preempt_text line.preempting → stop ≡ stop_text line.stop → new ≡ old ++ step_line p k line
 step_parts p k line old placed named acted new name mark stop e1 e2 n e3 e4 m s =
-    let place = three_behind old placed named (decimal k) (codes " ") (thread_name p line.thread) (codes " ") e1 (e2 ∙ ap (λ word. placed ++ (codes " " ++ word ++ codes " ")) n) in
-    let act = behind old named acted _ (act_text p line.act) place e3 in
-    three_behind old acted new _ (preempt_text line.preempting) (stop_text line.stop) (codes "\n") act (e4 ∙ (λ i. acted ++ (m i ++ s i ++ codes "\n")))
+    let place = three_appended old placed named (decimal k) (codes " ") (thread_name p line.thread) (codes " ") e1 (e2 ∙ ap (λ word. placed ++ (codes " " ++ word ++ codes " ")) n) in
+    let act = appended old named acted _ (act_text p line.act) place e3 in
+    three_appended old acted new _ (preempt_text line.preempting) (stop_text line.stop) (codes "\n") act (e4 ∙ (λ i. acted ++ (m i ++ s i ++ codes "\n")))
 
 -- the parts of the three lines at the end
 pub end_parts : (p : Program) (r : Run) (old counted told valued new kind : List ℕ) → counted ≡ old ++ (codes "preemptions " ++ decimal r.preemptions) → told ≡ counted ++ (codes "\nkind " ++ kind ++ codes "\nvars") → kind ≡ kind_text r.kind → valued ≡ told ++ values_text p 0 r.vars → new ≡ valued ++ codes "\n" → new ≡ old ++ end_lines p r
 end_parts p r old counted told valued new kind e1 e2 k e3 e4 =
-    let words = three_behind old counted told (codes "preemptions " ++ decimal r.preemptions) (codes "\nkind ") (kind_text r.kind) (codes "\nvars") e1 (e2 ∙ ap (λ word. counted ++ (codes "\nkind " ++ word ++ codes "\nvars")) k) in
-    let values = behind old told valued _ (values_text p 0 r.vars) words e3 in
-    behind old valued new _ (codes "\n") values e4
+    let words = three_appended old counted told (codes "preemptions " ++ decimal r.preemptions) (codes "\nkind ") (kind_text r.kind) (codes "\nvars") e1 (e2 ∙ ap (λ word. counted ++ (codes "\nkind " ++ word ++ codes "\nvars")) k) in
+    let values = appended old told valued _ (values_text p 0 r.vars) words e3 in
+    appended old valued new _ (codes "\n") values e4
 
 -- the lists so far, and one more element
 
@@ -59,16 +59,16 @@ starts_more p ts k old mid new name inside e f n = (f ∙ ap (λ word. mid ++ (c
 pub steps_more : (p : Program) (lines : List Line) (k : ℕ) (old mid new : List ℕ) (d : Line) → k < length lines → mid ≡ old ++ step_lines p 0 (take k lines) → new ≡ mid ++ step_line p k (get_or lines k d) → new ≡ old ++ step_lines p 0 (take (k + 1) lines)
 steps_more p lines k old mid new d inside e f =
     let place : k ≡ 0 + length (take k lines) = let l = length-take k lines in omega (arith, l) in
-    behind old mid new (step_lines p 0 (take k lines)) (step_line p k (get_or lines k d)) e f
+    appended old mid new (step_lines p 0 (take k lines)) (step_line p k (get_or lines k d)) e f
     ∙ ap (λ text. old ++ text) (ap (λ n. step_lines p 0 (take k lines) ++ step_line p n (get_or lines k d)) place
     ∙ (sym (step_lines-push p 0 (take k lines) (get_or lines k d))
     ∙ ap (step_lines p 0) (sym (take_more lines k d inside))))
 
 pub values_more : (p : Program) (vs : List ℤ) (k : ℕ) (old mid named new name : List ℕ) (v d : ℤ) → k < length vs → mid ≡ old ++ values_text p 0 (take k vs) → named ≡ mid ++ (codes " " ++ name) → name ≡ variable_name p k → new ≡ named ++ (codes "=" ++ signed_decimal v) → v ≡ get_or vs k d → new ≡ old ++ values_text p 0 (take (k + 1) vs)
 values_more p vs k old mid named new name v d inside e g n h same =
-    let f : new ≡ mid ++ value_text p k (get_or vs k d) = two_behind mid named new (codes " " ++ variable_name p k) (codes "=") (signed_decimal (get_or vs k d)) (g ∙ ap (λ word. mid ++ (codes " " ++ word)) n) (h ∙ ap (λ x. named ++ (codes "=" ++ signed_decimal x)) same) in
+    let f : new ≡ mid ++ value_text p k (get_or vs k d) = two_appended mid named new (codes " " ++ variable_name p k) (codes "=") (signed_decimal (get_or vs k d)) (g ∙ ap (λ word. mid ++ (codes " " ++ word)) n) (h ∙ ap (λ x. named ++ (codes "=" ++ signed_decimal x)) same) in
     let place : k ≡ 0 + length (take k vs) = let l = length-take k vs in omega (arith, l) in
-    behind old mid new (values_text p 0 (take k vs)) (value_text p k (get_or vs k d)) e f
+    appended old mid new (values_text p 0 (take k vs)) (value_text p k (get_or vs k d)) e f
     ∙ ap (λ text. old ++ text) (ap (λ n. values_text p 0 (take k vs) ++ value_text p n (get_or vs k d)) place
     ∙ (sym (values_text-push p 0 (take k vs) (get_or vs k d))
     ∙ ap (values_text p 0) (sym (take_more vs k d inside))))
