@@ -58,6 +58,20 @@ pub enum Statement {
         variable: Name,
         value: Operand,
     },
+    /// Adds the value to the variable in one step; the local gets the variable's old value.
+    Add {
+        local: Name,
+        variable: Name,
+        value: Operand,
+    },
+    /// Compares the variable with the expected value and, where they are equal, sets the new one,
+    /// in one step; the local gets 1 where they were, else 0.
+    Cas {
+        local: Name,
+        variable: Name,
+        expected: Operand,
+        new: Operand,
+    },
     Lock(Name),
     Unlock(Name),
     Wait {
@@ -122,8 +136,9 @@ pub struct Tree {
 
 impl Tree {
     /// A tree of these declarations and threads, each in text order.
-    pub fn new(declarations: Vec<Declaration>, threads: Vec<Thread>) -> Tree
-        ensures { tree_view result ≡ record { declarations = map declaration_view declarations.items; threads = map thread_view threads.items } }
+    pub(crate) fn new(declarations: Vec<Declaration>, threads: Vec<Thread>) -> Tree
+        ensures declarations { (tree_view result).declarations ≡ map declaration_view declarations.items }
+        ensures threads { (tree_view result).threads ≡ map thread_view threads.items }
     {
         Tree {
             declarations,
