@@ -7,7 +7,8 @@ use Rattle.guest_code.specs.declared.error.CheckError.TheVariants as check
 use Rattle.replay.specs.declared.error.ReplayError.TheVariants as replay
 use Rattle.replay.specs.declared.schedule.ScheduleError.TheVariants as schedule
 use Rattle.ctxbound.specs.declared.fault.Fault.{Fault}
-use Rattle.ctxbound.specs.declared.fault.Fault.TheVariants.{File, Syntax, Check, Schedule, Replay, Memory}
+use Rattle.ctxbound.specs.declared.fault.Fault.TheVariants.{File, Syntax, Check, Schedule}
+use Rattle.ctxbound.specs.declared.fault.Fault.TheVariants.{Replay, Memory}
 
 -- line and column
 abbrev pub place_text : Pos → List ℕ
