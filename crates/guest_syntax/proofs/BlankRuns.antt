@@ -2,7 +2,7 @@
 use Rattle.std.proofs.Common.{◌≡◌, ℕ, ◌<◌, Bool, true, false, cond, not, List, [], ◌∷◌, ◌++◌, Option, Some, None, refl, sym, ap, subst, ◌∙◌}
 use Rattle.std.specs.Prelude.{nat_le, ◌==◌}
 use Rattle.std.specs.List.{AllByRecursion}
-use Rattle.std.proofs.lemmas.Bool.{leb-false, lt-leb}
+use Rattle.std.proofs.lemmas.Bool.{leb-false, leb-true, lt-leb}
 use Rattle.guest_syntax.specs.declared.place.Pos.{Pos}
 use Rattle.guest_syntax.specs.declared.lexer.Step.{Step}
 use Rattle.guest_syntax.specs.declared.lexer.Step.TheVariants.{Passed, Stops, NotAscii}
@@ -41,6 +41,23 @@ step_stops : (big c hash space nl : Bool) → cond big NotAscii (choice c hash s
 step_stops true c hash space nl e = absurd cc
 step_stops false true hash space nl e = absurd cc
 step_stops false false hash space nl e = refl
+
+stops_small : (big c hash space nl : Bool) → cond big NotAscii (choice c hash space nl Passed Stops) ≡ Stops → big ≡ false
+stops_small true c hash space nl e = absurd cc
+stops_small false c hash space nl e = refl
+
+pub stops_ascii : (b : ℕ) → gap_step false b ≡ Stops → b < 128
+stops_ascii b e = leb-false 128 b (stops_small (nat_le 128 b) false (b == 35) (is_space b) (not (b == 10)) e)
+
+not_ascii_big : (big c hash space nl : Bool) → cond big NotAscii (choice c hash space nl Passed Stops) ≡ NotAscii → big ≡ true
+not_ascii_big true c hash space nl e = refl
+not_ascii_big false true hash space nl e = absurd cc
+not_ascii_big false false true space nl e = absurd cc
+not_ascii_big false false false true nl e = absurd cc
+not_ascii_big false false false false nl e = absurd cc
+
+pub not_ascii_above : (c : Bool) (b : ℕ) → gap_step c b ≡ NotAscii → 127 < b
+not_ascii_above c b e = leb-true 128 b (not_ascii_big (nat_le 128 b) c (b == 35) (is_space b) (not (b == 10)) e)
 
 passes : (big c hash space nl : Bool) (P : Bool → Option Bool) (r : Bool) → big ≡ false → choice c hash space nl P None ≡ Some r → (d : Bool) × (cond big NotAscii (choice c hash space nl Passed Stops) ≡ Passed d) × (P d ≡ Some r)
 passes true c hash space nl P r b e = absurd cc

@@ -17,3 +17,4 @@ pub mod TokenSpelling
 pub mod TokensOfText
 pub mod TreeOfText
 pub mod PlacesInText
+pub mod RefusalPlaces

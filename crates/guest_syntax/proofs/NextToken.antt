@@ -1,6 +1,6 @@
 -- The next token of a list is the first of the bytes.
 use Rattle.std.proofs.Common.{◌≡◌, ℕ, ◌<◌, false, List, [], length, Option, Some, None, Result, Ok, Err, option_map, refl, arith}
-use Rattle.std.specs.Prelude.{IfOk, IsSome}
+use Rattle.std.specs.Prelude.{IfOk, IfSome, IsSome}
 use Rattle.guest_syntax.specs.declared.place.Pos.{Pos}
 use Rattle.guest_syntax.specs.declared.error.SyntaxError.{SyntaxError}
 use Rattle.guest_syntax.specs.declared.error.SyntaxError.TheVariants as errors
@@ -9,9 +9,10 @@ use Rattle.guest_syntax.specs.declared.token.Token.{Token}
 use Rattle.guest_syntax.specs.declared.token.Kind.{Kind}
 use Rattle.guest_syntax.specs.declared.token.Kind.TheVariants as kinds
 use Rattle.guest_syntax.specs.reader.TokenViews.{kind_view, token_view}
+use Rattle.guest_syntax.specs.Answers.{is_token}
 use Rattle.guest_syntax.specs.reader.Gives.{Fails, Gives}
 use Rattle.guest_syntax.specs.reader.Scanner.{skipped, first, scan, tokens_from}
-use Rattle.guest_syntax.specs.reader.Reads.{rest_of}
+use Rattle.guest_syntax.specs.reader.Reads.{rest_of, IsPlaceOf, IsTokenOf}
 use Rattle.guest_syntax.specs.reader.SingleTokens.{is_bad, next_at}
 use Rattle.guest_syntax.proofs.ScannerProgress.{tokens_first}
 
@@ -62,3 +63,9 @@ pub next_takes_one : (at : Pos) (bytes : List ℕ) (r : Result (Option Token × 
 next_takes_one at bytes (Ok (None, c)) g = λ some. absurd cc
 next_takes_one at bytes (Ok (Some t, c)) g = λ some. next_shorter at bytes t c.at c.rest.now g
 next_takes_one at bytes (Err x) g = tt
+
+pub next_place : (text : Cursor) (r : Result (Option Token × Cursor) SyntaxError) → IfOk r (λ x. IfSome x.0 (λ t. IsTokenOf text (token_view t)))
+    → IfOk r (λ x. IfSome x.0 (λ t. IsPlaceOf text t.at))
+next_place text (Ok (None, c)) h = tt
+next_place text (Ok (Some t, c)) h = is_token (kind_view t.kind) h
+next_place text (Err e) h = tt

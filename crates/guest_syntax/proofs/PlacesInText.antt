@@ -3,11 +3,12 @@ use Rattle.std.proofs.Common.{◌≡◌, ℕ, ◌+◌, ◌-◌, ◌<◌, List, [
 use Rattle.std.proofs.lemmas.List.{take_at, drop_at, take-append-drop}
 use Rattle.guest_syntax.specs.declared.place.Pos.{Pos}
 use Rattle.guest_syntax.specs.declared.cursor.Cursor.{Cursor}
-use Rattle.guest_syntax.specs.reader.Reads.{IsPlaceOf}
+use Rattle.guest_syntax.specs.declared.token.Symbol.TheVariants.{Open}
+use Rattle.guest_syntax.specs.Tokens.{Kind, number, symbol}
 use Rattle.guest_syntax.specs.declared.error.SyntaxError.{SyntaxError}
 use Rattle.guest_syntax.specs.declared.error.SyntaxError.TheVariants as errors
-use Rattle.guest_syntax.specs.Place.{start, past, after, Follows, IsPlaceIn}
-use Rattle.guest_syntax.specs.Answers.{RefusalIn}
+use Rattle.guest_syntax.specs.Place.{start, past, after, Follows}
+use Rattle.guest_syntax.specs.Answers.{IsTokenIn, IsTokenOrEnd, is_end, is_token, RefusalIn}
 
 after_append : (a b : List ℕ) (at : Pos) → after at (a ++ b) ≡ after (after at a) b
 unfolding after
@@ -30,21 +31,22 @@ follows_then {p = p} {c = c} f g = record {
   place = g.place ∙ ap (λ x. after x g.front) f.place ∙ sym (after_append f.front g.front p);
 }
 
-pub place_then : {p q r : Pos} {a b : List ℕ} → Follows p a q b → IsPlaceIn q b r → IsPlaceIn p a r
-place_then f g = record { rest = g.rest; follows = follows_then f g.follows }
+pub token_then : {p q r : Pos} {a b : List ℕ} (k : Kind) → Follows p a q b → IsTokenIn q b k r → IsTokenIn p a k r
+token_then k f g = record { text = g.text; rest = g.rest; spelt = g.spelt; follows = follows_then f g.follows }
 
-pub follows_place : {p q : Pos} {a b : List ℕ} → Follows p a q b → IsPlaceIn p a q
-follows_place {b = b} f = record { rest = b; follows = f }
+token_or_end_then : {p q r : Pos} {a b : List ℕ} → Follows p a q b → IsTokenOrEnd q b r → IsTokenOrEnd p a r
+token_or_end_then f (is_end g) = is_end (follows_then f g)
+token_or_end_then f (is_token k g) = is_token k (token_then k f g)
 
 -- a refusal of what follows is one of the whole
 pub refusal_then : {p q : Pos} {a b : List ℕ} (e : SyntaxError) → Follows p a q b → RefusalIn q b e → RefusalIn p a e
 refusal_then errors.OutOfMemory f h = tt
-refusal_then (errors.NotAscii at) f h = place_then f h
-refusal_then (errors.BadChar at) f h = place_then f h
-refusal_then (errors.Expected at) f h = place_then f h
-refusal_then (errors.NumberTooBig at) f h = place_then f h
-refusal_then {b = b} (errors.TooLong at) f h = (omega (arith, h.0, ap length f.parts, length-append f.front b), place_then f h.1)
-refusal_then (errors.TooDeep at) f h = place_then f h
+refusal_then (errors.NotAscii at) f (b, more, big, g) = (b, more, big, follows_then f g)
+refusal_then (errors.BadChar at) f (b, more, small, g, none) = (b, more, small, follows_then f g, none)
+refusal_then (errors.Expected at) f h = token_or_end_then f h
+refusal_then (errors.NumberTooBig at) f (n, g) = (n, token_then (number n) f g)
+refusal_then {b = b} (errors.TooLong at) f h = omega (arith, h, ap length f.parts, length-append f.front b)
+refusal_then (errors.TooDeep at) f h = token_then (symbol Open) f h
 
 -- ---- what a cursor keeps
 
@@ -72,12 +74,9 @@ follows_after text rest at f =
 pub cursor_follows : (c : Cursor) → Follows start c.text.now c.at c.rest.now
 cursor_follows c = left_follows c.text.now c.rest.now c.at c.left c.place
 
-pub cursor_place : (c : Cursor) → IsPlaceOf c c.at
-cursor_place c = follows_place (cursor_follows c)
-
--- the place of a cursor that is in the same text
-pub place_in_same : (c d : Cursor) → c.text.now ≡ d.text.now → IsPlaceOf d c.at
-place_in_same c d same = subst (λ text. IsPlaceIn start text c.at) same (cursor_place c)
+-- a cursor in the same text
+pub follows_in_same : (c d : Cursor) → c.text.now ≡ d.text.now → Follows start d.text.now c.at c.rest.now
+follows_in_same c d same = subst (λ text. Follows start text c.at c.rest.now) same (cursor_follows c)
 
 pub split_follows : (bytes front rest : List ℕ) (n : ℕ) (at later : Pos) → front ≡ take n bytes → rest ≡ drop n bytes
     → later ≡ after at front → Follows at bytes later rest

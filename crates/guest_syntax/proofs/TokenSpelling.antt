@@ -99,7 +99,7 @@ find_none_by : {A : Type 0} (y : A) (o : Option A) (b : Bool) → cond b (Some y
 find_none_by y o true e = absurd cc
 find_none_by y o false e = (refl, e)
 
-find_none : {A : Type 0} (p : A → Bool) (xs : List A) → find p xs ≡ None → AllByRecursion (λ x. p x ≡ false) xs
+pub find_none : {A : Type 0} (p : A → Bool) (xs : List A) → find p xs ≡ None → AllByRecursion (λ x. p x ≡ false) xs
 find_none p [] e = tt
 find_none p (y ∷ ys) e = let h = find_none_by y (find p ys) (p y) e in (h.0, find_none p ys h.1)
 
@@ -176,7 +176,7 @@ identifier_spelt text h = spelt_by text (looked_up text) refl h
 
 -- ---- what can't go on
 
-false_true : {b : Bool} → b ≡ false → b ≡ true → ⊥
+pub false_true : {b : Bool} → b ≡ false → b ≡ true → ⊥
 false_true e h = true≢false (sym h ∙ e)
 
 -- an identifier that stops at its end

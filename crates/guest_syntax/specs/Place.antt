@@ -20,8 +20,3 @@ pub record Follows (at : Pos) (bytes : List ℕ) (later : Pos) (rest : List ℕ)
   pub front : List ℕ
   pub parts : bytes ≡ front ++ rest
   pub place : later ≡ after at front
-
--- the place after some of the first of these bytes
-pub record IsPlaceIn (at : Pos) (bytes : List ℕ) (later : Pos) : Type 0 where
-  pub rest : List ℕ
-  pub follows : Follows at bytes later rest

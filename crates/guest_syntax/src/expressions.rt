@@ -2,9 +2,9 @@
 
 ghost use Rattle.std.specs.Prelude.{◌≡◌, ◌<◌, ◌≤◌, length, IfOk};
 ghost use Rattle.guest_syntax.specs.reader.Gives.{Gives};
-ghost use Rattle.guest_syntax.specs.reader.TokenViews.{kind_view};
+ghost use Rattle.guest_syntax.specs.reader.TokenViews.{kind_view, token_view};
 ghost use Rattle.guest_syntax.specs.Tree.{operand_view, expr_view};
-ghost use Rattle.guest_syntax.specs.reader.Reads.{IsPlaceOf, rest_of, Reads, StaysIn, TakesToken};
+ghost use Rattle.guest_syntax.specs.reader.Reads.{IsTokenOf, rest_of, Reads, StaysIn, TakesToken};
 ghost use Rattle.guest_syntax.specs.reader.Expressions.{literal_by, literal_from, operand_from, op_of, expr_from};
 
 use crate::cursor::Cursor;
@@ -17,7 +17,7 @@ use std::alloc::Global;
 
 /// A literal that begins with this token.
 fn literal_after<'a>(token: Token, after: Cursor<'a>) -> Result<(i64, Cursor<'a>), SyntaxError>
-    requires place { IsPlaceOf after token.at }
+    requires place { IsTokenOf after (token_view token) }
     ensures gives { Reads (λ x. x) result (literal_by (kind_view token.entry.kind)) after.entry }
     ensures within { StaysIn result after.entry }
     ensures shorter { IfOk result (λ x. length (rest_of x.1) ≤ length (rest_of after.entry)) }

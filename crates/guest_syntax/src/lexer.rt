@@ -6,7 +6,7 @@ ghost use Rattle.std.specs.Str.{bytes_eq};
 ghost use Rattle.guest_syntax.specs.reader.BlankBytes.{gap_step};
 ghost use Rattle.guest_syntax.specs.reader.Scanner.{skipped, name_or_keyword, capped, symbol_at, kind_at, first};
 ghost use Rattle.guest_syntax.specs.reader.Gives.{Gives};
-ghost use Rattle.guest_syntax.specs.reader.Reads.{Scans, StaysIn, IsPlaceOf};
+ghost use Rattle.guest_syntax.specs.reader.Reads.{Scans, StaysIn, IsTokenOf};
 ghost use Rattle.guest_syntax.specs.Place.{after};
 ghost use Rattle.guest_syntax.specs.Place as place;
 ghost use Rattle.guest_syntax.specs.Answers.{RefusalIn};
@@ -195,7 +195,7 @@ pub fn first<'a>(text: Cursor<'a>) -> Result<(Option<Token<'a>>, Cursor<'a>), Sy
     ensures gives { Scans result text.entry }
     ensures end { IfOk result (λ x. x.0 ≡ None → x.1.rest.now ≡ []) }
     ensures within { StaysIn result text.entry }
-    ensures place { IfOk result (λ x. IfSome x.0 (λ t. IsPlaceOf text.entry t.at)) }
+    ensures place { IfOk result (λ x. IfSome x.0 (λ t. IsTokenOf text.entry (token_view t))) }
 {
     let start = skip_blanks(text)?;
     if start.rest.is_empty() {

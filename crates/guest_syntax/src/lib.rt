@@ -15,10 +15,12 @@
 //! - A text spells at most one tree ([`laws::one_tree`]): the grammar has no two meanings.
 //! - A text of more than [`TEXT_BYTES`] bytes is refused as too long, before it is read, and no
 //!   other text is.
-//! - A refusal is at a place of the text: the place after some number of its bytes.
+//! - What a refusal says is so at its place, the place after some number of the text's bytes: there
+//!   is a byte above 127, a byte that begins no token, a number, an opening brace, or, for a token
+//!   that the grammar does not allow, a token or the end of the text.
 //! - Reading ends, reads no byte outside the text and never overflows, also for hostile texts.
 //!
-//! Which fault is the first, and which of the text's places it is at, is shown by tests.
+//! Which fault is the first, and which of the text's tokens it is at, is shown by tests.
 //!
 //! `specs/reader` models the reader of this crate. Only proofs need it: no public contract cites it.
 #![tactic(auto)]

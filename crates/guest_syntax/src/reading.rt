@@ -30,7 +30,8 @@ pub fn parse(alloc: Global, text: &[u8]) -> Result<Tree, SyntaxError>
     ensures only { (t : model.Tree) → Spells text.now t → Answers result t }
     // A text that is refused, other than because memory ran out, spells nothing.
     ensures refused { IfErr result (λ e. e ≢ OutOfMemory → (t : model.Tree) → Spells text.now t → ⊥) }
-    // A refusal is at a place of the text, and it says too long only where the text is.
+    // What a refusal says is so at its place in the text: a byte above 127, a byte that begins no
+    // token, a number, an opening brace, or some token or the end; too long only where the text is.
     ensures place { IfErr result (RefusalIn start text.now) }
     // A text that is too long is refused as such, at its first byte.
     ensures long { TEXT_BYTES < length text.now → result ≡ Err (TooLong start) }

@@ -1,7 +1,9 @@
-use Rattle.std.proofs.Common.{ℕ, length, Some, List, refl, sym, ap, ◌∙◌, arith}
+use Rattle.std.proofs.Common.{List, Some, add-one, ap, arith, drop, drop-cons, get_or, length, refl, subst, sym, ℕ, ◌+◌, ◌∙◌, ◌∷◌, ◌≡◌}
 use Rattle.guest_syntax.specs.declared.lexer.Step.TheVariants.{Passed, Stops, NotAscii}
 use Rattle.guest_syntax.proofs.ByteLoops.{from_at, skipped_step, skipped_end}
-use Rattle.guest_syntax.proofs.PlacesInText.{nothing_follows, follows_then, follows_place, byte_follows}
+use Rattle.guest_syntax.specs.Place.{Follows}
+use Rattle.guest_syntax.proofs.BlankRuns.{not_ascii_above}
+use Rattle.guest_syntax.proofs.PlacesInText.{nothing_follows, follows_then, byte_follows}
 use Rattle.guest_syntax.proofs.lexer.skip.Goals as goal
 
 pub returns-in-Stops-clause-gives : goal.returns-in-Stops-clause-gives
@@ -28,4 +30,8 @@ pub loop-i-init : goal.loop-i-init
 loop-i-init c = record { same = refl; follows = nothing_follows c.args.text.now c.args.start; line = omega arith; col = omega arith }
 
 pub returns-in-NotAscii-clause-refused : goal.returns-in-NotAscii-clause-refused
-returns-in-NotAscii-clause-refused c = follows_place c.loop-i.invariant.follows
+returns-in-NotAscii-clause-refused c =
+    let text = c.args.text.now in
+    let i = c.loop-i.i in
+    let more : drop i text ≡ get_or text i 0 ∷ drop (i + 1) text = rw add-one (drop-cons text i 0 c.loop-i-test.true) in
+    (get_or text i 0, drop (i + 1) text, not_ascii_above c.loop-i.comment (get_or text i 0) (sym c.in-NotAscii.ensures), subst (Follows c.args.start text c.loop-i.at) more c.loop-i.invariant.follows)

@@ -1,6 +1,6 @@
 use Rattle.std.proofs.Common.{arith}
 use Rattle.guest_syntax.specs.Place.{start}
-use Rattle.guest_syntax.proofs.PlacesInText.{nothing_follows, follows_place, follows_left, follows_after}
+use Rattle.guest_syntax.proofs.PlacesInText.{nothing_follows, follows_left, follows_after}
 use Rattle.guest_syntax.proofs.TreeOfText.{found, only, refused}
 use Rattle.guest_syntax.proofs.reading.parse.Goals as goal
 
@@ -15,7 +15,7 @@ returns-clause-refused c = refused c.args.text.now c.tree.result (λ t s. only c
 
 pub returns-then-text-gt-TEXT_BYTES-clause-place : goal.returns-then-text-gt-TEXT_BYTES-clause-place
 returns-then-text-gt-TEXT_BYTES-clause-place c =
-    (c.if-text-gt-TEXT_BYTES.true, follows_place (nothing_follows c.args.text.now start))
+    c.if-text-gt-TEXT_BYTES.true
 
 pub invariant_of-tree : goal.invariant_of-tree
 invariant_of-tree c =
