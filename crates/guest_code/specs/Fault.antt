@@ -79,10 +79,4 @@ fault t =
 -- `e` is this refusal, or says that memory ran out
 abbrev pub Refuses : CheckError → Option CheckError → Type 0
 Refuses OutOfMemory fault = Unit {0}
-Refuses (Duplicate p) fault = fault ≡ Some (Duplicate p)
-Refuses (Unknown p) fault = fault ≡ Some (Unknown p)
-Refuses (WrongKind p) fault = fault ≡ Some (WrongKind p)
-Refuses NoThreads fault = fault ≡ Some NoThreads
-Refuses (TooMany p) fault = fault ≡ Some (TooMany p)
-Refuses (CodeTooLong k) fault = fault ≡ Some (CodeTooLong k)
-Refuses (LeaveOutside p) fault = fault ≡ Some (LeaveOutside p)
+Refuses e fault = fault ≡ Some e

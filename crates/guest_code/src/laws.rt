@@ -1,6 +1,7 @@
 //! Laws, each the contract of a function that does nothing.
 
 ghost use Rattle.std.specs.Prelude.{◌≡◌, List, [], Some};
+ghost use Rattle.guest_syntax.specs.declared.limits.TheConstants as texts;
 ghost use Rattle.guest_code.specs.Program.{IsWellFormed};
 ghost use Rattle.guest_code.specs.Uses.{Use};
 ghost use Rattle.guest_code.specs.Fault.{first};
@@ -24,7 +25,7 @@ pub fn programs_are_well_formed(program: &Program)
     program.keeps_limits();
 }
 
-/// The number of each limit.
+/// The number of each limit. The greatest count is that of a text.
 pub fn limits_are()
     ensures threads { THREADS ≡ 16 }
     ensures variables { VARIABLES ≡ 16 }
@@ -32,4 +33,5 @@ pub fn limits_are()
     ensures locals { LOCALS ≡ 16 }
     ensures instructions { INSTRUCTIONS ≡ 1024 }
     ensures count { COUNT ≡ 65535 }
+    ensures counts_of_texts { COUNT ≡ texts.COUNT }
 {}
