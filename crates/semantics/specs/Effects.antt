@@ -50,7 +50,7 @@ IsOver th = HasStopped th ⊎ (th.status ≡ Ended)
 abbrev pub WasWoken : Status → Status → Type 0
 WasWoken old new = (c : ℕ) × (old ≡ Waiting c) × (new ≡ Woken)
 
--- one thread before and after a step of another: it may have been woken, and nothing else of it changed
+-- one thread before and after a step of another: it may have been woken, else it is as it was
 pub record IsLeft (old new : Thread) : Type 0 where
   pub pc : new.pc ≡ old.pc
   pub locals : new.locals ≡ old.locals
