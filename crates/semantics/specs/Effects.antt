@@ -3,7 +3,7 @@ use Rattle.std.specs.Prelude.{◌≡◌, ◌≢◌, ◌<◌, ◌⊎◌, ℕ, ℤ
 use Rattle.guest_code.specs.declared.program.Value.{Value}
 use Rattle.guest_code.specs.Program.{Program, code_of}
 use Rattle.semantics.specs.declared.state.Action.{Action}
-use Rattle.semantics.specs.declared.state.Stop.TheVariants.{NotHeld}
+use Rattle.semantics.specs.declared.state.Stop.TheVariants.{NotHeld, SemFull}
 use Rattle.semantics.specs.declared.state.Status.{Status}
 use Rattle.semantics.specs.declared.state.Status.TheVariants.{Waiting, Woken, Ended, Stopped}
 use Rattle.semantics.specs.declared.state.Thread.{Thread}
@@ -41,6 +41,10 @@ pub record PutsInto (p : Program) (s : Snapshot) (t r : ℕ) (v : ℤ) : Type 0 
 -- the step of thread t stops it, since it doesn't own the mutex
 abbrev pub StopsNotHeld : Program → Snapshot → ℕ → Type 0
 StopsNotHeld p s t = (thread_at (step p s t) t).status ≡ Stopped NotHeld
+
+-- the step of thread t stops it, since the semaphore's count can't rise
+abbrev pub StopsFull : Program → Snapshot → ℕ → Type 0
+StopsFull p s t = (thread_at (step p s t) t).status ≡ Stopped SemFull
 
 -- the thread stopped or ended: it takes no further step
 abbrev pub IsOver : Thread → Type 0
