@@ -1,10 +1,9 @@
 -- What the kind of a schedule's end says of its threads.
-use Rattle.std.proofs.Common.{◌≡◌, ◌≢◌, ◌↔◌, zero, suc, Bool, true, false, cond, ◌&&◌, List, [], ◌∷◌, refl, ap, ◌∙◌, sym, arith}
+use Rattle.std.proofs.Common.{◌≡◌, ◌≢◌, ◌↔◌, ◌<◌, ℕ, zero, suc, Bool, true, false, cond, ◌&&◌, List, [], ◌∷◌, length, get_or, refl, ap, ◌∙◌, sym, arith}
 use Rattle.std.specs.List.{list_any, list_all, Any}
 use Rattle.std.proofs.lemmas.Bool.{and_parts}
 use Rattle.std.proofs.lemmas.List.Elements.{All-contains}
 use Rattle.std.proofs.lemmas.List.Folds.{Any-from_list_any, list_any-from_Any}
-use Rattle.semantics.specs.declared.view.Kind.{Kind}
 use Rattle.semantics.specs.declared.view.Kind.TheVariants.{Done, Failed, Stuck}
 use Rattle.semantics.specs.declared.state.Status.{Status}
 use Rattle.semantics.specs.declared.state.Stop.{Stop}
@@ -41,69 +40,98 @@ abbrev ended_test : Thread → Bool
 ended_test th = is_ended th.status
 
 stopped_some : (threads : List Thread) → list_any stopped_test threads ≡ true → SomeStopped threads
-stopped_some threads h = let a : Any (λ (th : Thread). is_stopped th.status ≡ true) threads = Any-from_list_any stopped_test threads h in (a.0, a.1, a.2, a.3, why_stopped a.1.status a.4)
+stopped_some threads h =
+    let a : Any (λ (th : Thread). is_stopped th.status ≡ true) threads =
+    Any-from_list_any stopped_test threads h in
+    (a.0, a.1, a.2, a.3, why_stopped a.1.status a.4)
 
 some_stopped : (threads : List Thread) → SomeStopped threads → list_any stopped_test threads ≡ true
-some_stopped threads a = list_any-from_Any stopped_test threads (a.0, a.1, a.2, a.3, ap is_stopped a.4.1)
+some_stopped threads a =
+    list_any-from_Any stopped_test threads (a.0, a.1, a.2, a.3, ap is_stopped a.4.1)
 
 ended_all : (threads : List Thread) → list_all ended_test threads ≡ true → AllEnded threads
 ended_all [] h k d l = absurd (omega arith)
 ended_all (th ∷ threads) h zero d l = has_ended th.status (and_parts (is_ended th.status) _ h).0
-ended_all (th ∷ threads) h (suc k) d l = ended_all threads (and_parts (is_ended th.status) _ h).1 k d (omega arith)
+ended_all (th ∷ threads) h (suc k) d l =
+    ended_all threads (and_parts (is_ended th.status) _ h).1 k d (omega arith)
 
 unended_some : (threads : List Thread) → list_all ended_test threads ≡ false → SomeUnended threads
 unended_some [] h = cc
 unended_some (th ∷ threads) h = go (is_ended th.status) refl (unended_some threads)
   where
-    go : (b : Bool) → is_ended th.status ≡ b → (list_all ended_test threads ≡ false → SomeUnended threads) → SomeUnended (th ∷ threads)
-    go true e f = let a : SomeUnended threads = f (ap (λ b. b && list_all ended_test threads) (sym e) ∙ h) in (suc a.0, a.1, omega (arith, a.2), a.3, a.4)
+    rest : is_ended th.status ≡ true → list_all ended_test threads ≡ false
+    rest e = ap (λ b. b && list_all ended_test threads) (sym e) ∙ h
+
+    go : (b : Bool) → is_ended th.status ≡ b
+        → (list_all ended_test threads ≡ false → SomeUnended threads) → SomeUnended (th ∷ threads)
+    go true e f =
+        let a : SomeUnended threads = f (rest e) in
+        (suc a.0, a.1, omega (arith, a.2), a.3, a.4)
     go false e f = (0, th, omega arith, refl, not_ended th.status e)
 
--- a thread that stopped has not ended
-stopped_unended : (threads : List Thread) → SomeStopped threads → AllEnded threads → ⊥
-stopped_unended threads a all = let e : a.1.status ≡ Ended = All-contains (λ (th : Thread). th.status ≡ Ended) threads a.1 all (a.0, a.2, a.3) in let f : a.1.status ≡ Stopped a.4.0 = a.4.1 in cc
+-- not all ended, where one stopped or has not ended
+
+ended_at : (threads : List Thread) (k : ℕ) (th : Thread)
+    → k < length threads → get_or threads k th ≡ th → AllEnded threads → th.status ≡ Ended
+ended_at threads k th l e all =
+    All-contains (λ (u : Thread). u.status ≡ Ended) threads th all (k, l, e)
+
+stopped_not_all : (threads : List Thread) → SomeStopped threads → AllEnded threads → ⊥
+stopped_not_all threads a all =
+    let e : a.1.status ≡ Ended = ended_at threads a.0 a.1 a.2 a.3 all in
+    let f : a.1.status ≡ Stopped a.4.0 = a.4.1 in
+    cc
 
 unended_not_all : (threads : List Thread) → SomeUnended threads → AllEnded threads → ⊥
-unended_not_all threads a all = a.4 (All-contains (λ (th : Thread). th.status ≡ Ended) threads a.1 all (a.0, a.2, a.3))
+unended_not_all threads a all = a.4 (ended_at threads a.0 a.1 a.2 a.3 all)
 
--- the kind, by its two tests
-abbrev kind_by : Bool → Bool → Kind
-kind_by a b = cond a Failed (cond b Done Stuck)
+-- the three ways in which the tests may come out
 
-module _ (threads : List Thread) where
-  by_tests : (a b : Bool) → list_any stopped_test threads ≡ a → list_all ended_test threads ≡ b → final_kind threads ≡ kind_by a b
-  by_tests a b h k = λ i. kind_by (h i) (k i)
+data Outcome (threads : List Thread) : Type 0 where
+  failed : SomeStopped threads → final_kind threads ≡ Failed → Outcome threads
+  done : (SomeStopped threads → ⊥) → AllEnded threads → final_kind threads ≡ Done → Outcome threads
+  stuck : (SomeStopped threads → ⊥) → SomeUnended threads → final_kind threads ≡ Stuck
+      → Outcome threads
 
-  pub failed_means : (final_kind threads ≡ Failed) ↔ SomeStopped threads
-  failed_means = (λ h. to (list_any stopped_test threads) (list_all ended_test threads) refl refl h, λ a. by_tests true (list_all ended_test threads) (some_stopped threads a) refl)
-    where
-      to : (a b : Bool) → list_any stopped_test threads ≡ a → list_all ended_test threads ≡ b → final_kind threads ≡ Failed → SomeStopped threads
-      to true b e f h = stopped_some threads e
-      to false true e f h = let k : final_kind threads ≡ Done = by_tests false true e f in cc
-      to false false e f h = let k : final_kind threads ≡ Stuck = by_tests false false e f in cc
+outcome : (threads : List Thread) → Outcome threads
+outcome threads = go (list_any stopped_test threads) (list_all ended_test threads) refl refl
+  where
+    by_tests : (a b : Bool) → list_any stopped_test threads ≡ a → list_all ended_test threads ≡ b
+        → final_kind threads ≡ cond a Failed (cond b Done Stuck)
+    by_tests a b h k = λ i. cond (h i) Failed (cond (k i) Done Stuck)
 
-  pub done_means : (final_kind threads ≡ Done) ↔ AllEnded threads
-  done_means = (λ h. to (list_any stopped_test threads) (list_all ended_test threads) refl refl h, λ all. from (list_any stopped_test threads) (list_all ended_test threads) refl refl all)
-    where
-      to : (a b : Bool) → list_any stopped_test threads ≡ a → list_all ended_test threads ≡ b → final_kind threads ≡ Done → AllEnded threads
-      to true b e f h = let k : final_kind threads ≡ Failed = by_tests true b e f in cc
-      to false true e f h = ended_all threads f
-      to false false e f h = let k : final_kind threads ≡ Stuck = by_tests false false e f in cc
+    none : list_any stopped_test threads ≡ false → SomeStopped threads → ⊥
+    none h a = let k : list_any stopped_test threads ≡ true = some_stopped threads a in cc
 
-      from : (a b : Bool) → list_any stopped_test threads ≡ a → list_all ended_test threads ≡ b → AllEnded threads → final_kind threads ≡ Done
-      from true b e f all = absurd (stopped_unended threads (stopped_some threads e) all)
-      from false true e f all = by_tests false true e f
-      from false false e f all = absurd (unended_not_all threads (unended_some threads f) all)
+    go : (a b : Bool) → list_any stopped_test threads ≡ a → list_all ended_test threads ≡ b
+        → Outcome threads
+    go true b h k = failed (stopped_some threads h) (by_tests true b h k)
+    go false true h k = done (none h) (ended_all threads k) (by_tests false true h k)
+    go false false h k = stuck (none h) (unended_some threads k) (by_tests false false h k)
 
-  pub stuck_means : (final_kind threads ≡ Stuck) ↔ ((SomeStopped threads → ⊥) × SomeUnended threads)
-  stuck_means = (λ h. to (list_any stopped_test threads) (list_all ended_test threads) refl refl h, λ both. from (list_any stopped_test threads) (list_all ended_test threads) refl refl both)
-    where
-      to : (a b : Bool) → list_any stopped_test threads ≡ a → list_all ended_test threads ≡ b → final_kind threads ≡ Stuck → (SomeStopped threads → ⊥) × SomeUnended threads
-      to true b e f h = let k : final_kind threads ≡ Failed = by_tests true b e f in cc
-      to false true e f h = let k : final_kind threads ≡ Done = by_tests false true e f in cc
-      to false false e f h = (λ a. (let k : list_any stopped_test threads ≡ true = some_stopped threads a in cc), unended_some threads f)
+pub failed_means : (threads : List Thread) → (final_kind threads ≡ Failed) ↔ SomeStopped threads
+failed_means threads = go (outcome threads)
+  where
+    go : Outcome threads → (final_kind threads ≡ Failed) ↔ SomeStopped threads
+    go (failed a e) = (λ h. a, λ h. e)
+    go (done n all e) = (λ h. cc, λ a. absurd (n a))
+    go (stuck n u e) = (λ h. cc, λ a. absurd (n a))
 
-      from : (a b : Bool) → list_any stopped_test threads ≡ a → list_all ended_test threads ≡ b → (SomeStopped threads → ⊥) × SomeUnended threads → final_kind threads ≡ Stuck
-      from true b e f both = absurd (both.0 (stopped_some threads e))
-      from false true e f both = absurd (unended_not_all threads both.1 (ended_all threads f))
-      from false false e f both = by_tests false false e f
+pub done_means : (threads : List Thread) → (final_kind threads ≡ Done) ↔ AllEnded threads
+done_means threads = go (outcome threads)
+  where
+    go : Outcome threads → (final_kind threads ≡ Done) ↔ AllEnded threads
+    go (failed a e) = (λ h. cc, λ all. absurd (stopped_not_all threads a all))
+    go (done n all e) = (λ h. all, λ h. e)
+    go (stuck n u e) = (λ h. cc, λ all. absurd (unended_not_all threads u all))
+
+abbrev IsDeadlock : List Thread → Type 0
+IsDeadlock threads = (SomeStopped threads → ⊥) × SomeUnended threads
+
+pub stuck_means : (threads : List Thread) → (final_kind threads ≡ Stuck) ↔ IsDeadlock threads
+stuck_means threads = go (outcome threads)
+  where
+    go : Outcome threads → (final_kind threads ≡ Stuck) ↔ IsDeadlock threads
+    go (failed a e) = (λ h. cc, λ both. absurd (both.0 a))
+    go (done n all e) = (λ h. cc, λ both. absurd (unended_not_all threads both.1 all))
+    go (stuck n u e) = (λ h. (n, u), λ h. e)

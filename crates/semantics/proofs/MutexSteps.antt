@@ -142,8 +142,11 @@ module _ (p : Program) (s : Snapshot) (t m : ℕ) where
 
   pub lock_enabled : (d : MutexAction) → d ≢ Unlocks → IsAboutTo p s t (OnMutex m d)
       → (is_enabled p s t ≡ true) ↔ (owner_of s m ≡ None)
-  lock_enabled d ne e = (λ h. (free d ne).0 (sym (ap (can_do s) e) ∙ h), λ h. ap (can_do s) e ∙ (free d ne).1 h)
+  lock_enabled d ne e = (λ h. (free d ne).0 (sym same ∙ h), λ h. same ∙ (free d ne).1 h)
     where
+      same : is_enabled p s t ≡ mutex_allows d (owner_of s m)
+      same = ap (can_do s) e
+
       free : (d : MutexAction) → d ≢ Unlocks
           → (mutex_allows d (owner_of s m) ≡ true) ↔ (owner_of s m ≡ None)
       free Locks ne = free_is (owner_of s m)
@@ -194,7 +197,8 @@ owner_stays p s t u m h own ne = at (next_of p s t) h ∙ own
 over_idle : (p : Program) (s : Snapshot) (u : ℕ) → IsOver (thread_at s u) → is_enabled p s u ≡ false
 over_idle p s u over = go (slice_get (code_of p u) (thread_at s u).pc) over
   where
-    go : (at : Option Instruction) → IsOver (thread_at s u) → can_do s (action_at (thread_at s u).status at) ≡ false
+    go : (at : Option Instruction)
+        → IsOver (thread_at s u) → can_do s (action_at (thread_at s u).status at) ≡ false
     go at (inl a) = ap (λ status. can_do s (action_at status at)) a.1
     go at (inr e) = ap (λ status. can_do s (action_at status at)) e
 
@@ -210,9 +214,10 @@ over_same : (p : Program) (s : Snapshot) (t u : ℕ) → is_enabled p s t ≡ tr
 over_same p s t u h ne over =
     let m : Moves p s t = moves p s t h in
     let woke : List Thread = wake m.condition m.threads_to_wake s.threads in
+    let asleep = over_asleep m.condition (thread_at s u) over in
     ap (λ ths. get_or ths u missing_thread) m.threads
     ∙ (get_or-set_other woke t u m.to missing_thread (λ e. ne (sym e))
-    ∙ wake-get m.condition m.threads_to_wake u s.threads (over_asleep m.condition (thread_at s u) over))
+    ∙ wake-get m.condition m.threads_to_wake u s.threads asleep)
 
 over_other : (p : Program) (s : Snapshot) (t u : ℕ)
     → is_enabled p s t ≡ true → IsOver (thread_at s u) → t ≢ u

@@ -12,10 +12,12 @@ use Rattle.semantics.specs.Machine.{of_both}
 use Rattle.semantics.specs.OperatorTable.{Row, IsRight, Differ, sums, differences, products, equalities, orders}
 
 -- a test that all members pass
-all_pass : {A : Type 0} (test : A → Bool) (xs : List A) → list_all test xs ≡ true → All (λ x. test x ≡ true) xs
+all_pass : {A : Type 0} (test : A → Bool) (xs : List A)
+    → list_all test xs ≡ true → All (λ x. test x ≡ true) xs
 all_pass test [] h k d l = absurd (omega arith)
 all_pass test (x ∷ xs) h zero d l = (and_parts (test x) (list_all test xs) h).0
-all_pass test (x ∷ xs) h (suc k) d l = all_pass test xs (and_parts (test x) (list_all test xs) h).1 k d (omega arith)
+all_pass test (x ∷ xs) h (suc k) d l =
+    all_pass test xs (and_parts (test x) (list_all test xs) h).1 k d (omega arith)
 
 same_int : (a b : ℤ) → int_eq a b ≡ true → a ≡ b
 same_int a b h = (Decides-int_eq a b).0 h
@@ -48,7 +50,7 @@ pub right_orders : All IsRight orders
 unfolding is_right
 right_orders = right_rows orders refl
 
--- two pairs of values in either order, and one of equal values, tell each operator from each other one
+-- three pairs of values that tell each operator from each other one
 abbrev probes : List (ℤ × ℤ)
 probes = (pos 2, pos 3) ∷ (pos 3, pos 2) ∷ (pos 2, pos 2) ∷ []
 
@@ -80,10 +82,14 @@ pub operators_differ : (o q : Op) → o ≢ q → Differ o q
 operators_differ o q ne = go (same_or_differ o q)
   where
     apart_at : (x y : ℤ) → not (int_eq x y) ≡ true → x ≢ y
-    apart_at x y h e = let k : int_eq x y ≡ true = (Decides-int_eq x y).1 e in let n : not (int_eq x y) ≡ false = ap not k in cc
+    apart_at x y h e =
+        let k : int_eq x y ≡ true = (Decides-int_eq x y).1 e in
+        let n : not (int_eq x y) ≡ false = ap not k in
+        cc
 
     go : (o ≡ q) ⊎ (list_any (differ_at o q) probes ≡ true) → Differ o q
     go (inl e) = absurd (ne e)
     go (inr h) =
-        let a : Any (λ (probe : ℤ × ℤ). differ_at o q probe ≡ true) probes = Any-from_list_any (differ_at o q) probes h in
+        let a : Any (λ (probe : ℤ × ℤ). differ_at o q probe ≡ true) probes =
+        Any-from_list_any (differ_at o q) probes h in
         (a.1.0, a.1.1, apart_at (of_both o a.1.0 a.1.1) (of_both q a.1.0 a.1.1) a.4)

@@ -1,4 +1,5 @@
 -- Independent steps commute, and what sleep sets leave out is met earlier.
+use Rattle.std.proofs.lemmas.Bool.{and_from}
 use Rattle.std.proofs.Common.{◌≡◌, ℕ, ◌<◌, Bool, true, false, not, cond, ◌&&◌, ◌||◌, nat_lt, List, [], ◌∷◌, refl, ap, ◌∙◌, sym, arith}
 use Rattle.guest_code.specs.Program.{Program}
 use Rattle.semantics.specs.Machine.{Snapshot, step, is_enabled}
@@ -13,18 +14,14 @@ use Rattle.semantics.proofs.WorkFalls.{flat_map-filter_same}
 use Rattle.semantics.proofs.IndependentStepsCommute.{still_enabled, commute, independent-swap}
 use Rattle.semantics.proofs.UnfoldingUnderPrefix.{and_true, complete_schedules-more, complete_schedules-terminal, filter-flat_map}
 
-pub and_both : (a b : Bool) → a ≡ true → b ≡ true → (a && b) ≡ true
-and_both true b h k = k
-and_both false b h k = cc
-
 -- one schedule is before another
 pub data Before : List ℕ → List ℕ → Type 0 where
   ends : {u : ℕ} {w : List ℕ} → Before [] (u ∷ w)
   lower : {t u : ℕ} {v w : List ℕ} → t < u → Before (t ∷ v) (u ∷ w)
   behind : {t : ℕ} {v w : List ℕ} → Before v w → Before (t ∷ v) (t ∷ w)
 
-below : (t u : ℕ) → nat_lt t u ≡ true → t < u
-below t u h = grind (arith, nat_tests, h)
+pub lt_of : (t u : ℕ) → nat_lt t u ≡ true → t < u
+lt_of t u h = grind (arith, nat_tests, h)
 
 -- what the law says of a complete schedule: it is left, or an earlier one ends in the same state, or one that begins with a sleeping thread does
 pub data Kept (p : Program) (s : Snapshot) (Z : ℕ → Bool) (w : List ℕ) : Type 0 where
@@ -40,14 +37,14 @@ sleep_law p s Z (t ∷ w) h = at_thread (λ c. sleep_law p (step p s t) (next_sl
     on = and_true (is_enabled p s t) (is_complete p (step p s t) w) h
 
     goes : Z t ≡ false → Kept p (step p s t) (next_sleep_set p s Z t) w → Kept p s Z (t ∷ w)
-    goes z (left l) = left (and_both (is_enabled p s t) _ on.0 (and_both (not (Z t)) _ (ap not z) l))
-    goes z (earlier v c b e) = earlier (t ∷ v) (and_both (is_enabled p s t) _ on.0 c) (behind b) e
+    goes z (left l) = left (and_from (is_enabled p s t) _ on.0 (and_from (not (Z t)) _ (ap not z) l))
+    goes z (earlier v c b e) = earlier (t ∷ v) (and_from (is_enabled p s t) _ on.0 c) (behind b) e
     goes z (asleep_first v u c zv e) =
         let q = and_true (is_enabled p s v) ((Z v || nat_lt v t) && independent p s t v) zv in
         let r = and_true (Z v || nat_lt v t) (independent p s t v) q.1 in
         let swap : step p (step p s t) v ≡ step p (step p s v) t = commute p s t v on.0 q.0 r.1 in
         let k = and_true (is_enabled p (step p s t) v) (is_complete p (step p (step p s t) v) u) c in
-        let complete : is_complete p s (v ∷ t ∷ u) ≡ true = and_both (is_enabled p s v) _ q.0 (and_both (is_enabled p (step p s v) t) _ (still p s t v r.1 on.0 q.0) (ap (λ y. is_complete p y u) (sym swap) ∙ k.1)) in
+        let complete : is_complete p s (v ∷ t ∷ u) ≡ true = and_from (is_enabled p s v) _ q.0 (and_from (is_enabled p (step p s v) t) _ (still p s t v r.1 on.0 q.0) (ap (λ y. is_complete p y u) (sym swap) ∙ k.1)) in
         let same : state_after p s (v ∷ t ∷ u) ≡ state_after p s (t ∷ w) = ap (λ y. state_after p y u) (sym swap) ∙ e in
         first_or (Z v) refl v (t ∷ u) r.0 complete same
       where
@@ -56,7 +53,7 @@ sleep_law p s Z (t ∷ w) h = at_thread (λ c. sleep_law p (step p s t) (next_sl
 
         first_or : (b : Bool) → Z v ≡ b → (v' : ℕ) (x : List ℕ) → (b || nat_lt v t) ≡ true → is_complete p s (v ∷ t ∷ u) ≡ true → state_after p s (v ∷ t ∷ u) ≡ state_after p s (t ∷ w) → Kept p s Z (t ∷ w)
         first_or true e2 v' x r c s2 = asleep_first v (t ∷ u) c e2 s2
-        first_or false e2 v' x r c s2 = earlier (v ∷ t ∷ u) c (lower (below v t r)) s2
+        first_or false e2 v' x r c s2 = earlier (v ∷ t ∷ u) c (lower (lt_of v t r)) s2
 
     at_thread : (is_complete p (step p s t) w ≡ true → Kept p (step p s t) (next_sleep_set p s Z t) w) → (b : Bool) → Z t ≡ b → Kept p s Z (t ∷ w)
     at_thread f true z = asleep_first t w h z refl

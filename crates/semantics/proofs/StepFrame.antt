@@ -24,7 +24,8 @@ set_unchanged {A} xs n m v d same = go (cases_order n m)
   where
     go : (n ≡ m) ⊎ ((n < m) ⊎ (m < n)) → get_or (set xs n v) m d ≡ get_or xs m d
     go (inl e) = ap (λ k. get_or (set xs k v) m d) e
-        ∙ (ap (λ z. get_or (set xs m z) m d) (same e) ∙ ap (λ ys. get_or ys m d) (set-get_or xs m d))
+        ∙ (ap (λ z. get_or (set xs m z) m d) (same e)
+        ∙ ap (λ ys. get_or ys m d) (set-get_or xs m d))
     go (inr (inl l)) = get_or-set_other xs n m v d (omega arith)
     go (inr (inr l)) = get_or-set_other xs n m v d (omega arith)
 
@@ -33,7 +34,9 @@ module _ (p : Program) (s : Snapshot) (t : ℕ) where
   pub about_below : (a : Action) → IsAboutTo p s t a → t < length s.threads
   about_below a e = elim (cases_lt t (length s.threads)) [
     | inl l ↦ l
-    | inr g ↦ (let f : next_of p s t ≡ None = rw (get_or_past s.threads t missing_thread g) refl in cc)
+    | inr g ↦ (
+        let f : next_of p s t ≡ None = rw (get_or_past s.threads t missing_thread g) refl in
+        cc)
   ]
 
   -- the step, with what it does written out
@@ -41,7 +44,8 @@ module _ (p : Program) (s : Snapshot) (t : ℕ) where
   step_is a e = ap (acts p s t (thread_at s t)) e
 
   -- the thread that a step sets
-  pub set_thread : (a : Action) (th : Thread) → IsAboutTo p s t a → get_or (set s.threads t th) t missing_thread ≡ th
+  pub set_thread : (a : Action) (th : Thread)
+      → IsAboutTo p s t a → get_or (set s.threads t th) t missing_thread ≡ th
   set_thread a th e = get_or-set_same s.threads t th missing_thread (about_below a e)
 
 -- a step changes no object that it doesn't write

@@ -22,7 +22,8 @@ module _ (p : Program) (s : Snapshot) (t x : ℕ) where
 
   thread_after : (d : VariableAction) → IsAboutTo p s t (OnVariable x d)
       → RunsOnAs p s t (reader_after d (thread_at s t) old)
-  thread_after d e = ap (λ (z : Snapshot). thread_at z t) (step_is p s t _ e) ∙ set_thread p s t _ _ e
+  thread_after d e = ap (λ (z : Snapshot). thread_at z t) (step_is p s t _ e)
+      ∙ set_thread p s t _ _ e
 
   variables_after : (d : VariableAction) → IsAboutTo p s t (OnVariable x d)
       → (step p s t).vars ≡ set s.vars x (var_after d (thread_at s t).locals old)
@@ -104,9 +105,11 @@ module _ (p : Program) (s : Snapshot) (t x : ℕ) where
 
   pub hit_value : (r : ℕ) (a b : Value) → IsAboutTo p s t (OnVariable x (Swaps r a b))
       → x < length s.vars → old ≡ operand_of s t a → value_of (step p s t) x ≡ operand_of s t b
-  hit_value r a b e l h = value_after (Swaps r a b) e l ∙ ap (λ z. cond z (operand_of s t b) old) (hits a h)
+  hit_value r a b e l h = value_after (Swaps r a b) e l
+      ∙ ap (λ z. cond z (operand_of s t b) old) (hits a h)
 
   pub miss_variables : (r : ℕ) (a b : Value) → IsAboutTo p s t (OnVariable x (Swaps r a b))
       → old ≢ operand_of s t a → (step p s t).vars ≡ s.vars
   miss_variables r a b e h = variables_after (Swaps r a b) e
-      ∙ (ap (λ z. set s.vars x (cond z (operand_of s t b) old)) (misses a h) ∙ set-get_or s.vars x (pos 0))
+      ∙ (ap (λ z. set s.vars x (cond z (operand_of s t b) old)) (misses a h)
+      ∙ set-get_or s.vars x (pos 0))

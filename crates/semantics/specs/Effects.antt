@@ -3,7 +3,7 @@ use Rattle.std.specs.Prelude.{◌≡◌, ◌≢◌, ◌<◌, ◌⊎◌, ℕ, ℤ
 use Rattle.guest_code.specs.declared.program.Value.{Value}
 use Rattle.guest_code.specs.Program.{Program, code_of}
 use Rattle.semantics.specs.declared.state.Action.{Action}
-use Rattle.semantics.specs.declared.state.Stop.TheVariants.{NotHeld}
+use Rattle.semantics.specs.declared.state.Stop.TheVariants.{NotHeld, SemFull}
 use Rattle.semantics.specs.declared.state.Status.{Status}
 use Rattle.semantics.specs.declared.state.Status.TheVariants.{Waiting, Woken, Ended, Stopped}
 use Rattle.semantics.specs.declared.state.Thread.{Thread}
@@ -42,6 +42,10 @@ pub record PutsInto (p : Program) (s : Snapshot) (t r : ℕ) (v : ℤ) : Type 0 
 abbrev pub StopsNotHeld : Program → Snapshot → ℕ → Type 0
 StopsNotHeld p s t = (thread_at (step p s t) t).status ≡ Stopped NotHeld
 
+-- the step of thread t stops it, since the semaphore's count can't rise
+abbrev pub StopsFull : Program → Snapshot → ℕ → Type 0
+StopsFull p s t = (thread_at (step p s t) t).status ≡ Stopped SemFull
+
 -- the thread stopped or ended: it takes no further step
 abbrev pub IsOver : Thread → Type 0
 IsOver th = HasStopped th ⊎ (th.status ≡ Ended)
@@ -50,7 +54,7 @@ IsOver th = HasStopped th ⊎ (th.status ≡ Ended)
 abbrev pub WasWoken : Status → Status → Type 0
 WasWoken old new = (c : ℕ) × (old ≡ Waiting c) × (new ≡ Woken)
 
--- one thread before and after a step of another: it may have been woken, and nothing else of it changed
+-- one thread before and after a step of another: it may have been woken, else it is as it was
 pub record IsLeft (old new : Thread) : Type 0 where
   pub pc : new.pc ≡ old.pc
   pub locals : new.locals ≡ old.locals

@@ -20,3 +20,4 @@ pub mod Dependence
 pub mod Effects
 pub mod Increments
 pub mod Execution
+pub mod Branches

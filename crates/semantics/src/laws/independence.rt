@@ -12,6 +12,7 @@ ghost use Rattle.semantics.specs.declared.state.Action.TheVariants.{OnVariable};
 ghost use Rattle.semantics.specs.declared.state.Status.TheVariants.{Running, Woken};
 ghost use Rattle.semantics.specs.declared.state.VariableAction.TheVariants.{Load as Loads};
 ghost use Rattle.semantics.specs.Dependence.{Object, ConflictOn, accesses_at};
+ghost use Rattle.semantics.specs.Effects.{IsAboutTo};
 ghost use Rattle.semantics.specs.Machine.{Snapshot, step, is_enabled, next_of};
 ghost use Rattle.semantics.specs.Schedules.{before, enabled, complete_schedules};
 ghost use Rattle.semantics.specs.Ends.{is_terminal};
@@ -36,11 +37,11 @@ pub fn independence_is_symmetric()
 /// and that at least one of them writes; so two loads are always independent.
 pub fn dependent_means_a_shared_object()
     ensures dependent { (p : Program) (s : Snapshot) (t v : ℕ) (a b : Action) →
-        t ≢ v → next_of p s t ≡ Some a → next_of p s v ≡ Some b →
+        t ≢ v → IsAboutTo p s t a → IsAboutTo p s v b →
         (independent p s t v ≡ false) ↔ ((o : Object) × ConflictOn a b o) }
-    ensures loads { (p : Program) (s : Snapshot) (t v r q x y : ℕ) →
-        t ≢ v → next_of p s t ≡ Some (OnVariable x (Loads r)) →
-        next_of p s v ≡ Some (OnVariable y (Loads q)) → independent p s t v ≡ true }
+    ensures loads { (p : Program) (s : Snapshot) (t v x y r q : ℕ) →
+        t ≢ v → IsAboutTo p s t (OnVariable x (Loads r)) →
+        IsAboutTo p s v (OnVariable y (Loads q)) → independent p s t v ≡ true }
 {}
 
 /// What the step of each instruction accesses: a load reads its variable; a store, an `add` and a

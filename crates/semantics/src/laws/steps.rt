@@ -1,19 +1,22 @@
 //! What steps do with objects and threads.
 
-ghost use Rattle.std.specs.Prelude.{◌≡◌, ◌≢◌, ◌<◌, ◌↔◌, ℕ, pos, true, List, [], ◌∷◌, ◌++◌, length, Some, None};
+ghost use Rattle.std.specs.Prelude.{◌≡◌, ◌≢◌, ◌+◌, ◌-◌, ◌<◌, ◌↔◌, ℕ, pos, true, List, [], ◌∷◌, ◌++◌, length, Some, None};
+ghost use Rattle.guest_code.specs.declared.limits.TheConstants.{COUNT};
 ghost use Rattle.guest_code.specs.declared.program.Value.{Value};
 ghost use Rattle.guest_code.specs.Program.{Program};
 ghost use Rattle.guest_syntax.specs.declared.tree.Op.TheVariants.{Add as Plus};
 ghost use Rattle.semantics.specs.declared.state.Action.{Action};
-ghost use Rattle.semantics.specs.declared.state.Action.TheVariants.{OnVariable, OnMutex, Wait as Waits, OnCondition};
+ghost use Rattle.semantics.specs.declared.state.Action.TheVariants.{OnVariable, OnMutex, Wait as Waits, OnCondition, OnSemaphore};
 ghost use Rattle.semantics.specs.declared.state.ConditionAction.{ConditionAction};
+ghost use Rattle.semantics.specs.declared.state.ConditionAction.TheVariants.{Signal, Broadcast};
 ghost use Rattle.semantics.specs.declared.state.MutexAction.{MutexAction};
 ghost use Rattle.semantics.specs.declared.state.MutexAction.TheVariants.{Unlock};
+ghost use Rattle.semantics.specs.declared.state.SemaphoreAction.TheVariants.{Acquire, Release};
 ghost use Rattle.semantics.specs.declared.state.Status.TheVariants.{Waiting, Woken};
 ghost use Rattle.semantics.specs.declared.state.VariableAction.TheVariants.{Load, Store, Add, Cas};
 ghost use Rattle.semantics.specs.Dependence.{Writes};
 ghost use Rattle.semantics.specs.Dependence.Object.{variable, mutex, condition, semaphore};
-ghost use Rattle.semantics.specs.Effects.{IsAboutTo, RunsOn, PutsInto, StopsNotHeld, IsOver, IsLeft, operand_of};
+ghost use Rattle.semantics.specs.Effects.{IsAboutTo, RunsOn, PutsInto, StopsNotHeld, StopsFull, IsOver, IsLeft, operand_of};
 ghost use Rattle.semantics.specs.Machine.{Snapshot, step, start, is_enabled, next_of, threads_to_wake, value_of, owner_of, queue_of, count_of, thread_at, of_both};
 ghost use Rattle.semantics.specs.Schedules.{runs, state_after};
 ghost use Rattle.semantics.specs.Waiters.{In, HasWaiters};
@@ -170,4 +173,56 @@ pub fn threads_to_wake_are_woken()
         HasWaiters s → next_of p s t ≡ Some (OnCondition c d) →
         In (threads_to_wake d (queue_of s c)) u →
         (thread_at (step p s t) u).status ≡ Woken }
+{}
+
+/// A signal wakes the first of the queue, who leaves it, and no other thread; where nobody waits it
+/// wakes nobody.
+pub fn signals_wake_the_first()
+    ensures woken { (p : Program) (s : Snapshot) (t c u : ℕ) (us : List ℕ) →
+        HasWaiters s → IsAboutTo p s t (OnCondition c Signal) → queue_of s c ≡ u ∷ us →
+        (thread_at (step p s t) u).status ≡ Woken }
+    ensures queue { (p : Program) (s : Snapshot) (t c u : ℕ) (us : List ℕ) →
+        IsAboutTo p s t (OnCondition c Signal) → c < length s.queues →
+        queue_of s c ≡ u ∷ us → queue_of (step p s t) c ≡ us }
+    ensures others { (p : Program) (s : Snapshot) (t c u : ℕ) (us : List ℕ) (v : ℕ) →
+        IsAboutTo p s t (OnCondition c Signal) → queue_of s c ≡ u ∷ us → v ≢ t → v ≢ u →
+        thread_at (step p s t) v ≡ thread_at s v }
+    ensures nobody { (p : Program) (s : Snapshot) (t c v : ℕ) →
+        IsAboutTo p s t (OnCondition c Signal) → queue_of s c ≡ [] → v ≢ t →
+        thread_at (step p s t) v ≡ thread_at s v }
+{}
+
+/// After a broadcast nobody waits for its condition.
+pub fn broadcasts_empty_the_queue()
+    ensures { (p : Program) (s : Snapshot) (t c : ℕ) →
+        IsAboutTo p s t (OnCondition c Broadcast) → c < length s.queues →
+        queue_of (step p s t) c ≡ [] }
+{}
+
+// Semaphores.
+
+/// A semaphore can be acquired exactly where its count is above 0, and the count falls by 1.
+pub fn acquires_lower_the_count()
+    ensures enabled { (p : Program) (s : Snapshot) (t k : ℕ) →
+        IsAboutTo p s t (OnSemaphore k Acquire) →
+        (is_enabled p s t ≡ true) ↔ (0 < count_of s k) }
+    ensures count { (p : Program) (s : Snapshot) (t k : ℕ) →
+        IsAboutTo p s t (OnSemaphore k Acquire) → k < length s.counts →
+        count_of (step p s t) k ≡ count_of s k - 1 }
+    ensures thread { (p : Program) (s : Snapshot) (t k : ℕ) →
+        IsAboutTo p s t (OnSemaphore k Acquire) → RunsOn p s t }
+{}
+
+/// A release raises the count by 1; at `COUNT` the count stays, and the thread stops.
+pub fn releases_raise_the_count()
+    ensures count { (p : Program) (s : Snapshot) (t k : ℕ) →
+        IsAboutTo p s t (OnSemaphore k Release) → k < length s.counts →
+        count_of s k ≢ COUNT → count_of (step p s t) k ≡ count_of s k + 1 }
+    ensures thread { (p : Program) (s : Snapshot) (t k : ℕ) →
+        IsAboutTo p s t (OnSemaphore k Release) → count_of s k ≢ COUNT → RunsOn p s t }
+    ensures full { (p : Program) (s : Snapshot) (t k : ℕ) →
+        IsAboutTo p s t (OnSemaphore k Release) → k < length s.counts →
+        count_of s k ≡ COUNT → count_of (step p s t) k ≡ COUNT }
+    ensures stops { (p : Program) (s : Snapshot) (t k : ℕ) →
+        IsAboutTo p s t (OnSemaphore k Release) → count_of s k ≡ COUNT → StopsFull p s t }
 {}

@@ -1,7 +1,11 @@
 //! The schedules of small programs, one by one.
 
 ghost use Rattle.std.specs.Prelude.{◌≡◌, pos, [], ◌∷◌, map};
-ghost use Rattle.semantics.specs.Machine.{start};
+ghost use Rattle.semantics.specs.declared.state.Status.TheVariants.{Ended, Stopped};
+ghost use Rattle.semantics.specs.declared.state.Stop.TheVariants.{Assert as FailedAssert};
+ghost use Rattle.semantics.specs.declared.view.Kind.TheVariants.{Failed};
+ghost use Rattle.semantics.specs.Branches.{branches, IsAt};
+ghost use Rattle.semantics.specs.Machine.{start, thread_at};
 ghost use Rattle.semantics.specs.Schedules.{complete_schedules, preemptions};
 ghost use Rattle.semantics.specs.Ends.{end_of};
 ghost use Rattle.semantics.specs.Sleep.{reduced_schedules, none_asleep};
@@ -17,4 +21,14 @@ pub fn increments_have_six_schedules()
         ≡ done_with (pos 2) ∷ done_with (pos 1) ∷ done_with (pos 1)
         ∷ done_with (pos 1) ∷ done_with (pos 1) ∷ done_with (pos 2) ∷ [] }
     ensures reduced { reduced_schedules increments (start increments) none_asleep ≡ four_schedules }
+{}
+
+/// Two threads that set a local, branch on it and assert: the one whose test holds takes the first
+/// branch and ends, the other takes the second one and stops at its assertion. None takes a step, so
+/// the one complete schedule is empty, and it fails.
+pub fn branches_run_at_once()
+    ensures taken { IsAt (thread_at (start branches) 0) 6 Ended (pos 7) }
+    ensures other { IsAt (thread_at (start branches) 1) 5 (Stopped FailedAssert) (pos 9) }
+    ensures complete { complete_schedules branches (start branches) ≡ [] ∷ [] }
+    ensures end { end_of branches [] ≡ record { kind = Failed; vars = [] } }
 {}
