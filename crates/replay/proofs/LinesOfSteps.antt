@@ -13,7 +13,7 @@ use Rattle.replay.specs.declared.run.Line.{Line}
 use Rattle.replay.specs.declared.error.ReplayError.{ReplayError}
 use Rattle.replay.specs.declared.error.ReplayError.TheVariants.{NoSuchThread, NotEnabled, OutOfMemory}
 use Rattle.replay.specs.Run.{Run, lines_from, line_at, stopped_in, IsRunOf, IsFirstBad, ReplayErrorMeans}
-use Rattle.replay.specs.Step.{RefusalMeans}
+use Rattle.replay.specs.inner.Step.{RefusalMeans}
 
 -- rising numbers, with one more
 up_from-push : (first n : ℕ) → up_from first (suc n) ≡ up_from first n ++ (first + n) ∷ []

@@ -8,7 +8,8 @@ use Rattle.std.proofs.lemmas.List.Quantifiers.{position-Some}
 use Rattle.std.proofs.lemmas.List.Sums.{fails_before_first}
 use Rattle.std.specs.List.{All, position, position_or_len}
 use Rattle.replay.specs.declared.piece.Piece.{Piece}
-use Rattle.replay.specs.Spelling.{SpellsNumber, SpellsCount, IsStep, IsRun, SpellsPiece, IsHeldAs}
+use Rattle.replay.specs.Spelling.{SpellsNumber, SpellsCount, IsStep, IsRun, SpellsPiece}
+use Rattle.replay.specs.inner.Piece.{IsHeldAs}
 use Rattle.replay.proofs.NumberTexts.{digits_without, number_digits, number_once, count_once}
 
 abbrev Without : ℕ → List ℕ → Type 0

@@ -8,7 +8,8 @@ use Rattle.std.specs.List.{AllZip, slice_split, join_with_byte}
 use Rattle.std.specs.Option.{MatchOption}
 use Rattle.std.specs.Str.{bytes_eq}
 use Rattle.replay.specs.declared.piece.Piece.{Piece}
-use Rattle.replay.specs.Spelling.{SpellsPiece, IsPiece, IsHeldAs, SpellEach, Spells, pieces_of, steps_of, length_with_commas, IsReadUpTo, IsBadAt, IsTooLongAt, IsReadable}
+use Rattle.replay.specs.Spelling.{SpellsPiece, IsPiece, SpellEach, Spells, pieces_of, steps_of, length_with_commas, IsReadUpTo, IsBadAt, IsTooLongAt, IsReadable}
+use Rattle.replay.specs.inner.Piece.{IsHeldAs}
 use Rattle.replay.proofs.SpelledOnce.{piece_inside, steps_before, each_once}
 
 -- a text that isn't `-`, cut at its commas
