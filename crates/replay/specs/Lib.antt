@@ -1,4 +1,4 @@
 pub mod Spelling
 pub mod Run
 pub mod Trace
-pub mod Step
+pub mod inner

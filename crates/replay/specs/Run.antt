@@ -29,15 +29,18 @@ pub record Run : Type 0 where
 
 -- the value that a `cas` stores, where it hits
 abbrev pub stored_by : List ℤ → Value → Value → ℤ → Option ℤ
-stored_by locals expected new old = if is_expected locals expected old then Some (value_of_operand locals new) else None
+stored_by locals expected new old =
+    if is_expected locals expected old then Some (value_of_operand locals new) else None
 
 -- what thread t does in a state by its action: a load is told with the value read, a store with the value stored,
 -- an `add` with both, and a `cas` with the value read, and where it hits with the one stored
 abbrev pub act_of : Snapshot → ℕ → Action → Act
 act_of s t (OnVariable x (Loads r)) = Load x (value_of s x)
 act_of s t (OnVariable x (Stores a)) = Store x (value_of_operand (thread_at s t).locals a)
-act_of s t (OnVariable x (Adds r a)) = Add x (value_of s x) (var_after (Adds r a) (thread_at s t).locals (value_of s x))
-act_of s t (OnVariable x (Swaps r a b)) = Cas x (value_of s x) (stored_by (thread_at s t).locals a b (value_of s x))
+act_of s t (OnVariable x (Adds r a)) =
+    Add x (value_of s x) (var_after (Adds r a) (thread_at s t).locals (value_of s x))
+act_of s t (OnVariable x (Swaps r a b)) =
+    Cas x (value_of s x) (stored_by (thread_at s t).locals a b (value_of s x))
 act_of s t (OnMutex m Locks) = Lock m
 act_of s t (OnMutex m Unlocks) = Unlock m
 act_of s t (OnMutex m Retakes) = Retake m
@@ -64,7 +67,8 @@ line_at p s last t None = []
 -- the lines of a schedule that goes on from a state, after a step of the one thread or of none
 abbrev pub lines_from : Program → Snapshot → Option ℕ → List ℕ → List Line
 lines_from p s last [] = []
-lines_from p s last (t ∷ w) = line_at p s last t (next_of p s t) ++ lines_from p (step p s t) (Some t) w
+lines_from p s last (t ∷ w) =
+    line_at p s last t (next_of p s t) ++ lines_from p (step p s t) (Some t) w
 
 -- the threads that have stopped, rising
 abbrev pub stopped_in : Snapshot → List ℕ

@@ -1,5 +1,5 @@
 -- The texts of schedules: what a text spells, and the spelling that is printed.
-use Rattle.std.specs.Prelude.{◌≡◌, ◌≢◌, ◌⊎◌, ℕ, ◌+◌, ◌-◌, ◌^◌, ◌<◌, ◌≤◌, ◌==◌, min, if◌then◌else◌, List, [], ◌∷◌, ◌++◌, length, map, replicate, slice_index, codes}
+use Rattle.std.specs.Prelude.{◌≡◌, ◌≢◌, ◌⊎◌, ℕ, ◌+◌, ◌<◌, ◌≤◌, ◌==◌, if◌then◌else◌, List, [], ◌∷◌, ◌++◌, length, map, replicate, slice_index, codes}
 use Rattle.std.specs.Fmt.{decimal}
 use Rattle.std.specs.List.{slice_split, join_with_byte, sum_by, flat_map, AllZip}
 use Rattle.std.specs.Str.{bytes_eq}
@@ -107,11 +107,6 @@ ScheduleErrorMeans text (BadSchedule at) = IsBadAt text at
 ScheduleErrorMeans text (TooLong at) = IsTooLongAt text at
 ScheduleErrorMeans text OutOfMemory = IsReadable text
 
--- what a refusal says of the text
-abbrev pub RefusalMeans : List ℕ → ScheduleError → Type 0
-RefusalMeans text OutOfMemory = ⊥
-RefusalMeans text e = ScheduleErrorMeans text e
-
 -- the spelling that is printed
 
 -- a piece before others: one with the first of them where that is of the same thread
@@ -138,9 +133,3 @@ piece_text piece =
 abbrev pub printed : List ℕ → List ℕ
 printed [] = codes "-"
 printed (t ∷ w) = join_with_byte 44 (map piece_text (runs_of (t ∷ w)))
-
--- how a program holds the piece that a text spells: a count that is larger than any number is the largest
-pub record IsHeldAs (text : List ℕ) (held : Piece) : Type 0 where
-  pub count : ℕ
-  pub spelt : SpellsPiece text (record { thread = held.thread; count = count })
-  pub bounded : held.count ≡ min count (2 ^ 64 - 1)

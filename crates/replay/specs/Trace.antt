@@ -40,8 +40,11 @@ hit_text None = codes " miss"
 abbrev pub act_text : Program → Act → List ℕ
 act_text p (Load x v) = codes "load " ++ variable_name p x ++ codes " " ++ signed_decimal v
 act_text p (Store x v) = codes "store " ++ variable_name p x ++ codes " " ++ signed_decimal v
-act_text p (Add x v w) = codes "add " ++ variable_name p x ++ codes " " ++ signed_decimal v ++ (codes " " ++ signed_decimal w)
-act_text p (Cas x v hit) = codes "cas " ++ variable_name p x ++ codes " " ++ signed_decimal v ++ hit_text hit
+act_text p (Add x v w) =
+    codes "add " ++ variable_name p x ++ codes " " ++ signed_decimal
+    v ++ (codes " " ++ signed_decimal w)
+act_text p (Cas x v hit) =
+    codes "cas " ++ variable_name p x ++ codes " " ++ signed_decimal v ++ hit_text hit
 act_text p (Lock m) = codes "lock " ++ mutex_name p m
 act_text p (Unlock m) = codes "unlock " ++ mutex_name p m
 act_text p (Wait c m) = codes "wait " ++ condition_name p c ++ codes " " ++ mutex_name p m

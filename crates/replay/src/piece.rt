@@ -2,7 +2,8 @@
 
 ghost use Rattle.std.specs.Prelude.{◌≡◌, ◌≢◌, ◌-◌, ◌^◌, OnOk, MatchOption, ℕ, ◌++◌, ◌==◌, min, IsTrue, ◌↔◌, position, replicate, slice_index};
 ghost use Rattle.std.specs.Str.Parse.{IsNumeral};
-ghost use Rattle.replay.specs.Spelling.{SpellsNumber, SpellsCount, IsPiece, IsHeldAs, piece_text};
+ghost use Rattle.replay.specs.Spelling.{SpellsNumber, SpellsCount, IsPiece, piece_text};
+ghost use Rattle.replay.specs.inner.Piece.{IsHeldAs};
 
 use std::alloc::{AllocError, Global};
 

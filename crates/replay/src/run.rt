@@ -7,7 +7,7 @@ ghost use Rattle.semantics.specs.Ends.{is_stopped};
 ghost use Rattle.semantics.specs.Execution.{IsExecutionOf};
 ghost use Rattle.semantics.specs.declared.state.Action.TheVariants.{OnVariable};
 ghost use Rattle.replay.specs.Run.{act_of, stopped_in, IsRunOf, ReplayErrorMeans};
-ghost use Rattle.replay.specs.Step.{IsStepOf, RefusalMeans};
+ghost use Rattle.replay.specs.inner.Step.{IsStepOf, RefusalMeans};
 ghost use Rattle.replay.specs.Trace.{IsValidAct, IsValidRun};
 
 use crate::error::ReplayError;

@@ -3,7 +3,8 @@
 
 ghost use Rattle.std.specs.Prelude.{◌≡◌, ◌≤◌, false, length, IfOk, MatchResult, codes};
 ghost use Rattle.std.specs.Str.{bytes_eq};
-ghost use Rattle.replay.specs.Spelling.{printed, Spells, IsReadable, RefusalMeans, ScheduleErrorMeans};
+ghost use Rattle.replay.specs.Spelling.{printed, Spells, IsReadable, ScheduleErrorMeans};
+ghost use Rattle.replay.specs.inner.Piece.{RefusalMeans};
 
 use crate::piece::{Piece, piece_of, put_piece, put_steps};
 use semantics::limits::STEPS;

@@ -106,6 +106,21 @@ const LINES: [Line; 3] = [
     },
 ];
 
+/// A program, a schedule of it, and the trace.
+static ATOMIC: [(&[u8], &[u8], &[u8]); 2] = [
+    (
+        b"var x; thread A { cas r x 0 1; assert r == 1; } thread B { cas r x 0 2; assert r == 1; }",
+        &[0, 1],
+        b"0 A cas x 0 hit 1\n1 B cas x 1 miss stop assert\npreemptions 0\nkind failed\nvars x=1\n",
+    ),
+    // The sum wraps round, and an operand is the local that is written.
+    (
+        b"var x = 9223372036854775807; var y; thread A { add r x 1; add r x r; set r 0; cas r y r 5; cas r y 5 r; cas r y 7 r; }",
+        &[0, 0, 0, 0, 0],
+        b"0 A add x 9223372036854775807 -9223372036854775808\n1 A add x -9223372036854775808 -1\n2 A cas y 0 hit 5\n3 A cas y 5 hit 1\n4 A cas y 1 miss\npreemptions 0\nkind done\nvars x=-1 y=1\n",
+    ),
+];
+
 #[test]
 fn reads_and_writes_schedules(rt: HostRuntime) -> Result<(), Fail> {
     for (text, schedule) in PRINTED.iter() {
@@ -165,6 +180,18 @@ fn replays_and_prints(rt: HostRuntime) -> Result<(), Fail> {
     let want =
         b"start C stop assert\n0 A store x 1\n1 B load x 1 preempt stop assert\n2 A store x 0\npreemptions 1\nkind failed\nvars x=0\n";
     assert_eq!(rt; trace.as_slice(), &want[..]);
+    Ok(())
+}
+
+#[test]
+fn replays_and_prints_atomic_updates(rt: HostRuntime) -> Result<(), Fail> {
+    for (text, schedule, trace) in ATOMIC.iter() {
+        let tree = parse(rt.alloc(), text)?;
+        let program = lower(rt.alloc(), &tree)?;
+        let run = replay(rt.alloc(), &program, schedule)?;
+        let printed = trace_text(rt.alloc(), &program, &run)?;
+        assert_eq!(rt; printed.as_slice(), *trace);
+    }
     Ok(())
 }
 

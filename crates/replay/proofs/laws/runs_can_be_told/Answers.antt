@@ -8,5 +8,7 @@ use Rattle.replay.proofs.laws.runs_can_be_told.Goals as goal
 
 pub returns : goal.returns
 returns c p w r fine is =
-    let opened = start_is_of p fine.threads (All-map (λ n. n ≤ COUNT) (λ k. k.count) p.semaphores fine.counts) in
+    let opened =
+    start_is_of p fine.threads
+    (All-map (λ n. n ≤ COUNT) (λ k. k.count) p.semaphores fine.counts) in
     valid_run p w r fine opened (run_is_of p (start p) w opened is.legal) is

@@ -8,4 +8,5 @@ pub returns-clause-spells : goal.returns-clause-spells
 returns-clause-spells c = printed_spells
 
 pub returns-clause-once : goal.returns-clause-once
-returns-clause-once c text v w e s small fits = spelt_once text v w s (subst (λ x. Spells x w) (sym e) (printed_spells w small fits))
+returns-clause-once c text v w e s small fits =
+    spelt_once text v w s (subst (λ x. Spells x w) (sym e) (printed_spells w small fits))

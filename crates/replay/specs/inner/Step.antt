@@ -19,6 +19,8 @@ pub record IsStepOf (p : Program) (old new : ExecutionView) (t : ℕ) (line : Li
 
 -- why thread t can't take the step at this place; that never is for memory
 abbrev pub RefusalMeans : Program → Snapshot → ℕ → ℕ → ReplayError → Type 0
-RefusalMeans p s place t (NoSuchThread k) = (k ≡ place) × (is_enabled p s t ≡ false) × ¬ (t < length p.threads)
-RefusalMeans p s place t (NotEnabled k) = (k ≡ place) × (is_enabled p s t ≡ false) × (t < length p.threads)
+RefusalMeans p s place t (NoSuchThread k) =
+    (k ≡ place) × (is_enabled p s t ≡ false) × ¬ (t < length p.threads)
+RefusalMeans p s place t (NotEnabled k) =
+    (k ≡ place) × (is_enabled p s t ≡ false) × (t < length p.threads)
 RefusalMeans p s place t OutOfMemory = ⊥
