@@ -15,7 +15,7 @@ pub fn opening_values(alloc: Global, program: &Program) -> Result<Vec<i64>, Allo
 {
     let mut values = Vec::new(alloc);
     for x in 0..program.variables() {
-        values.push(program.opening(x))?;
+        values.push(program.opening(x as usize))?;
     }
     Ok(values)
 }
@@ -27,7 +27,7 @@ pub fn opening_counts(alloc: Global, program: &Program) -> Result<Vec<u16>, Allo
 {
     let mut counts = Vec::new(alloc);
     for k in 0..program.semaphores() {
-        counts.push(program.count(k))?;
+        counts.push(program.count(k as usize))?;
     }
     Ok(counts)
 }
