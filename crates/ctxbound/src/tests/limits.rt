@@ -152,3 +152,51 @@ fn reads_each_cut(rt: HostRuntime) -> Result<(), Fail> {
     }
     Ok(())
 }
+
+/// Threads of these names, with these statements.
+fn threads(alloc: Global, names: &str, statements: &str) -> Result<Vec<u8>, Fail> {
+    let mut text = Vec::new(alloc);
+    for name in names.chars() {
+        write!(text, "thread {name} {{ {statements}}} ")?;
+    }
+    Ok(text)
+}
+
+#[test]
+fn takes_sixteen_threads(rt: HostRuntime) -> Result<(), Fail> {
+    let alloc = rt.alloc();
+    for names in ["ABCDEFGHI", "ABCDEFGHIJKLMNOP"] {
+        let text = threads(alloc, names, "")?;
+        let (out, _, status) = served(alloc, text.as_slice(), "-")?;
+        assert_eq!(rt; out.as_slice(), &b"preemptions 0\nkind done\nvars\n"[..]);
+        assert_eq!(rt; status, 0);
+    }
+    let text = threads(alloc, "ABCDEFGHIJKLMNOPQ", "")?;
+    let (_, err, status) = served(alloc, text.as_slice(), "-")?;
+    assert_eq!(rt;
+        err.as_slice(),
+        &b"ctxbound: check C5 TooMany at 1:216\n"[..]
+    );
+    assert_eq!(rt; status, 2);
+    Ok(())
+}
+
+#[test]
+fn replays_sixteen_threads(rt: HostRuntime) -> Result<(), Fail> {
+    let alloc = rt.alloc();
+    let names = "ABCDEFGHIJKLMNOP";
+    let schedule = "0x2,1x2,2x2,3x2,4x2,5x2,6x2,7x2,8x2,9x2,10x2,11x2,12x2,13x2,14x2,15x2";
+    let mut text = Vec::new(alloc);
+    text.extend_from_slice(b"var x; ")?;
+    text.extend_from_slice(threads(alloc, names, "add r x 1; add r x 1; ")?.as_slice())?;
+    let mut want = Vec::new(alloc);
+    for step in 0..32 {
+        let name = names.chars().nth(step / 2).unwrap_or('?');
+        writeln!(want, "{step} {name} add x {step} {}", step + 1)?;
+    }
+    want.extend_from_slice(b"preemptions 0\nkind done\nvars x=32\n")?;
+    let (out, err, status) = served(alloc, text.as_slice(), schedule)?;
+    assert_eq!(rt; out.as_slice(), want.as_slice());
+    assert_eq!(rt; (err.len(), status), (0, 0));
+    Ok(())
+}

@@ -38,10 +38,15 @@ pub const THREE_STORES: &str =
 
 pub const FOUR_STORES: &str = "var x; thread A { repeat 4 { store x 1; } } thread B { store x 2; }";
 
+pub const TWO_CAS: &str =
+    "var x; thread A { cas r x 0 1; assert r == 1; } thread B { cas r x 0 2; assert r == 1; }";
+
+pub const TWO_ADDS: &str = "var x; thread A { add r x 1; } thread B { add r x 1; }";
+
 pub const ONE_STORE: &str = "var x; thread A { store x 1; }";
 
 /// A program, a schedule, its trace and the status.
-pub static TRACES: [(&str, &str, &str, u8); 41] = [
+pub static TRACES: [(&str, &str, &str, u8); 52] = [
     (
         FAILED_ASSERT,
         "-",
@@ -273,14 +278,85 @@ pub static TRACES: [(&str, &str, &str, u8); 41] = [
         "0 A acquire s\n1 A acquire s\n2 A release s\n3 A store x -1\n4 A load x -1\npreemptions 0\nkind done\nvars x=-1\n",
         0,
     ),
+    (
+        TWO_ADDS,
+        "0,1",
+        "0 A add x 0 1\n1 B add x 1 2\npreemptions 0\nkind done\nvars x=2\n",
+        0,
+    ),
+    (
+        TWO_ADDS,
+        "1,0",
+        "0 B add x 0 1\n1 A add x 1 2\npreemptions 0\nkind done\nvars x=2\n",
+        0,
+    ),
+    (
+        TWO_CAS,
+        "0,1",
+        "0 A cas x 0 hit 1\n1 B cas x 1 miss stop assert\npreemptions 0\nkind failed\nvars x=1\n",
+        1,
+    ),
+    (
+        TWO_CAS,
+        "1,0",
+        "0 B cas x 0 hit 2\n1 A cas x 2 miss stop assert\npreemptions 0\nkind failed\nvars x=2\n",
+        1,
+    ),
+    (
+        "var x = 9223372036854775807; thread A { add r x 1; store x r; }",
+        "0,0",
+        "0 A add x 9223372036854775807 -9223372036854775808\n1 A store x 9223372036854775807\npreemptions 0\nkind done\nvars x=9223372036854775807\n",
+        0,
+    ),
+    (
+        "var x = -9223372036854775807; thread A { add r x -2; }",
+        "0",
+        "0 A add x -9223372036854775807 9223372036854775807\npreemptions 0\nkind done\nvars x=9223372036854775807\n",
+        0,
+    ),
+    (
+        "var x = 5; thread A { set r 3; add r x r; store x r; }",
+        "0x2",
+        "0 A add x 5 8\n1 A store x 5\npreemptions 0\nkind done\nvars x=5\n",
+        0,
+    ),
+    (
+        "var x = 5; thread A { set r 5; cas r x r 9; store x r; }",
+        "0x2",
+        "0 A cas x 5 hit 9\n1 A store x 1\npreemptions 0\nkind done\nvars x=1\n",
+        0,
+    ),
+    (
+        "var x = 5; thread A { set r 7; cas r x 5 r; store x r; }",
+        "0x2",
+        "0 A cas x 5 hit 7\n1 A store x 1\npreemptions 0\nkind done\nvars x=1\n",
+        0,
+    ),
+    (
+        "var x = 5; thread A { set r 4; cas r x r 9; store x r; }",
+        "0x2",
+        "0 A cas x 5 miss\n1 A store x 0\npreemptions 0\nkind done\nvars x=0\n",
+        0,
+    ),
+    (
+        "var x = 5; thread A { set r 5; cas r x r r; store x r; }",
+        "0x2",
+        "0 A cas x 5 hit 5\n1 A store x 1\npreemptions 0\nkind done\nvars x=1\n",
+        0,
+    ),
 ];
 
 /// A program, a schedule, and the line of its fault.
-pub static REFUSALS: [(&str, &str, &str); 42] = [
+pub static REFUSALS: [(&str, &str, &str); 45] = [
     (LOCK_TWICE, "1", "ctxbound: schedule P1 NoSuchThread at 0\n"),
     (LOCK_TWICE, "0,0", "ctxbound: schedule P2 NotEnabled at 1\n"),
     (
         "var x; thread A { repeat 100 { store x 1; store x 2; store x 3; } }",
+        "x",
+        "ctxbound: schedule Q1 BadSchedule at 0\n",
+    ),
+    (
+        "var x; thread A { repeat 100 { store x 1; store x 2; store x 3; store x 4; store x 5; store x 6; store x 7; store x 8; store x 9; store x 10; store x 11; } }",
         "x",
         "ctxbound: check C6 CodeTooLong in thread 0\n",
     ),
@@ -394,13 +470,23 @@ pub static REFUSALS: [(&str, &str, &str); 42] = [
     ("var !", "x", "ctxbound: syntax S2 BadChar at 1:5\n"),
     (LONGEST, "0,1,", "ctxbound: schedule Q1 BadSchedule at 4\n"),
     (
-        "var x; thread A { repeat 64 { store x 1; store x 2; store x 3; store x 4; } assert 1; }",
+        "var x; thread A { repeat 64 { store x 1; store x 2; store x 3; store x 4; store x 1; store x 2; store x 3; store x 4; store x 1; store x 2; store x 3; store x 4; store x 1; store x 2; store x 3; store x 4; } assert 1; }",
         "x",
         "ctxbound: check C6 CodeTooLong in thread 0\n",
     ),
     (
-        "var x; thread A { add r x 1; } thread B { add r x 1; }",
+        "var add; thread A { }",
         "x",
-        "ctxbound: syntax S3 Expected at 1:19\n",
+        "ctxbound: syntax S3 Expected at 1:5\n",
+    ),
+    (
+        "var x; thread A { cas r x 0; }",
+        "x",
+        "ctxbound: syntax S3 Expected at 1:28\n",
+    ),
+    (
+        "mutex m; thread A { add r m 1; }",
+        "x",
+        "ctxbound: check C3 WrongKind at 1:27\n",
     ),
 ];
