@@ -1,5 +1,7 @@
 //! The limits of a program.
 
+use guest_syntax::limits as text;
+
 /// Threads of a program.
 pub const THREADS: usize = 16;
 /// Variables of a program.
@@ -10,5 +12,5 @@ pub const OBJECTS: usize = 8;
 pub const LOCALS: usize = 16;
 /// Instructions of a thread.
 pub const INSTRUCTIONS: usize = 1_024;
-/// The greatest count of a semaphore.
-pub const COUNT: u16 = 65_535;
+/// The greatest count of a semaphore: that of a text.
+pub const COUNT: u16 = text::COUNT as u16;

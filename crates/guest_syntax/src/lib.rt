@@ -31,7 +31,7 @@ mod error;
 mod expressions;
 pub mod laws;
 mod lexer;
-mod limits;
+pub mod limits;
 mod parser;
 pub mod place;
 mod reading;
