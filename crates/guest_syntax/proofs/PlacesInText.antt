@@ -44,7 +44,7 @@ refusal_then errors.OutOfMemory f h = tt
 refusal_then (errors.NotAscii at) f (b, more, big, g) = (b, more, big, follows_then f g)
 refusal_then (errors.BadChar at) f (b, more, small, g, none) = (b, more, small, follows_then f g, none)
 refusal_then (errors.Expected at) f h = token_or_end_then f h
-refusal_then (errors.NumberTooBig at) f (n, g) = (n, token_then (number n) f g)
+refusal_then (errors.NumberTooBig at) f (n, big, g) = (n, big, token_then (number n) f g)
 refusal_then {b = b} (errors.TooLong at) f h = omega (arith, h, ap length f.parts, length-append f.front b)
 refusal_then (errors.TooDeep at) f h = token_then (symbol Open) f h
 

@@ -1,6 +1,6 @@
 -- What `parse` may answer.
 use Rattle.std.specs.Prelude.{◌≡◌, ◌<◌, ℕ, List, [], ◌∷◌, ◌++◌, length, Result, Ok, Err}
-use Rattle.guest_syntax.specs.declared.limits.TheConstants.{TEXT_BYTES}
+use Rattle.guest_syntax.specs.declared.limits.TheConstants.{TEXT_BYTES, REPEATS}
 use Rattle.guest_syntax.specs.declared.place.Pos.{Pos}
 use Rattle.guest_syntax.specs.declared.token.Symbol.TheVariants.{Open}
 use Rattle.guest_syntax.specs.declared.error.SyntaxError.{SyntaxError}
@@ -40,12 +40,13 @@ abbrev pub IsBadCharAt : Pos → List ℕ → Pos → Type 0
 IsBadCharAt at bytes p =
     (b : ℕ) × (more : List ℕ) × (b < 128) × Follows at bytes p (b ∷ more) × BeginsNone (b ∷ more)
 
--- What a refusal says of its place. That the bytes are too many is said only where they are.
+-- What a refusal says of its place. The least limit of a number is that of a `repeat`. That the
+-- bytes are too many is said only where they are.
 abbrev pub RefusalIn : Pos → List ℕ → SyntaxError → Type 0
 RefusalIn at bytes errors.OutOfMemory = Unit {0}
 RefusalIn at bytes (errors.NotAscii p) = IsNotAsciiAt at bytes p
 RefusalIn at bytes (errors.BadChar p) = IsBadCharAt at bytes p
 RefusalIn at bytes (errors.Expected p) = IsTokenOrEnd at bytes p
-RefusalIn at bytes (errors.NumberTooBig p) = (n : ℕ) × IsTokenIn at bytes (number n) p
+RefusalIn at bytes (errors.NumberTooBig p) = (n : ℕ) × (REPEATS < n) × IsTokenIn at bytes (number n) p
 RefusalIn at bytes (errors.TooLong p) = TEXT_BYTES < length bytes
 RefusalIn at bytes (errors.TooDeep p) = IsTokenIn at bytes (symbol Open) p

@@ -15,7 +15,7 @@ unfoldable pub after : Pos → List ℕ → Pos
 after p [] = p
 after p (b ∷ bs) = after (past p b) bs
 
--- these bytes, at this place, end with others, at another place
+-- bytes at one place end with others at a later place
 pub record Follows (at : Pos) (bytes : List ℕ) (later : Pos) (rest : List ℕ) : Type 0 where
   pub front : List ℕ
   pub parts : bytes ≡ front ++ rest

@@ -21,8 +21,8 @@ use std::alloc::Global;
 ///
 /// # Errors
 ///
-/// `TooLong` where the text has more than [`TEXT_BYTES`](crate::TEXT_BYTES) bytes; else the first fault in text order, with
-/// its place; `OutOfMemory` where memory runs out before that.
+/// `TooLong` where the text has more than [`TEXT_BYTES`](crate::TEXT_BYTES) bytes; else the first
+/// fault in text order, with its place; `OutOfMemory` where memory runs out before that.
 pub fn parse(alloc: Global, text: &[u8]) -> Result<Tree, SyntaxError>
     // What is answered is spelled by the text.
     ensures found { IfOk result (λ t. Spells text.now (tree_view t)) }
@@ -31,7 +31,8 @@ pub fn parse(alloc: Global, text: &[u8]) -> Result<Tree, SyntaxError>
     // A text that is refused, other than because memory ran out, spells nothing.
     ensures refused { IfErr result (λ e. e ≢ OutOfMemory → (t : model.Tree) → Spells text.now t → ⊥) }
     // What a refusal says is so at its place in the text: a byte above 127, a byte that begins no
-    // token, a number, an opening brace, or some token or the end; too long only where the text is.
+    // token, a number above the least limit, an opening brace, or some token or the end; that the
+    // text is too long is said only where it is.
     ensures place { IfErr result (RefusalIn start text.now) }
     // A text that is too long is refused as such, at its first byte.
     ensures long { TEXT_BYTES < length text.now → result ≡ Err (TooLong start) }

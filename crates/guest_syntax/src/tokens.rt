@@ -5,6 +5,7 @@ ghost use Rattle.guest_syntax.specs.reader.Gives.{Gives};
 ghost use Rattle.guest_syntax.specs.reader.TokenViews.{kind_view, token_view};
 ghost use Rattle.guest_syntax.specs.Tree.{name_view};
 ghost use Rattle.guest_syntax.specs.declared.cursor.Cursor.{Cursor};
+ghost use Rattle.guest_syntax.specs.declared.limits.TheConstants.{REPEATS};
 ghost use Rattle.guest_syntax.specs.Tokens.{symbol};
 ghost use Rattle.guest_syntax.specs.reader.Reads.{IsPlaceOf, IsTokenOf, IsEndOf, StaysAt, rest_of, Reads, StaysIn, TakesToken, ItemTakesToken};
 ghost use Rattle.guest_syntax.specs.reader.SingleTokens.{next_at, token_at, symbol_from, name_from, number_in, number_from, times_from};
@@ -79,6 +80,7 @@ pub fn name<'a>(alloc: Global, text: Cursor<'a>) -> Result<(Name, Cursor<'a>), S
 
 /// The value of a token, which is to be a number up to a limit.
 pub fn number_in(token: Token, limit: u64) -> Result<u64, SyntaxError>
+    requires least { REPEATS ≤ limit }
     ensures gives { Gives (λ n. n) result (number_in limit (kind_view token.entry.kind)) }
     ensures limit { IfOk result (λ n. n ≤ limit) }
     ensures place { (text : Cursor) → IsTokenOf text (token_view token.entry) → StaysAt result text }
@@ -93,6 +95,7 @@ pub fn number_in(token: Token, limit: u64) -> Result<u64, SyntaxError>
 /// A number up to a limit.
 #[tactic(auto, unfolding(crate::specs::reader::SingleTokens::number_from))]
 pub fn number<'a>(text: Cursor<'a>, limit: u64) -> Result<(u64, Cursor<'a>), SyntaxError>
+    requires least { REPEATS ≤ limit }
     ensures gives { Reads (λ x. x) result (number_from limit) text.entry }
     ensures within { StaysIn result text.entry }
     ensures shorter { TakesToken result text.entry }
