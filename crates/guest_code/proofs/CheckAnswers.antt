@@ -22,26 +22,14 @@ use Rattle.guest_code.proofs.UsesOneByOne.{passed_ok, passed_err, declaration_st
 
 refuses_same : (d : CheckError) (o : Option CheckError) → o ≡ Some d → Refuses d o
 refuses_same errors.OutOfMemory o e = tt
-refuses_same (errors.Duplicate q) o e = e
-refuses_same (errors.Unknown q) o e = e
-refuses_same (errors.WrongKind q) o e = e
-refuses_same errors.NoThreads o e = e
-refuses_same (errors.TooMany q) o e = e
-refuses_same (errors.CodeTooLong k) o e = e
-refuses_same (errors.LeaveOutside q) o e = e
+refuses_same _ o e = e
 
 option_or-some : (d : CheckError) (o p : Option CheckError) → o ≡ Some d → option_or o p ≡ Some d
 option_or-some d o p e = rw e refl
 
 refuses_or : (d : CheckError) (o p : Option CheckError) → Refuses d o → Refuses d (option_or o p)
 refuses_or errors.OutOfMemory o p e = tt
-refuses_or (errors.Duplicate q) o p e = option_or-some (errors.Duplicate q) o p e
-refuses_or (errors.Unknown q) o p e = option_or-some (errors.Unknown q) o p e
-refuses_or (errors.WrongKind q) o p e = option_or-some (errors.WrongKind q) o p e
-refuses_or errors.NoThreads o p e = option_or-some errors.NoThreads o p e
-refuses_or (errors.TooMany q) o p e = option_or-some (errors.TooMany q) o p e
-refuses_or (errors.CodeTooLong k) o p e = option_or-some (errors.CodeTooLong k) o p e
-refuses_or (errors.LeaveOutside q) o p e = option_or-some (errors.LeaveOutside q) o p e
+refuses_or d o p e = option_or-some d o p e
 
 option_or-none : (o p : Option CheckError) → o ≡ None → option_or o p ≡ p
 option_or-none o p e = rw e refl

@@ -4,7 +4,7 @@ use Rattle.guest_syntax.specs.declared.tree.Statement.{Statement}
 use Rattle.guest_syntax.specs.Tree.{stmt_view, block_view}
 use Rattle.std.proofs.lemmas.List.{append-nil}
 use Rattle.guest_code.specs.declared.error.CheckError.{CheckError}
-use Rattle.guest_code.specs.declared.error.CheckError.TheVariants.{Duplicate, Unknown, WrongKind, NoThreads, TooMany, CodeTooLong, LeaveOutside, OutOfMemory}
+use Rattle.guest_code.specs.declared.error.CheckError.TheVariants.{OutOfMemory}
 use Rattle.guest_code.specs.Uses.{Use, declares, object, local, outside, stmt_uses, block_uses, kind_in, with_name, locals_from}
 use Rattle.std.specs.Option.{option_or}
 use Rattle.guest_code.specs.Fault.{object_refusal, local_refusal, refusal, first, Refuses}
@@ -42,13 +42,7 @@ walk_goes all us vs ns ms e = walk_append all us vs ns
 fault_then : (r : Checked) (f : List (List ℕ) → Checked) (d : CheckError) → Refuses d (fault_of r)
     → Refuses d (fault_of (and_then r f))
 fault_then (Ok ns) f OutOfMemory h = tt
-fault_then (Ok ns) f (Duplicate p) h = absurd cc
-fault_then (Ok ns) f (Unknown p) h = absurd cc
-fault_then (Ok ns) f (WrongKind p) h = absurd cc
-fault_then (Ok ns) f NoThreads h = absurd cc
-fault_then (Ok ns) f (TooMany p) h = absurd cc
-fault_then (Ok ns) f (CodeTooLong k) h = absurd cc
-fault_then (Ok ns) f (LeaveOutside p) h = absurd cc
+fault_then (Ok ns) f _ h = absurd cc
 fault_then (Err e) f d h = h
 
 pub walk_stops : (all us vs : List Use) (ns : List (List ℕ)) (d : CheckError)

@@ -30,26 +30,7 @@ same_is kinds.Mutex kinds.Mutex e = refl
 same_is kinds.Condition kinds.Condition e = refl
 same_is kinds.Semaphore kinds.Semaphore e = refl
 same_is kinds.Thread kinds.Thread e = refl
-same_is kinds.Variable kinds.Mutex e = absurd cc
-same_is kinds.Variable kinds.Condition e = absurd cc
-same_is kinds.Variable kinds.Semaphore e = absurd cc
-same_is kinds.Variable kinds.Thread e = absurd cc
-same_is kinds.Mutex kinds.Variable e = absurd cc
-same_is kinds.Mutex kinds.Condition e = absurd cc
-same_is kinds.Mutex kinds.Semaphore e = absurd cc
-same_is kinds.Mutex kinds.Thread e = absurd cc
-same_is kinds.Condition kinds.Variable e = absurd cc
-same_is kinds.Condition kinds.Mutex e = absurd cc
-same_is kinds.Condition kinds.Semaphore e = absurd cc
-same_is kinds.Condition kinds.Thread e = absurd cc
-same_is kinds.Semaphore kinds.Variable e = absurd cc
-same_is kinds.Semaphore kinds.Mutex e = absurd cc
-same_is kinds.Semaphore kinds.Condition e = absurd cc
-same_is kinds.Semaphore kinds.Thread e = absurd cc
-same_is kinds.Thread kinds.Variable e = absurd cc
-same_is kinds.Thread kinds.Mutex e = absurd cc
-same_is kinds.Thread kinds.Condition e = absurd cc
-same_is kinds.Thread kinds.Semaphore e = absurd cc
+same_is _ _ e = absurd cc
 
 -- ---- how many of each kind
 

@@ -1,6 +1,7 @@
 -- The program of a tree without a fault is well formed.
 use Rattle.std.proofs.Common.{◌≡◌, ℕ, ◌+◌, ◌<◌, ◌≤◌, Bool, true, false, ltb, List, [], ◌∷◌, ◌++◌, length, map, Some, None, Ok, Err, refl, sym, ap, subst, ◌∙◌, arith, if◌then◌else◌}
 use Rattle.std.specs.List.{All}
+use Rattle.std.proofs.lemmas.List.{length-map}
 use Rattle.std.proofs.lemmas.List.Elements.{All-cons, All-nil}
 use Rattle.std.proofs.lemmas.Bool.{ltb-false}
 use Rattle.guest_syntax.specs.Tree.{Declaration, Thread, Tree}
@@ -18,7 +19,7 @@ use Rattle.guest_code.specs.inner.Walk.{Checked, walk, fault_of}
 use Rattle.guest_code.specs.Code.{Names, object_index, objects_by, variable_of, mutex_of, condition_of, semaphore_of, thread_code, code}
 use Rattle.guest_code.proofs.BodiesDeclareNothing.{block_declares_nothing}
 use Rattle.guest_code.proofs.CheckIsFault.{first_append}
-use Rattle.guest_code.proofs.UsesOneByOne.{many_none, many_threads, one_thread, length_mapped, body_leaves}
+use Rattle.guest_code.proofs.UsesOneByOne.{many_none, many_threads, one_thread, body_leaves}
 use Rattle.guest_code.proofs.CodeLengths.{block_length}
 use Rattle.guest_code.proofs.DeclarationCounts.{or_none, few, many_append, object_index-less, many_variables, many_mutexes, many_conditions, many_semaphores}
 use Rattle.guest_code.proofs.IndexesInRange.{NamesInRange, walk_right, walk_few, block_in_range}
@@ -150,7 +151,7 @@ well_formed t e counts =
     rest.1 in
     let many : how_many kinds.Thread (uses ds ts) ≡ length ts = many_none ds (threads_uses ts)
     ∙ many_threads ts in
-    let as_many : length (code t).threads ≡ length ts = length_mapped (thread_code ds) ts in
+    let as_many : length (code t).threads ≡ length ts = length-map ts (thread_code ds) in
     record {
       some_thread = omega (arith, some_threads ts rest.0, as_many);
       threads = omega (

@@ -1,5 +1,5 @@
 -- Looking through declarations, threads and names, one after the other.
-use Rattle.std.proofs.Common.{◌≡◌, ℕ, ◌+◌, ◌<◌, ◌≤◌, cond, Bool, true, false, List, [], ◌∷◌, ◌++◌, length, get_or, drop, map, Option, Some, None, refl, add-one, drop-cons, if◌then◌else◌}
+use Rattle.std.proofs.Common.{◌≡◌, ℕ, ◌+◌, ◌<◌, cond, Bool, true, false, List, [], ◌∷◌, ◌++◌, length, get_or, drop, map, Option, Some, None, refl, add-one, drop-cons, if◌then◌else◌}
 use Rattle.std.specs.Str.{bytes_eq}
 use Rattle.guest_syntax.specs.declared.tree.Thread.{Thread}
 use Rattle.guest_syntax.specs.Tree.{thread_view, block_view}

@@ -1,7 +1,7 @@
 -- One declaration and one thread after the other.
 use Rattle.std.proofs.Common.{◌≡◌, ℕ, zero, suc, ◌+◌, ◌<◌, ◌≤◌, false, List, [], ◌∷◌, ◌++◌, length, get_or, take, drop, map, Option, Some, None, Ok, Err, refl, sym, ap, ◌∙◌, arith, add-one, drop-cons, append_assoc}
 use Rattle.std.proofs.Math.Seq.{take-suc}
-use Rattle.std.proofs.lemmas.List.{append-nil}
+use Rattle.std.proofs.lemmas.List.{append-nil, length-map, length-take-le}
 use Rattle.guest_syntax.specs.declared.tree.Declaration.{Declaration}
 use Rattle.guest_syntax.specs.declared.tree.Thread.{Thread}
 use Rattle.guest_syntax.specs.declared.tree.Object.{Object}
@@ -122,15 +122,6 @@ one_thread all before t rest =
     ∙ ap (λ (us : List Use). option_or (fault_of (walk all [] (block_uses false t.body)))
     (first all us rest)) joined))
 
-length_taken : {A : Type 0} → (xs : List A) (i : ℕ) → i ≤ length xs → length (take i xs) ≡ i
-length_taken xs zero le = refl
-length_taken [] (suc i) le = absurd (omega arith)
-length_taken (x ∷ xs) (suc i) le = ap suc (length_taken xs i (omega arith))
-
-pub length_mapped : {A B : Type 0} → (f : A → B) (xs : List A) → length (map f xs) ≡ length xs
-length_mapped f [] = refl
-length_mapped f (x ∷ xs) = ap suc (length_mapped f xs)
-
 pub thread_step : (all : List Use) (ds : List tree.Declaration) (ts : List Thread) (i : ℕ)
     (x : Thread) → i < length ts → x ≡ get_or ts i x
     → first all (uses ds (map thread_view (take i ts))) (threads_uses (map thread_view (drop i ts)))
@@ -143,7 +134,7 @@ thread_step all ds ts i x lt is =
     let count : how_many kinds.Thread (uses ds (map thread_view (take i ts))) ≡ i =
     many_none ds (threads_uses (map thread_view (take i ts)))
     ∙ (many_threads (map thread_view (take i ts))
-    ∙ (length_mapped thread_view (take i ts) ∙ length_taken ts i (omega arith))) in
+    ∙ (length-map (take i ts) thread_view ∙ length-take-le i ts (omega arith))) in
     let cut : threads_uses (map thread_view (drop i ts)) ≡ thread_uses (thread_view x)
     ++ threads_uses (map thread_view (drop (i + 1) ts)) = rw (add-one, drop-cons ts i x, ← is)
     refl in

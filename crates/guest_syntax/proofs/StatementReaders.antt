@@ -324,7 +324,7 @@ symbol_ends : (s : Symbol) (ts rest : List Token) → op_of (symbol s) ≡ None 
 unfolding is_else
 symbol_ends s ts rest e h = record { first = record { kind = symbol s; at = h.0 }; more = rest; read = kind_again (symbol s) ts rest h refl; no_op = e; no_else = refl }
 
--- a statement ends what stands before it
+-- a statement ends what comes before it
 statement_ends : (s : Stmt) (room : ℕ) (ts rest : List Token) → IsStatement s room ts rest → Ends ts
 unfolding is_else
 statement_ends (load r x) room ts rest h = keyword_ends keywords.Load ts h.0 refl h.1

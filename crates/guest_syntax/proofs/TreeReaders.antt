@@ -262,7 +262,7 @@ no_declaration_end : declaration_turn [] ≡ Some (None, [])
 unfolding declaration_turn next_at
 no_declaration_end = refl
 
--- behind the declarations stands a thread or nothing
+-- after the declarations comes a thread or nothing
 no_declaration : (xs : List Thread) (ts : List Token) → each IsThread xs ts [] → declaration_turn ts ≡ Some (None, ts)
 unfolding declaration_turn
 no_declaration [] ts h = ap declaration_turn h ∙ (no_declaration_end ∙ ap (λ (us : List Token). Some (None, us)) (sym h))

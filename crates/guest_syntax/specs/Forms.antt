@@ -1,4 +1,4 @@
--- Forms: which tokens may stand before which others.
+-- Forms: which tokens may come before which others.
 use Rattle.std.specs.Prelude.{◌≡◌, ℕ, suc, ◌≤◌, ℤ, pos, ◌-ℤ◌, ◌⊎◌, List, [], ◌∷◌}
 use Rattle.guest_syntax.specs.declared.limits.TheConstants.{NUMBER}
 use Rattle.guest_syntax.specs.declared.place.Pos.{Pos}
@@ -8,12 +8,12 @@ use Rattle.guest_syntax.specs.declared.token.Symbol.TheVariants as symbols
 use Rattle.guest_syntax.specs.Tokens.{Kind, name, keyword, number, symbol, Token}
 use Rattle.guest_syntax.specs.Tree.{Name}
 
--- which tokens may stand before which
+-- which tokens may come before which
 abbrev pub Form : Type 1
 Form = List Token → List Token → Type 0
 
 infixr 5 ◌then◌
--- one form, and behind it another
+-- one form, and after it another
 abbrev pub ◌then◌ : Form → Form → Form
 (A then B) ts rest = (mid : List Token) × A ts mid × B mid rest
 
@@ -42,7 +42,7 @@ IsNumber limit n ts rest = (n ≤ limit) × IsToken (number n) ts rest
 abbrev pub IsEnd : Form
 IsEnd = IsSymbol symbols.End
 
--- a number, or a number behind a minus
+-- a number, or a number after a minus
 abbrev pub IsLiteral : ℤ → Form
 IsLiteral z ts rest =
     (n : ℕ) × (((z ≡ pos n) × IsNumber NUMBER n ts rest) ⊎ ((z ≡ pos 0 -ℤ pos n) × (IsSymbol symbols.Minus then IsNumber NUMBER n) ts rest))

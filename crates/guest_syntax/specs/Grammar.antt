@@ -35,7 +35,7 @@ IsExpr (both a op b) = IsOperand a then IsOp op then IsOperand b
 abbrev pub IsTimes : ℕ → Form
 IsTimes n ts rest = (0 < n) × IsNumber REPEATS n ts rest
 
--- with the number of blocks that may still stand inside one another
+-- with the number of blocks that may still be inside one another
 abbrev mutual
   pub IsStatement : Stmt → ℕ → Form
   IsStatement (load r x) room = IsKeyword keywords.Load then IsName r then IsName x then IsEnd

@@ -1,11 +1,11 @@
-//! Tokens: names, words, numbers, operators and marks.
+//! Tokens: names, keywords, numbers, operators and marks.
 
 ghost use Rattle.std.specs.Prelude.{◌≡◌};
 ghost use Rattle.guest_syntax.specs.Tokens.{keyword_text, symbol_text};
 
 use crate::place::Pos;
 
-/// A word of the language, which is no name.
+/// A reserved word, which is no name.
 #[derive(Clone, Copy, Debug, PartialEq, Eq)]
 pub enum Keyword {
     Var,
@@ -67,7 +67,7 @@ pub struct Token<'a> {
     pub at: Pos,
 }
 
-/// All words.
+/// All keywords.
 pub const KEYWORDS: [Keyword; 22] = [
     Keyword::Var,
     Keyword::Mutex,
@@ -111,7 +111,7 @@ pub const SYMBOLS: [Symbol; 13] = [
 ];
 
 impl Keyword {
-    /// How the word is written.
+    /// How the keyword is written.
     pub fn text(self) -> &'static [u8]
         ensures { result.now ≡ keyword_text self }
     {

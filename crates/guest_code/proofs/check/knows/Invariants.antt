@@ -1,4 +1,4 @@
-use Rattle.std.proofs.Common.{◌≡◌, drop, map}
+use Rattle.std.proofs.Common.{◌≡◌, drop}
 use Rattle.guest_code.specs.Program.{names_view}
 use Rattle.guest_code.specs.Uses.{knows}
 use Rattle.guest_code.proofs.check.knows.Given as goal

@@ -1,4 +1,4 @@
-use Rattle.std.proofs.Common.{◌≡◌, ◌+◌, map, drop}
+use Rattle.std.proofs.Common.{◌≡◌, ◌+◌, drop}
 use Rattle.guest_code.specs.Program.{names_view}
 use Rattle.guest_code.specs.Code.{local_index}
 use Rattle.guest_code.proofs.names.index_of_local.Given as goal
