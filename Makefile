@@ -1,20 +1,61 @@
-# run    builds the program, proving all that it is built from, and replays the first example
-# build  leaves the program at build/ctxbound
-# test   the gate: every proof from nothing, the must-fail edits, the tests, then `shown` and refused memory
-# shown  the documents' commands, run by the program that is at build/ctxbound
-# bench  how fast a subtree is walked
-.PHONY: run build test shown bench clean
+# run      replays the first example without proofs, in under a minute from a fresh clone
+# try      replays a guest of yours without proofs: make try GUEST=file SCHEDULE=0,1,0
+# build    proves and builds the program, and leaves it at build/ctxbound
+# install  copies build/ctxbound to $(DESTDIR)$(PREFIX)/bin
+# check    proves one crate over what earlier checks kept: make check C=semantics
+# test     the gate: every proof from scratch, the must-fail edits, the tests, then `shown` and
+#          refused memory
+# shown    runs the documents' commands by build/ctxbound
+# bench    how fast a subtree is walked
+.PHONY: run try build install check test shown bench clean
 
-EXAMPLE = examples/first.guest 0,1,0
+PREFIX ?= /usr/local
+GUEST ?=
+SCHEDULE ?= -
+EXAMPLE = examples/first.guest
+EXAMPLE_SCHEDULE = 0,1,0
+export GUEST SCHEDULE
 
-# A failed schedule ends a replay with status 1, which is what this example is to show.
-run: build
-	@build/ctxbound replay $(EXAMPLE) || test $$? -eq 1
+# `rt try` runs the program without proofs, on a copy of the guest. Standard error, kept in
+# build/log, has what the program writes there and then, from `checked: ` on, what `rt try` says of
+# itself. The status is the program's own, which is 1 where the schedule fails.
+TRY = mkdir -p build && cd crates/ctxbound && rt try --data program.guest="$$guest" \
+		-- replay program.guest "$$schedule" 2> ../../build/log; status=$$?; \
+	grep -q '^run=ended ' ../../build/log || { cat ../../build/log >&2; exit 2; }; \
+	sed '/^checked: /,$$d' ../../build/log; \
+	test $$status -eq 0 || echo "[status $$status]"
+
+NEEDS_PROGRAM = test -x build/ctxbound || \
+	{ echo "build/ctxbound isn't there: run \`make build\` first" >&2; exit 2; }
+
+run:
+	@echo "Compiling the program, without proofs, which takes under a minute .."
+	@guest=$$PWD/$(EXAMPLE) schedule=$(EXAMPLE_SCHEDULE); $(TRY)
+	@echo "(Not proved yet: \`make build\` proves and builds the program, in about 10 minutes.)"
+
+try:
+	@test -n "$$GUEST" || { echo 'Usage: make try GUEST=file SCHEDULE=0,1,0' >&2; exit 2; }
+	@test -r "$$GUEST" || { echo "$$GUEST can't be read" >&2; exit 2; }
+	@echo "Compiling the program, without proofs, which takes under a minute .."
+	@guest=$$(realpath -- "$$GUEST") schedule=$$SCHEDULE; $(TRY)
 
 build:
 	@mkdir -p build
-	@cd crates/ctxbound && rt run -- replay data/race.guest 0 > ../../build/log 2>&1 || { cat ../../build/log; exit 1; }
+	@echo "Proving and building the program and what it is built from: about 10 minutes at first,"
+	@echo "under a minute after a small edit. To look at its progress: tail -f build/log"
+	@cd crates/ctxbound && rt run -- replay data/race.guest 0 > ../../build/log 2>&1 \
+		|| { cat ../../build/log; exit 1; }
 	@cp crates/ctxbound/out/ctxbound build/ctxbound
+	@echo "Proved: the program is build/ctxbound"
+
+install:
+	@$(NEEDS_PROGRAM)
+	install -d "$(DESTDIR)$(PREFIX)/bin"
+	install -m 755 build/ctxbound "$(DESTDIR)$(PREFIX)/bin/ctxbound"
+
+check:
+	@test -d "crates/$(C)/src" || { echo "Usage: make check C=crate, one of:" crates/*/ >&2; exit 2; }
+	cd crates/$(C) && rt check
 
 # The programs that `rt ci` proved and built stay in their crates' folders.
 test:
@@ -25,6 +66,7 @@ test:
 	python3 tests/allocations.py build/ctxbound crates/walk_bench/out/walk_bench
 
 shown:
+	@$(NEEDS_PROGRAM)
 	python3 tests/docs.py build/ctxbound
 
 bench:
