@@ -2,8 +2,8 @@
 use Rattle.std.specs.Prelude.{◌≡◌, ℕ, suc, ◌≤◌, ℤ, pos, ◌-ℤ◌, ◌⊎◌, List, [], ◌∷◌}
 use Rattle.guest_syntax.specs.declared.limits.TheConstants.{NUMBER}
 use Rattle.guest_syntax.specs.declared.place.Pos.{Pos}
-use Rattle.guest_syntax.specs.declared.token.Sign.TheVariants as signs
-use Rattle.guest_syntax.specs.Tokens.{Kind, name, number, sign, Token}
+use Rattle.guest_syntax.specs.declared.token.Symbol.TheVariants as symbols
+use Rattle.guest_syntax.specs.Tokens.{Kind, name, number, symbol, Token}
 use Rattle.guest_syntax.specs.Tree.{Name}
 
 -- which tokens may stand before which
@@ -31,12 +31,12 @@ abbrev pub IsNumber : ℕ → ℕ → Form
 IsNumber limit n ts rest = (n ≤ limit) × IsToken (number n) ts rest
 
 abbrev pub IsEnd : Form
-IsEnd = IsToken (sign signs.End)
+IsEnd = IsToken (symbol symbols.End)
 
 -- a number, or a number behind a minus
 abbrev pub IsLiteral : ℤ → Form
 IsLiteral z ts rest =
-    (n : ℕ) × (((z ≡ pos n) × IsNumber NUMBER n ts rest) ⊎ ((z ≡ pos 0 -ℤ pos n) × (IsToken (sign signs.Minus) then IsNumber NUMBER n) ts rest))
+    (n : ℕ) × (((z ≡ pos n) × IsNumber NUMBER n ts rest) ⊎ ((z ≡ pos 0 -ℤ pos n) × (IsToken (symbol symbols.Minus) then IsNumber NUMBER n) ts rest))
 
 -- one after the other
 abbrev pub each : {A : Type 0} → (A → Form) → List A → Form
@@ -45,4 +45,4 @@ each F (x ∷ xs) ts rest = (F x then each F xs) ts rest
 
 -- a block, where there is room for it: its statements, with less room, in braces
 abbrev pub in_braces : (ℕ → Form) → ℕ → Form
-in_braces inner room ts rest = (less : ℕ) × (room ≡ suc less) × (IsToken (sign signs.Open) then inner less then IsToken (sign signs.Close)) ts rest
+in_braces inner room ts rest = (less : ℕ) × (room ≡ suc less) × (IsToken (symbol symbols.Open) then inner less then IsToken (symbol symbols.Close)) ts rest

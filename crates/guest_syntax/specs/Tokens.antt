@@ -2,18 +2,18 @@
 use Rattle.std.specs.Prelude.{◌≡◌, ◌≢◌, ℕ, ◌+◌, ◌-◌, ◌*◌, ◌^◌, ◌<◌, min, List, [], ◌∷◌, ◌++◌, length, Bool, true, false, not, ◌&&◌, ◌||◌, ◌==◌, nat_le, IsTrue, IsSome, Option, Some, None, if◌then◌else◌, codes, fold}
 use Rattle.std.specs.List.{list_all}
 use Rattle.guest_syntax.specs.declared.place.Pos.{Pos}
-use Rattle.guest_syntax.specs.declared.token.Word.{Word}
-use Rattle.guest_syntax.specs.declared.token.Sign.{Sign}
-use Rattle.guest_syntax.specs.declared.token.Word.TheVariants as words
-use Rattle.guest_syntax.specs.declared.token.Sign.TheVariants as signs
+use Rattle.guest_syntax.specs.declared.token.Keyword.{Keyword}
+use Rattle.guest_syntax.specs.declared.token.Symbol.{Symbol}
+use Rattle.guest_syntax.specs.declared.token.Keyword.TheVariants as keywords
+use Rattle.guest_syntax.specs.declared.token.Symbol.TheVariants as symbols
 use Rattle.guest_syntax.specs.Place.{after}
 
 -- `bad` stands where no token begins, and nothing spells it
 pub data Kind : Type 0 where
   name : List ℕ → Kind
-  word : Word → Kind
+  keyword : Keyword → Kind
   number : ℕ → Kind
-  sign : Sign → Kind
+  symbol : Symbol → Kind
   bad : Kind
 
 pub record Token : Type 0 where
@@ -21,43 +21,43 @@ pub record Token : Type 0 where
   pub at : Pos
 
 -- how a word is written
-abbrev pub word_text : Word → List ℕ
-word_text words.Var = codes "var"
-word_text words.Mutex = codes "mutex"
-word_text words.Cond = codes "cond"
-word_text words.Sem = codes "sem"
-word_text words.Thread = codes "thread"
-word_text words.Load = codes "load"
-word_text words.Store = codes "store"
-word_text words.Lock = codes "lock"
-word_text words.Unlock = codes "unlock"
-word_text words.Wait = codes "wait"
-word_text words.Signal = codes "signal"
-word_text words.Broadcast = codes "broadcast"
-word_text words.Acquire = codes "acquire"
-word_text words.Release = codes "release"
-word_text words.Set = codes "set"
-word_text words.If = codes "if"
-word_text words.Else = codes "else"
-word_text words.Repeat = codes "repeat"
-word_text words.Leave = codes "leave"
-word_text words.Assert = codes "assert"
+abbrev pub keyword_text : Keyword → List ℕ
+keyword_text keywords.Var = codes "var"
+keyword_text keywords.Mutex = codes "mutex"
+keyword_text keywords.Cond = codes "cond"
+keyword_text keywords.Sem = codes "sem"
+keyword_text keywords.Thread = codes "thread"
+keyword_text keywords.Load = codes "load"
+keyword_text keywords.Store = codes "store"
+keyword_text keywords.Lock = codes "lock"
+keyword_text keywords.Unlock = codes "unlock"
+keyword_text keywords.Wait = codes "wait"
+keyword_text keywords.Signal = codes "signal"
+keyword_text keywords.Broadcast = codes "broadcast"
+keyword_text keywords.Acquire = codes "acquire"
+keyword_text keywords.Release = codes "release"
+keyword_text keywords.Set = codes "set"
+keyword_text keywords.If = codes "if"
+keyword_text keywords.Else = codes "else"
+keyword_text keywords.Repeat = codes "repeat"
+keyword_text keywords.Leave = codes "leave"
+keyword_text keywords.Assert = codes "assert"
 
 -- how an operator or a mark is written
-abbrev pub sign_text : Sign → List ℕ
-sign_text signs.Equal = codes "=="
-sign_text signs.NotEqual = codes "!="
-sign_text signs.LessOrEqual = codes "<="
-sign_text signs.GreaterOrEqual = codes ">="
-sign_text signs.Less = codes "<"
-sign_text signs.Greater = codes ">"
-sign_text signs.Plus = codes "+"
-sign_text signs.Minus = codes "-"
-sign_text signs.Times = codes "*"
-sign_text signs.Assign = codes "="
-sign_text signs.Open = codes "{"
-sign_text signs.Close = codes "}"
-sign_text signs.End = codes ";"
+abbrev pub symbol_text : Symbol → List ℕ
+symbol_text symbols.Equal = codes "=="
+symbol_text symbols.NotEqual = codes "!="
+symbol_text symbols.LessOrEqual = codes "<="
+symbol_text symbols.GreaterOrEqual = codes ">="
+symbol_text symbols.Less = codes "<"
+symbol_text symbols.Greater = codes ">"
+symbol_text symbols.Plus = codes "+"
+symbol_text symbols.Minus = codes "-"
+symbol_text symbols.Times = codes "*"
+symbol_text symbols.Assign = codes "="
+symbol_text symbols.Open = codes "{"
+symbol_text symbols.Close = codes "}"
+symbol_text symbols.End = codes ";"
 
 abbrev pub is_digit : ℕ → Bool
 is_digit b = nat_le 48 b && nat_le b 57
@@ -81,10 +81,10 @@ value bs = fold (λ n b. 10 * n + (b - 48)) 0 bs
 
 -- numbers from 2^64 - 1 on all count as that
 abbrev pub Spelling : Kind → List ℕ → Type 0
-Spelling (name s) bs = (bs ≡ s) × IsIdentifier s × ((w : Word) → s ≢ word_text w)
-Spelling (word w) bs = bs ≡ word_text w
+Spelling (name s) bs = (bs ≡ s) × IsIdentifier s × ((w : Keyword) → s ≢ keyword_text w)
+Spelling (keyword w) bs = bs ≡ keyword_text w
 Spelling (number n) bs = (0 < length bs) × IsTrue (list_all is_digit bs) × (n ≡ min (value bs) (2 ^ 64 - 1))
-Spelling (sign s) bs = bs ≡ sign_text s
+Spelling (symbol s) bs = bs ≡ symbol_text s
 Spelling bad bs = ⊥
 
 -- Whether these bytes end in a comment, where they begin in one or not. None where a byte is neither blank nor in a comment.

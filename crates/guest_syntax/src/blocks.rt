@@ -1,39 +1,39 @@
 //! Blocks, and the statements that hold them.
 
 ghost use Rattle.std.specs.Prelude.{◌≡◌, ◌<◌, length, map, IfOk, option_map};
-ghost use Rattle.guest_syntax.specs.Gives.{Gives};
-ghost use Rattle.guest_syntax.specs.View.{kind_view};
+ghost use Rattle.guest_syntax.specs.reader.Gives.{Gives};
+ghost use Rattle.guest_syntax.specs.reader.TokenViews.{kind_view};
 ghost use Rattle.guest_syntax.specs.Tree.{stmt_view, block_view};
-ghost use Rattle.guest_syntax.specs.ReadTokens.{rest_of};
-ghost use Rattle.guest_syntax.specs.ReadItems.{all_from};
-ghost use Rattle.guest_syntax.specs.ReadStatements.{is_else, choice_from, repeat_from, statement_by, turn_from, block_from};
+ghost use Rattle.guest_syntax.specs.reader.Reads.{Reads, TakesToken};
+ghost use Rattle.guest_syntax.specs.reader.Items.{all_from};
+ghost use Rattle.guest_syntax.specs.reader.Statements.{is_else, choice_from, repeat_from, statement_by, turn_from, block_from};
 
+use crate::cursor::Cursor;
 use crate::error::SyntaxError;
 use crate::expressions::expr;
-use crate::lexer::Cursor;
 use crate::place::Pos;
 use crate::statements::simple;
-use crate::token::{Kind, Sign, Word};
-use crate::tokens::{sign, times, token};
+use crate::token::{Keyword, Kind, Symbol};
+use crate::tokens::{symbol, times, token};
 use crate::tree::Statement;
 use std::alloc::Global;
 
-#[tactic(auto, unfolding(crate::specs::ReadStatements::is_else))]
+#[tactic(auto, unfolding(crate::specs::reader::Statements::is_else))]
 fn is_else(kind: Kind) -> bool
     ensures { result ≡ is_else (kind_view kind.entry) }
 {
-    matches!(kind, Kind::Word(Word::Else))
+    matches!(kind, Kind::Keyword(Keyword::Else))
 }
 
-#[tactic(auto, unfolding(crate::specs::ReadStatements::choice_from))]
+#[tactic(auto, unfolding(crate::specs::reader::Statements::choice_from))]
 #[cycle(block)]
 fn choice<'a>(
     alloc: Global,
     text: Cursor<'a>,
     room: u32,
 ) -> Result<(Statement, Cursor<'a>), SyntaxError>
-    ensures gives { Gives (λ x. (stmt_view x.0, rest_of x.1)) result (choice_from (block_from room) (rest_of text.entry)) }
-    ensures shorter { IfOk result (λ x. length (rest_of x.1) < length (rest_of text.entry)) }
+    ensures gives { Reads stmt_view result (choice_from (block_from room)) text.entry }
+    ensures shorter { TakesToken result text.entry }
 {
     let (test, text) = expr(alloc, text)?;
     let (then, text) = block(alloc, text, room)?;
@@ -60,15 +60,15 @@ fn choice<'a>(
     ))
 }
 
-#[tactic(auto, unfolding(crate::specs::ReadStatements::repeat_from))]
+#[tactic(auto, unfolding(crate::specs::reader::Statements::repeat_from))]
 #[cycle(block)]
 fn repetition<'a>(
     alloc: Global,
     text: Cursor<'a>,
     room: u32,
 ) -> Result<(Statement, Cursor<'a>), SyntaxError>
-    ensures gives { Gives (λ x. (stmt_view x.0, rest_of x.1)) result (repeat_from (block_from room) (rest_of text.entry)) }
-    ensures shorter { IfOk result (λ x. length (rest_of x.1) < length (rest_of text.entry)) }
+    ensures gives { Reads stmt_view result (repeat_from (block_from room)) text.entry }
+    ensures shorter { TakesToken result text.entry }
 {
     let (times, text) = times(text)?;
     let (body, text) = block(alloc, text, room)?;
@@ -79,37 +79,37 @@ fn repetition<'a>(
 #[cycle(block)]
 fn statement<'a>(
     alloc: Global,
-    word: Word,
+    keyword: Keyword,
     at: Pos,
     text: Cursor<'a>,
     room: u32,
 ) -> Result<(Statement, Cursor<'a>), SyntaxError>
-    ensures gives { Gives (λ x. (stmt_view x.0, rest_of x.1)) result (statement_by (block_from room) word at (rest_of text.entry)) }
-    ensures shorter { IfOk result (λ x. length (rest_of x.1) < length (rest_of text.entry)) }
+    ensures gives { Reads stmt_view result (statement_by (block_from room) keyword at) text.entry }
+    ensures shorter { TakesToken result text.entry }
 {
-    match word {
-        Word::If => choice(alloc, text, room),
-        Word::Repeat => repetition(alloc, text, room),
-        _ => simple(alloc, word, at, text),
+    match keyword {
+        Keyword::If => choice(alloc, text, room),
+        Keyword::Repeat => repetition(alloc, text, room),
+        _ => simple(alloc, keyword, at, text),
     }
 }
 
 /// The next statement of a block, or its end.
-#[tactic(auto, unfolding(crate::specs::ReadStatements::turn_from))]
+#[tactic(auto, unfolding(crate::specs::reader::Statements::turn_from))]
 #[cycle(block)]
 fn turn<'a>(
     alloc: Global,
     text: Cursor<'a>,
     room: u32,
 ) -> Result<(Option<Statement>, Cursor<'a>), SyntaxError>
-    ensures gives { Gives (λ x. (option_map stmt_view x.0, rest_of x.1)) result (turn_from (block_from room) (rest_of text.entry)) }
-    ensures shorter { IfOk result (λ x. length (rest_of x.1) < length (rest_of text.entry)) }
+    ensures gives { Reads (option_map stmt_view) result (turn_from (block_from room)) text.entry }
+    ensures shorter { TakesToken result text.entry }
 {
     let (token, after) = token(text)?;
     match token.kind {
-        Kind::Sign(Sign::Close) => Ok((None, after)),
-        Kind::Word(word) => {
-            let (statement, after) = statement(alloc, word, token.at, after, room)?;
+        Kind::Symbol(Symbol::Close) => Ok((None, after)),
+        Kind::Keyword(keyword) => {
+            let (statement, after) = statement(alloc, keyword, token.at, after, room)?;
             Ok((Some(statement), after))
         }
         _ => Err(SyntaxError::Expected(token.at)),
@@ -123,8 +123,8 @@ fn statements<'a>(
     text: Cursor<'a>,
     room: u32,
 ) -> Result<(Vec<Statement>, Cursor<'a>), SyntaxError>
-    ensures gives { Gives (λ x. (map stmt_view x.0.items, rest_of x.1)) result (all_from (turn_from (block_from room)) (rest_of text.entry)) }
-    ensures shorter { IfOk result (λ x. length (rest_of x.1) < length (rest_of text.entry)) }
+    ensures gives { Reads (λ x. map stmt_view x.items) result (all_from (turn_from (block_from room))) text.entry }
+    ensures shorter { TakesToken result text.entry }
 {
     let mut all = Vec::new(alloc);
     let mut rest = text;
@@ -139,17 +139,17 @@ fn statements<'a>(
 }
 
 /// A block, where this many blocks may stand inside one another.
-#[tactic(auto, unfolding(crate::specs::ReadStatements::block_from))]
+#[tactic(auto, unfolding(crate::specs::reader::Statements::block_from))]
 #[cycle(block)]
 pub fn block<'a>(
     alloc: Global,
     text: Cursor<'a>,
     room: u32,
 ) -> Result<(Vec<Statement>, Cursor<'a>), SyntaxError>
-    ensures gives { Gives (λ x. (block_view x.0.items, rest_of x.1)) result (block_from room (rest_of text.entry)) }
-    ensures shorter { IfOk result (λ x. length (rest_of x.1) < length (rest_of text.entry)) }
+    ensures gives { Reads (λ x. block_view x.items) result (block_from room) text.entry }
+    ensures shorter { TakesToken result text.entry }
 {
-    let (brace, after) = sign(text, Sign::Open)?;
+    let (brace, after) = symbol(text, Symbol::Open)?;
     if room == 0 {
         return Err(SyntaxError::TooDeep(brace));
     }

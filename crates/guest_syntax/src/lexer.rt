@@ -3,24 +3,17 @@
 ghost use Rattle.std.specs.Prelude.{◌≡◌, ◌+◌, ◌<◌, ◌≤◌, ◌^◌, length, false, IfOk, IfSome, None, [], option_map, find, nat_eq};
 ghost use Rattle.std.specs.List.{starts_with, prefix_len};
 ghost use Rattle.std.specs.Str.{bytes_eq};
-ghost use Rattle.guest_syntax.specs.Gap.{gap_step};
-ghost use Rattle.guest_syntax.specs.Scan.{skipped, name_or_word, capped, sign_at, kind_at, first};
-ghost use Rattle.guest_syntax.specs.Gives.{Gives};
-ghost use Rattle.guest_syntax.specs.View.{kind_view, token_view};
-ghost use Rattle.guest_syntax.specs.Tokens.{word_text, sign_text, is_space, is_letter, is_digit, is_name_byte};
+ghost use Rattle.guest_syntax.specs.reader.BlankBytes.{gap_step};
+ghost use Rattle.guest_syntax.specs.reader.Scanner.{skipped, name_or_keyword, capped, symbol_at, kind_at, first};
+ghost use Rattle.guest_syntax.specs.reader.Gives.{Gives};
+ghost use Rattle.guest_syntax.specs.reader.Reads.{Scans};
+ghost use Rattle.guest_syntax.specs.reader.TokenViews.{kind_view, token_view};
+ghost use Rattle.guest_syntax.specs.Tokens.{keyword_text, symbol_text, is_space, is_letter, is_digit, is_name_byte};
 
+use crate::cursor::Cursor;
 use crate::error::SyntaxError;
 use crate::place::Pos;
-use crate::token::{Kind, SIGNS, Sign, Token, WORDS, Word};
-
-/// What is left of a text, and its place.
-#[derive(Clone, Copy)]
-pub struct Cursor<'a> {
-    pub rest: &'a [u8],
-    pub at: Pos,
-    ghost lines: { at.line + length rest.now < 2 ^ 32 },
-    ghost cols: { at.col + length rest.now < 2 ^ 32 },
-}
+use crate::token::{KEYWORDS, Keyword, Kind, SYMBOLS, Symbol, Token};
 
 /// What a byte is to spaces and comments.
 enum Step {
@@ -92,17 +85,17 @@ fn skip<'a>(text: &'a [u8], start: Pos) -> Result<(Pos, &'a [u8]), SyntaxError>
     Ok((at, &text[text.len()..]))
 }
 
-fn word_in(words: &[Word], text: &[u8]) -> Option<Word>
-    ensures { result ≡ find (λ w. bytes_eq (word_text w) text.now) words.now }
+fn keyword_in(keywords: &[Keyword], text: &[u8]) -> Option<Keyword>
+    ensures { result ≡ find (λ w. bytes_eq (keyword_text w) text.now) keywords.now }
 {
-    words.iter().copied().find(|w| w.text() == text)
+    keywords.iter().copied().find(|w| w.text() == text)
 }
 
-fn word_or_name(text: &[u8]) -> Kind<'_>
-    ensures { kind_view result ≡ name_or_word text.now }
+fn keyword_or_name(text: &[u8]) -> Kind<'_>
+    ensures { kind_view result ≡ name_or_keyword text.now }
 {
-    match word_in(&WORDS, text) {
-        Some(word) => Kind::Word(word),
+    match keyword_in(&KEYWORDS, text) {
+        Some(keyword) => Kind::Keyword(keyword),
         None => Kind::Name(text),
     }
 }
@@ -119,16 +112,16 @@ fn number(digits: &[u8]) -> u64
     )
 }
 
-fn sign_in(signs: &[Sign], text: &[u8]) -> Option<Sign>
-    ensures { result ≡ find (λ s. starts_with nat_eq text.now (sign_text s)) signs.now }
+fn symbol_in(symbols: &[Symbol], text: &[u8]) -> Option<Symbol>
+    ensures { result ≡ find (λ s. starts_with nat_eq text.now (symbol_text s)) symbols.now }
 {
-    signs.iter().copied().find(|s| text.starts_with(s.text()))
+    symbols.iter().copied().find(|s| text.starts_with(s.text()))
 }
 
-fn sign_at(text: &[u8]) -> Option<Sign>
-    ensures { result ≡ sign_at text.now }
+fn symbol_at(text: &[u8]) -> Option<Symbol>
+    ensures { result ≡ symbol_at text.now }
 {
-    sign_in(&SIGNS, text)
+    symbol_in(&SYMBOLS, text)
 }
 
 fn name_len(text: &[u8]) -> usize
@@ -144,7 +137,7 @@ fn digits_len(text: &[u8]) -> usize
 }
 
 /// The token that begins with the first byte, and its length.
-#[tactic(auto, unfolding(crate::specs::Scan::kind_at))]
+#[tactic(auto, unfolding(crate::specs::reader::Scanner::kind_at))]
 fn kind_at(text: &[u8]) -> Option<(Kind<'_>, usize)>
     requires { 0 < length text.now }
     ensures kind { option_map (λ x. (kind_view x.0, x.1)) result ≡ kind_at text.now }
@@ -152,20 +145,20 @@ fn kind_at(text: &[u8]) -> Option<(Kind<'_>, usize)>
 {
     if is_letter(text[0]) {
         let len = name_len(text);
-        Some((word_or_name(&text[..len]), len))
+        Some((keyword_or_name(&text[..len]), len))
     } else if is_digit(text[0]) {
         let len = digits_len(text);
         Some((Kind::Number(number(&text[..len])), len))
     } else {
-        let sign = sign_at(text)?;
-        Some((Kind::Sign(sign), sign.text().len()))
+        let symbol = symbol_at(text)?;
+        Some((Kind::Symbol(symbol), symbol.text().len()))
     }
 }
 
 /// The next token and what stands behind it, or nothing and the end of the text.
-#[tactic(auto, unfolding(crate::specs::Scan::first))]
+#[tactic(auto, unfolding(crate::specs::reader::Scanner::first))]
 pub fn first<'a>(text: Cursor<'a>) -> Result<(Option<Token<'a>>, Cursor<'a>), SyntaxError>
-    ensures gives { Gives (λ x. option_map (λ t. (token_view t, x.1.at, x.1.rest.now)) x.0) result (first text.entry.at text.entry.rest.now) }
+    ensures gives { Scans result text.entry }
     ensures end { IfOk result (λ x. x.0 ≡ None → x.1.rest.now ≡ []) }
 {
     let (at, bytes) = skip(text.rest, text.at)?;
@@ -176,7 +169,7 @@ pub fn first<'a>(text: Cursor<'a>) -> Result<(Option<Token<'a>>, Cursor<'a>), Sy
         return Err(SyntaxError::BadChar(at));
     };
     let (spelling, rest) = bytes.split_at(len);
-    let at_end = at.behind(spelling);
+    let at_end = at.after(spelling);
     let after = Cursor { rest, at: at_end };
     Ok((Some(Token { kind, at }), after))
 }

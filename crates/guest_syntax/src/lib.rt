@@ -12,7 +12,7 @@
 //!   has no tree.
 //! - Where the text spells a tree, that tree is answered, or memory ran out. So no good text is
 //!   refused, and a refusal for any other reason means that the text spells nothing.
-//! - A text spells at most one tree ([`one_tree`]): the grammar has no two meanings.
+//! - A text spells at most one tree ([`laws::one_tree`]): the grammar has no two meanings.
 //! - A text of more than 65,536 bytes is refused as too long, before it is read.
 //! - Reading ends, reads no byte outside the text and never overflows, also for hostile texts.
 //!
@@ -20,8 +20,10 @@
 #![tactic(auto)]
 
 mod blocks;
+mod cursor;
 mod error;
 mod expressions;
+pub mod laws;
 mod lexer;
 mod limits;
 mod parser;
@@ -35,7 +37,7 @@ pub mod tree;
 pub use error::SyntaxError;
 pub use limits::TEXT_BYTES;
 pub use place::Pos;
-pub use reading::{one_tree, parse};
+pub use reading::parse;
 
 #[cfg(test)]
 mod tests;

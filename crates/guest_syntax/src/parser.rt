@@ -1,39 +1,39 @@
 //! Declarations, threads and the whole of a text.
 
 ghost use Rattle.std.specs.Prelude.{◌≡◌, ◌<◌, length, map, IfOk, IsSome, option_map};
-ghost use Rattle.guest_syntax.specs.Gives.{Gives};
+ghost use Rattle.guest_syntax.specs.reader.Gives.{Gives};
 ghost use Rattle.guest_syntax.specs.Tree.{declaration_view, thread_view, tree_view};
-ghost use Rattle.guest_syntax.specs.ReadTokens.{rest_of};
-ghost use Rattle.guest_syntax.specs.ReadItems.{all_from};
-ghost use Rattle.guest_syntax.specs.ReadTree.{variable_from, plain_from, semaphore_from, declaration_turn, thread_from, thread_turn, tree_from};
+ghost use Rattle.guest_syntax.specs.reader.Reads.{rest_of, Reads, TakesToken, ItemTakesToken};
+ghost use Rattle.guest_syntax.specs.reader.Items.{all_from};
+ghost use Rattle.guest_syntax.specs.reader.Trees.{variable_from, plain_from, semaphore_from, declaration_turn, thread_from, thread_turn, tree_from};
 
 use crate::blocks::block;
+use crate::cursor::Cursor;
 use crate::error::SyntaxError;
 use crate::expressions::literal;
-use crate::lexer::Cursor;
 use crate::limits::{COUNT, DEPTH};
 use crate::statements::one_name;
-use crate::token::{Kind, Sign, Word};
-use crate::tokens::{name, next_token, number, sign, token};
+use crate::token::{Keyword, Kind, Symbol};
+use crate::tokens::{name, next_token, number, symbol, token};
 use crate::tree::{Declaration, Object, Thread, Tree};
 use std::alloc::Global;
 
 /// A variable behind its word.
-#[tactic(auto, unfolding(crate::specs::ReadTree::variable_from))]
+#[tactic(auto, unfolding(crate::specs::reader::Trees::variable_from))]
 fn variable<'a>(alloc: Global, text: Cursor<'a>) -> Result<(Declaration, Cursor<'a>), SyntaxError>
-    ensures gives { Gives (λ x. (declaration_view x.0, rest_of x.1)) result (variable_from (rest_of text.entry)) }
-    ensures shorter { IfOk result (λ x. length (rest_of x.1) < length (rest_of text.entry)) }
+    ensures gives { Reads declaration_view result variable_from text.entry }
+    ensures shorter { TakesToken result text.entry }
 {
     let (name, text) = name(alloc, text)?;
     let (token, after) = token(text)?;
     match token.kind {
-        Kind::Sign(Sign::End) => {
+        Kind::Symbol(Symbol::End) => {
             let object = Object::Variable(0);
             Ok((Declaration { name, object }, after))
         }
-        Kind::Sign(Sign::Assign) => {
+        Kind::Symbol(Symbol::Assign) => {
             let (start, text) = literal(after)?;
-            let (_, text) = sign(text, Sign::End)?;
+            let (_, text) = symbol(text, Symbol::End)?;
             let object = Object::Variable(start);
             Ok((Declaration { name, object }, text))
         }
@@ -42,51 +42,51 @@ fn variable<'a>(alloc: Global, text: Cursor<'a>) -> Result<(Declaration, Cursor<
 }
 
 /// An object without an opening value, behind its word.
-#[tactic(auto, unfolding(crate::specs::ReadTree::plain_from))]
+#[tactic(auto, unfolding(crate::specs::reader::Trees::plain_from))]
 fn plain<'a>(
     alloc: Global,
     object: Object,
     text: Cursor<'a>,
 ) -> Result<(Declaration, Cursor<'a>), SyntaxError>
-    ensures gives { Gives (λ x. (declaration_view x.0, rest_of x.1)) result (plain_from object (rest_of text.entry)) }
-    ensures shorter { IfOk result (λ x. length (rest_of x.1) < length (rest_of text.entry)) }
+    ensures gives { Reads declaration_view result (plain_from object) text.entry }
+    ensures shorter { TakesToken result text.entry }
 {
     let (name, text) = one_name(alloc, text)?;
     Ok((Declaration { name, object }, text))
 }
 
 /// A semaphore behind its word.
-#[tactic(auto, unfolding(crate::specs::ReadTree::semaphore_from))]
+#[tactic(auto, unfolding(crate::specs::reader::Trees::semaphore_from))]
 fn semaphore<'a>(alloc: Global, text: Cursor<'a>) -> Result<(Declaration, Cursor<'a>), SyntaxError>
-    ensures gives { Gives (λ x. (declaration_view x.0, rest_of x.1)) result (semaphore_from (rest_of text.entry)) }
-    ensures shorter { IfOk result (λ x. length (rest_of x.1) < length (rest_of text.entry)) }
+    ensures gives { Reads declaration_view result semaphore_from text.entry }
+    ensures shorter { TakesToken result text.entry }
 {
     let (name, text) = name(alloc, text)?;
-    let (_, text) = sign(text, Sign::Assign)?;
+    let (_, text) = symbol(text, Symbol::Assign)?;
     let (count, text) = number(text, COUNT)?;
-    let (_, text) = sign(text, Sign::End)?;
+    let (_, text) = symbol(text, Symbol::End)?;
     let object = Object::Semaphore(count as u16);
     Ok((Declaration { name, object }, text))
 }
 
 /// The next declaration, or nothing where something else stands.
-#[tactic(auto, unfolding(crate::specs::ReadTree::declaration_turn))]
+#[tactic(auto, unfolding(crate::specs::reader::Trees::declaration_turn))]
 fn declaration_turn<'a>(
     alloc: Global,
     text: Cursor<'a>,
 ) -> Result<(Option<Declaration>, Cursor<'a>), SyntaxError>
-    ensures gives { Gives (λ x. (option_map declaration_view x.0, rest_of x.1)) result (declaration_turn (rest_of text.entry)) }
-    ensures shorter { IfOk result (λ x. IsSome x.0 → length (rest_of x.1) < length (rest_of text.entry)) }
+    ensures gives { Reads (option_map declaration_view) result declaration_turn text.entry }
+    ensures shorter { ItemTakesToken result text.entry }
 {
     let (token, after) = next_token(text)?;
     let Some(token) = token else {
         return Ok((None, text));
     };
     let (declaration, after) = match token.kind {
-        Kind::Word(Word::Var) => variable(alloc, after)?,
-        Kind::Word(Word::Mutex) => plain(alloc, Object::Mutex, after)?,
-        Kind::Word(Word::Cond) => plain(alloc, Object::Condition, after)?,
-        Kind::Word(Word::Sem) => semaphore(alloc, after)?,
+        Kind::Keyword(Keyword::Var) => variable(alloc, after)?,
+        Kind::Keyword(Keyword::Mutex) => plain(alloc, Object::Mutex, after)?,
+        Kind::Keyword(Keyword::Cond) => plain(alloc, Object::Condition, after)?,
+        Kind::Keyword(Keyword::Sem) => semaphore(alloc, after)?,
         _ => return Ok((None, text)),
     };
     Ok((Some(declaration), after))
@@ -97,7 +97,7 @@ fn declarations<'a>(
     alloc: Global,
     text: Cursor<'a>,
 ) -> Result<(Vec<Declaration>, Cursor<'a>), SyntaxError>
-    ensures gives { Gives (λ x. (map declaration_view x.0.items, rest_of x.1)) result (all_from declaration_turn (rest_of text.entry)) }
+    ensures gives { Reads (λ x. map declaration_view x.items) result (all_from declaration_turn) text.entry }
 {
     let mut all = Vec::new(alloc);
     let mut rest = text;
@@ -112,10 +112,10 @@ fn declarations<'a>(
 }
 
 /// A thread behind its word.
-#[tactic(auto, unfolding(crate::specs::ReadTree::thread_from))]
+#[tactic(auto, unfolding(crate::specs::reader::Trees::thread_from))]
 fn thread<'a>(alloc: Global, text: Cursor<'a>) -> Result<(Thread, Cursor<'a>), SyntaxError>
-    ensures gives { Gives (λ x. (thread_view x.0, rest_of x.1)) result (thread_from (rest_of text.entry)) }
-    ensures shorter { IfOk result (λ x. length (rest_of x.1) < length (rest_of text.entry)) }
+    ensures gives { Reads thread_view result thread_from text.entry }
+    ensures shorter { TakesToken result text.entry }
 {
     let (name, text) = name(alloc, text)?;
     let (body, text) = block(alloc, text, DEPTH + 1)?;
@@ -123,20 +123,20 @@ fn thread<'a>(alloc: Global, text: Cursor<'a>) -> Result<(Thread, Cursor<'a>), S
 }
 
 /// The next thread, or nothing at the end of the text.
-#[tactic(auto, unfolding(crate::specs::ReadTree::thread_turn))]
+#[tactic(auto, unfolding(crate::specs::reader::Trees::thread_turn))]
 fn thread_turn<'a>(
     alloc: Global,
     text: Cursor<'a>,
 ) -> Result<(Option<Thread>, Cursor<'a>), SyntaxError>
-    ensures gives { Gives (λ x. (option_map thread_view x.0, rest_of x.1)) result (thread_turn (rest_of text.entry)) }
-    ensures shorter { IfOk result (λ x. IsSome x.0 → length (rest_of x.1) < length (rest_of text.entry)) }
+    ensures gives { Reads (option_map thread_view) result thread_turn text.entry }
+    ensures shorter { ItemTakesToken result text.entry }
 {
     let (token, after) = next_token(text)?;
     let Some(token) = token else {
         return Ok((None, after));
     };
     match token.kind {
-        Kind::Word(Word::Thread) => {
+        Kind::Keyword(Keyword::Thread) => {
             let (thread, after) = thread(alloc, after)?;
             Ok((Some(thread), after))
         }
@@ -146,7 +146,7 @@ fn thread_turn<'a>(
 
 /// The threads, up to the end of the text.
 fn threads<'a>(alloc: Global, text: Cursor<'a>) -> Result<(Vec<Thread>, Cursor<'a>), SyntaxError>
-    ensures gives { Gives (λ x. (map thread_view x.0.items, rest_of x.1)) result (all_from thread_turn (rest_of text.entry)) }
+    ensures gives { Reads (λ x. map thread_view x.items) result (all_from thread_turn) text.entry }
 {
     let mut all = Vec::new(alloc);
     let mut rest = text;
@@ -161,7 +161,7 @@ fn threads<'a>(alloc: Global, text: Cursor<'a>) -> Result<(Vec<Thread>, Cursor<'
 }
 
 /// The whole of a text.
-#[tactic(auto, unfolding(crate::specs::ReadTree::tree_from))]
+#[tactic(auto, unfolding(crate::specs::reader::Trees::tree_from))]
 pub fn tree(alloc: Global, text: Cursor) -> Result<Tree, SyntaxError>
     ensures { Gives tree_view result (tree_from (rest_of text.entry)) }
 {

@@ -38,7 +38,7 @@ impl Pos {
     }
 
     /// The place behind bytes that stand here.
-    pub(crate) fn behind(self, bytes: &[u8]) -> Pos
+    pub(crate) fn after(self, bytes: &[u8]) -> Pos
         requires line { self.line + length bytes.now < 2 ^ 32 }
         requires col { self.col + length bytes.now < 2 ^ 32 }
         ensures place { result ≡ after self bytes.now }

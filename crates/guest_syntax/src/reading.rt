@@ -1,15 +1,15 @@
 //! Reading a text.
 
-ghost use Rattle.std.specs.Prelude.{◌≡◌, ◌≢◌, ◌<◌, length, IfOk, IfErr, List, ℕ, Err};
+ghost use Rattle.std.specs.Prelude.{◌≡◌, ◌≢◌, ◌<◌, length, IfOk, IfErr, Err};
 ghost use Rattle.guest_syntax.specs.declared.error.SyntaxError.TheVariants.{OutOfMemory, TooLong};
 ghost use Rattle.guest_syntax.specs.declared.limits.TheConstants.{TEXT_BYTES};
-ghost use Rattle.guest_syntax.specs.Gives.{Answers};
+ghost use Rattle.guest_syntax.specs.Answers.{Answers};
 ghost use Rattle.guest_syntax.specs.Tree.{tree_view};
 ghost use Rattle.guest_syntax.specs.Tree as model;
 ghost use Rattle.guest_syntax.specs.Grammar.{Spells};
 
+use crate::cursor::Cursor;
 use crate::error::SyntaxError;
-use crate::lexer::Cursor;
 use crate::limits::TEXT_BYTES;
 use crate::parser::tree;
 use crate::place::Pos;
@@ -38,8 +38,3 @@ pub fn parse(alloc: Global, text: &[u8]) -> Result<Tree, SyntaxError>
     }
     tree(alloc, Cursor { rest: text, at })
 }
-
-/// A text spells at most one tree.
-pub fn one_tree()
-    ensures { (text : List ℕ) (t u : model.Tree) → Spells text t → Spells text u → t ≡ u }
-{}

@@ -1,107 +1,107 @@
 //! Statements that hold no block.
 
 ghost use Rattle.std.specs.Prelude.{◌≡◌, ◌<◌, length, IfOk};
-ghost use Rattle.guest_syntax.specs.Gives.{Gives};
+ghost use Rattle.guest_syntax.specs.reader.Gives.{Gives};
 ghost use Rattle.guest_syntax.specs.Tree.{name_view, stmt_view};
-ghost use Rattle.guest_syntax.specs.ReadTokens.{rest_of};
-ghost use Rattle.guest_syntax.specs.ReadStatements.{one_name_from, two_names_from, store_from, set_from, assert_from, named_by, simple_by};
+ghost use Rattle.guest_syntax.specs.reader.Reads.{Reads, TakesToken};
+ghost use Rattle.guest_syntax.specs.reader.Statements.{one_name_from, two_names_from, store_from, set_from, assert_from, named_by, simple_by};
 
+use crate::cursor::Cursor;
 use crate::error::SyntaxError;
 use crate::expressions::{expr, operand};
-use crate::lexer::Cursor;
 use crate::place::Pos;
-use crate::token::{Sign, Word};
-use crate::tokens::{name, sign};
+use crate::token::{Keyword, Symbol};
+use crate::tokens::{name, symbol};
 use crate::tree::{Name, Statement};
 use std::alloc::Global;
 
 /// A name, and the mark that ends what it stands in.
-#[tactic(auto, unfolding(crate::specs::ReadStatements::one_name_from))]
+#[tactic(auto, unfolding(crate::specs::reader::Statements::one_name_from))]
 pub fn one_name<'a>(alloc: Global, text: Cursor<'a>) -> Result<(Name, Cursor<'a>), SyntaxError>
-    ensures gives { Gives (λ x. (name_view x.0, rest_of x.1)) result (one_name_from (rest_of text.entry)) }
-    ensures shorter { IfOk result (λ x. length (rest_of x.1) < length (rest_of text.entry)) }
+    ensures gives { Reads name_view result one_name_from text.entry }
+    ensures shorter { TakesToken result text.entry }
 {
     let (name, text) = name(alloc, text)?;
-    let (_, text) = sign(text, Sign::End)?;
+    let (_, text) = symbol(text, Symbol::End)?;
     Ok((name, text))
 }
 
 /// Two names, and the mark that ends their statement.
-#[tactic(auto, unfolding(crate::specs::ReadStatements::two_names_from))]
+#[tactic(auto, unfolding(crate::specs::reader::Statements::two_names_from))]
 fn two_names<'a>(alloc: Global, text: Cursor<'a>) -> Result<((Name, Name), Cursor<'a>), SyntaxError>
-    ensures gives { Gives (λ x. ((name_view x.0.0, name_view x.0.1), rest_of x.1)) result (two_names_from (rest_of text.entry)) }
-    ensures shorter { IfOk result (λ x. length (rest_of x.1) < length (rest_of text.entry)) }
+    ensures gives { Reads (λ x. (name_view x.0, name_view x.1)) result two_names_from text.entry }
+    ensures shorter { TakesToken result text.entry }
 {
     let (first, text) = name(alloc, text)?;
     let (second, text) = name(alloc, text)?;
-    let (_, text) = sign(text, Sign::End)?;
+    let (_, text) = symbol(text, Symbol::End)?;
     Ok(((first, second), text))
 }
 
-#[tactic(auto, unfolding(crate::specs::ReadStatements::store_from))]
+#[tactic(auto, unfolding(crate::specs::reader::Statements::store_from))]
 fn store<'a>(alloc: Global, text: Cursor<'a>) -> Result<(Statement, Cursor<'a>), SyntaxError>
-    ensures gives { Gives (λ x. (stmt_view x.0, rest_of x.1)) result (store_from (rest_of text.entry)) }
-    ensures shorter { IfOk result (λ x. length (rest_of x.1) < length (rest_of text.entry)) }
+    ensures gives { Reads stmt_view result store_from text.entry }
+    ensures shorter { TakesToken result text.entry }
 {
     let (variable, text) = name(alloc, text)?;
     let (value, text) = operand(alloc, text)?;
-    let (_, text) = sign(text, Sign::End)?;
+    let (_, text) = symbol(text, Symbol::End)?;
     Ok((Statement::Store { variable, value }, text))
 }
 
-#[tactic(auto, unfolding(crate::specs::ReadStatements::set_from))]
+#[tactic(auto, unfolding(crate::specs::reader::Statements::set_from))]
 fn set<'a>(alloc: Global, text: Cursor<'a>) -> Result<(Statement, Cursor<'a>), SyntaxError>
-    ensures gives { Gives (λ x. (stmt_view x.0, rest_of x.1)) result (set_from (rest_of text.entry)) }
-    ensures shorter { IfOk result (λ x. length (rest_of x.1) < length (rest_of text.entry)) }
+    ensures gives { Reads stmt_view result set_from text.entry }
+    ensures shorter { TakesToken result text.entry }
 {
     let (local, text) = name(alloc, text)?;
     let (value, text) = expr(alloc, text)?;
-    let (_, text) = sign(text, Sign::End)?;
+    let (_, text) = symbol(text, Symbol::End)?;
     Ok((Statement::Set { local, value }, text))
 }
 
-#[tactic(auto, unfolding(crate::specs::ReadStatements::assert_from))]
+#[tactic(auto, unfolding(crate::specs::reader::Statements::assert_from))]
 fn assertion<'a>(alloc: Global, text: Cursor<'a>) -> Result<(Statement, Cursor<'a>), SyntaxError>
-    ensures gives { Gives (λ x. (stmt_view x.0, rest_of x.1)) result (assert_from (rest_of text.entry)) }
-    ensures shorter { IfOk result (λ x. length (rest_of x.1) < length (rest_of text.entry)) }
+    ensures gives { Reads stmt_view result assert_from text.entry }
+    ensures shorter { TakesToken result text.entry }
 {
     let (test, text) = expr(alloc, text)?;
-    let (_, text) = sign(text, Sign::End)?;
+    let (_, text) = symbol(text, Symbol::End)?;
     Ok((Statement::Assert(test), text))
 }
 
 /// A statement of one name, behind its word, which stands at this place.
 fn named<'a>(
     alloc: Global,
-    word: Word,
+    keyword: Keyword,
     at: Pos,
     text: Cursor<'a>,
 ) -> Result<(Statement, Cursor<'a>), SyntaxError>
-    ensures gives { Gives (λ x. (stmt_view x.0, rest_of x.1)) result (named_by word (rest_of text.entry)) }
-    ensures shorter { IfOk result (λ x. length (rest_of x.1) < length (rest_of text.entry)) }
+    ensures gives { Reads stmt_view result (named_by keyword) text.entry }
+    ensures shorter { TakesToken result text.entry }
 {
-    match word {
-        Word::Lock => {
+    match keyword {
+        Keyword::Lock => {
             let (mutex, text) = one_name(alloc, text)?;
             Ok((Statement::Lock(mutex), text))
         }
-        Word::Unlock => {
+        Keyword::Unlock => {
             let (mutex, text) = one_name(alloc, text)?;
             Ok((Statement::Unlock(mutex), text))
         }
-        Word::Signal => {
+        Keyword::Signal => {
             let (condition, text) = one_name(alloc, text)?;
             Ok((Statement::Signal(condition), text))
         }
-        Word::Broadcast => {
+        Keyword::Broadcast => {
             let (condition, text) = one_name(alloc, text)?;
             Ok((Statement::Broadcast(condition), text))
         }
-        Word::Acquire => {
+        Keyword::Acquire => {
             let (semaphore, text) = one_name(alloc, text)?;
             Ok((Statement::Acquire(semaphore), text))
         }
-        Word::Release => {
+        Keyword::Release => {
             let (semaphore, text) = one_name(alloc, text)?;
             Ok((Statement::Release(semaphore), text))
         }
@@ -112,29 +112,29 @@ fn named<'a>(
 /// A statement without a block, behind its word, which stands at this place.
 pub fn simple<'a>(
     alloc: Global,
-    word: Word,
+    keyword: Keyword,
     at: Pos,
     text: Cursor<'a>,
 ) -> Result<(Statement, Cursor<'a>), SyntaxError>
-    ensures gives { Gives (λ x. (stmt_view x.0, rest_of x.1)) result (simple_by word at (rest_of text.entry)) }
-    ensures shorter { IfOk result (λ x. length (rest_of x.1) < length (rest_of text.entry)) }
+    ensures gives { Reads stmt_view result (simple_by keyword at) text.entry }
+    ensures shorter { TakesToken result text.entry }
 {
-    match word {
-        Word::Load => {
+    match keyword {
+        Keyword::Load => {
             let ((local, variable), text) = two_names(alloc, text)?;
             Ok((Statement::Load { local, variable }, text))
         }
-        Word::Wait => {
+        Keyword::Wait => {
             let ((condition, mutex), text) = two_names(alloc, text)?;
             Ok((Statement::Wait { condition, mutex }, text))
         }
-        Word::Store => store(alloc, text),
-        Word::Set => set(alloc, text),
-        Word::Assert => assertion(alloc, text),
-        Word::Leave => {
-            let (_, text) = sign(text, Sign::End)?;
+        Keyword::Store => store(alloc, text),
+        Keyword::Set => set(alloc, text),
+        Keyword::Assert => assertion(alloc, text),
+        Keyword::Leave => {
+            let (_, text) = symbol(text, Symbol::End)?;
             Ok((Statement::Leave(at), text))
         }
-        _ => named(alloc, word, at, text),
+        _ => named(alloc, keyword, at, text),
     }
 }

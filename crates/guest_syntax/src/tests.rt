@@ -226,7 +226,7 @@ fn statements(rt: HostRuntime) -> Result<(), Fail> {
 
 #[test]
 fn declarations(rt: HostRuntime) -> Result<(), Fail> {
-    one_tree();
+    laws::one_tree();
     let alloc = rt.alloc();
     let (text, want) = DECLARATIONS;
     let tree = parse(alloc, text.as_bytes())?;

@@ -1,13 +1,13 @@
 //! Tokens: names, words, numbers, operators and marks.
 
 ghost use Rattle.std.specs.Prelude.{◌≡◌};
-ghost use Rattle.guest_syntax.specs.Tokens.{word_text, sign_text};
+ghost use Rattle.guest_syntax.specs.Tokens.{keyword_text, symbol_text};
 
 use crate::place::Pos;
 
 /// A word of the language, which is no name.
 #[derive(Clone, Copy, Debug, PartialEq, Eq)]
-pub enum Word {
+pub enum Keyword {
     Var,
     Mutex,
     Cond,
@@ -32,7 +32,7 @@ pub enum Word {
 
 /// An operator or a mark.
 #[derive(Clone, Copy, Debug, PartialEq, Eq)]
-pub enum Sign {
+pub enum Symbol {
     Equal,
     NotEqual,
     LessOrEqual,
@@ -52,10 +52,10 @@ pub enum Sign {
 #[derive(Clone, Copy, Debug)]
 pub enum Kind<'a> {
     Name(&'a [u8]),
-    Word(Word),
+    Keyword(Keyword),
     /// The value of a number. Those above 2^64 - 1 all count as that.
     Number(u64),
-    Sign(Sign),
+    Symbol(Symbol),
 }
 
 /// A token and the place of its first byte.
@@ -66,95 +66,95 @@ pub struct Token<'a> {
 }
 
 /// All words.
-pub const WORDS: [Word; 20] = [
-    Word::Var,
-    Word::Mutex,
-    Word::Cond,
-    Word::Sem,
-    Word::Thread,
-    Word::Load,
-    Word::Store,
-    Word::Lock,
-    Word::Unlock,
-    Word::Wait,
-    Word::Signal,
-    Word::Broadcast,
-    Word::Acquire,
-    Word::Release,
-    Word::Set,
-    Word::If,
-    Word::Else,
-    Word::Repeat,
-    Word::Leave,
-    Word::Assert,
+pub const KEYWORDS: [Keyword; 20] = [
+    Keyword::Var,
+    Keyword::Mutex,
+    Keyword::Cond,
+    Keyword::Sem,
+    Keyword::Thread,
+    Keyword::Load,
+    Keyword::Store,
+    Keyword::Lock,
+    Keyword::Unlock,
+    Keyword::Wait,
+    Keyword::Signal,
+    Keyword::Broadcast,
+    Keyword::Acquire,
+    Keyword::Release,
+    Keyword::Set,
+    Keyword::If,
+    Keyword::Else,
+    Keyword::Repeat,
+    Keyword::Leave,
+    Keyword::Assert,
 ];
 
 /// All operators and marks, the longer ones first.
-pub const SIGNS: [Sign; 13] = [
-    Sign::Equal,
-    Sign::NotEqual,
-    Sign::LessOrEqual,
-    Sign::GreaterOrEqual,
-    Sign::Less,
-    Sign::Greater,
-    Sign::Plus,
-    Sign::Minus,
-    Sign::Times,
-    Sign::Assign,
-    Sign::Open,
-    Sign::Close,
-    Sign::End,
+pub const SYMBOLS: [Symbol; 13] = [
+    Symbol::Equal,
+    Symbol::NotEqual,
+    Symbol::LessOrEqual,
+    Symbol::GreaterOrEqual,
+    Symbol::Less,
+    Symbol::Greater,
+    Symbol::Plus,
+    Symbol::Minus,
+    Symbol::Times,
+    Symbol::Assign,
+    Symbol::Open,
+    Symbol::Close,
+    Symbol::End,
 ];
 
-impl Word {
+impl Keyword {
     /// How the word is written.
     pub fn text(self) -> &'static [u8]
-        ensures { result.now ≡ word_text self }
+        ensures { result.now ≡ keyword_text self }
     {
         match self {
-            Word::Var => b"var",
-            Word::Mutex => b"mutex",
-            Word::Cond => b"cond",
-            Word::Sem => b"sem",
-            Word::Thread => b"thread",
-            Word::Load => b"load",
-            Word::Store => b"store",
-            Word::Lock => b"lock",
-            Word::Unlock => b"unlock",
-            Word::Wait => b"wait",
-            Word::Signal => b"signal",
-            Word::Broadcast => b"broadcast",
-            Word::Acquire => b"acquire",
-            Word::Release => b"release",
-            Word::Set => b"set",
-            Word::If => b"if",
-            Word::Else => b"else",
-            Word::Repeat => b"repeat",
-            Word::Leave => b"leave",
-            Word::Assert => b"assert",
+            Keyword::Var => b"var",
+            Keyword::Mutex => b"mutex",
+            Keyword::Cond => b"cond",
+            Keyword::Sem => b"sem",
+            Keyword::Thread => b"thread",
+            Keyword::Load => b"load",
+            Keyword::Store => b"store",
+            Keyword::Lock => b"lock",
+            Keyword::Unlock => b"unlock",
+            Keyword::Wait => b"wait",
+            Keyword::Signal => b"signal",
+            Keyword::Broadcast => b"broadcast",
+            Keyword::Acquire => b"acquire",
+            Keyword::Release => b"release",
+            Keyword::Set => b"set",
+            Keyword::If => b"if",
+            Keyword::Else => b"else",
+            Keyword::Repeat => b"repeat",
+            Keyword::Leave => b"leave",
+            Keyword::Assert => b"assert",
         }
     }
 }
 
-impl Sign {
+impl Symbol {
     /// How the operator or mark is written.
     pub fn text(self) -> &'static [u8]
-        ensures { result.now ≡ sign_text self }
+        ensures { result.now ≡ symbol_text self }
     {
         match self {
-            Sign::Equal => b"==",
-            Sign::NotEqual => b"!=",
-            Sign::LessOrEqual => b"<=",
-            Sign::GreaterOrEqual => b">=",
-            Sign::Less => b"<",
-            Sign::Greater => b">",
-            Sign::Plus => b"+",
-            Sign::Minus => b"-",
-            Sign::Times => b"*",
-            Sign::Assign => b"=",
-            Sign::Open => b"{",
-            Sign::Close => b"}",
-            Sign::End => b";",
+            Symbol::Equal => b"==",
+            Symbol::NotEqual => b"!=",
+            Symbol::LessOrEqual => b"<=",
+            Symbol::GreaterOrEqual => b">=",
+            Symbol::Less => b"<",
+            Symbol::Greater => b">",
+            Symbol::Plus => b"+",
+            Symbol::Minus => b"-",
+            Symbol::Times => b"*",
+            Symbol::Assign => b"=",
+            Symbol::Open => b"{",
+            Symbol::Close => b"}",
+            Symbol::End => b";",
         }
     }
 }

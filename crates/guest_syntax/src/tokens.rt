@@ -1,32 +1,34 @@
 //! Single tokens, as the grammar wants them.
 
 ghost use Rattle.std.specs.Prelude.{◌≡◌, ◌<◌, ◌≤◌, length, IfOk, IsSome, option_map};
-ghost use Rattle.guest_syntax.specs.Gives.{Gives};
-ghost use Rattle.guest_syntax.specs.View.{kind_view, token_view};
+ghost use Rattle.guest_syntax.specs.reader.Gives.{Gives};
+ghost use Rattle.guest_syntax.specs.reader.TokenViews.{kind_view, token_view};
 ghost use Rattle.guest_syntax.specs.Tree.{name_view};
-ghost use Rattle.guest_syntax.specs.ReadTokens.{rest_of, next_at, token_at, sign_from, name_from, number_in, number_from, times_from};
+ghost use Rattle.guest_syntax.specs.reader.Reads.{rest_of, Reads, TakesToken, ItemTakesToken};
+ghost use Rattle.guest_syntax.specs.reader.SingleTokens.{next_at, token_at, symbol_from, name_from, number_in, number_from, times_from};
 
+use crate::cursor::Cursor;
 use crate::error::SyntaxError;
-use crate::lexer::{Cursor, first};
+use crate::lexer::first;
 use crate::limits::REPEATS;
 use crate::place::Pos;
-use crate::token::{Kind, Sign, Token};
+use crate::token::{Kind, Symbol, Token};
 use crate::tree::Name;
 use std::alloc::Global;
 
 /// The next token and what stands behind it, or nothing and the end of the text.
 pub fn next_token<'a>(text: Cursor<'a>) -> Result<(Option<Token<'a>>, Cursor<'a>), SyntaxError>
-    ensures gives { Gives (λ x. (option_map token_view x.0, rest_of x.1)) result (next_at (rest_of text.entry)) }
-    ensures shorter { IfOk result (λ x. IsSome x.0 → length (rest_of x.1) < length (rest_of text.entry)) }
+    ensures gives { Reads (option_map token_view) result next_at text.entry }
+    ensures shorter { ItemTakesToken result text.entry }
 {
     first(text)
 }
 
 /// A token, which the grammar wants here.
-#[tactic(auto, unfolding(crate::specs::ReadTokens::next_at, crate::specs::ReadTokens::token_at))]
+#[tactic(auto, unfolding(crate::specs::reader::SingleTokens::next_at, crate::specs::reader::SingleTokens::token_at))]
 pub fn token<'a>(text: Cursor<'a>) -> Result<(Token<'a>, Cursor<'a>), SyntaxError>
-    ensures gives { Gives (λ x. (token_view x.0, rest_of x.1)) result (token_at (rest_of text.entry)) }
-    ensures shorter { IfOk result (λ x. length (rest_of x.1) < length (rest_of text.entry)) }
+    ensures gives { Reads token_view result token_at text.entry }
+    ensures shorter { TakesToken result text.entry }
 {
     match next_token(text)? {
         (Some(token), after) => Ok((token, after)),
@@ -35,23 +37,23 @@ pub fn token<'a>(text: Cursor<'a>) -> Result<(Token<'a>, Cursor<'a>), SyntaxErro
 }
 
 /// This operator or mark. Answers its place.
-#[tactic(auto, unfolding(crate::specs::ReadTokens::sign_from))]
-pub fn sign<'a>(text: Cursor<'a>, wanted: Sign) -> Result<(Pos, Cursor<'a>), SyntaxError>
-    ensures gives { Gives (λ x. rest_of x.1) result (sign_from wanted (rest_of text.entry)) }
-    ensures shorter { IfOk result (λ x. length (rest_of x.1) < length (rest_of text.entry)) }
+#[tactic(auto, unfolding(crate::specs::reader::SingleTokens::symbol_from))]
+pub fn symbol<'a>(text: Cursor<'a>, wanted: Symbol) -> Result<(Pos, Cursor<'a>), SyntaxError>
+    ensures gives { Gives (λ x. rest_of x.1) result (symbol_from wanted (rest_of text.entry)) }
+    ensures shorter { TakesToken result text.entry }
 {
     let (token, after) = token(text)?;
     match token.kind {
-        Kind::Sign(found) if found == wanted => Ok((token.at, after)),
+        Kind::Symbol(found) if found == wanted => Ok((token.at, after)),
         _ => Err(SyntaxError::Expected(token.at)),
     }
 }
 
 /// A name.
-#[tactic(auto, unfolding(crate::specs::ReadTokens::name_from))]
+#[tactic(auto, unfolding(crate::specs::reader::SingleTokens::name_from))]
 pub fn name<'a>(alloc: Global, text: Cursor<'a>) -> Result<(Name, Cursor<'a>), SyntaxError>
-    ensures gives { Gives (λ x. (name_view x.0, rest_of x.1)) result (name_from (rest_of text.entry)) }
-    ensures shorter { IfOk result (λ x. length (rest_of x.1) < length (rest_of text.entry)) }
+    ensures gives { Reads name_view result name_from text.entry }
+    ensures shorter { TakesToken result text.entry }
 {
     let (token, after) = token(text)?;
     match token.kind {
@@ -76,10 +78,10 @@ pub fn number_in(token: Token, limit: u64) -> Result<u64, SyntaxError>
 }
 
 /// A number up to a limit.
-#[tactic(auto, unfolding(crate::specs::ReadTokens::number_from))]
+#[tactic(auto, unfolding(crate::specs::reader::SingleTokens::number_from))]
 pub fn number<'a>(text: Cursor<'a>, limit: u64) -> Result<(u64, Cursor<'a>), SyntaxError>
-    ensures gives { Gives (λ x. (x.0, rest_of x.1)) result (number_from limit (rest_of text.entry)) }
-    ensures shorter { IfOk result (λ x. length (rest_of x.1) < length (rest_of text.entry)) }
+    ensures gives { Reads (λ x. x) result (number_from limit) text.entry }
+    ensures shorter { TakesToken result text.entry }
     ensures limit { IfOk result (λ x. x.0 ≤ limit) }
 {
     let (token, after) = token(text)?;
@@ -88,10 +90,10 @@ pub fn number<'a>(text: Cursor<'a>, limit: u64) -> Result<(u64, Cursor<'a>), Syn
 }
 
 /// How often a block is repeated.
-#[tactic(auto, unfolding(crate::specs::ReadTokens::times_from))]
+#[tactic(auto, unfolding(crate::specs::reader::SingleTokens::times_from))]
 pub fn times<'a>(text: Cursor<'a>) -> Result<(u8, Cursor<'a>), SyntaxError>
-    ensures gives { Gives (λ x. (x.0, rest_of x.1)) result (times_from (rest_of text.entry)) }
-    ensures shorter { IfOk result (λ x. length (rest_of x.1) < length (rest_of text.entry)) }
+    ensures gives { Reads (λ x. x) result times_from text.entry }
+    ensures shorter { TakesToken result text.entry }
 {
     let (token, after) = token(text)?;
     let times = number_in(token, REPEATS)?;

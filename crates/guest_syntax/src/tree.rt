@@ -122,8 +122,9 @@ pub struct Tree {
 
 impl Tree {
     /// A tree of these declarations and threads, each in text order.
-    pub fn new(declarations: Vec<Declaration>, threads: Vec<Thread>) -> Tree
-        ensures { tree_view result ≡ record { declarations = map declaration_view declarations.items; threads = map thread_view threads.items } }
+    pub(crate) fn new(declarations: Vec<Declaration>, threads: Vec<Thread>) -> Tree
+        ensures declarations { (tree_view result).declarations ≡ map declaration_view declarations.items }
+        ensures threads { (tree_view result).threads ≡ map thread_view threads.items }
     {
         Tree {
             declarations,

@@ -14,3 +14,6 @@ pub mod Rising
 pub mod Waiters
 pub mod Mask
 pub mod Reachable
+pub mod Execution
+pub mod FinalKinds
+pub mod OperatorTable

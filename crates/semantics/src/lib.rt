@@ -23,6 +23,7 @@
 #![tactic(auto)]
 
 mod action;
+pub mod execution;
 pub mod laws;
 pub mod limits;
 mod local;

@@ -5,7 +5,7 @@ ghost use Rattle.std.specs.List.{list_any, list_all};
 ghost use Rattle.guest_code.specs.Program.{Program, code_of, IsValidValue};
 ghost use Rattle.semantics.specs.Machine.{Snapshot, start, step, acts, is_enabled, next_of, thread_at, queue_of, value_of_operand, sem_allows, count_of};
 ghost use Rattle.semantics.specs.Reachable.{IsOf, IsValidAction};
-ghost use Rattle.semantics.specs.Ends.{is_terminal, kind_of, view_of, final_kind, is_stopped, is_ended};
+ghost use Rattle.semantics.specs.Ends.{is_terminal, kind_of, view_of, final_kind, is_stopped, is_ended, stop_of};
 ghost use Rattle.semantics.specs.Mask.{has};
 ghost use Rattle.semantics.specs.declared.state.Action.TheVariants.{OnVariable, OnMutex, Wait as Waits, OnCondition, OnSemaphore};
 
@@ -45,6 +45,18 @@ pub enum Status {
     Ended,
     /// It takes no further step, and keeps the mutexes that it owns.
     Stopped(Stop),
+}
+
+impl Status {
+    /// Why the thread stopped, if it did.
+    pub fn stop(self) -> Option<Stop>
+        ensures { result ≡ stop_of self }
+    {
+        match self {
+            Status::Stopped(why) => Some(why),
+            Status::Running | Status::Waiting(_) | Status::Woken | Status::Ended => None,
+        }
+    }
 }
 
 /// Where a thread stands, and its locals.

@@ -2,11 +2,11 @@ use Rattle.std.proofs.Common.{map, arith, refl}
 use Rattle.std.proofs.lemmas.Result.{err_from_is_err_and}
 use Rattle.std.proofs.lemmas.List.{map_push}
 use Rattle.guest_syntax.specs.Tree.{stmt_view}
-use Rattle.guest_syntax.specs.ReadTokens.{rest_of}
-use Rattle.guest_syntax.specs.ReadItems.{all_from}
-use Rattle.guest_syntax.specs.ReadStatements.{turn_from, block_from, choice_from}
-use Rattle.guest_syntax.proofs.Views.{view-else}
-use Rattle.guest_syntax.proofs.Loops.{begins, goes_on, is_done, stops}
+use Rattle.guest_syntax.specs.reader.Reads.{rest_of}
+use Rattle.guest_syntax.specs.reader.Items.{all_from}
+use Rattle.guest_syntax.specs.reader.Statements.{turn_from, block_from, choice_from}
+use Rattle.guest_syntax.proofs.StatementView.{view-else}
+use Rattle.guest_syntax.proofs.ItemLoops.{begins, goes_on, is_done, stops}
 use Rattle.guest_syntax.proofs.blocks.+block.Goals as goal
 
 pub statements-items-init : goal.statements-items-init

@@ -1,9 +1,9 @@
 use Rattle.std.proofs.Common.{◌+◌, ◌*◌, ◌≤◌, length, map}
 use Rattle.guest_syntax.specs.Tree.{stmt_view}
-use Rattle.guest_syntax.specs.ReadTokens.{rest_of}
-use Rattle.guest_syntax.specs.ReadItems.{all_from}
-use Rattle.guest_syntax.specs.ReadStatements.{turn_from, block_from}
-use Rattle.guest_syntax.proofs.Loops.{Goes}
+use Rattle.guest_syntax.specs.reader.Reads.{rest_of}
+use Rattle.guest_syntax.specs.reader.Items.{all_from}
+use Rattle.guest_syntax.specs.reader.Statements.{turn_from, block_from}
+use Rattle.guest_syntax.proofs.ItemLoops.{Goes}
 use Rattle.guest_syntax.proofs.blocks.+block.Given as goal
 
 abbrev pub decreases-block : goal.decreases-block

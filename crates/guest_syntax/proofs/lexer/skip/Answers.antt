@@ -1,6 +1,6 @@
 use Rattle.std.proofs.Common.{ℕ, length, Some, List, sym, ap, ◌∙◌, arith}
 use Rattle.guest_syntax.specs.declared.lexer.Step.TheVariants.{Passed, Stops, NotAscii}
-use Rattle.guest_syntax.proofs.Skips.{from_at, skipped_step, skipped_end}
+use Rattle.guest_syntax.proofs.ByteLoops.{from_at, skipped_step, skipped_end}
 use Rattle.guest_syntax.proofs.lexer.skip.Goals as goal
 
 pub returns-in-Stops-clause-gives : goal.returns-in-Stops-clause-gives

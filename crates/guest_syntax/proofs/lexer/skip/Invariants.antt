@@ -1,5 +1,5 @@
 use Rattle.std.proofs.Common.{◌≡◌, ◌+◌, ◌≤◌, false, drop}
-use Rattle.guest_syntax.specs.Scan.{skipped}
+use Rattle.guest_syntax.specs.reader.Scanner.{skipped}
 use Rattle.guest_syntax.proofs.lexer.skip.Given as goal
 
 abbrev pub invariant-loop-i : goal.invariant-loop-i

@@ -2,10 +2,10 @@ use Rattle.std.proofs.Common.{map, refl}
 use Rattle.std.proofs.lemmas.Result.{err_from_is_err_and}
 use Rattle.std.proofs.lemmas.List.{map_push}
 use Rattle.guest_syntax.specs.Tree.{thread_view}
-use Rattle.guest_syntax.specs.ReadTokens.{rest_of}
-use Rattle.guest_syntax.specs.ReadItems.{all_from}
-use Rattle.guest_syntax.specs.ReadTree.{thread_turn}
-use Rattle.guest_syntax.proofs.Loops.{begins, goes_on, is_done, stops}
+use Rattle.guest_syntax.specs.reader.Reads.{rest_of}
+use Rattle.guest_syntax.specs.reader.Items.{all_from}
+use Rattle.guest_syntax.specs.reader.Trees.{thread_turn}
+use Rattle.guest_syntax.proofs.ItemLoops.{begins, goes_on, is_done, stops}
 use Rattle.guest_syntax.proofs.parser.threads.Goals as goal
 
 pub items-init : goal.items-init

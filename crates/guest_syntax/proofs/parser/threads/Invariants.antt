@@ -1,9 +1,9 @@
 use Rattle.std.proofs.Common.{length, map}
 use Rattle.guest_syntax.specs.Tree.{thread_view}
-use Rattle.guest_syntax.specs.ReadTokens.{rest_of}
-use Rattle.guest_syntax.specs.ReadItems.{all_from}
-use Rattle.guest_syntax.specs.ReadTree.{thread_turn}
-use Rattle.guest_syntax.proofs.Loops.{Goes}
+use Rattle.guest_syntax.specs.reader.Reads.{rest_of}
+use Rattle.guest_syntax.specs.reader.Items.{all_from}
+use Rattle.guest_syntax.specs.reader.Trees.{thread_turn}
+use Rattle.guest_syntax.proofs.ItemLoops.{Goes}
 use Rattle.guest_syntax.proofs.parser.threads.Given as goal
 
 abbrev pub invariant-items : goal.invariant-items

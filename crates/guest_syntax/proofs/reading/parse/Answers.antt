@@ -1,4 +1,4 @@
-use Rattle.guest_syntax.proofs.Parsing.{found, only, refused}
+use Rattle.guest_syntax.proofs.TreeOfText.{found, only, refused}
 use Rattle.guest_syntax.proofs.reading.parse.Goals as goal
 
 pub returns-clause-found : goal.returns-clause-found

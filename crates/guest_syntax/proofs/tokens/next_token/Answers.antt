@@ -1,4 +1,4 @@
-use Rattle.guest_syntax.proofs.Nexts.{next_gives, next_takes_one}
+use Rattle.guest_syntax.proofs.NextToken.{next_gives, next_takes_one}
 use Rattle.guest_syntax.proofs.tokens.next_token.Goals as goal
 
 pub returns-clause-gives : goal.returns-clause-gives

@@ -1,5 +1,0 @@
-use Rattle.guest_syntax.proofs.Parsing.{one_tree}
-use Rattle.guest_syntax.proofs.reading.one_tree.Goals as goal
-
-pub returns : goal.returns
-returns c = λ text t u s r. one_tree text t u s r
