@@ -17,3 +17,6 @@ pub mod Reachable
 pub mod Execution
 pub mod FinalKinds
 pub mod OperatorTable
+pub mod Dependence
+pub mod Effects
+pub mod Increments

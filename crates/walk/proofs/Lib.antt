@@ -1,8 +1,5 @@
-pub mod Booleans
-pub mod Least
-pub mod Ends
-pub mod Sums
-pub mod Children
-pub mod Prefixes
-pub mod Sorted
-pub mod Walks
+pub mod LesserSchedules
+pub mod SortedViews
+pub mod SumsJoin
+pub mod SubtreeInvariant
+pub mod WalkedItems

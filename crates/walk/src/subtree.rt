@@ -7,7 +7,7 @@ ghost use Rattle.semantics.specs.Reachable.{IsOf};
 ghost use Rattle.semantics.specs.Mask.{has};
 ghost use Rattle.semantics.specs.Schedules.{runs, preempts, one_if, schedules_within, exceeds_bound};
 ghost use Rattle.walk.specs.Summaries.{sum_of, with_beyond};
-ghost use Rattle.walk.specs.Walking.{Extends, Reaches};
+ghost use Rattle.walk.specs.SubtreeInvariant.{Extends, Reaches};
 
 use crate::summary::Summary;
 use guest_code::program::Program;
@@ -63,7 +63,7 @@ fn walk_from(
     ensures prefix { OnOk result (prefix.new.items ≡ prefix.old.items) }
 {
     if let Some(view) = state.view(alloc, p)? {
-        return summary.with(alloc, prefix.as_slice(), view);
+        return summary.with_schedule(alloc, prefix.as_slice(), view);
     }
     let mask = state.enabled(p);
     let mut summary = summary;

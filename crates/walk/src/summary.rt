@@ -1,9 +1,11 @@
 //! Summaries of schedules: how many were tried, how they ended, and the first bad one.
 
-ghost use Rattle.std.specs.Prelude.{◌≡◌, OnOk, OnErr, IfOk, option_map, MatchOption, Some, None, true, ◌+◌, ◌++◌, ◌≤◌, length, insert, if◌then◌else◌};
+ghost use Rattle.std.specs.Prelude.{◌≡◌, OnOk, IfOk, MatchOption, Some, None, true, ◌++◌, ◌≤◌, length, insert};
+ghost use Rattle.std.specs.List.Sorted.{IsStrictlySortedBy};
 ghost use Rattle.semantics.specs.Order.{precedes, lesser, is_bad};
-ghost use Rattle.walk.specs.Summaries.{SummaryView, IsSummary, nothing, cut, is_failed, is_stuck, with_view, sorted_views, join, with_beyond};
-ghost use Rattle.walk.specs.Walking.{added};
+ghost use Rattle.semantics.specs.View.{view_cmp};
+ghost use Rattle.walk.specs.Summaries.{SummaryView, IsSummary, schedule_view, nothing, counted_if, is_failed, is_stuck, with_view, sorted_views, join, with_beyond};
+ghost use Rattle.walk.specs.SubtreeInvariant.{added, first_bad_with};
 
 use semantics::view::{EndView, Kind};
 use std::alloc::{AllocError, Global};
@@ -22,14 +24,13 @@ pub struct Summary {
 }
 
 impl Model for Summary {
-    ghost use Rattle.std.specs.Prelude.{option_map};
-    ghost use Rattle.walk.specs.Summaries.{SummaryView, IsSummary};
+    ghost use Rattle.walk.specs.Summaries.{SummaryView, IsSummary, summary_view};
 
     ghost Value = { SummaryView };
 
-    ghost view = { λ s. record { tried = s.tried; failed = s.failed; stuck = s.stuck; beyond = s.beyond; first_bad = option_map (λ w. w.items) s.first_bad; ends = s.ends.items } };
+    ghost view = { λ s. summary_view s.tried s.failed s.stuck s.beyond s.first_bad s.ends };
 
-    ghost invariant = { λ s. IsSummary (record { tried = s.tried; failed = s.failed; stuck = s.stuck; beyond = s.beyond; first_bad = option_map (λ w. w.items) s.first_bad; ends = s.ends.items }) };
+    ghost invariant = { λ s. IsSummary (summary_view s.tried s.failed s.stuck s.beyond s.first_bad s.ends) };
 }
 
 impl Summary {
@@ -77,15 +78,16 @@ impl Summary {
 
     /// The least of those that failed or got stuck.
     pub fn first_bad(&self) -> Option<&[u8]>
-        ensures { MatchOption result (self.now.first_bad ≡ None) (λ w. self.now.first_bad ≡ Some w.now) }
+        ensures { MatchOption result
+            (self.now.first_bad ≡ None) (λ w. self.now.first_bad ≡ Some w.now) }
     {
         match &self.first_bad {
             None => None,
-            Some(w) => Some(w.as_slice()),
+            Some(schedule) => Some(schedule.as_slice()),
         }
     }
 
-    /// How they ended, rising, each end view once.
+    /// How they ended: the end views by kind and then by the values of the variables, each once.
     pub fn ends(&self) -> &[EndView]
         ensures ends { result.now ≡ self.now.ends }
         ensures kept { IsSummary self.now }
@@ -116,7 +118,7 @@ impl Summary {
     /// # Errors
     ///
     /// `AllocError` where memory runs out.
-    #[tactic(auto, using(crate::proofs::Sums::join_kept), unfolding(crate::specs::Summaries::join))]
+    #[tactic(auto, using(crate::proofs::SumsJoin::join_kept), unfolding(crate::specs::Summaries::join))]
     pub fn join(&self, alloc: Global, other: &Summary) -> Result<Summary, AllocError>
         ensures { IfOk result (λ s. s ≡ join self.now other.now) }
     {
@@ -130,10 +132,15 @@ impl Summary {
         })
     }
 
-    /// The summary with one more complete schedule, which ends so.
-    #[tactic(auto, using(crate::proofs::Sums::added_kept), unfolding(crate::specs::Walking::added))]
-    pub(crate) fn with(self, alloc: Global, w: &[u8], view: EndView) -> Result<Summary, AllocError>
-        ensures { IfOk result (λ s. s ≡ added self w.now view) }
+    // The summary with one more complete schedule, which ends so.
+    #[tactic(auto, using(crate::proofs::SumsJoin::added_kept), unfolding(crate::specs::SubtreeInvariant::added))]
+    pub(crate) fn with_schedule(
+        self,
+        alloc: Global,
+        schedule: &[u8],
+        view: EndView,
+    ) -> Result<Summary, AllocError>
+        ensures { IfOk result (λ s. s ≡ added self schedule.now view) }
     {
         let Summary {
             tried,
@@ -144,19 +151,19 @@ impl Summary {
             mut ends,
         } = self;
         let kind = view.kind();
-        place(&mut ends, view)?;
-        let first_bad = first_bad_with(alloc, first_bad, w, kind)?;
+        insert_view(&mut ends, view)?;
+        let first_bad = first_bad_with(alloc, first_bad, schedule, kind)?;
         Ok(Summary {
             tried: tried.saturating_add(1),
-            failed: count_if(is_failed(kind), failed),
-            stuck: count_if(is_stuck(kind), stuck),
+            failed: counted_if(is_failed(kind), failed),
+            stuck: counted_if(is_stuck(kind), stuck),
             beyond,
             first_bad,
             ends,
         })
     }
 
-    /// The summary where some schedule is beyond the bound.
+    // The summary where some schedule is beyond the bound.
     pub(crate) fn with_beyond(self) -> Summary
         ensures { result ≡ with_beyond self true }
     {
@@ -186,8 +193,8 @@ fn is_stuck(kind: Kind) -> bool
 }
 
 // One more, where it is to be counted.
-fn count_if(counted: bool, number: u64) -> u64
-    ensures { result ≡ (if counted then cut (number + 1) else number) }
+fn counted_if(counted: bool, number: u64) -> u64
+    ensures { result ≡ counted_if counted number }
 {
     if counted {
         number.saturating_add(1)
@@ -196,44 +203,45 @@ fn count_if(counted: bool, number: u64) -> u64
     }
 }
 
-// The first bad schedule beside one that ends so.
+// The first bad schedule where one more ends so.
 fn first_bad_with(
     alloc: Global,
     first: Option<Vec<u8>>,
-    w: &[u8],
+    schedule: &[u8],
     kind: Kind,
 ) -> Result<Option<Vec<u8>>, AllocError>
-    ensures { IfOk result (λ v. option_map (λ x. x.items) v ≡ (if is_bad kind then lesser (option_map (λ x. x.items) first) (Some w.now) else option_map (λ x. x.items) first)) }
+    ensures { IfOk result (λ v.
+        schedule_view v ≡ first_bad_with (is_bad kind) (schedule_view first) schedule.now) }
 {
     match kind {
         Kind::Done => Ok(first),
-        Kind::Failed | Kind::Stuck => keep_lesser(alloc, first, w),
+        Kind::Failed | Kind::Stuck => keep_lesser(alloc, first, schedule),
     }
 }
 
-// Whether one schedule stands before another.
-#[tactic(auto, using(crate::proofs::Least::precedes_is))]
-fn stands_before(v: &[u8], w: &[u8]) -> bool
-    ensures { result ≡ precedes v.now w.now }
+// Whether one schedule comes before another.
+#[tactic(auto, using(semantics::proofs::LeastSchedule::slices_order))]
+fn precedes(first: &[u8], second: &[u8]) -> bool
+    ensures { result ≡ precedes first.now second.now }
 {
-    v.cmp(&w) == Ordering::Less
+    first.cmp(&second) == Ordering::Less
 }
 
 // The lesser of a schedule, where there is one, and another.
 fn keep_lesser(
     alloc: Global,
     first: Option<Vec<u8>>,
-    w: &[u8],
+    other: &[u8],
 ) -> Result<Option<Vec<u8>>, AllocError>
-    ensures { IfOk result (λ v. option_map (λ x. x.items) v ≡ lesser (option_map (λ x. x.items) first) (Some w.now)) }
+    ensures { IfOk result (λ v. schedule_view v ≡ lesser (schedule_view first) (Some other.now)) }
 {
     match first {
-        None => Ok(Some(w.to_vec(alloc)?)),
-        Some(v) => {
-            if stands_before(w, v.as_slice()) {
-                Ok(Some(w.to_vec(alloc)?))
+        None => Ok(Some(other.to_vec(alloc)?)),
+        Some(schedule) => {
+            if precedes(other, schedule.as_slice()) {
+                Ok(Some(other.to_vec(alloc)?))
             } else {
-                Ok(Some(v))
+                Ok(Some(schedule))
             }
         }
     }
@@ -241,11 +249,11 @@ fn keep_lesser(
 
 // An equal schedule, where there is one.
 fn copy_schedule(alloc: Global, schedule: &Option<Vec<u8>>) -> Result<Option<Vec<u8>>, AllocError>
-    ensures { IfOk result (λ v. option_map (λ x. x.items) v ≡ option_map (λ x. x.items) schedule.now) }
+    ensures { IfOk result (λ v. schedule_view v ≡ schedule_view schedule.now) }
 {
     match schedule {
         None => Ok(None),
-        Some(w) => Ok(Some(w.as_slice().to_vec(alloc)?)),
+        Some(there) => Ok(Some(there.as_slice().to_vec(alloc)?)),
     }
 }
 
@@ -255,18 +263,20 @@ fn lesser_of(
     first: &Option<Vec<u8>>,
     second: &Option<Vec<u8>>,
 ) -> Result<Option<Vec<u8>>, AllocError>
-    ensures { IfOk result (λ v. option_map (λ x. x.items) v ≡ lesser (option_map (λ x. x.items) first.now) (option_map (λ x. x.items) second.now)) }
+    ensures { IfOk result (λ v.
+        schedule_view v ≡ lesser (schedule_view first.now) (schedule_view second.now)) }
 {
     let copy = copy_schedule(alloc, first)?;
     match second {
         None => Ok(copy),
-        Some(w) => keep_lesser(alloc, copy, w.as_slice()),
+        Some(other) => keep_lesser(alloc, copy, other.as_slice()),
     }
 }
 
-// Where a view belongs in a rising list, unless it is there.
-fn place_of(ends: &[EndView], view: &EndView) -> Option<usize>
-    ensures { MatchOption result (with_view view.now ends.now ≡ ends.now) (λ at. (at ≤ length ends.now) × (with_view view.now ends.now ≡ insert ends.now at view.now)) }
+// The index at which a view belongs in a sorted list, unless it is there.
+fn insertion_index(ends: &[EndView], view: &EndView) -> Option<usize>
+    ensures { MatchOption result (with_view view.now ends.now ≡ ends.now) (λ at.
+        (at ≤ length ends.now) × (with_view view.now ends.now ≡ insert ends.now at view.now)) }
 {
     for (at, end) in ends.iter().enumerate() {
         match view.compare(end) {
@@ -278,11 +288,11 @@ fn place_of(ends: &[EndView], view: &EndView) -> Option<usize>
     Some(ends.len())
 }
 
-// Puts a view in its place, unless it is there.
-fn place(ends: &mut Vec<EndView>, view: EndView) -> Result<(), AllocError>
+// Puts a view where it belongs in a sorted list, unless it is there.
+fn insert_view(ends: &mut Vec<EndView>, view: EndView) -> Result<(), AllocError>
     ensures { OnOk result (ends.new.items ≡ with_view view ends.old.items) }
 {
-    match place_of(ends.as_slice(), &view) {
+    match insertion_index(ends.as_slice(), &view) {
         Some(at) => {
             ends.insert(at, view)?;
         }
@@ -302,18 +312,18 @@ fn copy_views(alloc: Global, views: &[EndView]) -> Result<Vec<EndView>, AllocErr
     Ok(copies)
 }
 
-// The views of two rising lists, rising, each once.
+// The views of two lists, the first of them sorted: sorted, each once.
 fn views_of_both(
     alloc: Global,
     first: &[EndView],
     second: &[EndView],
 ) -> Result<Vec<EndView>, AllocError>
-    requires { sorted_views first.now ≡ first.now }
+    requires { IsStrictlySortedBy view_cmp first.now }
     ensures { IfOk result (λ v. v.items ≡ sorted_views (first.now ++ second.now)) }
 {
     let mut views = copy_views(alloc, first)?;
     for view in second {
-        place(&mut views, view.try_clone(alloc)?)?;
+        insert_view(&mut views, view.try_clone(alloc)?)?;
     }
     Ok(views)
 }

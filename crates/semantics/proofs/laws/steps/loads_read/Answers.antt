@@ -1,0 +1,5 @@
+use Rattle.semantics.proofs.StepEffects.{load_local, load_variables}
+use Rattle.semantics.proofs.laws.steps.loads_read.Goals as goal
+
+pub returns : goal.returns
+returns c = record { local = load_local; variables = load_variables }
