@@ -7,31 +7,23 @@ use guest_code::error::CheckError;
 use guest_syntax::SyntaxError;
 use replay::{ReplayError, ScheduleError};
 use std::alloc::AllocError;
-use std::io;
 use std::io::ErrorKind;
-use thiserror::Error;
+use std::{fmt, io};
 
-/// A fault, in the order in which they are looked for. Its `Display` is the line for the user
-/// behind the name of the program.
-#[derive(Debug, Drop, Error)]
+/// A fault, in the order in which they are looked for.
+#[derive(Debug, Drop)]
 pub enum Fault {
     /// The file can't be read, or the output can't be written.
-    #[error("file")]
     File,
     /// The text spells no program.
-    #[error("{0}")]
     Syntax(SyntaxError),
     /// The program is not sound.
-    #[error("{0}")]
     Check(CheckError),
     /// The schedule's text spells no schedule.
-    #[error("{0}")]
     Schedule(ScheduleError),
     /// The schedule doesn't run.
-    #[error("{0}")]
     Replay(ReplayError),
-    /// Memory was refused.
-    #[error("memory")]
+    /// Memory ran out.
     Memory,
 }
 
@@ -46,6 +38,61 @@ impl Fault {
         }
     }
 }
+
+/// What the user is told, after the name of the program: the kind of fault, the number and the name
+/// of a refusal, and its place.
+impl fmt::Display for Fault {
+    ghost use Rattle.std.specs.Prelude.{Some};
+    ghost use Rattle.ctxbound.specs.Lines.{fault_text};
+
+    ghost output = { λ fault. Some (fault_text fault) };
+
+    fn fmt<W: fmt::Write>(&self, f: &mut fmt::Formatter<W>) -> fmt::Result {
+        match self {
+            Fault::File => write!(f, "file"),
+            Fault::Syntax(SyntaxError::NotAscii(at)) => write!(f, "syntax S1 NotAscii at {at}"),
+            Fault::Syntax(SyntaxError::BadChar(at)) => write!(f, "syntax S2 BadChar at {at}"),
+            Fault::Syntax(SyntaxError::Expected(at)) => write!(f, "syntax S3 Expected at {at}"),
+            Fault::Syntax(SyntaxError::NumberTooBig(at)) => {
+                write!(f, "syntax S4 NumberTooBig at {at}")
+            }
+            Fault::Syntax(SyntaxError::TooLong(at)) => write!(f, "syntax S5 TooLong at {at}"),
+            Fault::Syntax(SyntaxError::TooDeep(at)) => write!(f, "syntax S6 TooDeep at {at}"),
+            Fault::Check(CheckError::Duplicate(at)) => write!(f, "check C1 Duplicate at {at}"),
+            Fault::Check(CheckError::Unknown(at)) => write!(f, "check C2 Unknown at {at}"),
+            Fault::Check(CheckError::WrongKind(at)) => write!(f, "check C3 WrongKind at {at}"),
+            Fault::Check(CheckError::NoThreads) => write!(f, "check C4 NoThreads"),
+            Fault::Check(CheckError::TooMany(at)) => write!(f, "check C5 TooMany at {at}"),
+            Fault::Check(CheckError::CodeTooLong(t)) => write!(
+                f,
+                "check C6 CodeTooLong in thread {t}"
+            ),
+            Fault::Check(CheckError::LeaveOutside(at)) => write!(
+                f,
+                "check C7 LeaveOutside at {at}"
+            ),
+            Fault::Schedule(ScheduleError::BadSchedule(at)) => write!(
+                f,
+                "schedule Q1 BadSchedule at {at}"
+            ),
+            Fault::Replay(ReplayError::NoSuchThread(at)) => write!(
+                f,
+                "schedule P1 NoSuchThread at {at}"
+            ),
+            Fault::Replay(ReplayError::NotEnabled(at)) => write!(
+                f,
+                "schedule P2 NotEnabled at {at}"
+            ),
+            Fault::Memory
+            | Fault::Syntax(SyntaxError::OutOfMemory)
+            | Fault::Check(CheckError::OutOfMemory)
+            | Fault::Schedule(ScheduleError::OutOfMemory)
+            | Fault::Replay(ReplayError::OutOfMemory) => write!(f, "memory"),
+        }
+    }
+}
+
+impl std::error::Error for Fault {}
 
 impl From<SyntaxError> for Fault {
     ghost use Rattle.std.specs.Prelude.{◌≡◌};
@@ -115,6 +162,11 @@ impl From<AllocError> for Fault {
 }
 
 impl From<io::Error> for Fault {
+    ghost use Rattle.std.specs.IoError.{error_kind};
+    ghost use Rattle.ctxbound.specs.Answer.{IsDeviceFault};
+
+    ghost from_gives = { λ e fault. IsDeviceFault (error_kind e) fault };
+
     fn from(error: io::Error) -> Fault {
         match error.kind() {
             ErrorKind::OutOfMemory => Fault::Memory,

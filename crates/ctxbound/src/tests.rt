@@ -3,6 +3,7 @@
 
 mod devices;
 mod rows;
+mod words;
 
 use crate::asked::Asked;
 use crate::fault::Fault;
@@ -11,6 +12,7 @@ use crate::tests::devices::{FailingReader, FailingWriter};
 use crate::tests::rows::{LONGEST, RACE, REFUSALS, TRACES};
 use crate::words::asked;
 use std::alloc::Global;
+use std::io::Write;
 use std::test::*;
 
 const FILE_FAULT: &[u8] = b"ctxbound: file\n";
@@ -97,13 +99,18 @@ fn zeros(alloc: Global, more: usize) -> Result<String, Fail> {
 
 #[test]
 fn runs_the_longest_thread(rt: HostRuntime) -> Result<(), Fail> {
-    let all = zeros(rt.alloc(), 255)?;
-    let (out, _, status) = served(rt.alloc(), LONGEST.as_bytes(), all.as_str())?;
-    let end = b"\n255 A store x 4\npreemptions 0\nkind done\nvars x=4\n";
-    assert!(rt; out.as_slice().ends_with(end));
+    let alloc = rt.alloc();
+    let mut want = Vec::new(alloc);
+    for step in 0..256 {
+        writeln!(want, "{step} A store x {}", step % 4 + 1)?;
+    }
+    want.extend_from_slice(b"preemptions 0\nkind done\nvars x=4\n")?;
+    let all = zeros(alloc, 255)?;
+    let (out, _, status) = served(alloc, LONGEST.as_bytes(), all.as_str())?;
+    assert_eq!(rt; out.as_slice(), want.as_slice());
     assert_eq!(rt; status, 0);
-    let more = zeros(rt.alloc(), 4_096)?;
-    let (_, err, status) = served(rt.alloc(), LONGEST.as_bytes(), more.as_str())?;
+    let more = zeros(alloc, 4_096)?;
+    let (_, err, status) = served(alloc, LONGEST.as_bytes(), more.as_str())?;
     assert_eq!(rt;
         err.as_slice(),
         &b"ctxbound: schedule P2 NotEnabled at 256\n"[..]
@@ -113,29 +120,23 @@ fn runs_the_longest_thread(rt: HostRuntime) -> Result<(), Fail> {
 }
 
 #[test]
-fn reads_its_words(rt: HostRuntime) -> Result<(), Fail> {
+fn reads_no_further_than_it_must(rt: HostRuntime) -> Result<(), Fail> {
     let alloc = rt.alloc();
-    let words = ["ctxbound", "replay", "race.guest"];
-    let words = [
-        String::from_str(alloc, words[0])?,
-        String::from_str(alloc, words[1])?,
-        String::from_str(alloc, words[2])?,
-    ];
-    let (file, request) = match asked(alloc, &words[..]) {
-        Ok(request) => request,
-        Err(_) => return Err(Fail::new("the words are refused")),
+    let text = spaces(alloc, 65_537)?;
+    let request = request(alloc, "0")?;
+    let mut input = FailingReader {
+        text: text.as_slice(),
+        fails_at: 65_537,
+        calls: 0,
     };
-    let Asked::Replay { schedule } = &request;
-    assert_eq!(rt; file.as_str(), "race.guest");
-    assert_eq!(rt; schedule.as_str(), "-");
-    for count in 1..3 {
-        let Err(fault) = asked(alloc, &words[..count]) else {
-            return Err(Fail::new("too few words are taken"));
-        };
-        let mut err = Vec::new(alloc);
-        assert_eq!(rt; fault.report(&mut err), 2);
-        assert!(rt; !err.is_empty());
-    }
+    let mut out = Vec::new(alloc);
+    let mut err = Vec::new(alloc);
+    let status = serve(alloc, &request, &mut input, &mut out, &mut err);
+    assert_eq!(rt; (status, out.len(), input.calls), (2, 0, 65_537));
+    assert_eq!(rt;
+        err.as_slice(),
+        &b"ctxbound: syntax S5 TooLong at 1:1\n"[..]
+    );
     Ok(())
 }
 
@@ -158,7 +159,7 @@ fn says_that_a_device_failed(rt: HostRuntime) -> Result<(), Fail> {
     let (trace, _, _) = served(alloc, RACE.as_bytes(), "0,1,0")?;
     for fails_at in 0..=trace.len() {
         let mut input = RACE.as_bytes();
-        let mut out = FailingWriter { fails_at, calls: 0 };
+        let mut out = FailingWriter::at(fails_at);
         let mut err = Vec::new(alloc);
         let status = serve(alloc, &request, &mut input, &mut out, &mut err);
         assert_eq!(rt; (status, out.calls), (4, fails_at + 1));
@@ -168,20 +169,22 @@ fn says_that_a_device_failed(rt: HostRuntime) -> Result<(), Fail> {
 }
 
 #[test]
-fn keeps_its_status_where_the_error_stream_fails(rt: HostRuntime) -> Result<(), Fail> {
+fn keeps_its_status_where_a_stream_fails(rt: HostRuntime) -> Result<(), Fail> {
     let alloc = rt.alloc();
     let request = request(alloc, "0,")?;
+    let mut out = FailingWriter::at(0);
+    let mut err = Vec::new(alloc);
     let mut input = RACE.as_bytes();
-    let mut out = Vec::new(alloc);
-    let mut err = FailingWriter {
-        fails_at: 0,
-        calls: 0,
-    };
     assert_eq!(rt; serve(alloc, &request, &mut input, &mut out, &mut err), 2);
-    let mut err = FailingWriter {
-        fails_at: 0,
-        calls: 0,
-    };
+    assert_eq!(rt; out.calls, 0);
+    assert_eq!(rt;
+        err.as_slice(),
+        &b"ctxbound: schedule Q1 BadSchedule at 2\n"[..]
+    );
+    let mut input = RACE.as_bytes();
+    let mut err = FailingWriter::at(0);
+    assert_eq!(rt; serve(alloc, &request, &mut input, &mut out, &mut err), 2);
+    let mut err = FailingWriter::at(0);
     assert_eq!(rt; report_fault(&mut err, &Fault::Memory), 4);
     Ok(())
 }

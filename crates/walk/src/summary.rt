@@ -177,19 +177,13 @@ impl Summary {
 fn is_failed(kind: Kind) -> bool
     ensures { result ≡ is_failed kind }
 {
-    match kind {
-        Kind::Done | Kind::Stuck => false,
-        Kind::Failed => true,
-    }
+    matches!(kind, Kind::Failed)
 }
 
 fn is_stuck(kind: Kind) -> bool
     ensures { result ≡ is_stuck kind }
 {
-    match kind {
-        Kind::Done | Kind::Failed => false,
-        Kind::Stuck => true,
-    }
+    matches!(kind, Kind::Stuck)
 }
 
 // One more, where it is to be counted.
@@ -213,9 +207,10 @@ fn first_bad_with(
     ensures { IfOk result (λ v.
         schedule_view v ≡ first_bad_with (is_bad kind) (schedule_view first) schedule.now) }
 {
-    match kind {
-        Kind::Done => Ok(first),
-        Kind::Failed | Kind::Stuck => keep_lesser(alloc, first, schedule),
+    if kind.is_bad() {
+        keep_lesser(alloc, first, schedule)
+    } else {
+        Ok(first)
     }
 }
 

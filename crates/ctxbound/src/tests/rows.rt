@@ -256,7 +256,7 @@ pub static TRACES: [(&str, &str, &str, u8); 38] = [
 ];
 
 /// A program, a schedule, and the line of its fault.
-pub static REFUSALS: [(&str, &str, &str); 33] = [
+pub static REFUSALS: [(&str, &str, &str); 34] = [
     (LOCK_TWICE, "1", "ctxbound: schedule P1 NoSuchThread at 0\n"),
     (LOCK_TWICE, "0,0", "ctxbound: schedule P2 NotEnabled at 1\n"),
     (
@@ -304,6 +304,11 @@ pub static REFUSALS: [(&str, &str, &str); 33] = [
     (RACE, ",0", "ctxbound: schedule Q1 BadSchedule at 0\n"),
     (RACE, "0, 1", "ctxbound: schedule Q1 BadSchedule at 2\n"),
     (RACE, "9,0,", "ctxbound: schedule Q1 BadSchedule at 4\n"),
+    (
+        RACE,
+        "0,1,0,1,0,1,0,1,0,1,0,1,0,1,0,1,x,0",
+        "ctxbound: schedule Q1 BadSchedule at 32\n",
+    ),
     (
         LOCK_TWICE,
         "0,1,0",
