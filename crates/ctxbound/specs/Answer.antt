@@ -38,7 +38,8 @@ pub record IsProgramOf (text : List ℕ) (p : Program) : Type 0 where
   pub sound : fault tree ≡ None
   pub same : p ≡ code tree
 
--- the text spells a program, the schedule's text a schedule that runs in it, and this is its trace and how it ends
+-- the text spells a program, the schedule's text a schedule that runs in it, and this is its trace
+-- and how it ends
 pub record IsReplayOf (text schedule : List ℕ) (a : Replayed) : Type 0 where
   pub program : Program
   pub is_program : IsProgramOf text program
@@ -68,8 +69,8 @@ pub record IsNoRun (text schedule : List ℕ) (e : ReplayError) : Type 0 where
   pub spelt : spelling.Spells schedule steps
   pub refused : ReplayErrorMeans program steps e
 
--- what a fault says of the text and of the schedule's text; out of memory is told as such and never as a refusal,
--- and no file is touched
+-- what a fault says of the text and of the schedule's text; out of memory is told as such and
+-- never as a refusal, and no file is touched
 abbrev pub FaultMeans : List ℕ → List ℕ → Fault → Type 0
 FaultMeans text w File = ⊥
 FaultMeans text w (Syntax syntax.OutOfMemory) = ⊥
@@ -81,6 +82,10 @@ FaultMeans text w (Schedule e) = IsNoSchedule text w e
 FaultMeans text w (Replay replay.OutOfMemory) = ⊥
 FaultMeans text w (Replay e) = IsNoRun text w e
 FaultMeans text w Memory = Unit {0}
+
+-- what a replay answers for these two texts
+abbrev pub ReplayMeans : List ℕ → List ℕ → Result Replayed Fault → Type 0
+ReplayMeans text w result = MatchResult result (IsReplayOf text w) (FaultMeans text w)
 
 -- the fault of a refusal: out of memory is one fault, whoever met it
 abbrev pub of_syntax : SyntaxError → Fault
@@ -101,7 +106,8 @@ of_replay e = Replay e
 
 -- the fault of a device's error, by its kind
 abbrev pub IsDeviceFault : ErrorKind → Fault → Type 0
-IsDeviceFault kind fault = ((kind ≡ io.OutOfMemory) × (fault ≡ Memory)) ⊎ ((kind ≢ io.OutOfMemory) × (fault ≡ File))
+IsDeviceFault kind fault =
+    ((kind ≡ io.OutOfMemory) × (fault ≡ Memory)) ⊎ ((kind ≢ io.OutOfMemory) × (fault ≡ File))
 
 -- a device's, whatever its kind
 abbrev pub IsOfDevice : Fault → Type 0
@@ -131,13 +137,22 @@ pub record AnswerView : Type 0 where
 
 -- after a replay its trace and its status; after a fault its line and its status
 abbrev pub answer_of : Result Replayed Fault → AnswerView
-answer_of (Ok replayed) = record { output = replayed.trace.items; error = []; status = status_of replayed.kind }
-answer_of (Err fault) = record { output = []; error = fault_line fault; status = fault_status fault }
+answer_of (Ok replayed) = record {
+  output = replayed.trace.items;
+  error = [];
+  status = status_of replayed.kind;
+}
+answer_of (Err fault) = record {
+  output = [];
+  error = fault_line fault;
+  status = fault_status fault;
+}
 
--- the answer of a replay of this schedule's text in the program of this text, or of what is wrong with them
+-- the answer after a replay of this schedule's text in the program of this text, or after what is
+-- wrong with them
 pub record IsAnswerOf (text schedule : List ℕ) (a : AnswerView) : Type 0 where
   pub result : Result Replayed Fault
-  pub means : MatchResult result (IsReplayOf text schedule) (FaultMeans text schedule)
+  pub means : ReplayMeans text schedule result
   pub same : a ≡ answer_of result
 
 -- the schedule's text in a request

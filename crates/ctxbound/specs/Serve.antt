@@ -1,5 +1,5 @@
 -- What is served of a reader whose bytes are known.
-use Rattle.std.specs.Prelude.{◌≡◌, ℕ, ◌+◌, List, Option, take}
+use Rattle.std.specs.Prelude.{◌≡◌, ℕ, ◌+◌, List, Option, Result, OnOk, take}
 use Rattle.std.specs.Io.KnownBytes.{Appends}
 use Rattle.guest_syntax.specs.declared.limits.TheConstants.{TEXT_BYTES}
 use Rattle.ctxbound.specs.declared.asked.Asked.{Asked}
@@ -12,10 +12,15 @@ part_read file = take (TEXT_BYTES + 1) file
 abbrev pub IsPartRead : List ℕ → List ℕ → Type 0
 IsPartRead text file = text ≡ part_read file
 
--- the request was answered for what is read of this file: the output was added to what the writer held, and this is
--- the status
-pub record IsServed (asked : Asked) (file : List ℕ) (before after : Option (List ℕ)) (status : ℕ) : Type 0 where
+-- where the bytes that a writer holds are known, a success has added these to them
+abbrev pub IsWritten : {T E : Type 0} → Result T E → Option (List ℕ) → Option (List ℕ) → List ℕ → Type 0
+IsWritten result before after bytes = OnOk result (Appends before after bytes)
+
+-- the request was answered for what is read of this file: the output was added to what the writer
+-- held, and this is the status
+pub record IsServed (request : Asked) (file : List ℕ) (before after : Option (List ℕ)) (status : ℕ)
+    : Type 0 where
   pub answer : AnswerView
-  pub means : IsAnswerOf (part_read file) (schedule_of asked) answer
+  pub means : IsAnswerOf (part_read file) (schedule_of request) answer
   pub output : Appends before after answer.output
   pub ends : status ≡ answer.status

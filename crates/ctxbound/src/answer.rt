@@ -1,8 +1,8 @@
 //! What the program answers to a request, as a value: the bytes for each stream, and the status.
 
-ghost use Rattle.std.specs.Prelude.{◌≡◌, MatchResult, OnOk};
-ghost use Rattle.std.specs.Io.KnownBytes.{Appends};
-ghost use Rattle.ctxbound.specs.Answer.{IsReplayOf, FaultMeans, status_of, IsAnswerTo};
+ghost use Rattle.std.specs.Prelude.{◌≡◌};
+ghost use Rattle.ctxbound.specs.Answer.{ReplayMeans, status_of, IsAnswerTo};
+ghost use Rattle.ctxbound.specs.Serve.{IsWritten};
 
 use crate::asked::Asked;
 use crate::fault::Fault;
@@ -28,10 +28,10 @@ pub struct Replayed {
 ///
 /// # Errors
 ///
-/// What is wrong first: with the text, with the program that it spells, with the schedule's text, or
-/// with a step of the schedule; `Memory` where memory runs out.
+/// What is wrong first: with the text, with the program that it spells, with the schedule's text,
+/// or with a step of the schedule; `Memory` where memory runs out.
 pub fn replay_text(alloc: Global, text: &[u8], schedule: &[u8]) -> Result<Replayed, Fault>
-    ensures { MatchResult result (IsReplayOf text.now schedule.now) (FaultMeans text.now schedule.now) }
+    ensures { ReplayMeans text.now schedule.now result }
 {
     let tree = parse(alloc, text)?;
     let program = lower(alloc, &tree)?;
@@ -100,11 +100,11 @@ impl Answer {
     ///
     /// What the writer answers.
     pub fn write_error<E: Write>(&self, err: &mut E) -> io::Result<()>
-        ensures { OnOk result (Appends (E.contents err.old) (E.contents err.new) self.now.error) }
+        ensures { IsWritten result (E.contents err.old) (E.contents err.new) self.now.error }
     {
         match &self.result {
             Ok(_) => Ok(()),
-            Err(fault) => writeln!(err, "ctxbound: {fault}"),
+            Err(fault) => fault.write_line(err),
         }
     }
 

@@ -2,12 +2,14 @@
 
 ghost use Rattle.std.specs.Prelude.{◌≡◌};
 ghost use Rattle.ctxbound.specs.Answer.{fault_status};
+ghost use Rattle.ctxbound.specs.Lines.{fault_line};
+ghost use Rattle.ctxbound.specs.Serve.{IsWritten};
 
 use guest_code::error::CheckError;
 use guest_syntax::SyntaxError;
 use replay::{ReplayError, ScheduleError};
 use std::alloc::AllocError;
-use std::io::ErrorKind;
+use std::io::{ErrorKind, Write};
 use std::{fmt, io};
 
 /// A fault, in the order in which they are looked for.
@@ -36,6 +38,25 @@ impl Fault {
             Fault::File | Fault::Memory => 4,
             Fault::Syntax(_) | Fault::Check(_) | Fault::Schedule(_) | Fault::Replay(_) => 2,
         }
+    }
+
+    /// Writes its line: the name of the program, what the user is told, and a line feed.
+    ///
+    /// # Errors
+    ///
+    /// What the writer answers.
+    pub fn write_line<E: Write>(&self, err: &mut E) -> io::Result<()>
+        ensures { IsWritten result (E.contents err.old) (E.contents err.new) (fault_line self.now) }
+    {
+        writeln!(err, "ctxbound: {self}")
+    }
+
+    /// Writes its line, and answers the status. A failing stream changes no status.
+    pub fn report<E: Write>(&self, err: &mut E) -> u8
+        ensures { result ≡ fault_status self.now }
+    {
+        let _ = self.write_line(err);
+        self.status()
     }
 }
 

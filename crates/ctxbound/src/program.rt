@@ -1,7 +1,7 @@
 //! The whole program, but for where its words come from and where its answer goes.
 
 use crate::fault::Fault;
-use crate::serve::{report_fault, serve};
+use crate::serve::serve;
 use crate::words::asked;
 use std::fs;
 use std::io::Write;
@@ -20,6 +20,6 @@ pub fn serve_words<W: Write, E: Write>(
     };
     match fs::open(rt, file.as_str()) {
         Ok(mut input) => serve(rt.alloc(), &asked, &mut input, out, err),
-        Err(error) => report_fault(err, &Fault::from(error)),
+        Err(error) => Fault::from(error).report(err),
     }
 }

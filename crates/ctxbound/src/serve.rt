@@ -1,9 +1,8 @@
 //! One run of the program over a reader and two writers.
 
-ghost use Rattle.std.specs.Prelude.{◌≡◌, ◌⊎◌, IfSome, IfOk, IfErr, OnOk};
-ghost use Rattle.std.specs.Io.KnownBytes.{Appends};
-ghost use Rattle.ctxbound.specs.Answer.{fault_status, IsOfDevice};
-ghost use Rattle.ctxbound.specs.Serve.{IsPartRead, IsServed};
+ghost use Rattle.std.specs.Prelude.{◌≡◌, ◌⊎◌, IfSome, IfOk, IfErr};
+ghost use Rattle.ctxbound.specs.Answer.{IsOfDevice};
+ghost use Rattle.ctxbound.specs.Serve.{IsPartRead, IsServed, IsWritten};
 
 use crate::answer::Answer;
 use crate::asked::Asked;
@@ -11,14 +10,6 @@ use crate::fault::Fault;
 use guest_syntax::TEXT_BYTES;
 use std::alloc::Global;
 use std::io::{Read, Write};
-
-/// Writes the line of a fault, and answers its status. A failing stream changes no status.
-pub fn report_fault<E: Write>(err: &mut E, fault: &Fault) -> u8
-    ensures { result ≡ fault_status fault.now }
-{
-    let _ = writeln!(err, "ctxbound: {fault}");
-    fault.status()
-}
 
 /// The text of a guest program, or one byte more than a program may have where it is too long.
 fn read_text<R: Read>(alloc: Global, input: &mut R) -> Result<Vec<u8>, Fault>
@@ -32,7 +23,7 @@ fn read_text<R: Read>(alloc: Global, input: &mut R) -> Result<Vec<u8>, Fault>
 
 /// Writes the output. Where there is none, the device isn't touched.
 fn write_out<W: Write>(out: &mut W, output: &[u8]) -> Result<(), Fault>
-    ensures written { OnOk result (Appends (W.contents out.old) (W.contents out.new) output.now) }
+    ensures written { IsWritten result (W.contents out.old) (W.contents out.new) output.now }
     ensures fault { IfErr result IsOfDevice }
 {
     if output.is_empty() {
@@ -61,6 +52,6 @@ pub fn serve<R: Read, W: Write, E: Write>(
             let _ = answer.write_error(err);
             answer.status()
         }
-        Err(fault) => report_fault(err, &fault),
+        Err(fault) => fault.report(err),
     }
 }

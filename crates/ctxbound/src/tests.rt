@@ -7,7 +7,7 @@ mod words;
 
 use crate::asked::Asked;
 use crate::fault::Fault;
-use crate::serve::{report_fault, serve};
+use crate::serve::serve;
 use crate::tests::devices::{FailingReader, FailingWriter};
 use crate::tests::rows::{LONGEST, RACE, REFUSALS, TRACES};
 use crate::words::asked;
@@ -185,6 +185,6 @@ fn keeps_its_status_where_a_stream_fails(rt: HostRuntime) -> Result<(), Fail> {
     let mut err = FailingWriter::at(0);
     assert_eq!(rt; serve(alloc, &request, &mut input, &mut out, &mut err), 2);
     let mut err = FailingWriter::at(0);
-    assert_eq!(rt; report_fault(&mut err, &Fault::Memory), 4);
+    assert_eq!(rt; Fault::Memory.report(&mut err), 4);
     Ok(())
 }

@@ -5,7 +5,6 @@ ghost use Rattle.ctxbound.specs.Words.{words_status};
 
 use crate::asked::Asked;
 use crate::fault::Fault;
-use crate::serve::report_fault;
 use clap::error::ErrorKind;
 use clap::{Arg, Command, Error};
 use std::alloc::{Alloc, AllocError, Global};
@@ -55,7 +54,7 @@ impl WordsFault {
     {
         let _ = match self {
             WordsFault::NotUtf8 => writeln!(err, "ctxbound: words NotUtf8"),
-            WordsFault::OutOfMemory => writeln!(err, "ctxbound: {}", Fault::Memory),
+            WordsFault::OutOfMemory => Fault::Memory.write_line(err),
             WordsFault::Said(error) => err.write_fmt(error),
         };
         self.status()

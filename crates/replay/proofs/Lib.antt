@@ -1,6 +1,9 @@
-mod Numbers
-mod Pieces
-mod Spelt
+mod NumberTexts
+mod PieceTexts
+mod SpelledOnce
+mod PrintedRuns
+mod WrittenRuns
+mod ReadPieces
 mod Turns
 mod Steps
 mod Bad
