@@ -28,7 +28,8 @@ use Rattle.ctxbound.specs.declared.answer.Replayed.{Replayed}
 use Rattle.ctxbound.specs.declared.asked.Asked.{Asked}
 use Rattle.ctxbound.specs.declared.asked.Asked.TheVariants as asked
 use Rattle.ctxbound.specs.declared.fault.Fault.{Fault}
-use Rattle.ctxbound.specs.declared.fault.Fault.TheVariants.{File, Syntax, Check, Schedule, Replay, Memory}
+use Rattle.ctxbound.specs.declared.fault.Fault.TheVariants.{File, Syntax, Check, Schedule}
+use Rattle.ctxbound.specs.declared.fault.Fault.TheVariants.{Replay, Memory}
 use Rattle.ctxbound.specs.Lines.{fault_line}
 
 -- the text spells a tree without a fault, and this is its program

@@ -7,7 +7,8 @@ use Rattle.guest_code.specs.declared.error.CheckError.TheVariants as check
 use Rattle.replay.specs.declared.error.ReplayError.TheVariants as replay
 use Rattle.replay.specs.declared.schedule.ScheduleError.TheVariants as schedule
 use Rattle.ctxbound.specs.declared.fault.Fault.{Fault}
-use Rattle.ctxbound.specs.declared.fault.Fault.TheVariants.{File, Syntax, Check, Schedule, Replay, Memory}
+use Rattle.ctxbound.specs.declared.fault.Fault.TheVariants.{File, Syntax, Check, Schedule}
+use Rattle.ctxbound.specs.declared.fault.Fault.TheVariants.{Replay, Memory}
 
 -- line and column
 abbrev pub place_text : Pos → List ℕ
@@ -32,6 +33,7 @@ fault_text (Check (check.CodeTooLong t)) = codes "check C6 CodeTooLong in thread
 fault_text (Check (check.LeaveOutside at)) = codes "check C7 LeaveOutside at " ++ place_text at
 fault_text (Check check.OutOfMemory) = codes "memory"
 fault_text (Schedule (schedule.BadSchedule at)) = codes "schedule Q1 BadSchedule at " ++ decimal at
+fault_text (Schedule (schedule.TooLong at)) = codes "schedule Q3 TooLong at " ++ decimal at
 fault_text (Schedule schedule.OutOfMemory) = codes "memory"
 fault_text (Replay (replay.NoSuchThread at)) = codes "schedule P1 NoSuchThread at " ++ decimal at
 fault_text (Replay (replay.NotEnabled at)) = codes "schedule P2 NotEnabled at " ++ decimal at

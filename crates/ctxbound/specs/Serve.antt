@@ -13,7 +13,8 @@ abbrev pub IsPartRead : List ℕ → List ℕ → Type 0
 IsPartRead text file = text ≡ part_read file
 
 -- where the bytes that a writer holds are known, a success has added these to them
-abbrev pub IsWritten : {T E : Type 0} → Result T E → Option (List ℕ) → Option (List ℕ) → List ℕ → Type 0
+abbrev pub IsWritten : {T E : Type 0} → Result T E → Option (List ℕ) → Option (List ℕ) → List ℕ
+    → Type 0
 IsWritten result before after bytes = OnOk result (Appends before after bytes)
 
 -- the request was answered for what is read of this file: the output was added to what the writer

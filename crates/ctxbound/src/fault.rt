@@ -96,6 +96,7 @@ impl fmt::Display for Fault {
                 f,
                 "schedule Q1 BadSchedule at {at}"
             ),
+            Fault::Schedule(ScheduleError::TooLong(at)) => write!(f, "schedule Q3 TooLong at {at}"),
             Fault::Replay(ReplayError::NoSuchThread(at)) => write!(
                 f,
                 "schedule P1 NoSuchThread at {at}"

@@ -2,6 +2,7 @@
 //! texts were worked out by hand from the rules of `docs/LANGUAGE.md` and `docs/FORMATS.md`.
 
 mod devices;
+mod limits;
 mod rows;
 mod words;
 
@@ -9,10 +10,9 @@ use crate::asked::Asked;
 use crate::fault::Fault;
 use crate::serve::serve;
 use crate::tests::devices::{FailingReader, FailingWriter};
-use crate::tests::rows::{LONGEST, RACE, REFUSALS, TRACES};
+use crate::tests::rows::{RACE, REFUSALS, TRACES};
 use crate::words::asked;
 use std::alloc::Global;
-use std::io::Write;
 use std::test::*;
 
 const FILE_FAULT: &[u8] = b"ctxbound: file\n";
@@ -61,82 +61,6 @@ fn prints_refusals(rt: HostRuntime) -> Result<(), Fail> {
         assert_eq!(rt; err.as_slice(), line.as_bytes(), "{text} with {schedule}");
         assert_eq!(rt; status, 2, "{text} with {schedule}");
     }
-    Ok(())
-}
-
-/// So many spaces.
-fn spaces(alloc: Global, count: usize) -> Result<Vec<u8>, Fail> {
-    let mut text = Vec::new(alloc);
-    text.resize(count, b' ')?;
-    Ok(text)
-}
-
-#[test]
-fn keeps_its_limits(rt: HostRuntime) -> Result<(), Fail> {
-    let most = spaces(rt.alloc(), 65_536)?;
-    let (_, err, _) = served(rt.alloc(), most.as_slice(), "-")?;
-    assert_eq!(rt; err.as_slice(), &b"ctxbound: check C4 NoThreads\n"[..]);
-    for count in [65_537, 200_000] {
-        let text = spaces(rt.alloc(), count)?;
-        let (_, err, status) = served(rt.alloc(), text.as_slice(), "x")?;
-        assert_eq!(rt;
-            err.as_slice(),
-            &b"ctxbound: syntax S5 TooLong at 1:1\n"[..]
-        );
-        assert_eq!(rt; status, 2);
-    }
-    Ok(())
-}
-
-/// The schedule in which thread 0 takes so many steps and one more.
-fn zeros(alloc: Global, more: usize) -> Result<String, Fail> {
-    let mut schedule = String::from_str(alloc, "0")?;
-    for _ in 0..more {
-        schedule.push_str(",0")?;
-    }
-    Ok(schedule)
-}
-
-#[test]
-fn runs_the_longest_thread(rt: HostRuntime) -> Result<(), Fail> {
-    let alloc = rt.alloc();
-    let mut want = Vec::new(alloc);
-    for step in 0..256 {
-        writeln!(want, "{step} A store x {}", step % 4 + 1)?;
-    }
-    want.extend_from_slice(b"preemptions 0\nkind done\nvars x=4\n")?;
-    let all = zeros(alloc, 255)?;
-    let (out, _, status) = served(alloc, LONGEST.as_bytes(), all.as_str())?;
-    assert_eq!(rt; out.as_slice(), want.as_slice());
-    assert_eq!(rt; status, 0);
-    let more = zeros(alloc, 4_096)?;
-    let (_, err, status) = served(alloc, LONGEST.as_bytes(), more.as_str())?;
-    assert_eq!(rt;
-        err.as_slice(),
-        &b"ctxbound: schedule P2 NotEnabled at 256\n"[..]
-    );
-    assert_eq!(rt; status, 2);
-    Ok(())
-}
-
-#[test]
-fn reads_no_further_than_it_must(rt: HostRuntime) -> Result<(), Fail> {
-    let alloc = rt.alloc();
-    let text = spaces(alloc, 65_537)?;
-    let request = request(alloc, "0")?;
-    let mut input = FailingReader {
-        text: text.as_slice(),
-        fails_at: 65_537,
-        calls: 0,
-    };
-    let mut out = Vec::new(alloc);
-    let mut err = Vec::new(alloc);
-    let status = serve(alloc, &request, &mut input, &mut out, &mut err);
-    assert_eq!(rt; (status, out.len(), input.calls), (2, 0, 65_537));
-    assert_eq!(rt;
-        err.as_slice(),
-        &b"ctxbound: syntax S5 TooLong at 1:1\n"[..]
-    );
     Ok(())
 }
 

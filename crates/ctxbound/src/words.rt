@@ -116,7 +116,7 @@ fn replay_command<'a>(alloc: Global) -> Result<Command<'a>, AllocError> {
         .required(true)
         .help("The guest program");
     let schedule = Arg::new(alloc, "SCHEDULE").default_value("-").help(
-        "Thread numbers from 0, joined by commas; `-` is the empty schedule",
+        "Thread numbers from 0, joined by commas, `0x3` for three steps; `-` is the empty schedule",
     );
     Command::new(alloc, "replay")
         .about("Runs one schedule of a guest program and prints its trace")

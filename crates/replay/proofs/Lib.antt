@@ -4,7 +4,8 @@ mod SpelledOnce
 mod PrintedRuns
 mod WrittenRuns
 mod ReadPieces
-mod Turns
-mod Steps
-mod Bad
-mod Texts
+mod KnownItems
+mod LinesOfSteps
+mod RunsAreValid
+mod FirstBadPlace
+mod TraceTexts

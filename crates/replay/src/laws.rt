@@ -1,10 +1,11 @@
 //! Laws of the definitions.
 
 ghost use Rattle.std.specs.Prelude.{◌≡◌, ◌≢◌, ◌<◌, ◌^◌, ◌++◌, ◌∷◌, ℕ, List, All, length, map, false};
-ghost use Rattle.guest_code.specs.Program.{Program};
+ghost use Rattle.guest_code.specs.Program.{Program, IsWellFormed};
 ghost use Rattle.semantics.specs.Machine.{start};
 ghost use Rattle.semantics.specs.Schedules.{runs};
-ghost use Rattle.replay.specs.Run.{IsFirstBad};
+ghost use Rattle.replay.specs.Run.{Run, IsFirstBad, IsRunOf};
+ghost use Rattle.replay.specs.Trace.{IsValidRun};
 ghost use Rattle.replay.specs.Spelling.{Spells, IsBadAt, IsTooLongAt, ScheduleErrorMeans, printed, pieces_of, piece_text, runs_of, steps_of};
 ghost use Rattle.replay.specs.declared.piece.Piece.{Piece};
 ghost use Rattle.replay.specs.declared.piece.TheConstants.{NUMBERS};
@@ -12,12 +13,19 @@ ghost use Rattle.replay.specs.declared.schedule.TheConstants.{PLACES};
 ghost use Rattle.replay.specs.declared.schedule.ScheduleError.{ScheduleError};
 
 /// A schedule that has a first bad place doesn't run, and has no other. So `replay` answers a
-/// schedule that runs by its run, or by want of memory.
+/// schedule that runs by its run, and any other by its first bad place, unless memory runs out.
 pub fn one_place_is_the_first_bad()
     ensures fails { (p : Program) (w : List ℕ) (k : ℕ) →
         IsFirstBad p w k → runs p (start p) w ≡ false }
     ensures one { (p : Program) (w : List ℕ) (j k : ℕ) →
         IsFirstBad p w j → IsFirstBad p w k → j ≡ k }
+{}
+
+/// The run of a schedule in a well formed program can be told with the program's names, as
+/// `trace_text` asks for.
+pub fn runs_can_be_told()
+    ensures { (p : Program) (w : List ℕ) (r : Run) →
+        IsWellFormed p → IsRunOf p w r → IsValidRun p r }
 {}
 
 /// A text spells at most one schedule.

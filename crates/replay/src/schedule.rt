@@ -6,11 +6,12 @@ ghost use Rattle.std.specs.Str.{bytes_eq};
 ghost use Rattle.replay.specs.Spelling.{printed, Spells, IsReadable, RefusalMeans, ScheduleErrorMeans};
 
 use crate::piece::{Piece, piece_of, put_piece, put_steps};
+use semantics::limits::STEPS;
 use std::alloc::{AllocError, AllocFailed, Global};
 use thiserror::Error;
 
-/// The most places of a schedule that is read from a text.
-pub const PLACES: usize = 32_768;
+/// The most places of a schedule that is read from a text: the limit of steps.
+pub const PLACES: usize = STEPS;
 
 /// The empty schedule.
 const EMPTY: &[u8] = b"-";

@@ -169,6 +169,23 @@ fn replays_and_prints(rt: HostRuntime) -> Result<(), Fail> {
 }
 
 #[test]
+fn replays_and_prints_long_schedules(rt: HostRuntime) -> Result<(), Fail> {
+    let text = b"var x; thread A { repeat 100 { store x 1; store x 2; store x 3; } }";
+    let tree = parse(rt.alloc(), text)?;
+    let program = lower(rt.alloc(), &tree)?;
+    let schedule = schedule_from(rt.alloc(), b"0x300")?;
+    let run = replay(rt.alloc(), &program, schedule.as_slice())?;
+    assert_eq!(rt; run.lines().len(), 300);
+    assert_eq!(rt; run.variables(), &[3][..]);
+    assert_eq!(rt; run.kind(), Some(Kind::Done));
+    let trace = trace_text(rt.alloc(), &program, &run)?;
+    // The places have 10, 90 and 200 numbers of one, two and three digits; the rest of a line has
+    // 13 bytes, and the three lines at the end have 33.
+    assert_eq!(rt; trace.len(), 790 + 300 * 13 + 33);
+    Ok(())
+}
+
+#[test]
 fn errors_name_the_refusal_and_its_place(rt: HostRuntime) -> Result<(), Fail> {
     let rows = [
         (

@@ -8,7 +8,8 @@ not_both : (v w : List ℕ) → precedes v w ≡ true → precedes w v ≡ false
 not_both v w h = go (precedes w v) refl
   where
     go : (b : Bool) → precedes w v ≡ b → precedes w v ≡ false
-    go true k = (let a : precedes v v ≡ true = before_later v w v h k in let b = never_before_itself v in cc)
+    go true k = (let a : precedes v v ≡ true = before_later v w v h k in
+        let b = never_before_itself v in cc)
     go false k = k
 
 -- v isn't before u, w isn't before v, so w isn't before u
@@ -46,7 +47,8 @@ lesser_comm None None = refl
 lesser_comm None (Some w) = refl
 lesser_comm (Some v) None = refl
 lesser_comm (Some v) (Some w) = elim (either_first v w) [
-  | inl same ↦ ap (λ z. lesser (Some v) (Some z)) (sym same) ∙ ap (λ z. lesser (Some z) (Some v)) same
+  | inl same ↦ ap (λ z. lesser (Some v) (Some z)) (sym same)
+      ∙ ap (λ z. lesser (Some z) (Some v)) same
   | inr (inl first) ↦ rw (first, not_both v w first) refl
   | inr (inr second) ↦ rw (second, not_both w v second) refl
 ]

@@ -43,10 +43,13 @@ then_equal Greater b h = cc
 -- views that compare alike are one
 view_same : IsAntisymmetric view_cmp
 view_same v w h =
-    let both = then_equal (nat_cmp (kind_rank v.kind) (kind_rank w.kind)) (slice_cmp int_cmp v.vars w.vars) h in
+    let both = then_equal (nat_cmp (kind_rank v.kind) (kind_rank w.kind))
+    (slice_cmp int_cmp v.vars w.vars) h in
     let rank : kind_rank v.kind ≡ kind_rank w.kind = nat_cmp-IsAntisymmetric _ _ both.0 in
-    let kind : v.kind ≡ w.kind = sym (kind_from-rank v.kind) ∙ (ap kind_from rank ∙ kind_from-rank w.kind) in
-    let vars : v.vars ≡ w.vars = slice_cmp-IsAntisymmetric int_cmp-IsAntisymmetric v.vars w.vars both.1 in
+    let kind : v.kind ≡ w.kind = sym (kind_from-rank v.kind)
+    ∙ (ap kind_from rank ∙ kind_from-rank w.kind) in
+    let vars : v.vars ≡ w.vars =
+    slice_cmp-IsAntisymmetric int_cmp-IsAntisymmetric v.vars w.vars both.1 in
     λ i. record { kind = kind i; vars = vars i }
 
 -- strictly sorted lists
@@ -60,14 +63,16 @@ unfolding After
 after_later x y [] h k = tt
 after_later x y (v ∷ vs) h k = (view_total.trans x y v h k.0, after_later x y vs h k.1)
 
-after-with_view : (x v : View) (vs : List View) → view_cmp x v ≡ Less → After x vs → After x (with_view v vs)
+after-with_view : (x v : View) (vs : List View) → view_cmp x v ≡ Less → After x vs →
+    After x (with_view v vs)
 unfolding After
 after-with_view x v [] h k = (h, tt)
-after-with_view x v (w ∷ ws) h k = elim (view_cmp v w) as (λ o. After x (by_order o (v ∷ w ∷ ws) (w ∷ ws) (w ∷ with_view v ws))) [
-  | Less ↦ (h, k)
-  | Equal ↦ k
-  | Greater ↦ (k.0, after-with_view x v ws h k.1)
-]
+after-with_view x v (w ∷ ws) h k =
+    elim (view_cmp v w) as (λ o. After x (by_order o (v ∷ w ∷ ws) (w ∷ ws) (w ∷ with_view v ws))) [
+      | Less ↦ (h, k)
+      | Equal ↦ k
+      | Greater ↦ (k.0, after-with_view x v ws h k.1)
+    ]
 
 pub with_view-sorted : (v : View) (vs : List View) →
     IsStrictlySortedBy view_cmp vs → IsStrictlySortedBy view_cmp (with_view v vs)
@@ -79,7 +84,8 @@ with_view-sorted v (w ∷ ws) h = go (view_cmp v w) refl (with_view-sorted v ws 
         IsStrictlySortedBy view_cmp (by_order o (v ∷ w ∷ ws) (w ∷ ws) (w ∷ with_view v ws))
     go Less e r = ((e, after_later v w ws e h.0), h)
     go Equal e r = h
-    go Greater e r = (after-with_view w v ws (view_total.antisymm w v ∙ ap ordering_reverse e) h.0, r)
+    go Greater e r =
+        (after-with_view w v ws (view_total.antisymm w v ∙ ap ordering_reverse e) h.0, r)
 
 pub sorted_views-sorted : (vs : List View) → IsStrictlySortedBy view_cmp (sorted_views vs)
 unfolding IsStrictlySortedBy
@@ -92,7 +98,8 @@ unfolding IsStrictlySortedBy
 sorted_already [] h = refl
 sorted_already (v ∷ vs) h = ap (with_view v) (sorted_already vs h.1) ∙ first vs h.0
   where
-    first : (vs : List View) → AllByRecursion (λ y. view_cmp v y ≡ Less) vs → with_view v vs ≡ v ∷ vs
+    first : (vs : List View) → AllByRecursion (λ y. view_cmp v y ≡ Less) vs →
+        with_view v vs ≡ v ∷ vs
     first [] k = refl
     first (w ∷ ws) k = rw (k.0) refl
 
@@ -100,25 +107,34 @@ sorted_already (v ∷ vs) h = ap (with_view v) (sorted_already vs h.1) ∙ first
 entered : List View → List (View × Unit {0})
 entered vs = map (λ v. (v, tt)) vs
 
-entered-with_view : (v : View) (ws : List View) → entered (with_view v ws) ≡ put view_cmp v tt (entered ws)
+entered-with_view : (v : View) (ws : List View) →
+    entered (with_view v ws) ≡ put view_cmp v tt (entered ws)
 unfolding entered
 entered-with_view v [] = refl
-entered-with_view v (w ∷ ws) = elim (view_cmp v w) as (λ o. entered (by_order o (v ∷ w ∷ ws) (w ∷ ws) (w ∷ with_view v ws)) ≡ by_order o ((v, tt) ∷ (w, tt) ∷ entered ws) ((w, tt) ∷ entered ws) ((w, tt) ∷ put view_cmp v tt (entered ws))) [
-  | Less ↦ refl
-  | Equal ↦ refl
-  | Greater ↦ ap (λ es. (w, tt) ∷ es) (entered-with_view v ws)
-]
+entered-with_view v (w ∷ ws) =
+    elim (view_cmp v w) as
+    (λ o. entered (by_order o (v ∷ w ∷ ws) (w ∷ ws) (w ∷ with_view v ws))
+    ≡ by_order o ((v, tt) ∷ (w, tt) ∷ entered ws) ((w, tt) ∷ entered ws)
+    ((w, tt) ∷ put view_cmp v tt (entered ws))) [
+      | Less ↦ refl
+      | Equal ↦ refl
+      | Greater ↦ ap (λ es. (w, tt) ∷ es) (entered-with_view v ws)
+    ]
 
 no_entries : {A : Type 0} (es : List A) → length es ≡ 0 → es ≡ []
 no_entries [] h = refl
 no_entries (e ∷ es) h = absurd (omega arith)
 
-entered-sorted_views : (vs : List View) → entered (sorted_views vs) ≡ entries (from_entries {R = view_cmp} (entered vs))
+entered-sorted_views : (vs : List View) →
+    entered (sorted_views vs) ≡ entries (from_entries {R = view_cmp} (entered vs))
 unfolding entered
-entered-sorted_views [] = sym (no_entries (entries (empty {R = view_cmp})) (sym (len-entries (empty {R = view_cmp})) ∙ len-empty view_cmp (Unit {0})))
+entered-sorted_views [] =
+    sym (no_entries (entries (empty {R = view_cmp}))
+    (sym (len-entries (empty {R = view_cmp})) ∙ len-empty view_cmp (Unit {0})))
 entered-sorted_views (v ∷ vs) =
     entered-with_view v (sorted_views vs)
-    ∙ (ap (put view_cmp v tt) (entered-sorted_views vs) ∙ sym (entries-insert view_total (from_entries (entered vs)) v tt))
+    ∙ (ap (put view_cmp v tt) (entered-sorted_views vs)
+    ∙ sym (entries-insert view_total (from_entries (entered vs)) v tt))
 
 views : List (View × Unit {0}) → List View
 views es = map (λ e. e.0) es
@@ -137,19 +153,24 @@ abbrev is_member : View → List View → Bool
 is_member q vs = list_any (eq_by_cmp view_cmp q) vs
 
 -- lists with the same members are one when they are sorted
-same_members : (xs ys : List View) → ((q : View) → is_member q xs ≡ is_member q ys) → sorted_views xs ≡ sorted_views ys
+same_members : (xs ys : List View) → ((q : View) → is_member q xs ≡ is_member q ys) →
+    sorted_views xs ≡ sorted_views ys
 unfolding views
 same_members xs ys h =
-    let found : (zs : List View) (q : View) → get (from_entries {R = view_cmp} (entered zs)) q ≡ cond (is_member q zs) (Some tt) None =
+    let found : (zs : List View) (q : View) →
+    get (from_entries {R = view_cmp} (entered zs)) q ≡ cond (is_member q zs) (Some tt) None =
     λ zs q.
     get-from_entries view_total (entered zs) q
     ∙ (marks (find view_cmp q (entered zs))
-    ∙ ap (λ b. cond b (Some tt) None) (is_some-find view_cmp q (entered zs) ∙ ap (is_member q) (views-entered zs))) in
+    ∙ ap (λ b. cond b (Some tt) None)
+    (is_some-find view_cmp q (entered zs) ∙ ap (is_member q) (views-entered zs))) in
     let maps =
-    same_map view_total view_same (from_entries {R = view_cmp} (entered xs)) (from_entries (entered ys)) (λ q.
+    same_map view_total view_same (from_entries {R = view_cmp} (entered xs))
+    (from_entries (entered ys)) (λ q.
     found xs q ∙ (ap (λ b. cond b (Some tt) None) (h q) ∙ sym (found ys q))) in
     sym (views-entered (sorted_views xs))
-    ∙ (ap views (entered-sorted_views xs ∙ (ap entries maps ∙ sym (entered-sorted_views ys))) ∙ views-entered (sorted_views ys))
+    ∙ (ap views (entered-sorted_views xs ∙ (ap entries maps ∙ sym (entered-sorted_views ys)))
+    ∙ views-entered (sorted_views ys))
 
 -- members
 
@@ -162,17 +183,27 @@ or_twice : (a b : Bool) → (a || (a || b)) ≡ (a || b)
 or_twice true b = refl
 or_twice false b = refl
 
-any-with_view : (test : View → Bool) (v : View) (ws : List View) → list_any test (with_view v ws) ≡ (test v || list_any test ws)
+any-with_view : (test : View → Bool) (v : View) (ws : List View) →
+    list_any test (with_view v ws) ≡ (test v || list_any test ws)
 any-with_view test v [] = refl
-any-with_view test v (w ∷ ws) = elim (view_cmp v w) as (λ o. view_cmp v w ≡ o → list_any test (by_order o (v ∷ w ∷ ws) (w ∷ ws) (w ∷ with_view v ws)) ≡ (test v || (test w || list_any test ws))) [
-  | Less ↦ λ e. refl
-  | Equal ↦ λ e. sym (ap (λ b. b || (test w || list_any test ws)) (ap test (view_same v w e)) ∙ or_twice (test w) (list_any test ws))
-  | Greater ↦ λ e. ap (λ b. test w || b) (any-with_view test v ws) ∙ or_swap (test w) (test v) (list_any test ws)
-] refl
+any-with_view test v (w ∷ ws) =
+    elim (view_cmp v w) as
+    (λ o. view_cmp v w ≡ o →
+    list_any test (by_order o (v ∷ w ∷ ws) (w ∷ ws) (w ∷ with_view v ws))
+    ≡ (test v || (test w || list_any test ws))) [
+      | Less ↦ λ e. refl
+      | Equal ↦ λ e. sym
+          (ap (λ b. b || (test w || list_any test ws)) (ap test (view_same v w e))
+          ∙ or_twice (test w) (list_any test ws))
+      | Greater ↦ λ e. ap (λ b. test w || b) (any-with_view test v ws)
+          ∙ or_swap (test w) (test v) (list_any test ws)
+    ] refl
 
-any-sorted_views : (test : View → Bool) (vs : List View) → list_any test (sorted_views vs) ≡ list_any test vs
+any-sorted_views : (test : View → Bool) (vs : List View) →
+    list_any test (sorted_views vs) ≡ list_any test vs
 any-sorted_views test [] = refl
-any-sorted_views test (v ∷ vs) = any-with_view test v (sorted_views vs) ∙ ap (λ b. test v || b) (any-sorted_views test vs)
+any-sorted_views test (v ∷ vs) = any-with_view test v (sorted_views vs)
+    ∙ ap (λ b. test v || b) (any-sorted_views test vs)
 
 ties : (q v : View) → q ≡ v → eq_by_cmp view_cmp q v ≡ true
 ties q v e = ap is_eq (ap (view_cmp q) (sym e) ∙ tied_itself view_total q)
@@ -190,14 +221,17 @@ member vs q c = list_any-from_Any (eq_by_cmp view_cmp q) vs (c.0, q, c.1, c.2, t
 
 from_member : (vs : List View) (q : View) → is_member q vs ≡ true → Contains vs q
 from_member vs q h =
-    let a : Any (λ x. eq_by_cmp view_cmp q x ≡ true) vs = Any-from_list_any (eq_by_cmp view_cmp q) vs h in
+    let a : Any (λ x. eq_by_cmp view_cmp q x ≡ true) vs =
+    Any-from_list_any (eq_by_cmp view_cmp q) vs h in
     let e : q ≡ a.1 = tied q a.1 a.4 in
     (a.0, a.2, ap (get_or vs a.0) e ∙ (a.3 ∙ sym e))
 
 -- sorting keeps the members
-pub sorted_views-members : (vs : List View) (q : View) → Contains (sorted_views vs) q ↔ Contains vs q
+pub sorted_views-members : (vs : List View) (q : View) →
+    Contains (sorted_views vs) q ↔ Contains vs q
 sorted_views-members vs q = (
-  λ c. from_member vs q (sym (any-sorted_views (eq_by_cmp view_cmp q) vs) ∙ member (sorted_views vs) q c),
+  λ c. from_member vs q
+      (sym (any-sorted_views (eq_by_cmp view_cmp q) vs) ∙ member (sorted_views vs) q c),
   λ c. from_member (sorted_views vs) q (any-sorted_views (eq_by_cmp view_cmp q) vs ∙ member vs q c),
 )
 
@@ -215,7 +249,8 @@ sorted_views-either K L q = (
 
 -- two lists sorted as one
 
-pub sorted_views-append : (K L : List View) → sorted_views (K ++ L) ≡ sorted_views (sorted_views K ++ sorted_views L)
+pub sorted_views-append : (K L : List View) →
+    sorted_views (K ++ L) ≡ sorted_views (sorted_views K ++ sorted_views L)
 sorted_views-append K L = same_members (K ++ L) (sorted_views K ++ sorted_views L) (λ q.
     let test : View → Bool = eq_by_cmp view_cmp q in
     list_any-append test K L
@@ -223,7 +258,8 @@ sorted_views-append K L = same_members (K ++ L) (sorted_views K ++ sorted_views 
     ∙ sym (list_any-append test (sorted_views K) (sorted_views L))))
 
 -- one more view at the end
-pub sorted_views-push : (vs : List View) (v : View) → sorted_views (vs ++ v ∷ []) ≡ with_view v (sorted_views vs)
+pub sorted_views-push : (vs : List View) (v : View) →
+    sorted_views (vs ++ v ∷ []) ≡ with_view v (sorted_views vs)
 sorted_views-push vs v = same_members (vs ++ v ∷ []) (v ∷ vs) (λ q.
     let test : View → Bool = eq_by_cmp view_cmp q in
     list_any-append test vs (v ∷ [])
@@ -232,21 +268,27 @@ sorted_views-push vs v = same_members (vs ++ v ∷ []) (v ∷ vs) (λ q.
 pub sorted_views-comm : (K L : List View) → sorted_views (K ++ L) ≡ sorted_views (L ++ K)
 sorted_views-comm K L = same_members (K ++ L) (L ++ K) (λ q.
     let test : View → Bool = eq_by_cmp view_cmp q in
-    list_any-append test K L ∙ (or_comm (list_any test K) (list_any test L) ∙ sym (list_any-append test L K)))
+    list_any-append test K L
+    ∙ (or_comm (list_any test K) (list_any test L) ∙ sym (list_any-append test L K)))
 
 pub sorted_views-assoc : (K L M : List View) →
     sorted_views (sorted_views (K ++ L) ++ M) ≡ sorted_views (K ++ sorted_views (L ++ M))
-sorted_views-assoc K L M = same_members (sorted_views (K ++ L) ++ M) (K ++ sorted_views (L ++ M)) (λ q.
+sorted_views-assoc K L M =
+    same_members (sorted_views (K ++ L) ++ M) (K ++ sorted_views (L ++ M)) (λ q.
     let test : View → Bool = eq_by_cmp view_cmp q in
     list_any-append test (sorted_views (K ++ L)) M
     ∙ (ap (λ b. b || list_any test M) (any-sorted_views test (K ++ L) ∙ list_any-append test K L)
     ∙ (or_assoc (list_any test K) (list_any test L) (list_any test M)
-    ∙ (ap (λ b. list_any test K || b) (sym (any-sorted_views test (L ++ M) ∙ list_any-append test L M))
+    ∙ (ap (λ b. list_any test K || b)
+    (sym (any-sorted_views test (L ++ M) ∙ list_any-append test L M))
     ∙ sym (list_any-append test K (sorted_views (L ++ M)))))))
 
 -- one more view of the second list
 pub sorted_views-more : (first second : List View) (i : ℕ) (v : View) → i < length second →
-    with_view (get_or second i v) (sorted_views (first ++ take i second)) ≡ sorted_views (first ++ take (i + 1) second)
+    with_view (get_or second i v) (sorted_views (first ++ take i second))
+    ≡ sorted_views (first ++ take (i + 1) second)
 sorted_views-more first second i v h =
     sym (sorted_views-push (first ++ take i second) (get_or second i v))
-    ∙ ap sorted_views (append_assoc first (take i second) (get_or second i v ∷ []) ∙ ap (λ vs. first ++ vs) (sym (take_more second i v h)))
+    ∙ ap sorted_views
+    (append_assoc first (take i second) (get_or second i v ∷ [])
+    ∙ ap (λ vs. first ++ vs) (sym (take_more second i v h)))

@@ -27,43 +27,56 @@ filter_true [] = refl
 filter_true (x ∷ xs) = ap (λ ys. x ∷ ys) (filter_true xs)
 
 -- a walk that left nothing
-walked_none : (mode : Mode) (item : ItemView) → IsWalked (record { mode = mode; item = item; part = item_sum mode item; rest = [] })
+walked_none : (mode : Mode) (item : ItemView) →
+    IsWalked (record { mode = mode; item = item; part = item_sum mode item; rest = [] })
 walked_none mode item = record {
-  part = ap (λ L. with_beyond (sum_of item.program L) (goes_beyond mode item)) (sym (filter_true (schedules_of mode item)));
-  schedules = sym (append-nil (filter (λ v. true) (schedules_of mode item)) ∙ filter_true (schedules_of mode item));
+  part = ap (λ L. with_beyond (sum_of item.program L) (goes_beyond mode item))
+      (sym (filter_true (schedules_of mode item)));
+  schedules = sym
+      (append-nil (filter (λ v. true) (schedules_of mode item))
+      ∙ filter_true (schedules_of mode item));
   beyond = sym (or-false (goes_beyond mode item));
   rest = All-nil (IsBelow item);
   apart = λ v. omega arith;
 }
 
 pub walked_whole : (mode : Mode) (item : ItemView) (part : SummaryView) (rest : List ItemView) →
-    part ≡ item_sum mode item → rest ≡ [] → IsWalked (record { mode = mode; item = item; part = part; rest = rest })
+    part ≡ item_sum mode item → rest ≡ [] →
+    IsWalked (record { mode = mode; item = item; part = part; rest = rest })
 walked_whole mode item part rest e f =
-    subst IsWalked (λ i. record { mode = mode; item = item; part = sym e i; rest = sym f i }) (walked_none mode item)
+    subst IsWalked (λ i. record { mode = mode; item = item; part = sym e i; rest = sym f i })
+    (walked_none mode item)
 
 -- the item of all schedules
 
 pub root_set : (p : Program) (bound : ℕ) →
-    schedules_within p [] bound ≡ filter (λ w. nat_le (preemptions p w) bound) (complete_schedules p (start p))
+    schedules_within p [] bound
+    ≡ filter (λ w. nat_le (preemptions p w) bound) (complete_schedules p (start p))
 unfolding schedules_within schedules_under
-root_set p bound = ap (filter (λ w. nat_le (preemptions p w) bound)) (filter_true (complete_schedules p (start p)))
+root_set p bound =
+    ap (filter (λ w. nat_le (preemptions p w) bound)) (filter_true (complete_schedules p (start p)))
 
 pub root_beyond : (p : Program) (bound : ℕ) →
-    exceeds_bound p [] bound ≡ list_any (λ w. nat_lt bound (preemptions p w)) (complete_schedules p (start p))
+    exceeds_bound p [] bound
+    ≡ list_any (λ w. nat_lt bound (preemptions p w)) (complete_schedules p (start p))
 unfolding exceeds_bound schedules_under
-root_beyond p bound = ap (list_any (λ w. nat_lt bound (preemptions p w))) (filter_true (complete_schedules p (start p)))
+root_beyond p bound =
+    ap (list_any (λ w. nat_lt bound (preemptions p w)))
+    (filter_true (complete_schedules p (start p)))
 
 -- each item's schedules
 
 pub item_members : (i : ItemView) (bound : ℕ) (w : List ℕ) →
-    Contains (schedules_of (Bounded bound) i) w ↔ (IsScheduleOf i w × (preemptions i.program w ≤ bound))
+    Contains (schedules_of (Bounded bound) i) w ↔
+    (IsScheduleOf i w × (preemptions i.program w ≤ bound))
 item_members i bound w =
     let under = in_under i.program i.prefix w in
     let within = in_within i.program i.prefix bound w in
     (λ c. let r = within.1 c in (under.1 r.0, r.1), λ h. within.0 (under.0 h.0, h.1))
 
 pub item_beyond : (i : ItemView) (bound : ℕ) →
-    (goes_beyond (Bounded bound) i ≡ true) ↔ ((w : List ℕ) × IsScheduleOf i w × (bound < preemptions i.program w))
+    (goes_beyond (Bounded bound) i ≡ true) ↔
+    ((w : List ℕ) × IsScheduleOf i w × (bound < preemptions i.program w))
 item_beyond i bound =
     let is = beyond_is i.program i.prefix bound in (
       λ h. let r = is.0 h in (r.0, (in_under i.program i.prefix r.0).1 r.1, r.2),
@@ -74,7 +87,8 @@ item_beyond i bound =
 abbrev InOrder : List (List ℕ) → Type 0
 InOrder L = AllPairs (λ v w. precedes v w ≡ true) L
 
-any_default : (L : List (List ℕ)) (i : ℕ) (c d : List ℕ) → i < length L → get_or L i c ≡ get_or L i d
+any_default : (L : List (List ℕ)) (i : ℕ) (c d : List ℕ) → i < length L →
+    get_or L i c ≡ get_or L i d
 any_default [] i c d h = absurd (omega arith)
 any_default (w ∷ L) zero c d h = refl
 any_default (w ∷ L) (suc i) c d h = any_default L i c d (omega arith)
@@ -84,11 +98,14 @@ in_order L rising i j d h k =
     subst (λ v. precedes v (get_or L j d) ≡ true) (any_default L i [] d (omega (arith, h, k)))
     (subst (λ w. precedes (get_or L i []) w ≡ true) (any_default L j [] d k) (rising i j h k))
 
-within_in_order : (p : Program) (prefix : List ℕ) (bound : ℕ) → InOrder (schedules_within p prefix bound)
+within_in_order : (p : Program) (prefix : List ℕ) (bound : ℕ) →
+    InOrder (schedules_within p prefix bound)
 unfolding schedules_within schedules_under
 within_in_order p prefix bound =
-    AllPairs-filter (λ v w. precedes v w ≡ true) (λ w. nat_le (preemptions p w) bound) (filter (begins_with prefix) (complete_schedules p (start p)))
-    (AllPairs-filter (λ v w. precedes v w ≡ true) (begins_with prefix) (complete_schedules p (start p))
+    AllPairs-filter (λ v w. precedes v w ≡ true) (λ w. nat_le (preemptions p w) bound)
+    (filter (begins_with prefix) (complete_schedules p (start p)))
+    (AllPairs-filter (λ v w. precedes v w ≡ true) (begins_with prefix)
+    (complete_schedules p (start p))
     (in_order (complete_schedules p (start p)) (all_rise p (start p))))
 
 items_in_order : (mode : Mode) (i : ItemView) → InOrder (schedules_of mode i)
@@ -99,16 +116,19 @@ item_rises mode item i j h k = items_in_order mode item i j [] h k
 
 -- an item whose own prefix is past the bound
 
-pub past_none : (i : ItemView) (bound : ℕ) → IsItem i → bound < preemptions i.program i.prefix → schedules_of (Bounded bound) i ≡ []
+pub past_none : (i : ItemView) (bound : ℕ) → IsItem i → bound < preemptions i.program i.prefix →
+    schedules_of (Bounded bound) i ≡ []
 past_none i bound h past = schedules_within-past i.program i.prefix bound h past
 
-pub past_beyond : (i : ItemView) (bound : ℕ) → IsItem i → bound < preemptions i.program i.prefix → goes_beyond (Bounded bound) i ≡ true
+pub past_beyond : (i : ItemView) (bound : ℕ) → IsItem i → bound < preemptions i.program i.prefix →
+    goes_beyond (Bounded bound) i ≡ true
 past_beyond i bound h past = exceeds_bound-past i.program i.prefix bound h past
 
 -- sums
 
 join-beyond : (p : Program) (K L : List (List ℕ)) (a b : Bool) →
-    with_beyond (sum_of p (K ++ L)) (a || b) ≡ join (with_beyond (sum_of p K) a) (with_beyond (sum_of p L) b)
+    with_beyond (sum_of p (K ++ L)) (a || b)
+    ≡ join (with_beyond (sum_of p K) a) (with_beyond (sum_of p L) b)
 unfolding sum_of join
 join-beyond p K L a b = ap (λ (t : SummaryView). with_beyond t (a || b)) (sum_of-append p K L)
 
@@ -117,20 +137,27 @@ unfolding sum_of
 nothing_of p = refl
 
 joined_is : (p : Program) (mode : Mode) (items : List ItemView) → All (λ r. r.program ≡ p) items →
-    with_beyond (sum_of p (flat_map (schedules_of mode) items)) (list_any (goes_beyond mode) items) ≡ item_sums mode items
+    with_beyond (sum_of p (flat_map (schedules_of mode) items)) (list_any (goes_beyond mode) items)
+    ≡ item_sums mode items
 joined_is p mode [] h = nothing_of p
 joined_is p mode (x ∷ xs) h =
     let same : x.program ≡ p = All-head (λ (r : ItemView). r.program ≡ p) x xs h in
-    let rest : All (λ (r : ItemView). r.program ≡ p) xs = All-tail (λ (r : ItemView). r.program ≡ p) x xs h in
-    join-beyond p (schedules_of mode x) (flat_map (schedules_of mode) xs) (goes_beyond mode x) (list_any (goes_beyond mode) xs)
-    ∙ (λ i. join (with_beyond (sum_of (sym same i) (schedules_of mode x)) (goes_beyond mode x)) (joined_is p mode xs rest i))
+    let rest : All (λ (r : ItemView). r.program ≡ p) xs =
+    All-tail (λ (r : ItemView). r.program ≡ p) x xs h in
+    join-beyond p (schedules_of mode x) (flat_map (schedules_of mode) xs) (goes_beyond mode x)
+    (list_any (goes_beyond mode) xs)
+    ∙ (λ i. join (with_beyond (sum_of (sym same i) (schedules_of mode x)) (goes_beyond mode x))
+    (joined_is p mode xs rest i))
 
-pub walked_sum : (w : WalkView) → IsWalked w → item_sum w.mode w.item ≡ join w.part (item_sums w.mode w.rest)
+pub walked_sum : (w : WalkView) → IsWalked w →
+    item_sum w.mode w.item ≡ join w.part (item_sums w.mode w.rest)
 walked_sum w h =
     let same : All (λ (r : ItemView). r.program ≡ w.item.program) w.rest =
-    All-weaker (IsBelow w.item) (λ (r : ItemView). r.program ≡ w.item.program) (λ r b. b.program) w.rest h.rest in
+    All-weaker (IsBelow w.item) (λ (r : ItemView). r.program ≡ w.item.program)
+    (λ r b. b.program) w.rest h.rest in
     (λ i. with_beyond (sum_of w.item.program (h.schedules i)) (h.beyond i))
-    ∙ (join-beyond w.item.program (tried_by w) (flat_map (schedules_of w.mode) w.rest) w.part.beyond (list_any (goes_beyond w.mode) w.rest)
+    ∙ (join-beyond w.item.program (tried_by w) (flat_map (schedules_of w.mode) w.rest) w.part.beyond
+    (list_any (goes_beyond w.mode) w.rest)
     ∙ (λ i. join (sym h.part i) (joined_is w.item.program w.mode w.rest same i)))
 
 -- the schedules of the rest
@@ -142,9 +169,12 @@ below_set (Bounded bound) above below b =
     ∙ schedules_within-longer above.program above.prefix below.prefix bound b.prefix
 
 pub walked_sets : (w : WalkView) → IsWalked w →
-    All (λ r. schedules_of w.mode r ≡ filter (begins_with r.prefix) (schedules_of w.mode w.item)) w.rest
+    All (λ r. schedules_of w.mode r
+    ≡ filter (begins_with r.prefix) (schedules_of w.mode w.item)) w.rest
 walked_sets w h =
-    All-weaker (IsBelow w.item) (λ (r : ItemView). schedules_of w.mode r ≡ filter (begins_with r.prefix) (schedules_of w.mode w.item))
+    All-weaker (IsBelow w.item)
+    (λ (r : ItemView). schedules_of w.mode r
+    ≡ filter (begins_with r.prefix) (schedules_of w.mode w.item))
     (λ r b. below_set w.mode w.item r b) w.rest h.rest
 
 -- no schedule lies under two
@@ -157,8 +187,10 @@ counted v (x ∷ xs) (suc i) d h e =
     let more : 1 ≤ covers v xs = counted v xs i d (omega arith) e in
     omega (arith, more)
 
-counted_twice : (v : List ℕ) (items : List ItemView) (i j : ℕ) (d : ItemView) → i < j → j < length items →
-    begins_with (get_or items i d).prefix v ≡ true → begins_with (get_or items j d).prefix v ≡ true → 2 ≤ covers v items
+counted_twice : (v : List ℕ) (items : List ItemView) (i j : ℕ) (d : ItemView) → i < j →
+    j < length items →
+    begins_with (get_or items i d).prefix v ≡ true →
+    begins_with (get_or items j d).prefix v ≡ true → 2 ≤ covers v items
 counted_twice v [] i j d h k e f = absurd (omega arith)
 counted_twice v (x ∷ xs) i zero d h k e f = absurd (omega arith)
 counted_twice v (x ∷ xs) zero (suc j) d h k e f =
@@ -168,11 +200,14 @@ counted_twice v (x ∷ xs) (suc i) (suc j) d h k e f =
     let more : 2 ≤ covers v xs = counted_twice v xs i j d (omega arith) (omega arith) e f in
     omega (arith, more)
 
-pub walked_apart : (w : WalkView) (v : List ℕ) (i j : ℕ) (d : ItemView) → IsWalked w → i < j → j < length w.rest →
-    begins_with (get_or w.rest i d).prefix v ≡ true → begins_with (get_or w.rest j d).prefix v ≡ false
+pub walked_apart : (w : WalkView) (v : List ℕ) (i j : ℕ) (d : ItemView) → IsWalked w → i < j →
+    j < length w.rest →
+    begins_with (get_or w.rest i d).prefix v ≡ true →
+    begins_with (get_or w.rest j d).prefix v ≡ false
 walked_apart w v i j d h l k e = go (begins_with (get_or w.rest j d).prefix v) refl
   where
-    go : (b : Bool) → begins_with (get_or w.rest j d).prefix v ≡ b → begins_with (get_or w.rest j d).prefix v ≡ false
+    go : (b : Bool) → begins_with (get_or w.rest j d).prefix v ≡ b →
+        begins_with (get_or w.rest j d).prefix v ≡ false
     go true f =
         let two : 2 ≤ covers v w.rest = counted_twice v w.rest i j d l k e f in
         let one : covers v w.rest ≤ 1 = h.apart v in
@@ -181,13 +216,15 @@ walked_apart w v i j d h l k e = go (begins_with (get_or w.rest j d).prefix v) r
 
 -- what was tried
 
-none_under : (v : List ℕ) (items : List ItemView) → is_under items v ≡ false → All (λ i. begins_with i.prefix v ≡ false) items
+none_under : (v : List ℕ) (items : List ItemView) → is_under items v ≡ false →
+    All (λ i. begins_with i.prefix v ≡ false) items
 none_under v [] h = All-nil (λ (i : ItemView). begins_with i.prefix v ≡ false)
 none_under v (x ∷ xs) h =
     let both = or_parts (begins_with x.prefix v) (is_under xs v) h in
     All-cons (λ (i : ItemView). begins_with i.prefix v ≡ false) x xs both.0 (none_under v xs both.1)
 
-filter_member : (test : List ℕ → Bool) (L : List (List ℕ)) (v : List ℕ) → Contains L v → test v ≡ true → Contains (filter test L) v
+filter_member : (test : List ℕ → Bool) (L : List (List ℕ)) (v : List ℕ) → Contains L v →
+    test v ≡ true → Contains (filter test L) v
 filter_member test L v c h = at L c.0 c.1 c.2
   where
     more : (x : List ℕ) (xs : List (List ℕ)) → Contains xs v → Contains (x ∷ xs) v
@@ -196,19 +233,26 @@ filter_member test L v c h = at L c.0 c.1 c.2
     at : (L : List (List ℕ)) (k : ℕ) → k < length L → get_or L k v ≡ v → Contains (filter test L) v
     at [] k l e = absurd (omega arith)
     at (x ∷ xs) zero l e = rw (ap test e ∙ h) (0, omega arith, e)
-    at (x ∷ xs) (suc k) l e = elim (test x) as (λ b. Contains (cond b (x ∷ filter test xs) (filter test xs)) v) [
-      | true ↦ more x (filter test xs) (at xs k (omega arith) e)
-      | false ↦ at xs k (omega arith) e
-    ]
+    at (x ∷ xs) (suc k) l e =
+        elim (test x) as (λ b. Contains (cond b (x ∷ filter test xs) (filter test xs)) v) [
+          | true ↦ more x (filter test xs) (at xs k (omega arith) e)
+          | false ↦ at xs k (omega arith) e
+        ]
 
 pub walked_tried : (w : WalkView) (v : List ℕ) →
-    Contains (tried_by w) v ↔ (Contains (schedules_of w.mode w.item) v × All (λ r. begins_with r.prefix v ≡ false) w.rest)
+    Contains (tried_by w) v ↔
+    (Contains (schedules_of w.mode w.item) v × All (λ r. begins_with r.prefix v ≡ false) w.rest)
 walked_tried w v = (
   λ c. (
-    All-contains (Contains all) (tried_by w) v (All-filter test (Contains all) all (All-contains_itself all)) c,
-    none_under v w.rest (not-true (is_under w.rest v) (All-contains (λ u. test u ≡ true) (tried_by w) v (filter_passes test all) c)),
+    All-contains (Contains all) (tried_by w) v
+        (All-filter test (Contains all) all (All-contains_itself all)) c,
+    none_under v w.rest
+        (not-true (is_under w.rest v)
+        (All-contains (λ u. test u ≡ true) (tried_by w) v (filter_passes test all) c)),
   ),
-  λ h. filter_member test all v h.0 (not_from_false (is_under w.rest v) (list_any_none (λ (i : ItemView). begins_with i.prefix v) w.rest h.1)),
+  λ h. filter_member test all v h.0
+      (not_from_false (is_under w.rest v)
+      (list_any_none (λ (i : ItemView). begins_with i.prefix v) w.rest h.1)),
 )
   where
     all : List (List ℕ)
@@ -219,7 +263,8 @@ walked_tried w v = (
 
 -- counts
 
-counts_of : (mode : Mode) (items : List ItemView) → length (flat_map (schedules_of mode) items) ≡ schedule_count mode items
+counts_of : (mode : Mode) (items : List ItemView) →
+    length (flat_map (schedules_of mode) items) ≡ schedule_count mode items
 counts_of mode [] = refl
 counts_of mode (x ∷ xs) =
     length-append (schedules_of mode x) (flat_map (schedules_of mode) xs)
@@ -229,14 +274,17 @@ pub walked_counts : (w : WalkView) → IsWalked w →
     length (schedules_of w.mode w.item) ≡ length (tried_by w) + schedule_count w.mode w.rest
 walked_counts w h =
     ap length h.schedules
-    ∙ (length-append (tried_by w) (flat_map (schedules_of w.mode) w.rest) ∙ ap (λ n. length (tried_by w) + n) (counts_of w.mode w.rest))
+    ∙ (length-append (tried_by w) (flat_map (schedules_of w.mode) w.rest)
+    ∙ ap (λ n. length (tried_by w) + n) (counts_of w.mode w.rest))
 
-tried_of : (p : Program) (L : List (List ℕ)) (b : Bool) → (with_beyond (sum_of p L) b).tried ≡ cut (length L)
+tried_of : (p : Program) (L : List (List ℕ)) (b : Bool) →
+    (with_beyond (sum_of p L) b).tried ≡ cut (length L)
 unfolding sum_of
 tried_of p L b = refl
 
 pub walked_count : (w : WalkView) → IsWalked w → w.part.tried ≡ cut (length (tried_by w))
-walked_count w h = ap (λ (t : SummaryView). t.tried) h.part ∙ tried_of w.item.program (tried_by w) w.part.beyond
+walked_count w h = ap (λ (t : SummaryView). t.tried) h.part
+    ∙ tried_of w.item.program (tried_by w) w.part.beyond
 
 pub walked_uncut : (w : WalkView) → IsWalked w → w.part.tried < greatest_count →
     length (schedules_of w.mode w.item) ≡ w.part.tried + schedule_count w.mode w.rest
@@ -244,7 +292,8 @@ walked_uncut w h less = let a = walked_counts w h in let b = walked_count w h in
 
 -- order
 
-parts_in_order : (K L : List (List ℕ)) (v u : List ℕ) → InOrder (K ++ L) → Contains K v → Contains L u → precedes v u ≡ true
+parts_in_order : (K L : List (List ℕ)) (v u : List ℕ) → InOrder (K ++ L) → Contains K v →
+    Contains L u → precedes v u ≡ true
 parts_in_order K L v u order c d =
     let i : ℕ = c.0 in
     let j : ℕ = length K + d.0 in
@@ -252,13 +301,17 @@ parts_in_order K L v u order c d =
     let k : d.0 < length L = d.1 in
     let whole : length (K ++ L) ≡ length K + length L = length-append K L in
     let first : get_or (K ++ L) i v ≡ v = get_or_append_left K L v i l ∙ c.2 in
-    let second : get_or (K ++ L) j v ≡ u = get_or-append-add K L d.0 v ∙ (any_default L d.0 v u k ∙ d.2) in
+    let second : get_or (K ++ L) j v ≡ u = get_or-append-add K L d.0 v
+    ∙ (any_default L d.0 v u k ∙ d.2) in
     subst (λ x. precedes x u ≡ true) first
-    (subst (λ x. precedes (get_or (K ++ L) i v) x ≡ true) second (order i j v (omega (arith, l)) (omega (arith, k, whole))))
+    (subst (λ x. precedes (get_or (K ++ L) i v) x ≡ true) second
+    (order i j v (omega (arith, l)) (omega (arith, k, whole))))
 
 pub walked_order : (w : WalkView) (v u : List ℕ) → IsWalked w →
-    Contains (tried_by w) v → Contains (schedules_of w.mode w.item) u → is_under w.rest u ≡ true → precedes v u ≡ true
-walked_order w v u h c d e = go (Contains-append_cases (tried_by w) left u (subst (λ L. Contains L u) h.schedules d))
+    Contains (tried_by w) v → Contains (schedules_of w.mode w.item) u → is_under w.rest u ≡ true →
+    precedes v u ≡ true
+walked_order w v u h c d e =
+    go (Contains-append_cases (tried_by w) left u (subst (λ L. Contains L u) h.schedules d))
   where
     left : List (List ℕ)
     left = flat_map (schedules_of w.mode) w.rest
@@ -266,7 +319,9 @@ walked_order w v u h c d e = go (Contains-append_cases (tried_by w) left u (subs
     go : Contains (tried_by w) u ⊎ Contains left u → precedes v u ≡ true
     go (inl a) =
         let none : not (is_under w.rest u) ≡ true =
-        All-contains (λ z. not (is_under w.rest z) ≡ true) (tried_by w) u (filter_passes (λ z. not (is_under w.rest z)) (schedules_of w.mode w.item)) a in
+        All-contains (λ z. not (is_under w.rest z) ≡ true) (tried_by w) u
+        (filter_passes (λ z. not (is_under w.rest z)) (schedules_of w.mode w.item)) a in
         let f : not true ≡ true = ap not (sym e) ∙ none in
         cc
-    go (inr b) = parts_in_order (tried_by w) left v u (subst InOrder h.schedules (items_in_order w.mode w.item)) c b
+    go (inr b) = parts_in_order (tried_by w) left v u
+        (subst InOrder h.schedules (items_in_order w.mode w.item)) c b

@@ -4,5 +4,6 @@ use Rattle.ctxbound.proofs.serve.read_text.Goals as goal
 
 pub returns-clause-text : goal.returns-clause-text
 returns-clause-text g c =
-    filled_is_part _ _ c.take.result.limit c.new-text.result.items c.read_to_end.new.buf.items
-    (ap (λ r. g.R.Read.remaining r.now) c.take.ensures.inner) c.new-text.ensures.items c.take.ensures.limit c.in_ok-read_to_end.ensures.bytes
+    let reader = ap (λ r. g.R.Read.remaining r.now) c.take.ensures.inner in
+    filled_is_part _ _ c.take.result.limit c.new-text.result.items c.read_to_end.new.buf.items reader
+    c.new-text.ensures.items c.take.ensures.limit c.in_ok-read_to_end.ensures.bytes

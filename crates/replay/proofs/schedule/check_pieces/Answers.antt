@@ -2,7 +2,7 @@ use Rattle.std.proofs.Common.{◌==◌, rules, tests, arith, length}
 use Rattle.std.proofs.lemmas.Iterator.Consumers.{YieldsList-at}
 use Rattle.std.proofs.lemmas.Iterator.Splits.{YieldsList-from_slice_split}
 use Rattle.replay.proofs.ReadPieces.{bad_here, long_here, offset_fits, more_read, more_offset, readable_all}
-use Rattle.replay.proofs.Turns.{turned, ended}
+use Rattle.replay.proofs.KnownItems.{turned, ended}
 use Rattle.replay.proofs.schedule.check_pieces.Goals as goal
 
 pub returns-in_default : goal.returns-in_default

@@ -2,7 +2,7 @@ use Rattle.std.proofs.Common.{◌==◌, rules, tests, length}
 use Rattle.std.proofs.lemmas.Iterator.Consumers.{YieldsList-at}
 use Rattle.std.proofs.lemmas.Iterator.Splits.{YieldsList-from_slice_split}
 use Rattle.replay.proofs.ReadPieces.{is_piece_here, there_is_one, held_one, more_steps, steps_all, all_short}
-use Rattle.replay.proofs.Turns.{turned, ended}
+use Rattle.replay.proofs.KnownItems.{turned, ended}
 use Rattle.replay.proofs.schedule.steps_of_pieces.Goals as goal
 
 pub unwrap-requires : goal.unwrap-requires
