@@ -1,5 +1,5 @@
 -- The local runs of two threads that branch, by computing them.
-use Rattle.std.proofs.Common.{◌≡◌, pos, List, [], ◌∷◌, refl}
+use Rattle.std.proofs.Common.{◌≡◌, pos, [], ◌∷◌, refl}
 use Rattle.semantics.specs.declared.state.Stop.TheVariants.{Assert as FailedAssert}
 use Rattle.semantics.specs.declared.state.Status.TheVariants.{Ended, Stopped}
 use Rattle.semantics.specs.declared.view.Kind.TheVariants.{Failed}
