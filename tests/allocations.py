@@ -1,11 +1,12 @@
 #!/usr/bin/env python3
 """allocations.py BINARY WALKER: each request for memory of a run fails in turn.
 
-BINARY is the program. Its answer must be that of a run with ample memory, or `ctxbound: memory`
-with status 4 and nothing on standard output. WALKER is the program of the benchmark, which walks
-all schedules of a guest; its answer must be that with ample memory, or nothing with status 1 or 2.
-The sweep of a run ends at the first number that is past its last request. The last line is
-`N passed, M failed`.
+BINARY is the program. With ample memory each run must end with its own status and say something.
+With a request refused, its answer must be the same, or `ctxbound: memory` with status 4 and nothing
+on standard output. WALKER is the program of the benchmark, which walks all schedules of a guest:
+with ample memory it must count them and end with status 0, and with a request refused do the same,
+or say nothing and end with status 1 or 2. The sweep of a run ends at the first number that is past
+its last request. The last line is `N passed, M failed`.
 """
 import os
 import subprocess
@@ -25,12 +26,14 @@ PROGRAMS = {
     "cut": "thread A { assert 0;",
     "unknown": "thread A { lock m; }",
 }
+# A guest, a schedule, and the status with ample memory.
 RUNS = [
-    ("race", "0,1,0"), ("race", "1,1,1"), ("race", "0,"), ("locks", "0,1"),
-    ("waits", "0,0,1,1,1,0,0"), ("waits", "1,1,1,0,0"), ("loops", "0"),
-    ("cut", "0"), ("unknown", "0"),
+    ("race", "0,1,0", 1), ("race", "0,0,1", 0), ("race", "1,1,1", 2), ("race", "0,", 2),
+    ("locks", "0,1", 1), ("waits", "0,0,1,1,1,0,0", 0), ("waits", "1,1,1,0,0", 1),
+    ("loops", "0", 0), ("cut", "0", 2), ("unknown", "0", 2),
 ]
-WALKS = [("race", "1"), ("locks", "1"), ("waits", "0"), ("cut", "0")]
+# A guest and a bound: the walk ends with status 0.
+WALKS = [("race", "1"), ("locks", "1"), ("waits", "0")]
 
 
 def run(binary, words, library=None, fail_at=0):
@@ -49,9 +52,11 @@ def says_nothing(answer):
     return answer in [(b"", b"", 1), (b"", b"", 2)]
 
 
-def sweep(binary, words, library, is_refusal):
-    """How many requests were refused in turn, or a line that says what went wrong."""
+def sweep(binary, words, library, status, is_refusal):
+    """How many requests were refused in turn, and a line that says what went wrong, or None."""
     ample = run(binary, words)
+    if ample[2] != status or ample[0] + ample[1] == b"":
+        return 0, "%s, with ample memory: %r" % (" ".join(words), ample)
     for fail_at in range(1, MOST):
         answer = run(binary, words, library, fail_at)
         if answer == ample:
@@ -73,10 +78,13 @@ def main(binary, walker):
         for name, text in PROGRAMS.items():
             with open(os.path.join(folder, name), "w") as file:
                 file.write(text)
-        replays = [(binary, ["replay", os.path.join(folder, name), schedule], says_memory) for name, schedule in RUNS]
-        walks = [(walker, [os.path.join(folder, name), bound], says_nothing) for name, bound in WALKS]
-        for program, words, is_refusal in replays + walks:
-            count, wrong = sweep(os.path.abspath(program), words, library, is_refusal)
+        program, walk = os.path.abspath(binary), os.path.abspath(walker)
+        sweeps = [(program, ["replay", os.path.join(folder, name), schedule], library, status, says_memory)
+                  for name, schedule, status in RUNS]
+        sweeps += [(walk, [os.path.join(folder, name), bound], library, 0, says_nothing)
+                   for name, bound in WALKS]
+        for arguments in sweeps:
+            count, wrong = sweep(*arguments)
             refusals += count
             passed, failed = passed + (wrong is None), failed + (wrong is not None)
             if wrong:

@@ -1,5 +1,8 @@
 -- What a replay answers for two byte strings, and what each fault says of them.
-use Rattle.std.specs.Prelude.{◌≡◌, ℕ, List, true, Option, Some, None}
+use Rattle.std.specs.Prelude.{◌≡◌, ◌≢◌, ◌⊎◌, ℕ, List, [], true, Option, Some, None, Result, Ok, Err, MatchResult, Vec, string_bytes}
+use Rattle.std.specs.declared.alloc.Global.{Global}
+use Rattle.std.specs.declared.io.ErrorKind.{ErrorKind}
+use Rattle.std.specs.declared.io.ErrorKind.TheVariants as io
 use Rattle.guest_syntax.specs.declared.error.SyntaxError.{SyntaxError}
 use Rattle.guest_syntax.specs.declared.error.SyntaxError.TheVariants as syntax
 use Rattle.guest_syntax.specs.Tree.{Tree}
@@ -22,8 +25,12 @@ use Rattle.replay.specs.Run.{ReplayErrorMeans}
 use Rattle.replay.specs.Spelling as spelling
 use Rattle.replay.specs.Trace.{Trace}
 use Rattle.ctxbound.specs.declared.answer.Replayed.{Replayed}
+use Rattle.ctxbound.specs.declared.asked.Asked.{Asked}
+use Rattle.ctxbound.specs.declared.asked.Asked.TheVariants as asked
 use Rattle.ctxbound.specs.declared.fault.Fault.{Fault}
-use Rattle.ctxbound.specs.declared.fault.Fault.TheVariants.{File, Syntax, Check, Schedule, Replay, Memory}
+use Rattle.ctxbound.specs.declared.fault.Fault.TheVariants.{File, Syntax, Check, Schedule}
+use Rattle.ctxbound.specs.declared.fault.Fault.TheVariants.{Replay, Memory}
+use Rattle.ctxbound.specs.Lines.{fault_line}
 
 -- the text spells a tree without a fault, and this is its program
 pub record IsProgramOf (text : List ℕ) (p : Program) : Type 0 where
@@ -32,7 +39,8 @@ pub record IsProgramOf (text : List ℕ) (p : Program) : Type 0 where
   pub sound : fault tree ≡ None
   pub same : p ≡ code tree
 
--- the text spells a program, the schedule's text a schedule that runs in it, and this is its trace and how it ends
+-- the text spells a program, the schedule's text a schedule that runs in it, and this is its trace
+-- and how it ends
 pub record IsReplayOf (text schedule : List ℕ) (a : Replayed) : Type 0 where
   pub program : Program
   pub is_program : IsProgramOf text program
@@ -62,8 +70,8 @@ pub record IsNoRun (text schedule : List ℕ) (e : ReplayError) : Type 0 where
   pub spelt : spelling.Spells schedule steps
   pub refused : ReplayErrorMeans program steps e
 
--- what a fault says of the text and of the schedule's text; want of memory is told as such and never as a refusal,
--- and no file is touched
+-- what a fault says of the text and of the schedule's text; out of memory is told as such and
+-- never as a refusal, and no file is touched
 abbrev pub FaultMeans : List ℕ → List ℕ → Fault → Type 0
 FaultMeans text w File = ⊥
 FaultMeans text w (Syntax syntax.OutOfMemory) = ⊥
@@ -76,7 +84,11 @@ FaultMeans text w (Replay replay.OutOfMemory) = ⊥
 FaultMeans text w (Replay e) = IsNoRun text w e
 FaultMeans text w Memory = Unit {0}
 
--- the fault of a refusal: want of memory is one fault, whoever met it
+-- what a replay answers for these two texts
+abbrev pub ReplayMeans : List ℕ → List ℕ → Result Replayed Fault → Type 0
+ReplayMeans text w result = MatchResult result (IsReplayOf text w) (FaultMeans text w)
+
+-- the fault of a refusal: out of memory is one fault, whoever met it
 abbrev pub of_syntax : SyntaxError → Fault
 of_syntax syntax.OutOfMemory = Memory
 of_syntax e = Syntax e
@@ -93,14 +105,23 @@ abbrev pub of_replay : ReplayError → Fault
 of_replay replay.OutOfMemory = Memory
 of_replay e = Replay e
 
--- the status behind a replay
+-- the fault of a device's error, by its kind
+abbrev pub IsDeviceFault : ErrorKind → Fault → Type 0
+IsDeviceFault kind fault =
+    ((kind ≡ io.OutOfMemory) × (fault ≡ Memory)) ⊎ ((kind ≢ io.OutOfMemory) × (fault ≡ File))
+
+-- a device's, whatever its kind
+abbrev pub IsOfDevice : Fault → Type 0
+IsOfDevice fault = (fault ≡ Memory) ⊎ (fault ≡ File)
+
+-- the status after a replay
 abbrev pub status_of : Option Kind → ℕ
 status_of (Some Done) = 0
 status_of (Some Failed) = 1
 status_of (Some Stuck) = 1
 status_of None = 0
 
--- the status behind a fault: 4 for devices and memory, 2 for what the user gave
+-- the status after a fault: 4 for devices and memory, 2 for what the user gave
 abbrev pub fault_status : Fault → ℕ
 fault_status File = 4
 fault_status Memory = 4
@@ -108,3 +129,38 @@ fault_status (Syntax e) = 2
 fault_status (Check e) = 2
 fault_status (Schedule e) = 2
 fault_status (Replay e) = 2
+
+-- what the program writes on each stream, and the status that it ends with
+pub record AnswerView : Type 0 where
+  pub output : List ℕ
+  pub error : List ℕ
+  pub status : ℕ
+
+-- after a replay its trace and its status; after a fault its line and its status
+abbrev pub answer_of : Result Replayed Fault → AnswerView
+answer_of (Ok replayed) = record {
+  output = replayed.trace.items;
+  error = [];
+  status = status_of replayed.kind;
+}
+answer_of (Err fault) = record {
+  output = [];
+  error = fault_line fault;
+  status = fault_status fault;
+}
+
+-- the answer after a replay of this schedule's text in the program of this text, or after what is
+-- wrong with them
+pub record IsAnswerOf (text schedule : List ℕ) (a : AnswerView) : Type 0 where
+  pub result : Result Replayed Fault
+  pub means : ReplayMeans text schedule result
+  pub same : a ≡ answer_of result
+
+-- the schedule's text in a request
+abbrev pub schedule_of : Asked → List ℕ
+schedule_of (asked.Replay schedule) = string_bytes schedule
+
+-- the answer to a request, where the reader gave a text or failed
+abbrev pub IsAnswerTo : Asked → Result (Vec ℕ Global) Fault → AnswerView → Type 0
+IsAnswerTo request (Ok text) a = IsAnswerOf text.items (schedule_of request) a
+IsAnswerTo request (Err fault) a = a ≡ answer_of (Err fault)

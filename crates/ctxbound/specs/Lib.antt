@@ -1,1 +1,4 @@
 pub mod Answer
+pub mod Lines
+pub mod Serve
+pub mod Words

@@ -2,36 +2,30 @@
 
 ghost use Rattle.std.specs.Prelude.{◌≡◌};
 ghost use Rattle.ctxbound.specs.Answer.{fault_status};
+ghost use Rattle.ctxbound.specs.Lines.{fault_line};
+ghost use Rattle.ctxbound.specs.Serve.{IsWritten};
 
 use guest_code::error::CheckError;
 use guest_syntax::SyntaxError;
 use replay::{ReplayError, ScheduleError};
 use std::alloc::AllocError;
-use std::io;
-use std::io::ErrorKind;
-use thiserror::Error;
+use std::io::{ErrorKind, Write};
+use std::{fmt, io};
 
-/// A fault, in the order in which they are looked for. Its `Display` is the line for the user
-/// behind the name of the program.
-#[derive(Debug, Drop, Error)]
+/// A fault, in the order in which they are looked for.
+#[derive(Debug, Drop)]
 pub enum Fault {
     /// The file can't be read, or the output can't be written.
-    #[error("file")]
     File,
     /// The text spells no program.
-    #[error("{0}")]
     Syntax(SyntaxError),
     /// The program is not sound.
-    #[error("{0}")]
     Check(CheckError),
     /// The schedule's text spells no schedule.
-    #[error("{0}")]
     Schedule(ScheduleError),
     /// The schedule doesn't run.
-    #[error("{0}")]
     Replay(ReplayError),
-    /// Memory was refused.
-    #[error("memory")]
+    /// Memory ran out.
     Memory,
 }
 
@@ -45,7 +39,82 @@ impl Fault {
             Fault::Syntax(_) | Fault::Check(_) | Fault::Schedule(_) | Fault::Replay(_) => 2,
         }
     }
+
+    /// Writes its line: the name of the program, what the user is told, and a line feed.
+    ///
+    /// # Errors
+    ///
+    /// What the writer answers.
+    pub fn write_line<E: Write>(&self, err: &mut E) -> io::Result<()>
+        ensures { IsWritten result (E.contents err.old) (E.contents err.new) (fault_line self.now) }
+    {
+        writeln!(err, "ctxbound: {self}")
+    }
+
+    /// Writes its line, and answers the status. A failing stream changes no status.
+    pub fn report<E: Write>(&self, err: &mut E) -> u8
+        ensures { result ≡ fault_status self.now }
+    {
+        let _ = self.write_line(err);
+        self.status()
+    }
 }
+
+/// What the user is told, after the name of the program: the kind of fault, the number and the name
+/// of a refusal, and its place.
+impl fmt::Display for Fault {
+    ghost use Rattle.std.specs.Prelude.{Some};
+    ghost use Rattle.ctxbound.specs.Lines.{fault_text};
+
+    ghost output = { λ fault. Some (fault_text fault) };
+
+    fn fmt<W: fmt::Write>(&self, f: &mut fmt::Formatter<W>) -> fmt::Result {
+        match self {
+            Fault::File => write!(f, "file"),
+            Fault::Syntax(SyntaxError::NotAscii(at)) => write!(f, "syntax S1 NotAscii at {at}"),
+            Fault::Syntax(SyntaxError::BadChar(at)) => write!(f, "syntax S2 BadChar at {at}"),
+            Fault::Syntax(SyntaxError::Expected(at)) => write!(f, "syntax S3 Expected at {at}"),
+            Fault::Syntax(SyntaxError::NumberTooBig(at)) => {
+                write!(f, "syntax S4 NumberTooBig at {at}")
+            }
+            Fault::Syntax(SyntaxError::TooLong(at)) => write!(f, "syntax S5 TooLong at {at}"),
+            Fault::Syntax(SyntaxError::TooDeep(at)) => write!(f, "syntax S6 TooDeep at {at}"),
+            Fault::Check(CheckError::Duplicate(at)) => write!(f, "check C1 Duplicate at {at}"),
+            Fault::Check(CheckError::Unknown(at)) => write!(f, "check C2 Unknown at {at}"),
+            Fault::Check(CheckError::WrongKind(at)) => write!(f, "check C3 WrongKind at {at}"),
+            Fault::Check(CheckError::NoThreads) => write!(f, "check C4 NoThreads"),
+            Fault::Check(CheckError::TooMany(at)) => write!(f, "check C5 TooMany at {at}"),
+            Fault::Check(CheckError::CodeTooLong(t)) => write!(
+                f,
+                "check C6 CodeTooLong in thread {t}"
+            ),
+            Fault::Check(CheckError::LeaveOutside(at)) => write!(
+                f,
+                "check C7 LeaveOutside at {at}"
+            ),
+            Fault::Schedule(ScheduleError::BadSchedule(at)) => write!(
+                f,
+                "schedule Q1 BadSchedule at {at}"
+            ),
+            Fault::Schedule(ScheduleError::TooLong(at)) => write!(f, "schedule Q3 TooLong at {at}"),
+            Fault::Replay(ReplayError::NoSuchThread(at)) => write!(
+                f,
+                "schedule P1 NoSuchThread at {at}"
+            ),
+            Fault::Replay(ReplayError::NotEnabled(at)) => write!(
+                f,
+                "schedule P2 NotEnabled at {at}"
+            ),
+            Fault::Memory
+            | Fault::Syntax(SyntaxError::OutOfMemory)
+            | Fault::Check(CheckError::OutOfMemory)
+            | Fault::Schedule(ScheduleError::OutOfMemory)
+            | Fault::Replay(ReplayError::OutOfMemory) => write!(f, "memory"),
+        }
+    }
+}
+
+impl std::error::Error for Fault {}
 
 impl From<SyntaxError> for Fault {
     ghost use Rattle.std.specs.Prelude.{◌≡◌};
@@ -115,6 +184,11 @@ impl From<AllocError> for Fault {
 }
 
 impl From<io::Error> for Fault {
+    ghost use Rattle.std.specs.IoError.{error_kind};
+    ghost use Rattle.ctxbound.specs.Answer.{IsDeviceFault};
+
+    ghost from_gives = { λ e fault. IsDeviceFault (error_kind e) fault };
+
     fn from(error: io::Error) -> Fault {
         match error.kind() {
             ErrorKind::OutOfMemory => Fault::Memory,

@@ -8,37 +8,22 @@
 mod answer;
 mod asked;
 mod fault;
+mod program;
 mod serve;
 #[cfg(test)]
 mod tests;
 mod words;
 
-use crate::fault::Fault;
-use crate::serve::{report_fault, serve};
-use crate::words::asked;
-use std::fs;
+use crate::program::serve_words;
+use crate::words::command_words;
 use std::process::ExitCode;
 
-/// The status to end with. What is said of faults behind `asked` is printed already.
-fn run(rt: &HostRuntime) -> Result<u8, Fault> {
-    let words: Vec<String> = std::env::args(rt)?.collect(rt.alloc())?;
-    let (file, request) = match asked(rt.alloc(), words.as_slice()) {
-        Ok(request) => request,
-        Err(fault) => return Ok(fault.report(&mut rt.stderr())),
-    };
-    let mut input = fs::open(rt, file.as_str())?;
-    Ok(serve(
-        rt.alloc(),
-        &request,
-        &mut input,
-        &mut rt.stdout(),
-        &mut rt.stderr(),
-    ))
-}
-
 fn main(rt: HostRuntime) -> ExitCode {
-    match run(&rt) {
-        Ok(status) => ExitCode::from(status),
-        Err(fault) => ExitCode::from(report_fault(&mut rt.stderr(), &fault)),
-    }
+    let mut out = rt.stdout();
+    let mut err = rt.stderr();
+    let status = match command_words(&rt) {
+        Ok(words) => serve_words(&rt, words.as_slice(), &mut out, &mut err),
+        Err(fault) => fault.report(&mut err),
+    };
+    ExitCode::from(status)
 }

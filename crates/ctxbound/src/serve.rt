@@ -1,50 +1,37 @@
 //! One run of the program over a reader and two writers.
 
-ghost use Rattle.std.specs.Prelude.{◌≡◌};
-ghost use Rattle.ctxbound.specs.Answer.{fault_status};
+ghost use Rattle.std.specs.Prelude.{◌≡◌, ◌⊎◌, IfSome, IfOk, IfErr};
+ghost use Rattle.ctxbound.specs.Answer.{IsOfDevice};
+ghost use Rattle.ctxbound.specs.Serve.{IsPartRead, IsServed, IsWritten};
 
-use crate::answer::{replay_text, status_of};
+use crate::answer::Answer;
 use crate::asked::Asked;
 use crate::fault::Fault;
 use guest_syntax::TEXT_BYTES;
 use std::alloc::Global;
 use std::io::{Read, Write};
 
-/// Writes the line of a fault, and answers its status. A failing stream changes no status.
-pub fn report_fault<E: Write>(err: &mut E, fault: &Fault) -> u8
-    ensures { result ≡ fault_status fault.now }
-{
-    let _ = writeln!(err, "ctxbound: {fault}");
-    fault.status()
-}
-
 /// The text of a guest program, or one byte more than a program may have where it is too long.
-fn read_text<R: Read>(alloc: Global, input: &mut R) -> Result<Vec<u8>, Fault> {
+fn read_text<R: Read>(alloc: Global, input: &mut R) -> Result<Vec<u8>, Fault>
+    ensures text { IfOk result (λ text. IfSome (R.remaining input.old) (IsPartRead text.items)) }
+    ensures fault { IfErr result IsOfDevice }
+{
     let mut text = Vec::new(alloc);
     input.take(TEXT_BYTES as u64 + 1).read_to_end(&mut text)?;
     Ok(text)
 }
 
-fn write_out<W: Write>(out: &mut W, text: &[u8]) -> Result<(), Fault> {
-    out.write_all(text)?;
+/// Writes the output. Where there is none, the device isn't touched.
+fn write_out<W: Write>(out: &mut W, output: &[u8]) -> Result<(), Fault>
+    ensures written { IsWritten result (W.contents out.old) (W.contents out.new) output.now }
+    ensures fault { IfErr result IsOfDevice }
+{
+    if output.is_empty() {
+        return Ok(());
+    }
+    out.write_all(output)?;
     out.flush()?;
     Ok(())
-}
-
-fn answered<R: Read, W: Write>(
-    alloc: Global,
-    asked: &Asked,
-    input: &mut R,
-    out: &mut W,
-) -> Result<u8, Fault> {
-    let text = read_text(alloc, input)?;
-    match asked {
-        Asked::Replay { schedule } => {
-            let replayed = replay_text(alloc, text.as_slice(), schedule.as_bytes())?;
-            write_out(out, replayed.trace.as_slice())?;
-            Ok(status_of(replayed.kind))
-        }
-    }
 }
 
 /// Does what is asked with the guest program that `input` gives: the answer goes to `out`, the
@@ -55,9 +42,16 @@ pub fn serve<R: Read, W: Write, E: Write>(
     input: &mut R,
     out: &mut W,
     err: &mut E,
-) -> u8 {
-    match answered(alloc, asked, input, out) {
-        Ok(status) => status,
-        Err(fault) => report_fault(err, &fault),
+) -> u8
+    ensures { IfSome (R.remaining input.old) (λ text. (result ≡ 4)
+        ⊎ IsServed asked.now text (W.contents out.old) (W.contents out.new) result) }
+{
+    let answer = Answer::new(alloc, asked, read_text(alloc, input));
+    match write_out(out, answer.output()) {
+        Ok(()) => {
+            let _ = answer.write_error(err);
+            answer.status()
+        }
+        Err(fault) => fault.report(err),
     }
 }

@@ -2,13 +2,15 @@
 //! texts were worked out by hand from the rules of `docs/LANGUAGE.md` and `docs/FORMATS.md`.
 
 mod devices;
+mod limits;
 mod rows;
+mod words;
 
 use crate::asked::Asked;
 use crate::fault::Fault;
-use crate::serve::{report_fault, serve};
+use crate::serve::serve;
 use crate::tests::devices::{FailingReader, FailingWriter};
-use crate::tests::rows::{LONGEST, RACE, REFUSALS, TRACES};
+use crate::tests::rows::{RACE, REFUSALS, TRACES};
 use crate::words::asked;
 use std::alloc::Global;
 use std::test::*;
@@ -62,83 +64,6 @@ fn prints_refusals(rt: HostRuntime) -> Result<(), Fail> {
     Ok(())
 }
 
-/// So many spaces.
-fn spaces(alloc: Global, count: usize) -> Result<Vec<u8>, Fail> {
-    let mut text = Vec::new(alloc);
-    text.resize(count, b' ')?;
-    Ok(text)
-}
-
-#[test]
-fn keeps_its_limits(rt: HostRuntime) -> Result<(), Fail> {
-    let most = spaces(rt.alloc(), 65_536)?;
-    let (_, err, _) = served(rt.alloc(), most.as_slice(), "-")?;
-    assert_eq!(rt; err.as_slice(), &b"ctxbound: check C4 NoThreads\n"[..]);
-    for count in [65_537, 200_000] {
-        let text = spaces(rt.alloc(), count)?;
-        let (_, err, status) = served(rt.alloc(), text.as_slice(), "x")?;
-        assert_eq!(rt;
-            err.as_slice(),
-            &b"ctxbound: syntax S5 TooLong at 1:1\n"[..]
-        );
-        assert_eq!(rt; status, 2);
-    }
-    Ok(())
-}
-
-/// The schedule in which thread 0 takes so many steps and one more.
-fn zeros(alloc: Global, more: usize) -> Result<String, Fail> {
-    let mut schedule = String::from_str(alloc, "0")?;
-    for _ in 0..more {
-        schedule.push_str(",0")?;
-    }
-    Ok(schedule)
-}
-
-#[test]
-fn runs_the_longest_thread(rt: HostRuntime) -> Result<(), Fail> {
-    let all = zeros(rt.alloc(), 255)?;
-    let (out, _, status) = served(rt.alloc(), LONGEST.as_bytes(), all.as_str())?;
-    let end = b"\n255 A store x 4\npreemptions 0\nkind done\nvars x=4\n";
-    assert!(rt; out.as_slice().ends_with(end));
-    assert_eq!(rt; status, 0);
-    let more = zeros(rt.alloc(), 4_096)?;
-    let (_, err, status) = served(rt.alloc(), LONGEST.as_bytes(), more.as_str())?;
-    assert_eq!(rt;
-        err.as_slice(),
-        &b"ctxbound: schedule P2 NotEnabled at 256\n"[..]
-    );
-    assert_eq!(rt; status, 2);
-    Ok(())
-}
-
-#[test]
-fn reads_its_words(rt: HostRuntime) -> Result<(), Fail> {
-    let alloc = rt.alloc();
-    let words = ["ctxbound", "replay", "race.guest"];
-    let words = [
-        String::from_str(alloc, words[0])?,
-        String::from_str(alloc, words[1])?,
-        String::from_str(alloc, words[2])?,
-    ];
-    let (file, request) = match asked(alloc, &words[..]) {
-        Ok(request) => request,
-        Err(_) => return Err(Fail::new("the words are refused")),
-    };
-    let Asked::Replay { schedule } = &request;
-    assert_eq!(rt; file.as_str(), "race.guest");
-    assert_eq!(rt; schedule.as_str(), "-");
-    for count in 1..3 {
-        let Err(fault) = asked(alloc, &words[..count]) else {
-            return Err(Fail::new("too few words are taken"));
-        };
-        let mut err = Vec::new(alloc);
-        assert_eq!(rt; fault.report(&mut err), 2);
-        assert!(rt; !err.is_empty());
-    }
-    Ok(())
-}
-
 #[test]
 fn says_that_a_device_failed(rt: HostRuntime) -> Result<(), Fail> {
     let alloc = rt.alloc();
@@ -158,7 +83,7 @@ fn says_that_a_device_failed(rt: HostRuntime) -> Result<(), Fail> {
     let (trace, _, _) = served(alloc, RACE.as_bytes(), "0,1,0")?;
     for fails_at in 0..=trace.len() {
         let mut input = RACE.as_bytes();
-        let mut out = FailingWriter { fails_at, calls: 0 };
+        let mut out = FailingWriter::at(fails_at);
         let mut err = Vec::new(alloc);
         let status = serve(alloc, &request, &mut input, &mut out, &mut err);
         assert_eq!(rt; (status, out.calls), (4, fails_at + 1));
@@ -168,20 +93,22 @@ fn says_that_a_device_failed(rt: HostRuntime) -> Result<(), Fail> {
 }
 
 #[test]
-fn keeps_its_status_where_the_error_stream_fails(rt: HostRuntime) -> Result<(), Fail> {
+fn keeps_its_status_where_a_stream_fails(rt: HostRuntime) -> Result<(), Fail> {
     let alloc = rt.alloc();
     let request = request(alloc, "0,")?;
+    let mut out = FailingWriter::at(0);
+    let mut err = Vec::new(alloc);
     let mut input = RACE.as_bytes();
-    let mut out = Vec::new(alloc);
-    let mut err = FailingWriter {
-        fails_at: 0,
-        calls: 0,
-    };
     assert_eq!(rt; serve(alloc, &request, &mut input, &mut out, &mut err), 2);
-    let mut err = FailingWriter {
-        fails_at: 0,
-        calls: 0,
-    };
-    assert_eq!(rt; report_fault(&mut err, &Fault::Memory), 4);
+    assert_eq!(rt; out.calls, 0);
+    assert_eq!(rt;
+        err.as_slice(),
+        &b"ctxbound: schedule Q1 BadSchedule at 2\n"[..]
+    );
+    let mut input = RACE.as_bytes();
+    let mut err = FailingWriter::at(0);
+    assert_eq!(rt; serve(alloc, &request, &mut input, &mut out, &mut err), 2);
+    let mut err = FailingWriter::at(0);
+    assert_eq!(rt; Fault::Memory.report(&mut err), 4);
     Ok(())
 }

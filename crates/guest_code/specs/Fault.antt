@@ -1,11 +1,12 @@
 -- Which refusal a tree gets.
-use Rattle.std.specs.Prelude.{ℕ, ◌+◌, ltb, List, [], ◌∷◌, ◌++◌, length, if◌then◌else◌, Option, Some, None}
+use Rattle.std.specs.Prelude.{◌≡◌, ℕ, ◌+◌, ltb, List, [], ◌∷◌, ◌++◌, length, if◌then◌else◌, Option, Some, None}
+use Rattle.std.specs.Option.{option_or}
 use Rattle.guest_syntax.specs.Tree.{Name, Thread, Tree}
 use Rattle.guest_code.specs.declared.limits.TheConstants.{VARIABLES, OBJECTS, THREADS, LOCALS, INSTRUCTIONS}
 use Rattle.guest_code.specs.declared.kinds.Kind.{Kind}
 use Rattle.guest_code.specs.declared.kinds.Kind.TheVariants as kinds
 use Rattle.guest_code.specs.declared.error.CheckError.{CheckError}
-use Rattle.guest_code.specs.declared.error.CheckError.TheVariants.{Duplicate, Unknown, WrongKind, NoThreads, TooMany, CodeTooLong, LeaveOutside}
+use Rattle.guest_code.specs.declared.error.CheckError.TheVariants.{Duplicate, Unknown, WrongKind, NoThreads, TooMany, CodeTooLong, LeaveOutside, OutOfMemory}
 use Rattle.guest_code.specs.Uses.{Use, declares, object, local, outside, same, uses, kind_in, how_many, knows, locals_from}
 use Rattle.guest_code.specs.Sizes.{block_size}
 
@@ -24,15 +25,18 @@ abbrev pub declares_refusal : Kind → Name → Option Kind → ℕ → Option C
 declares_refusal k n (Some j) count = Some (Duplicate n.at)
 declares_refusal k n None count = if ltb count (limit_of k) then None else Some (TooMany n.at)
 
--- of a name where an object of this kind must stand, given what it is declared as
+-- of a name where an object of this kind must be, given what it is declared as
 abbrev pub object_refusal : Kind → Name → Option Kind → Option CheckError
 object_refusal k n None = Some (Unknown n.at)
 object_refusal k n (Some j) = if same j k then None else Some (WrongKind n.at)
 
--- of a name where a local must stand, given what it is declared as, and the locals before it
+-- of a name where a local must be, given what it is declared as, and the locals before it
 abbrev pub local_refusal : Name → Option Kind → List (List ℕ) → Option CheckError
 local_refusal n (Some j) ns = Some (WrongKind n.at)
-local_refusal n None ns = if knows ns n.text then None else if ltb (length ns) LOCALS then None else Some (TooMany n.at)
+local_refusal n None ns =
+    if knows ns n.text then None
+    else if ltb (length ns) LOCALS then None
+    else Some (TooMany n.at)
 
 -- of a use, given all uses of the text and those before it
 abbrev pub refusal : List Use → List Use → Use → Option CheckError
@@ -43,15 +47,10 @@ refusal all before (outside at) = Some (LeaveOutside at)
 
 -- ---- the refusal of a text
 
--- the first of two refusals
-abbrev pub or_else : Option CheckError → Option CheckError → Option CheckError
-or_else (Some e) o = Some e
-or_else None o = o
-
 -- the first refusal of these uses in text order, given all uses of the text and those before
 abbrev pub first : List Use → List Use → List Use → Option CheckError
 first all before [] = None
-first all before (u ∷ us) = or_else (refusal all before u) (first all (before ++ u ∷ []) us)
+first all before (u ∷ us) = option_or (refusal all before u) (first all (before ++ u ∷ []) us)
 
 -- a text needs a thread
 abbrev pub no_threads : List Thread → Option CheckError
@@ -61,8 +60,29 @@ no_threads (t ∷ ts) = None
 -- the first thread that is too long, the first of the list having number k
 abbrev pub too_long : ℕ → List Thread → Option CheckError
 too_long k [] = None
-too_long k (t ∷ ts) = if ltb INSTRUCTIONS (block_size t.body) then Some (CodeTooLong k) else too_long (k + 1) ts
+too_long k (t ∷ ts) =
+    if ltb INSTRUCTIONS (block_size t.body) then Some (CodeTooLong k) else too_long (k + 1) ts
 
--- the refusal of a tree, if there is one: the first among its names, then for want of threads, then for a length
+-- the first refusal among the names of a tree
+abbrev pub first_of_names : List Use → Option CheckError
+first_of_names all = first all [] all
+
+-- the refusal of a tree, if there is one: the first among its names, then that there is no thread,
+-- then a length
 abbrev pub fault : Tree → Option CheckError
-fault t = or_else (first (uses t.declarations t.threads) [] (uses t.declarations t.threads)) (or_else (no_threads t.threads) (too_long 0 t.threads))
+fault t =
+    option_or (first_of_names (uses t.declarations t.threads))
+    (option_or (no_threads t.threads) (too_long 0 t.threads))
+
+-- ---- what is answered
+
+-- `e` is this refusal, or says that memory ran out
+abbrev pub Refuses : CheckError → Option CheckError → Type 0
+Refuses OutOfMemory fault = Unit {0}
+Refuses (Duplicate p) fault = fault ≡ Some (Duplicate p)
+Refuses (Unknown p) fault = fault ≡ Some (Unknown p)
+Refuses (WrongKind p) fault = fault ≡ Some (WrongKind p)
+Refuses NoThreads fault = fault ≡ Some NoThreads
+Refuses (TooMany p) fault = fault ≡ Some (TooMany p)
+Refuses (CodeTooLong k) fault = fault ≡ Some (CodeTooLong k)
+Refuses (LeaveOutside p) fault = fault ≡ Some (LeaveOutside p)

@@ -2,8 +2,7 @@ pub mod Program
 pub mod Uses
 pub mod Sizes
 pub mod Fault
-pub mod Walk
-pub mod Gives
+pub mod FirstFault
 pub mod Code
-pub mod Found
 pub mod Same
+pub mod inner

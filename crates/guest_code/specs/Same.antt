@@ -20,7 +20,8 @@ abbrev pub same_semaphore : Semaphore → Semaphore → Bool
 same_semaphore = eq_of_both (on (λ s. s.name) (pointwise nat_eq)) (on (λ s. s.count) nat_eq)
 
 abbrev pub same_thread : Thread → Thread → Bool
-same_thread = eq_of_both (on (λ t. t.name) (pointwise nat_eq)) (eq_of_both (on (λ t. t.locals) nat_eq) (on (λ t. t.code) (pointwise same_instruction)))
+same_thread = eq_of_both (on (λ t. t.name) (pointwise nat_eq))
+    (eq_of_both (on (λ t. t.locals) nat_eq) (on (λ t. t.code) (pointwise same_instruction)))
 
 -- `==` of programs
 abbrev pub same_program : Program → Program → Bool
@@ -28,7 +29,8 @@ same_program =
     eq_of_both (on (λ p. p.variables) (pointwise same_variable))
     (eq_of_both (on (λ p. p.mutexes) (pointwise (pointwise nat_eq)))
     (eq_of_both (on (λ p. p.conditions) (pointwise (pointwise nat_eq)))
-    (eq_of_both (on (λ p. p.semaphores) (pointwise same_semaphore)) (on (λ p. p.threads) (pointwise same_thread)))))
+    (eq_of_both (on (λ p. p.semaphores) (pointwise same_semaphore))
+    (on (λ p. p.threads) (pointwise same_thread)))))
 
 -- ---- its laws
 
@@ -36,20 +38,25 @@ names_equivalence : IsEquivalence (pointwise nat_eq)
 names_equivalence = lists_equiv nat_eq_equiv
 
 pub variables_equivalence : IsEquivalence same_variable
-variables_equivalence = and_equiv (on_equiv (λ v. v.name) names_equivalence) (on_equiv (λ v. v.opening) int_eq_equiv)
+variables_equivalence = and_equiv (on_equiv (λ v. v.name) names_equivalence)
+    (on_equiv (λ v. v.opening) int_eq_equiv)
 
 semaphores_equivalence : IsEquivalence same_semaphore
-semaphores_equivalence = and_equiv (on_equiv (λ s. s.name) names_equivalence) (on_equiv (λ s. s.count) nat_eq_equiv)
+semaphores_equivalence = and_equiv (on_equiv (λ s. s.name) names_equivalence)
+    (on_equiv (λ s. s.count) nat_eq_equiv)
 
 threads_equivalence : IsEquivalence same_thread
-threads_equivalence = and_equiv (on_equiv (λ t. t.name) names_equivalence) (and_equiv (on_equiv (λ t. t.locals) nat_eq_equiv) (on_equiv (λ t. t.code) (lists_equiv laws-law)))
+threads_equivalence = and_equiv (on_equiv (λ t. t.name) names_equivalence)
+    (and_equiv (on_equiv (λ t. t.locals) nat_eq_equiv)
+    (on_equiv (λ t. t.code) (lists_equiv laws-law)))
 
 pub programs_equivalence : IsEquivalence same_program
 programs_equivalence =
     and_equiv (on_equiv (λ p. p.variables) (lists_equiv variables_equivalence))
     (and_equiv (on_equiv (λ p. p.mutexes) (lists_equiv names_equivalence))
     (and_equiv (on_equiv (λ p. p.conditions) (lists_equiv names_equivalence))
-    (and_equiv (on_equiv (λ p. p.semaphores) (lists_equiv semaphores_equivalence)) (on_equiv (λ p. p.threads) (lists_equiv threads_equivalence)))))
+    (and_equiv (on_equiv (λ p. p.semaphores) (lists_equiv semaphores_equivalence))
+    (on_equiv (λ p. p.threads) (lists_equiv threads_equivalence)))))
 
 pub programs_partial_equivalence : IsPartialEquivalence same_program
 programs_partial_equivalence = partial_equiv_from_equiv programs_equivalence

@@ -8,6 +8,8 @@ abbrev mutual
   pub size : Stmt → ℕ
   size (tree.load r x) = 1
   size (tree.store x a) = 1
+  size (tree.add r x a) = 1
+  size (tree.cas r x a b) = 1
   size (tree.lock m) = 1
   size (tree.unlock m) = 1
   size (tree.wait c m) = 1

@@ -1,11 +1,11 @@
 -- The uses of names in a text, in text order, and what they say of a name.
-use Rattle.std.specs.Prelude.{ℕ, suc, List, [], ◌∷◌, ◌++◌, if◌then◌else◌, Bool, true, false, ◌||◌, Option, Some, None}
+use Rattle.std.specs.Prelude.{ℕ, suc, map, List, [], ◌∷◌, ◌++◌, if◌then◌else◌, Bool, true, false, ◌||◌, Option, Some, None}
 use Rattle.std.specs.Str.{bytes_eq}
 use Rattle.guest_syntax.specs.declared.place.Pos.{Pos}
 use Rattle.guest_syntax.specs.declared.tree.Object.{Object}
 use Rattle.guest_syntax.specs.declared.tree.Object.TheVariants as objects
 use Rattle.guest_syntax.specs.Tree as tree
-use Rattle.guest_syntax.specs.Tree.{Name, Operand, Expr, Stmt, Block, Declaration, Thread}
+use Rattle.guest_syntax.specs.Tree.{Name, Operand, Expr, Stmt, Block, Declaration, Thread, Tree}
 use Rattle.guest_code.specs.declared.kinds.Kind.{Kind}
 use Rattle.guest_code.specs.declared.kinds.Kind.TheVariants as kinds
 
@@ -28,8 +28,8 @@ same _ _ = false
 -- what can be refused at one place of the text
 pub data Use : Type 0 where
   declares : Kind → Name → Use  -- a declaration's or a thread's own name
-  object : Kind → Name → Use  -- a name where an object of this kind must stand
-  local : Name → Use  -- a name where a local must stand
+  object : Kind → Name → Use  -- a name where an object of this kind must be
+  local : Name → Use  -- a name where a local must be
   outside : Pos → Use  -- a `leave` with no `repeat` round it
 
 -- of an operand and of an expression
@@ -46,6 +46,9 @@ abbrev mutual
   pub stmt_uses : Bool → Stmt → List Use
   stmt_uses inside (tree.load r x) = local r ∷ object kinds.Variable x ∷ []
   stmt_uses inside (tree.store x a) = object kinds.Variable x ∷ operand_uses a
+  stmt_uses inside (tree.add r x a) = local r ∷ object kinds.Variable x ∷ operand_uses a
+  stmt_uses inside (tree.cas r x a b) =
+      local r ∷ object kinds.Variable x ∷ (operand_uses a ++ operand_uses b)
   stmt_uses inside (tree.lock m) = object kinds.Mutex m ∷ []
   stmt_uses inside (tree.unlock m) = object kinds.Mutex m ∷ []
   stmt_uses inside (tree.wait c m) = object kinds.Condition c ∷ object kinds.Mutex m ∷ []
@@ -56,7 +59,8 @@ abbrev mutual
   stmt_uses inside (tree.set r e) = local r ∷ expr_uses e
   stmt_uses inside (tree.assert e) = expr_uses e
   stmt_uses inside (tree.if_then e b) = expr_uses e ++ block_uses inside b
-  stmt_uses inside (tree.if_else e b c) = expr_uses e ++ (block_uses inside b ++ block_uses inside c)
+  stmt_uses inside (tree.if_else e b c) = expr_uses e
+      ++ (block_uses inside b ++ block_uses inside c)
   stmt_uses inside (tree.repeat n b) = block_uses true b
   stmt_uses inside (tree.leave at) = if inside then [] else outside at ∷ []
 
@@ -118,3 +122,7 @@ locals_from ns (outside at ∷ us) = locals_from ns us
 -- the locals of a thread
 abbrev pub thread_locals : Thread → List (List ℕ)
 thread_locals t = locals_from [] (block_uses false t.body)
+
+-- the locals of each thread of a tree
+abbrev pub tree_locals : Tree → List (List (List ℕ))
+tree_locals t = map thread_locals t.threads

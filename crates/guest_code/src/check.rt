@@ -1,15 +1,14 @@
 //! Which refusal a tree gets.
 
-ghost use Rattle.std.specs.Prelude.{◌≡◌, ◌≤◌, List, [], Some, length, map, IfOk, MatchResult, Ok, Err, cond, false};
-ghost use Rattle.guest_syntax.specs.Tree.{name_view, operand_view, expr_view, stmt_view, block_view, declaration_view, thread_view, tree_view};
-ghost use Rattle.guest_code.specs.Uses.{Use, uses, kind_in, how_many, knows, declarations_uses, threads_uses, thread_locals};
-ghost use Rattle.guest_code.specs.Fault.{declares_refusal, object_refusal, or_else, first, fault};
-ghost use Rattle.guest_code.specs.Walk.{all_uses, passed, and_then, local_check, object_check, operand_check, expr_check, stmt_check, block_check, locals_view};
-ghost use Rattle.guest_code.specs.Gives.{Gives, Answers, Refuses, fault_of};
-ghost use Rattle.guest_code.specs.Found.{Found};
+ghost use Rattle.std.specs.Prelude.{◌≡◌, ◌≤◌, [], ◌∷◌, ◌++◌, length, map, IfOk, Ok, Err, cond, true, false};
+ghost use Rattle.guest_syntax.specs.Tree.{if_then, if_else, name_view, operand_view, expr_view, stmt_view, block_view, thread_view, tree_view};
+ghost use Rattle.guest_code.specs.Program.{names_view, locals_view};
+ghost use Rattle.guest_code.specs.Uses as used;
+ghost use Rattle.guest_code.specs.Uses.{object, kind_in, how_many, knows, operand_uses, expr_uses, stmt_uses, block_uses, threads_uses, tree_locals};
+ghost use Rattle.guest_code.specs.Fault.{declares_refusal, refusal, first, first_of_names, fault};
+ghost use Rattle.guest_code.specs.inner.Walk.{all_uses, declared_in, uses_of, passed, Answers, Meets, Finds};
 ghost use Rattle.guest_code.specs.declared.error.CheckError.{CheckError};
 ghost use Rattle.guest_code.specs.declared.kinds.Kind.{Kind};
-ghost use Rattle.guest_syntax.specs.declared.tree.Statement.{Statement};
 
 use crate::error::CheckError;
 use crate::kinds::{Kind, kind_of};
@@ -19,9 +18,18 @@ use guest_syntax::place::Pos;
 use guest_syntax::tree::{Declaration, Expr, Name, Operand, Statement, Thread, Tree};
 use std::alloc::Global;
 
+/// Where statements are checked: in this tree, whose declarations are looked up, and inside a
+/// `repeat` or not.
+#[derive(Clone, Copy)]
+pub struct Scope<'a> {
+    pub alloc: Global,
+    pub tree: &'a Tree,
+    pub inside: bool,
+}
+
 /// The kind that a name is declared as by these declarations.
 fn kind_declared(declarations: &[Declaration], name: &[u8]) -> Option<Kind>
-    ensures { result ≡ kind_in (declarations_uses (map declaration_view declarations.now)) name.now }
+    ensures { result ≡ kind_in (declared_in declarations.now) name.now }
 {
     for declaration in declarations {
         if declaration.name.text.as_slice() == name {
@@ -44,9 +52,9 @@ fn kind_of_thread(threads: &[Thread], name: &[u8]) -> Option<Kind>
 }
 
 /// The kind that a name is declared as.
-#[tactic(auto, using(crate::proofs::Looks::kind_stays, crate::proofs::Looks::kind_behind))]
+#[tactic(auto, using(crate::proofs::NameLookup::kind_stays, crate::proofs::NameLookup::kind_after))]
 fn kind_among(declarations: &[Declaration], threads: &[Thread], name: &[u8]) -> Option<Kind>
-    ensures { result ≡ kind_in (uses (map declaration_view declarations.now) (map thread_view threads.now)) name.now }
+    ensures { result ≡ kind_in (uses_of declarations.now threads.now) name.now }
 {
     match kind_declared(declarations, name) {
         Some(kind) => Some(kind),
@@ -55,7 +63,7 @@ fn kind_among(declarations: &[Declaration], threads: &[Thread], name: &[u8]) -> 
 }
 
 /// The kind that a name is declared as anywhere in the text.
-#[tactic(auto, unfolding(crate::specs::Walk::all_uses))]
+#[tactic(auto, unfolding(crate::specs::inner::Walk::all_uses))]
 fn kind_in(tree: &Tree, name: &Name) -> Option<Kind>
     ensures { result ≡ kind_in (all_uses tree.now) name.now.text.items }
 {
@@ -64,7 +72,7 @@ fn kind_in(tree: &Tree, name: &Name) -> Option<Kind>
 
 /// How many declarations of a kind there are.
 fn how_many(kind: Kind, declarations: &[Declaration]) -> usize
-    ensures { result ≡ how_many kind (uses (map declaration_view declarations.now) []) }
+    ensures { result ≡ how_many kind (uses_of declarations.now []) }
 {
     let mut count = 0;
     for declaration in declarations {
@@ -77,7 +85,7 @@ fn how_many(kind: Kind, declarations: &[Declaration]) -> usize
 
 /// Whether a name is among these.
 fn knows(locals: &[Vec<u8>], name: &[u8]) -> bool
-    ensures { result ≡ knows (map (λ n. n.items) locals.now) name.now }
+    ensures { result ≡ knows (names_view locals.now) name.now }
 {
     for local in locals {
         if local.as_slice() == name {
@@ -87,9 +95,10 @@ fn knows(locals: &[Vec<u8>], name: &[u8]) -> bool
     false
 }
 
-/// Refuses a name where an object of this kind must stand.
+/// Refuses a name where an object of this kind must be.
 fn check_object(tree: &Tree, kind: Kind, name: &Name) -> Result<(), CheckError>
-    ensures { result ≡ passed (object_refusal kind (name_view name.now) (kind_in (all_uses tree.now) name.now.text.items)) tt }
+    ensures { result ≡ passed (refusal (all_uses tree.now) []
+        (object kind (name_view name.now))) tt }
 {
     match kind_in(tree, name) {
         None => Err(CheckError::Unknown(name.at)),
@@ -109,16 +118,12 @@ fn check_leave(inside: bool, at: Pos) -> Result<(), CheckError>
     }
 }
 
-/// Refuses a name where a local must stand, else adds it to the locals where it is new.
-fn check_local(
-    alloc: Global,
-    tree: &Tree,
-    locals: &mut Vec<Vec<u8>>,
-    name: &Name,
-) -> Result<(), CheckError>
-    ensures { Gives result (map (λ n. n.items) locals.new.items) (local_check (all_uses tree.now) (name_view name.now) (map (λ n. n.items) locals.old.items)) }
+/// Refuses a name where a local must be, else adds it to the locals where it is new.
+fn check_local(scope: Scope<'_>, locals: &mut Vec<Vec<u8>>, name: &Name) -> Result<(), CheckError>
+    ensures { Meets result scope.entry locals.old locals.new
+        (used.local (name_view name.now) ∷ []) }
 {
-    if kind_in(tree, name).is_some() {
+    if kind_in(scope.tree, name).is_some() {
         return Err(CheckError::WrongKind(name.at));
     }
     if knows(locals, &name.text) {
@@ -127,107 +132,145 @@ fn check_local(
     if locals.len() >= LOCALS {
         return Err(CheckError::TooMany(name.at));
     }
-    locals.push(name.text.to_vec(alloc)?)?;
+    locals.push(name.text.to_vec(scope.alloc)?)?;
     Ok(())
 }
 
 /// The same of an operand.
 fn check_operand(
-    alloc: Global,
-    tree: &Tree,
+    scope: Scope<'_>,
     locals: &mut Vec<Vec<u8>>,
     operand: &Operand,
 ) -> Result<(), CheckError>
-    ensures { Gives result (map (λ n. n.items) locals.new.items) (operand_check (all_uses tree.now) (operand_view operand.now) (map (λ n. n.items) locals.old.items)) }
+    ensures { Meets result scope.entry locals.old locals.new
+        (operand_uses (operand_view operand.now)) }
 {
     match operand {
-        Operand::Local(name) => check_local(alloc, tree, locals, name),
+        Operand::Local(name) => check_local(scope, locals, name),
         Operand::Literal(_) => Ok(()),
     }
 }
 
-/// The same of an expression.
-fn check_expr(
-    alloc: Global,
-    tree: &Tree,
+/// The same of two operands.
+fn check_operands(
+    scope: Scope<'_>,
     locals: &mut Vec<Vec<u8>>,
-    expr: &Expr,
+    first: &Operand,
+    second: &Operand,
 ) -> Result<(), CheckError>
-    ensures { Gives result (map (λ n. n.items) locals.new.items) (expr_check (all_uses tree.now) (expr_view expr.now) (map (λ n. n.items) locals.old.items)) }
+    ensures { Meets result scope.entry locals.old locals.new
+        (operand_uses (operand_view first.now) ++ operand_uses (operand_view second.now)) }
+{
+    check_operand(scope, locals, first)?;
+    check_operand(scope, locals, second)
+}
+
+/// The same of an expression.
+fn check_expr(scope: Scope<'_>, locals: &mut Vec<Vec<u8>>, expr: &Expr) -> Result<(), CheckError>
+    ensures { Meets result scope.entry locals.old locals.new (expr_uses (expr_view expr.now)) }
 {
     match expr {
-        Expr::Single(a) => check_operand(alloc, tree, locals, a),
-        Expr::Both(a, _, b) => {
-            check_operand(alloc, tree, locals, a)?;
-            check_operand(alloc, tree, locals, b)
-        }
+        Expr::Single(a) => check_operand(scope, locals, a),
+        Expr::Both(a, _, b) => check_operands(scope, locals, a, b),
     }
 }
 
-/// The same of a `load`.
+/// The same of a local and a variable.
 fn check_load(
-    alloc: Global,
-    tree: &Tree,
+    scope: Scope<'_>,
     locals: &mut Vec<Vec<u8>>,
     local: &Name,
     variable: &Name,
 ) -> Result<(), CheckError>
-    ensures { Gives result (map (λ n. n.items) locals.new.items) (and_then (local_check (all_uses tree.now) (name_view local.now) (map (λ n. n.items) locals.old.items)) (object_check (all_uses tree.now) Kind.Variable (name_view variable.now))) }
+    ensures { Meets result scope.entry locals.old locals.new
+        (used.local (name_view local.now) ∷ object Kind.Variable (name_view variable.now) ∷ []) }
 {
-    check_local(alloc, tree, locals, local)?;
-    check_object(tree, Kind::Variable, variable)
+    check_local(scope, locals, local)?;
+    check_object(scope.tree, Kind::Variable, variable)
 }
 
 /// The same of a `store`.
 fn check_store(
-    alloc: Global,
-    tree: &Tree,
+    scope: Scope<'_>,
     locals: &mut Vec<Vec<u8>>,
     variable: &Name,
     value: &Operand,
 ) -> Result<(), CheckError>
-    ensures { Gives result (map (λ n. n.items) locals.new.items) (and_then (object_check (all_uses tree.now) Kind.Variable (name_view variable.now) (map (λ n. n.items) locals.old.items)) (operand_check (all_uses tree.now) (operand_view value.now))) }
+    ensures { Meets result scope.entry locals.old locals.new
+        (object Kind.Variable (name_view variable.now) ∷ operand_uses (operand_view value.now)) }
 {
-    check_object(tree, Kind::Variable, variable)?;
-    check_operand(alloc, tree, locals, value)
+    check_object(scope.tree, Kind::Variable, variable)?;
+    check_operand(scope, locals, value)
+}
+
+/// The same of an `add`.
+fn check_add(
+    scope: Scope<'_>,
+    locals: &mut Vec<Vec<u8>>,
+    local: &Name,
+    variable: &Name,
+    value: &Operand,
+) -> Result<(), CheckError>
+    ensures { Meets result scope.entry locals.old locals.new
+        (used.local (name_view local.now) ∷ object Kind.Variable (name_view variable.now) ∷
+        operand_uses (operand_view value.now)) }
+{
+    check_load(scope, locals, local, variable)?;
+    check_operand(scope, locals, value)
 }
 
 /// The same of a `set`.
 fn check_set(
-    alloc: Global,
-    tree: &Tree,
+    scope: Scope<'_>,
     locals: &mut Vec<Vec<u8>>,
     local: &Name,
     value: &Expr,
 ) -> Result<(), CheckError>
-    ensures { Gives result (map (λ n. n.items) locals.new.items) (and_then (local_check (all_uses tree.now) (name_view local.now) (map (λ n. n.items) locals.old.items)) (expr_check (all_uses tree.now) (expr_view value.now))) }
+    ensures { Meets result scope.entry locals.old locals.new
+        (used.local (name_view local.now) ∷ expr_uses (expr_view value.now)) }
 {
-    check_local(alloc, tree, locals, local)?;
-    check_expr(alloc, tree, locals, value)
+    check_local(scope, locals, local)?;
+    check_expr(scope, locals, value)
 }
 
 /// The same of a `wait`, which uses no local.
 fn check_wait(tree: &Tree, condition: &Name, mutex: &Name) -> Result<(), CheckError>
-    ensures { result ≡ passed (or_else (object_refusal Kind.Condition (name_view condition.now) (kind_in (all_uses tree.now) condition.now.text.items)) (object_refusal Kind.Mutex (name_view mutex.now) (kind_in (all_uses tree.now) mutex.now.text.items))) tt }
+    ensures { result ≡ passed (first (all_uses tree.now) []
+        (object Kind.Condition (name_view condition.now) ∷ object Kind.Mutex (name_view mutex.now)
+        ∷ [])) tt }
 {
     check_object(tree, Kind::Condition, condition)?;
     check_object(tree, Kind::Mutex, mutex)
 }
 
-/// The same of a statement, with whether a `repeat` is round it.
+/// The same of a statement.
 #[cycle(body)]
 fn check_statement(
-    alloc: Global,
-    tree: &Tree,
+    scope: Scope<'_>,
     locals: &mut Vec<Vec<u8>>,
-    inside: bool,
     statement: &Statement,
 ) -> Result<(), CheckError>
-    ensures { Gives result (map (λ n. n.items) locals.new.items) (stmt_check (all_uses tree.now) inside (stmt_view statement.now) (map (λ n. n.items) locals.old.items)) }
+    ensures { Meets result scope.entry locals.old locals.new
+        (stmt_uses scope.entry.inside (stmt_view statement.now)) }
 {
+    let tree = scope.tree;
     match statement {
-        Statement::Load { local, variable } => check_load(alloc, tree, locals, local, variable),
-        Statement::Store { variable, value } => check_store(alloc, tree, locals, variable, value),
+        Statement::Load { local, variable } => check_load(scope, locals, local, variable),
+        Statement::Store { variable, value } => check_store(scope, locals, variable, value),
+        Statement::Add {
+            local,
+            variable,
+            value,
+        } => check_add(scope, locals, local, variable, value),
+        Statement::Cas {
+            local,
+            variable,
+            expected,
+            new,
+        } => {
+            check_load(scope, locals, local, variable)?;
+            check_operands(scope, locals, expected, new)
+        }
         Statement::Lock(name) | Statement::Unlock(name) => check_object(tree, Kind::Mutex, name),
         Statement::Wait { condition, mutex } => check_wait(tree, condition, mutex),
         Statement::Signal(name) | Statement::Broadcast(name) => {
@@ -236,52 +279,86 @@ fn check_statement(
         Statement::Acquire(name) | Statement::Release(name) => {
             check_object(tree, Kind::Semaphore, name)
         }
-        Statement::Set { local, value } => check_set(alloc, tree, locals, local, value),
-        Statement::Assert(test) => check_expr(alloc, tree, locals, test),
+        Statement::Set { local, value } => check_set(scope, locals, local, value),
+        Statement::Assert(test) => check_expr(scope, locals, test),
         Statement::If {
             test,
             then,
             otherwise,
-        } => check_if(alloc, tree, locals, inside, test, then, otherwise),
-        Statement::Repeat { body, .. } => check_block(alloc, tree, locals, true, body),
-        Statement::Leave(at) => check_leave(inside, *at),
+        } => match otherwise {
+            None => check_if(scope, locals, test, then),
+            Some(other) => check_choice(scope, locals, test, then, other),
+        },
+        Statement::Repeat { body, .. } => check_repeat(scope, locals, body),
+        Statement::Leave(at) => check_leave(scope.inside, *at),
     }
 }
 
-/// The same of an `if`, with its `else` where it has one.
+/// The same of an `if` with no `else`.
 #[cycle(body)]
+#[tactic(auto, using(crate::proofs::CheckIsFault::walk_goes, crate::proofs::CheckIsFault::walk_stops))]
 fn check_if(
-    alloc: Global,
-    tree: &Tree,
+    scope: Scope<'_>,
     locals: &mut Vec<Vec<u8>>,
-    inside: bool,
     test: &Expr,
-    then: &Vec<Statement>,
-    otherwise: &Option<Vec<Statement>>,
+    then: &[Statement],
 ) -> Result<(), CheckError>
-    ensures { Gives result (map (λ n. n.items) locals.new.items) (stmt_check (all_uses tree.now) inside (stmt_view (Statement.If test.now then.now otherwise.now)) (map (λ n. n.items) locals.old.items)) }
+    ensures { Meets result scope.entry locals.old locals.new
+        (stmt_uses scope.entry.inside (if_then (expr_view test.now) (block_view then.now))) }
 {
-    check_expr(alloc, tree, locals, test)?;
-    check_block(alloc, tree, locals, inside, then)?;
-    match otherwise {
-        None => Ok(()),
-        Some(other) => check_block(alloc, tree, locals, inside, other),
-    }
+    check_expr(scope, locals, test)?;
+    check_block(scope, locals, then)
+}
+
+/// The same of an `if` with an `else`.
+#[cycle(body)]
+#[tactic(auto, using(crate::proofs::CheckIsFault::walk_goes, crate::proofs::CheckIsFault::walk_stops))]
+fn check_choice(
+    scope: Scope<'_>,
+    locals: &mut Vec<Vec<u8>>,
+    test: &Expr,
+    then: &[Statement],
+    other: &[Statement],
+) -> Result<(), CheckError>
+    ensures { Meets result scope.entry locals.old locals.new
+        (stmt_uses scope.entry.inside
+        (if_else (expr_view test.now) (block_view then.now) (block_view other.now))) }
+{
+    check_expr(scope, locals, test)?;
+    check_block(scope, locals, then)?;
+    check_block(scope, locals, other)
+}
+
+/// The same of the body of a `repeat`.
+#[cycle(body)]
+fn check_repeat(
+    scope: Scope<'_>,
+    locals: &mut Vec<Vec<u8>>,
+    body: &[Statement],
+) -> Result<(), CheckError>
+    ensures { Meets result scope.entry locals.old locals.new
+        (block_uses true (block_view body.now)) }
+{
+    let inside = Scope {
+        alloc: scope.alloc,
+        tree: scope.tree,
+        inside: true,
+    };
+    check_block(inside, locals, body)
 }
 
 /// The same of a block.
 #[cycle(body)]
 fn check_block(
-    alloc: Global,
-    tree: &Tree,
+    scope: Scope<'_>,
     locals: &mut Vec<Vec<u8>>,
-    inside: bool,
     block: &[Statement],
 ) -> Result<(), CheckError>
-    ensures { Gives result (map (λ n. n.items) locals.new.items) (block_check (all_uses tree.now) inside (block_view block.now) (map (λ n. n.items) locals.old.items)) }
+    ensures { Meets result scope.entry locals.old locals.new
+        (block_uses scope.entry.inside (block_view block.now)) }
 {
     for statement in block {
-        check_statement(alloc, tree, locals, inside, statement)?;
+        check_statement(scope, locals, statement)?;
     }
     Ok(())
 }
@@ -294,7 +371,8 @@ fn check_new(
     count: usize,
     name: &Name,
 ) -> Result<(), CheckError>
-    ensures { result ≡ passed (declares_refusal kind (name_view name.now) (kind_in (uses (map declaration_view declarations.now) (map thread_view threads.now)) name.now.text.items) count) tt }
+    ensures { result ≡ passed (declares_refusal kind (name_view name.now)
+        (kind_in (uses_of declarations.now threads.now) name.now.text.items) count) tt }
 {
     if kind_among(declarations, threads, &name.text).is_some() {
         return Err(CheckError::Duplicate(name.at));
@@ -305,9 +383,10 @@ fn check_new(
     Ok(())
 }
 
-/// Refuses the first of these declarations that may not stand, with all uses in view.
+/// Refuses the first of these declarations that may not be there, with all uses in view.
 fn check_declarations(tree: &Tree, declarations: &[Declaration]) -> Result<(), CheckError>
-    ensures { result ≡ passed (first (all_uses tree.now) [] (declarations_uses (map declaration_view declarations.now))) tt }
+    ensures { result ≡ passed (first (all_uses tree.now) []
+        (declared_in declarations.now)) tt }
 {
     for (i, declaration) in declarations.iter().enumerate() {
         let kind = kind_of(declaration.object);
@@ -319,17 +398,22 @@ fn check_declarations(tree: &Tree, declarations: &[Declaration]) -> Result<(), C
 
 /// The locals of a thread, in the order of their first uses.
 fn check_body(alloc: Global, tree: &Tree, thread: &Thread) -> Result<Vec<Vec<u8>>, CheckError>
-    ensures { MatchResult result (λ v. block_check (all_uses tree.now) false (thread_view thread.now).body [] ≡ Ok (map (λ n. n.items) v.items)) (λ e. Refuses e (fault_of (block_check (all_uses tree.now) false (thread_view thread.now).body []))) }
+    ensures { Finds result tree.now (block_uses false (block_view thread.now.body.items)) }
 {
+    let scope = Scope {
+        alloc,
+        tree,
+        inside: false,
+    };
     let mut locals = Vec::new(alloc);
-    check_block(alloc, tree, &mut locals, false, &thread.body)?;
+    check_block(scope, &mut locals, &thread.body)?;
     Ok(locals)
 }
 
 /// The locals of each thread, where the names are right.
 fn check_names(alloc: Global, tree: &Tree) -> Result<Vec<Vec<Vec<u8>>>, CheckError>
-    ensures gives { Answers result (first (all_uses tree.now) [] (all_uses tree.now)) }
-    ensures locals { IfOk result (λ v. map locals_view v.items ≡ map thread_locals (tree_view tree.now).threads) }
+    ensures gives { Answers result (first_of_names (all_uses tree.now)) }
+    ensures locals { IfOk result (λ v. map locals_view v.items ≡ tree_locals (tree_view tree.now)) }
     ensures few { IfOk result (λ v. length (tree_view tree.now).threads ≤ THREADS) }
 {
     let declarations = tree.declarations();
@@ -347,7 +431,7 @@ fn check_names(alloc: Global, tree: &Tree) -> Result<Vec<Vec<Vec<u8>>>, CheckErr
 /// fault. Fails too when memory runs out.
 pub fn check(alloc: Global, tree: &Tree) -> Result<Vec<Vec<Vec<u8>>>, CheckError>
     ensures gives { Answers result (fault (tree_view tree.now)) }
-    ensures locals { IfOk result (λ v. map locals_view v.items ≡ map thread_locals (tree_view tree.now).threads) }
+    ensures locals { IfOk result (λ v. map locals_view v.items ≡ tree_locals (tree_view tree.now)) }
 {
     let all = check_names(alloc, tree)?;
     let threads = tree.threads();

@@ -1,11 +1,11 @@
-//! The code of statements, with `behind` instructions behind it to the end of the last copy of the
-//! nearest `repeat` round it.
+//! The code of statements, with the distance to the exit: how many instructions come after it, to
+//! the end of the last copy of the nearest `repeat` round it.
 
-ghost use Rattle.std.specs.Prelude.{◌≡◌, ◌+◌, ◌*◌, ◌<◌, ◌≤◌, ◌^◌, ◌++◌, [], ◌∷◌, map, OnOk};
-ghost use Rattle.guest_syntax.specs.Tree.{if_then, if_else, operand_view, expr_view, stmt_view, block_view, declaration_view};
-ghost use Rattle.guest_code.specs.Sizes.{size, block_size};
-ghost use Rattle.guest_code.specs.Code.{slot, place, names_of, value_of, expression_of, stmt_code, block_code, copies};
-ghost use Rattle.guest_code.specs.declared.kinds.Kind.{Kind};
+ghost use Rattle.std.specs.Prelude.{◌≡◌, ◌+◌, ◌*◌, ◌<◌, ◌≤◌, ◌^◌, [], ◌∷◌};
+ghost use Rattle.guest_syntax.specs.Tree.{if_then, if_else, name_view, operand_view, expr_view, stmt_view, block_view};
+ghost use Rattle.guest_code.specs.Sizes.{size};
+ghost use Rattle.guest_code.specs.Code.{variable_number, mutex_number, condition_number, local_number, value_of, expression_of};
+ghost use Rattle.guest_code.specs.inner.Emission.{names_of, size_of, Adds, stmt_code_in, block_code_in, copies_of};
 ghost use Rattle.guest_code.specs.declared.program.Instruction.{Instruction};
 
 use crate::lengths::{size_of_block, size_of_statement};
@@ -15,9 +15,17 @@ use crate::program::Instruction;
 use guest_syntax::tree::{Expr, Name, Operand, Statement};
 use std::alloc::AllocError;
 
+/// Where code is put: what names stand for there, and the distance to the exit.
+#[derive(Clone, Copy)]
+pub struct Context<'a> {
+    pub names: Names<'a>,
+    pub distance_to_exit: usize,
+}
+
 /// The instruction that loads a variable into a local.
 fn load(names: Names<'_>, local: &Name, variable: &Name) -> Instruction
-    ensures { result ≡ Instruction.Load (place (map (λ n. n.items) names.entry.locals.now) local.now.text.items) (slot Kind.Variable (map declaration_view names.entry.declarations.now) variable.now.text.items) }
+    ensures { result ≡ Instruction.Load (local_number (names_of names.entry) (name_view local.now))
+        (variable_number (names_of names.entry) (name_view variable.now)) }
 {
     Instruction::Load {
         local: names.local(local),
@@ -27,7 +35,9 @@ fn load(names: Names<'_>, local: &Name, variable: &Name) -> Instruction
 
 /// The instruction that stores a value in a variable.
 fn store(names: Names<'_>, variable: &Name, value: &Operand) -> Instruction
-    ensures { result ≡ Instruction.Store (slot Kind.Variable (map declaration_view names.entry.declarations.now) variable.now.text.items) (value_of (names_of names.entry.declarations.now names.entry.locals.now) (operand_view value.now)) }
+    ensures { result ≡ Instruction.Store
+        (variable_number (names_of names.entry) (name_view variable.now))
+        (value_of (names_of names.entry) (operand_view value.now)) }
 {
     Instruction::Store {
         variable: names.variable(variable),
@@ -35,9 +45,47 @@ fn store(names: Names<'_>, variable: &Name, value: &Operand) -> Instruction
     }
 }
 
+/// The instruction that adds a value to a variable.
+fn add(names: Names<'_>, local: &Name, variable: &Name, value: &Operand) -> Instruction
+    ensures { result ≡ Instruction.Add
+        (local_number (names_of names.entry) (name_view local.now))
+        (variable_number (names_of names.entry) (name_view variable.now))
+        (value_of (names_of names.entry) (operand_view value.now)) }
+{
+    Instruction::Add {
+        local: names.local(local),
+        variable: names.variable(variable),
+        value: names.value(value),
+    }
+}
+
+/// The instruction that compares a variable and sets it.
+fn cas(
+    names: Names<'_>,
+    local: &Name,
+    variable: &Name,
+    expected: &Operand,
+    new: &Operand,
+) -> Instruction
+    ensures { result ≡ Instruction.Cas
+        (local_number (names_of names.entry) (name_view local.now))
+        (variable_number (names_of names.entry) (name_view variable.now))
+        (value_of (names_of names.entry) (operand_view expected.now))
+        (value_of (names_of names.entry) (operand_view new.now)) }
+{
+    Instruction::Cas {
+        local: names.local(local),
+        variable: names.variable(variable),
+        expected: names.value(expected),
+        new: names.value(new),
+    }
+}
+
 /// The instruction that waits on a condition with a mutex.
 fn wait(names: Names<'_>, condition: &Name, mutex: &Name) -> Instruction
-    ensures { result ≡ Instruction.Wait (slot Kind.Condition (map declaration_view names.entry.declarations.now) condition.now.text.items) (slot Kind.Mutex (map declaration_view names.entry.declarations.now) mutex.now.text.items) }
+    ensures { result ≡ Instruction.Wait
+        (condition_number (names_of names.entry) (name_view condition.now))
+        (mutex_number (names_of names.entry) (name_view mutex.now)) }
 {
     Instruction::Wait {
         condition: names.condition(condition),
@@ -47,7 +95,8 @@ fn wait(names: Names<'_>, condition: &Name, mutex: &Name) -> Instruction
 
 /// The instruction that sets a local.
 fn set(names: Names<'_>, local: &Name, value: &Expr) -> Instruction
-    ensures { result ≡ Instruction.Set (place (map (λ n. n.items) names.entry.locals.now) local.now.text.items) (expression_of (names_of names.entry.declarations.now names.entry.locals.now) (expr_view value.now)) }
+    ensures { result ≡ Instruction.Set (local_number (names_of names.entry) (name_view local.now))
+        (expression_of (names_of names.entry) (expr_view value.now)) }
 {
     Instruction::Set {
         local: names.local(local),
@@ -56,10 +105,10 @@ fn set(names: Names<'_>, local: &Name, value: &Expr) -> Instruction
 }
 
 /// Adds one more instruction.
-fn put(code: &mut Vec<Instruction>, instr: Instruction) -> Result<(), AllocError>
-    ensures { OnOk result (code.new.items ≡ code.old.items ++ instr ∷ []) }
+fn put(code: &mut Vec<Instruction>, instruction: Instruction) -> Result<(), AllocError>
+    ensures { Adds result code.old code.new (instruction ∷ []) }
 {
-    code.push(instr)?;
+    code.push(instruction)?;
     Ok(())
 }
 
@@ -67,17 +116,28 @@ fn put(code: &mut Vec<Instruction>, instr: Instruction) -> Result<(), AllocError
 #[cycle(emit)]
 fn emit_statement(
     code: &mut Vec<Instruction>,
-    names: Names<'_>,
+    context: Context<'_>,
     statement: &Statement,
-    behind: usize,
 ) -> Result<(), AllocError>
     requires small { size (stmt_view statement.now) ≤ INSTRUCTIONS }
-    requires behind { behind + size (stmt_view statement.now) < 2 ^ 32 }
-    ensures { OnOk result (code.new.items ≡ code.old.items ++ stmt_code (names_of names.entry.declarations.now names.entry.locals.now) (stmt_view statement.now) behind) }
+    requires near { context.distance_to_exit + size (stmt_view statement.now) < 2 ^ 32 }
+    ensures { Adds result code.old code.new (stmt_code_in context.entry (stmt_view statement.now)) }
 {
+    let names = context.names;
     match statement {
         Statement::Load { local, variable } => put(code, load(names, local, variable)),
         Statement::Store { variable, value } => put(code, store(names, variable, value)),
+        Statement::Add {
+            local,
+            variable,
+            value,
+        } => put(code, add(names, local, variable, value)),
+        Statement::Cas {
+            local,
+            variable,
+            expected,
+            new,
+        } => put(code, cas(names, local, variable, expected, new)),
         Statement::Lock(name) => put(code, Instruction::Lock(names.mutex(name))),
         Statement::Unlock(name) => put(code, Instruction::Unlock(names.mutex(name))),
         Statement::Wait { condition, mutex } => put(code, wait(names, condition, mutex)),
@@ -92,11 +152,11 @@ fn emit_statement(
             then,
             otherwise,
         } => match otherwise {
-            None => emit_if(code, names, test, then, behind),
-            Some(other) => emit_choice(code, names, test, then, other, behind),
+            None => emit_if(code, context, test, then),
+            Some(other) => emit_choice(code, context, test, then, other),
         },
         Statement::Repeat { times, body } => emit_copies(code, names, body, *times),
-        Statement::Leave(_) => put(code, Instruction::Skip(behind)),
+        Statement::Leave(_) => put(code, Instruction::Skip(context.distance_to_exit)),
     }
 }
 
@@ -104,44 +164,55 @@ fn emit_statement(
 #[cycle(emit)]
 fn emit_if(
     code: &mut Vec<Instruction>,
-    names: Names<'_>,
+    context: Context<'_>,
     test: &Expr,
     then: &[Statement],
-    behind: usize,
 ) -> Result<(), AllocError>
-    requires small { size (if_then (expr_view test.now) (block_view then.now)) ≤ INSTRUCTIONS }
-    requires behind { behind + size (if_then (expr_view test.now) (block_view then.now)) < 2 ^ 32 }
-    ensures { OnOk result (code.new.items ≡ code.old.items ++ stmt_code (names_of names.entry.declarations.now names.entry.locals.now) (if_then (expr_view test.now) (block_view then.now)) behind) }
+    requires small { 1 + size_of then.now ≤ INSTRUCTIONS }
+    requires near { context.distance_to_exit + (1 + size_of then.now) < 2 ^ 32 }
+    ensures { Adds result code.old code.new
+        (stmt_code_in context.entry (if_then (expr_view test.now) (block_view then.now))) }
 {
     let over = size_of_block(then);
-    put(code, Instruction::SkipIfZero(names.expression(test), over))?;
-    emit_block(code, names, then, behind)
+    put(
+        code,
+        Instruction::SkipIfZero(context.names.expression(test), over),
+    )?;
+    emit_block(code, context, then)
 }
 
 /// Adds the code of an `if` with an `else`.
 #[cycle(emit)]
 fn emit_choice(
     code: &mut Vec<Instruction>,
-    names: Names<'_>,
+    context: Context<'_>,
     test: &Expr,
     then: &[Statement],
     other: &[Statement],
-    behind: usize,
 ) -> Result<(), AllocError>
-    requires small { size (if_else (expr_view test.now) (block_view then.now) (block_view other.now)) ≤ INSTRUCTIONS }
-    requires behind { behind + size (if_else (expr_view test.now) (block_view then.now) (block_view other.now)) < 2 ^ 32 }
-    ensures { OnOk result (code.new.items ≡ code.old.items ++ stmt_code (names_of names.entry.declarations.now names.entry.locals.now) (if_else (expr_view test.now) (block_view then.now) (block_view other.now)) behind) }
+    requires small { 2 + size_of then.now + size_of other.now ≤ INSTRUCTIONS }
+    requires near { context.distance_to_exit + (2 + size_of then.now + size_of other.now) < 2 ^ 32 }
+    ensures { Adds result code.old code.new
+        (stmt_code_in context.entry (if_else (expr_view test.now) (block_view then.now)
+        (block_view other.now))) }
 {
     // The test passes over the skip too.
     let over = size_of_block(then) + 1;
     let len = size_of_block(other);
-    put(code, Instruction::SkipIfZero(names.expression(test), over))?;
-    emit_block(code, names, then, behind + 1 + len)?;
+    put(
+        code,
+        Instruction::SkipIfZero(context.names.expression(test), over),
+    )?;
+    let farther = Context {
+        names: context.names,
+        distance_to_exit: context.distance_to_exit + 1 + len,
+    };
+    emit_block(code, farther, then)?;
     put(code, Instruction::Skip(len))?;
-    emit_block(code, names, other, behind)
+    emit_block(code, context, other)
 }
 
-/// Adds copies of a block. An empty block takes no turn.
+/// Adds copies of a block. Copies of an empty block cost no time.
 #[cycle(emit)]
 fn emit_copies(
     code: &mut Vec<Instruction>,
@@ -149,8 +220,8 @@ fn emit_copies(
     body: &[Statement],
     times: u8,
 ) -> Result<(), AllocError>
-    requires { times * block_size (block_view body.now) ≤ INSTRUCTIONS }
-    ensures { OnOk result (code.new.items ≡ code.old.items ++ copies (block_code (names_of names.entry.declarations.now names.entry.locals.now) (block_view body.now)) (block_size (block_view body.now)) times) }
+    requires { times * size_of body.now ≤ INSTRUCTIONS }
+    ensures { Adds result code.old code.new (copies_of names.entry body.now times) }
 {
     let len = size_of_block(body);
     if times == 0 || len == 0 {
@@ -159,7 +230,11 @@ fn emit_copies(
     let mut left = times as usize;
     while left > 0 {
         left -= 1;
-        emit_block(code, names, body, left * len)?;
+        let context = Context {
+            names,
+            distance_to_exit: left * len,
+        };
+        emit_block(code, context, body)?;
     }
     Ok(())
 }
@@ -168,18 +243,21 @@ fn emit_copies(
 #[cycle(emit)]
 pub fn emit_block(
     code: &mut Vec<Instruction>,
-    names: Names<'_>,
+    context: Context<'_>,
     block: &[Statement],
-    behind: usize,
 ) -> Result<(), AllocError>
-    requires small { block_size (block_view block.now) ≤ INSTRUCTIONS }
-    requires behind { behind + block_size (block_view block.now) < 2 ^ 32 }
-    ensures { OnOk result (code.new.items ≡ code.old.items ++ block_code (names_of names.entry.declarations.now names.entry.locals.now) (block_view block.now) behind) }
+    requires small { size_of block.now ≤ INSTRUCTIONS }
+    requires near { context.distance_to_exit + size_of block.now < 2 ^ 32 }
+    ensures { Adds result code.old code.new (block_code_in context.entry (block_view block.now)) }
 {
     let mut left = size_of_block(block);
     for statement in block {
         left -= size_of_statement(statement);
-        emit_statement(code, names, statement, behind + left)?;
+        let farther = Context {
+            names: context.names,
+            distance_to_exit: context.distance_to_exit + left,
+        };
+        emit_statement(code, farther, statement)?;
     }
     Ok(())
 }

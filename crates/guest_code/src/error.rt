@@ -8,16 +8,16 @@ use std::alloc::{AllocError, AllocFailed};
 use thiserror::Error;
 
 /// What is wrong with a tree, or that memory ran out. Places are those of names, and of the word
-/// `leave`. Printed as in a report's line, behind `ctxbound: `.
+/// `leave`. Printed as in a report's line, after `ctxbound: `.
 #[derive(Clone, Copy, Debug, PartialEq, Eq, Error)]
 pub enum CheckError {
     /// The name is declared already. Objects and threads share one name space.
     #[error("check C1 Duplicate at {0}")]
     Duplicate(Pos),
-    /// An object must stand here, and nothing declares this name.
+    /// An object must be named here, and nothing declares this name.
     #[error("check C2 Unknown at {0}")]
     Unknown(Pos),
-    /// This name is declared as something else than what must stand here.
+    /// This name is declared as something else than what must be named here.
     #[error("check C3 WrongKind at {0}")]
     WrongKind(Pos),
     /// There is no thread.

@@ -4,7 +4,7 @@ ghost use Rattle.std.specs.Prelude.{◌≡◌, ◌+◌, ◌≤◌, length, map, 
 ghost use Rattle.guest_syntax.specs.Tree.{stmt_view, block_view, thread_view};
 ghost use Rattle.guest_code.specs.Sizes.{size, block_size};
 ghost use Rattle.guest_code.specs.Fault.{too_long};
-ghost use Rattle.guest_code.specs.Walk.{passed};
+ghost use Rattle.guest_code.specs.inner.Walk.{passed};
 
 use crate::error::CheckError;
 use crate::limits::{INSTRUCTIONS, THREADS};
@@ -16,17 +16,12 @@ pub fn size_of_statement(statement: &Statement) -> usize
     ensures { result ≡ min (size (stmt_view statement.now)) (INSTRUCTIONS + 1) }
 {
     match statement {
-        Statement::Load { .. } => 1,
-        Statement::Store { .. } => 1,
-        Statement::Lock(_) => 1,
-        Statement::Unlock(_) => 1,
-        Statement::Wait { .. } => 1,
-        Statement::Signal(_) => 1,
-        Statement::Broadcast(_) => 1,
-        Statement::Acquire(_) => 1,
-        Statement::Release(_) => 1,
-        Statement::Set { .. } => 1,
-        Statement::Assert(_) => 1,
+        Statement::Load { .. } | Statement::Store { .. } => 1,
+        Statement::Add { .. } | Statement::Cas { .. } => 1,
+        Statement::Lock(_) | Statement::Unlock(_) | Statement::Wait { .. } => 1,
+        Statement::Signal(_) | Statement::Broadcast(_) => 1,
+        Statement::Acquire(_) | Statement::Release(_) => 1,
+        Statement::Set { .. } | Statement::Assert(_) => 1,
         Statement::If {
             then,
             otherwise,

@@ -2,16 +2,19 @@
 //!
 //! [`lowering::lower`] answers a tree's first fault, or its program. Which fault is the first is
 //! said in `specs/Fault.antt` of the uses of names in text order (`specs/Uses.antt`), and which
-//! program a tree stands for in `specs/Code.antt`.
+//! program a tree stands for in `specs/Code.antt`. What is in `specs/inner` only the proofs need:
+//! no public contract cites it.
 //!
 //! What is promised, for every tree:
 //!
 //! - A program is answered exactly where the tree has no fault, and it is the one that the tree
 //!   stands for; else exactly the first fault is answered. Only memory may run out.
-//! - The first fault stands at one use of a name or a `leave`, and no use before it has any
-//!   ([`lowering::first_stands`]). Want of threads and too long a code come after all others.
-//! - A program keeps every limit of [`limits`], and each number of an object or a local in its
-//!   code is in range (`IsWellFormed` of `specs/Program.antt`).
+//! - The first fault is at one use of a name or a `leave`, and no use before it has any
+//!   ([`laws::first_fault_is_first`]). That there is no thread, and too long a code, come after
+//!   all others.
+//! - A program keeps every limit of [`limits`], each number of an object or a local in its code is
+//!   in range, and each jump is within its code ([`laws::programs_are_well_formed`], by
+//!   `IsWellFormed` of `specs/Program.antt`).
 //! - Two programs are equal exactly where all that is seen of them is
 //!   ([`program::Program::is_same`]).
 #![tactic(auto)]
@@ -20,6 +23,7 @@ mod check;
 mod emit;
 pub mod error;
 mod kinds;
+pub mod laws;
 mod lengths;
 pub mod limits;
 pub mod lowering;

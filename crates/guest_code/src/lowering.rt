@@ -1,37 +1,35 @@
 //! From a tree to a program.
 
-ghost use Rattle.std.specs.Prelude.{◌≡◌, ◌≤◌, List, [], None, Some, length, map, All, IfOk, MatchResult};
-ghost use Rattle.guest_syntax.specs.Tree.{declaration_view, thread_view, tree_view};
-ghost use Rattle.guest_code.specs.Program.{variable_view, semaphore_view, thread_view as code_view};
-ghost use Rattle.guest_code.specs.Uses.{Use, thread_locals};
-ghost use Rattle.guest_code.specs.Sizes.{block_size};
-ghost use Rattle.guest_code.specs.Fault.{too_long, first, fault};
-ghost use Rattle.guest_code.specs.Found.{Found};
-ghost use Rattle.guest_code.specs.Walk.{locals_view};
-ghost use Rattle.guest_code.specs.Gives.{Refuses};
-ghost use Rattle.guest_code.specs.Code.{objects_by, variable_of, mutex_of, condition_of, semaphore_of, thread_code, code};
-ghost use Rattle.guest_code.specs.declared.error.CheckError.{CheckError};
+ghost use Rattle.std.specs.Prelude.{◌≡◌, ◌≤◌, None, map, All, IfOk, MatchResult};
+ghost use Rattle.guest_syntax.specs.Tree.{thread_view, tree_view};
+ghost use Rattle.guest_code.specs.Program.{variable_view, variables_view, semaphore_view, semaphores_view, thread_view as code_view, threads_view, names_view, locals_view};
+ghost use Rattle.guest_code.specs.Uses.{thread_locals};
+ghost use Rattle.guest_code.specs.Fault.{too_long, fault, Refuses};
+ghost use Rattle.guest_code.specs.Code.{variable_of, mutex_of, condition_of, semaphore_of, code};
+ghost use Rattle.guest_code.specs.inner.Emission.{size_of, objects_in, thread_code_in, threads_code_in};
 
 use crate::check::check;
-use crate::emit::emit_block;
+use crate::emit::{Context, emit_block};
 use crate::error::CheckError;
 use crate::limits::{COUNT, INSTRUCTIONS};
 use crate::names::Names;
 use crate::program::{Program, Semaphore, Thread, Variable};
 use guest_syntax::tree::{Declaration, Name, Object, Thread as ThreadTree, Tree};
-use std::alloc::Global;
+use std::alloc::{AllocError, Global};
 
 /// A variable of this name.
-fn variable(alloc: Global, name: &Name, opening: i64) -> Result<Variable, CheckError>
-    ensures { MatchResult result (λ v. variable_view v ≡ record { name = name.now.text.items; opening = opening }) (λ e. e ≡ CheckError.OutOfMemory) }
+fn variable(alloc: Global, name: &Name, opening: i64) -> Result<Variable, AllocError>
+    ensures { IfOk result
+        (λ v. variable_view v ≡ record { name = name.now.text.items; opening = opening }) }
 {
     let name = name.text.to_vec(alloc)?;
     Ok(Variable { name, opening })
 }
 
 /// A semaphore of this name.
-fn semaphore(alloc: Global, name: &Name, count: u16) -> Result<Semaphore, CheckError>
-    ensures same { MatchResult result (λ s. semaphore_view s ≡ record { name = name.now.text.items; count = count }) (λ e. e ≡ CheckError.OutOfMemory) }
+fn semaphore(alloc: Global, name: &Name, count: u16) -> Result<Semaphore, AllocError>
+    ensures same { IfOk result
+        (λ s. semaphore_view s ≡ record { name = name.now.text.items; count = count }) }
     ensures few { count ≤ COUNT }
 {
     let name = name.text.to_vec(alloc)?;
@@ -39,8 +37,8 @@ fn semaphore(alloc: Global, name: &Name, count: u16) -> Result<Semaphore, CheckE
 }
 
 /// The variables among these declarations.
-fn lower_variables(alloc: Global, declarations: &[Declaration]) -> Result<Vec<Variable>, CheckError>
-    ensures { MatchResult result (λ v. map variable_view v.items ≡ objects_by variable_of (map declaration_view declarations.now)) (λ e. e ≡ CheckError.OutOfMemory) }
+fn lower_variables(alloc: Global, declarations: &[Declaration]) -> Result<Vec<Variable>, AllocError>
+    ensures { IfOk result (λ v. variables_view v ≡ objects_in variable_of declarations.now) }
 {
     let mut all = Vec::new(alloc);
     for declaration in declarations {
@@ -52,8 +50,8 @@ fn lower_variables(alloc: Global, declarations: &[Declaration]) -> Result<Vec<Va
 }
 
 /// The mutexes among these declarations.
-fn lower_mutexes(alloc: Global, declarations: &[Declaration]) -> Result<Vec<Vec<u8>>, CheckError>
-    ensures { MatchResult result (λ v. map (λ n. n.items) v.items ≡ objects_by mutex_of (map declaration_view declarations.now)) (λ e. e ≡ CheckError.OutOfMemory) }
+fn lower_mutexes(alloc: Global, declarations: &[Declaration]) -> Result<Vec<Vec<u8>>, AllocError>
+    ensures { IfOk result (λ v. names_view v.items ≡ objects_in mutex_of declarations.now) }
 {
     let mut all = Vec::new(alloc);
     for declaration in declarations {
@@ -65,8 +63,8 @@ fn lower_mutexes(alloc: Global, declarations: &[Declaration]) -> Result<Vec<Vec<
 }
 
 /// The conditions among these declarations.
-fn lower_conditions(alloc: Global, declarations: &[Declaration]) -> Result<Vec<Vec<u8>>, CheckError>
-    ensures { MatchResult result (λ v. map (λ n. n.items) v.items ≡ objects_by condition_of (map declaration_view declarations.now)) (λ e. e ≡ CheckError.OutOfMemory) }
+fn lower_conditions(alloc: Global, declarations: &[Declaration]) -> Result<Vec<Vec<u8>>, AllocError>
+    ensures { IfOk result (λ v. names_view v.items ≡ objects_in condition_of declarations.now) }
 {
     let mut all = Vec::new(alloc);
     for declaration in declarations {
@@ -81,9 +79,9 @@ fn lower_conditions(alloc: Global, declarations: &[Declaration]) -> Result<Vec<V
 fn lower_semaphores(
     alloc: Global,
     declarations: &[Declaration],
-) -> Result<Vec<Semaphore>, CheckError>
-    ensures same { MatchResult result (λ v. map semaphore_view v.items ≡ objects_by semaphore_of (map declaration_view declarations.now)) (λ e. e ≡ CheckError.OutOfMemory) }
-    ensures counts { IfOk result (λ v. All (λ s. s.count ≤ COUNT) (map semaphore_view v.items)) }
+) -> Result<Vec<Semaphore>, AllocError>
+    ensures same { IfOk result (λ v. semaphores_view v ≡ objects_in semaphore_of declarations.now) }
+    ensures counts { IfOk result (λ v. All (λ s. s.count ≤ COUNT) (semaphores_view v)) }
 {
     let mut all = Vec::new(alloc);
     for declaration in declarations {
@@ -100,17 +98,20 @@ fn lower_thread(
     declarations: &[Declaration],
     locals: &Vec<Vec<u8>>,
     thread: &ThreadTree,
-) -> Result<Thread, CheckError>
-    requires small { block_size (thread_view thread.now).body ≤ INSTRUCTIONS }
+) -> Result<Thread, AllocError>
+    requires small { size_of thread.now.body.items ≤ INSTRUCTIONS }
     requires locals { locals_view locals.now ≡ thread_locals (thread_view thread.now) }
-    ensures { MatchResult result (λ t. code_view t ≡ thread_code (map declaration_view declarations.now) (thread_view thread.now)) (λ e. e ≡ CheckError.OutOfMemory) }
+    ensures { IfOk result (λ t. code_view t ≡ thread_code_in declarations.now thread.now) }
 {
-    let names = Names {
-        declarations,
-        locals,
+    let context = Context {
+        names: Names {
+            declarations,
+            locals,
+        },
+        distance_to_exit: 0,
     };
     let mut code = Vec::new(alloc);
-    emit_block(&mut code, names, &thread.body, 0)?;
+    emit_block(&mut code, context, &thread.body)?;
     Ok(Thread {
         name: thread.name.text.to_vec(alloc)?,
         locals: locals.len(),
@@ -124,10 +125,10 @@ fn lower_threads(
     declarations: &[Declaration],
     locals: &[Vec<Vec<u8>>],
     threads: &[ThreadTree],
-) -> Result<Vec<Thread>, CheckError>
+) -> Result<Vec<Thread>, AllocError>
     requires short { too_long 0 (map thread_view threads.now) ≡ None }
     requires locals { map locals_view locals.now ≡ map thread_locals (map thread_view threads.now) }
-    ensures { MatchResult result (λ v. map code_view v.items ≡ map (thread_code (map declaration_view declarations.now)) (map thread_view threads.now)) (λ e. e ≡ CheckError.OutOfMemory) }
+    ensures { IfOk result (λ v. threads_view v ≡ threads_code_in declarations.now threads.now) }
 {
     let mut all = Vec::new(alloc);
     for (i, thread) in threads.iter().enumerate() {
@@ -141,10 +142,12 @@ fn lower_threads(
 ///
 /// # Errors
 ///
-/// The first fault in text order: of two at one name the one of the lower number, and want of
-/// threads and too long a code after all others; `OutOfMemory` where memory runs out.
+/// The first fault in text order: of two at one name the one of the lower number; that there is no
+/// thread, and then too long a code, after all others; `OutOfMemory` where memory runs out.
 pub fn lower(alloc: Global, tree: &Tree) -> Result<Program, CheckError>
-    ensures { MatchResult result (λ p. (fault (tree_view tree.now) ≡ None) × (p ≡ code (tree_view tree.now))) (λ e. Refuses e (fault (tree_view tree.now))) }
+    ensures { MatchResult result
+        (λ p. (fault (tree_view tree.now) ≡ None) × (p ≡ code (tree_view tree.now)))
+        (λ e. Refuses e (fault (tree_view tree.now))) }
 {
     let locals = check(alloc, tree)?;
     let declarations = tree.declarations();
@@ -155,9 +158,3 @@ pub fn lower(alloc: Global, tree: &Tree) -> Result<Program, CheckError>
     let threads = lower_threads(alloc, declarations, &locals, tree.threads())?;
     Ok(Program::new(variables, mutexes, conditions, semaphores, threads))
 }
-
-/// The first fault among the uses of names stands at one use, and no use before it has any: so
-/// what `lower` answers is the first in text order.
-pub fn first_stands()
-    ensures { (all us : List Use) (e : CheckError) → first all [] us ≡ Some e → Found all [] us e }
-{}

@@ -1,9 +1,10 @@
 //! What the names of a thread stand for.
 
 ghost use Rattle.std.specs.Prelude.{◌≡◌, map};
-ghost use Rattle.guest_syntax.specs.Tree.{operand_view, expr_view, declaration_view};
-ghost use Rattle.guest_code.specs.Code.{slot, place, names_of, value_of, expression_of};
-ghost use Rattle.guest_code.specs.declared.kinds.Kind.{Kind};
+ghost use Rattle.guest_syntax.specs.Tree.{name_view, operand_view, expr_view, declaration_view};
+ghost use Rattle.guest_code.specs.Program.{names_view};
+ghost use Rattle.guest_code.specs.Code.{object_index, local_index, variable_number, mutex_number, condition_number, semaphore_number, local_number, value_of, expression_of};
+ghost use Rattle.guest_code.specs.inner.Emission.{names_of};
 
 use crate::kinds::{Kind, kind_of};
 use crate::program::{Expression, Value};
@@ -18,74 +19,74 @@ pub struct Names<'a> {
 }
 
 /// The number of an object among those of its kind.
-fn slot_of(declarations: &[Declaration], kind: Kind, name: &[u8]) -> usize
-    ensures { result ≡ slot kind (map declaration_view declarations.now) name.now }
+fn index_of_object(declarations: &[Declaration], kind: Kind, name: &[u8]) -> usize
+    ensures { result ≡ object_index kind (map declaration_view declarations.now) name.now }
 {
-    let mut at = 0;
+    let mut index = 0;
     for declaration in declarations {
         if declaration.name.text.as_slice() == name {
-            return at;
+            return index;
         }
         if kind_of(declaration.object).is(kind) {
-            at += 1;
+            index += 1;
         }
     }
-    at
+    index
 }
 
 /// The number of a local.
-fn place_of(locals: &[Vec<u8>], name: &[u8]) -> usize
-    ensures { result ≡ place (map (λ n. n.items) locals.now) name.now }
+fn index_of_local(locals: &[Vec<u8>], name: &[u8]) -> usize
+    ensures { result ≡ local_index (names_view locals.now) name.now }
 {
-    let mut at = 0;
+    let mut index = 0;
     for local in locals {
         if local.as_slice() == name {
-            return at;
+            return index;
         }
-        at += 1;
+        index += 1;
     }
-    at
+    index
 }
 
 impl Names<'_> {
     /// The number of a variable.
     pub fn variable(self, name: &Name) -> usize
-        ensures { result ≡ slot Kind.Variable (map declaration_view self.entry.declarations.now) name.now.text.items }
+        ensures { result ≡ variable_number (names_of self.entry) (name_view name.now) }
     {
-        slot_of(self.declarations, Kind::Variable, &name.text)
+        index_of_object(self.declarations, Kind::Variable, &name.text)
     }
 
     /// The number of a mutex.
     pub fn mutex(self, name: &Name) -> usize
-        ensures { result ≡ slot Kind.Mutex (map declaration_view self.entry.declarations.now) name.now.text.items }
+        ensures { result ≡ mutex_number (names_of self.entry) (name_view name.now) }
     {
-        slot_of(self.declarations, Kind::Mutex, &name.text)
+        index_of_object(self.declarations, Kind::Mutex, &name.text)
     }
 
     /// The number of a condition.
     pub fn condition(self, name: &Name) -> usize
-        ensures { result ≡ slot Kind.Condition (map declaration_view self.entry.declarations.now) name.now.text.items }
+        ensures { result ≡ condition_number (names_of self.entry) (name_view name.now) }
     {
-        slot_of(self.declarations, Kind::Condition, &name.text)
+        index_of_object(self.declarations, Kind::Condition, &name.text)
     }
 
     /// The number of a semaphore.
     pub fn semaphore(self, name: &Name) -> usize
-        ensures { result ≡ slot Kind.Semaphore (map declaration_view self.entry.declarations.now) name.now.text.items }
+        ensures { result ≡ semaphore_number (names_of self.entry) (name_view name.now) }
     {
-        slot_of(self.declarations, Kind::Semaphore, &name.text)
+        index_of_object(self.declarations, Kind::Semaphore, &name.text)
     }
 
     /// The number of a local.
     pub fn local(self, name: &Name) -> usize
-        ensures { result ≡ place (map (λ n. n.items) self.entry.locals.now) name.now.text.items }
+        ensures { result ≡ local_number (names_of self.entry) (name_view name.now) }
     {
-        place_of(self.locals, &name.text)
+        index_of_local(self.locals, &name.text)
     }
 
     /// An operand, with its local by number.
     pub fn value(self, operand: &Operand) -> Value
-        ensures { result ≡ value_of (names_of self.entry.declarations.now self.entry.locals.now) (operand_view operand.now) }
+        ensures { result ≡ value_of (names_of self.entry) (operand_view operand.now) }
     {
         match operand {
             Operand::Local(name) => Value::Local(self.local(name)),
@@ -95,7 +96,7 @@ impl Names<'_> {
 
     /// An expression, with its locals by number.
     pub fn expression(self, expr: &Expr) -> Expression
-        ensures { result ≡ expression_of (names_of self.entry.declarations.now self.entry.locals.now) (expr_view expr.now) }
+        ensures { result ≡ expression_of (names_of self.entry) (expr_view expr.now) }
     {
         match expr {
             Expr::Single(a) => Expression::Single(self.value(a)),

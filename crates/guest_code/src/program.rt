@@ -1,8 +1,7 @@
 //! Programs as flat code, with all names resolved.
 
-ghost use Rattle.std.specs.Prelude.{◌≡◌, ◌↔◌, ◌<◌, ◌≤◌, IsTrue, [], length, map, slice_index_or, List, ℕ};
-ghost use Rattle.guest_code.specs.Program as model;
-ghost use Rattle.guest_code.specs.Program.{IsWellFormed, IsValidCode, variable_view, semaphore_view, thread_view, code_of, variable_at, semaphore_at, thread_at};
+ghost use Rattle.std.specs.Prelude.{◌≡◌, ◌↔◌, ◌<◌, ◌≤◌, IsTrue, [], length, slice_index_or};
+ghost use Rattle.guest_code.specs.Program.{IsWellFormed, IsValidCode, program_view, code_of, variable_at, semaphore_at, thread_at};
 
 use crate::limits::*;
 use guest_syntax::tree::Op;
@@ -31,15 +30,40 @@ pub enum Expression {
 #[derive(Clone, Copy, Debug, PartialEq, Eq)]
 pub enum Instruction {
     /// The local becomes the variable's value.
-    Load { local: usize, variable: usize },
+    Load {
+        local: usize,
+        variable: usize,
+    },
     /// The variable becomes the value.
-    Store { variable: usize, value: Value },
+    Store {
+        variable: usize,
+        value: Value,
+    },
+    /// The local becomes the variable's value, and the variable becomes that value plus this one,
+    /// in one step. The value is read before the local is written.
+    Add {
+        local: usize,
+        variable: usize,
+        value: Value,
+    },
+    /// Where the variable's value is the expected one it becomes the new one and the local 1;
+    /// else the local becomes 0, and the variable keeps its value. All in one step, and the two
+    /// values are read before the local is written.
+    Cas {
+        local: usize,
+        variable: usize,
+        expected: Value,
+        new: Value,
+    },
     /// Takes the mutex of this number.
     Lock(usize),
     /// Gives the mutex of this number back.
     Unlock(usize),
     /// Gives the mutex back, waits for the condition, and takes the mutex again.
-    Wait { condition: usize, mutex: usize },
+    Wait {
+        condition: usize,
+        mutex: usize,
+    },
     /// Wakes the thread that has waited longest for the condition of this number.
     Signal(usize),
     /// Wakes all threads that wait for the condition of this number.
@@ -49,7 +73,10 @@ pub enum Instruction {
     /// Raises the count of the semaphore of this number.
     Release(usize),
     /// The local becomes the expression's value.
-    Set { local: usize, value: Expression },
+    Set {
+        local: usize,
+        value: Expression,
+    },
     /// Stops the thread where the expression is 0.
     Assert(Expression),
     /// Passes over so many of the next instructions where the expression is 0.
@@ -61,24 +88,29 @@ pub enum Instruction {
 /// A variable's name and opening value.
 #[derive(Debug, PartialEq, Eq, Drop)]
 pub struct Variable {
+    /// As the text spells it.
     pub name: Vec<u8>,
+    /// Its value before the first step.
     pub opening: i64,
 }
 
 /// A semaphore's name and opening count.
 #[derive(Debug, PartialEq, Eq, Drop)]
 pub struct Semaphore {
+    /// As the text spells it.
     pub name: Vec<u8>,
+    /// Its count before the first step, at most `COUNT`.
     pub count: u16,
 }
 
 /// A thread's name, how many locals it has, and its code.
 #[derive(Debug, PartialEq, Eq, Drop)]
 pub struct Thread {
+    /// As the text spells it.
     pub name: Vec<u8>,
-    /// At most `LOCALS`.
+    /// How many locals it has, at most `LOCALS`.
     pub locals: usize,
-    /// At most `INSTRUCTIONS`, all jumps forwards.
+    /// At most `INSTRUCTIONS`, all jumps forwards and within it.
     pub code: Vec<Instruction>,
 }
 
@@ -93,15 +125,14 @@ pub struct Program {
 }
 
 impl Model for Program {
-    ghost use Rattle.std.specs.Prelude.{map};
     ghost use Rattle.guest_code.specs.Program as model;
-    ghost use Rattle.guest_code.specs.Program.{IsWellFormed, variable_view, semaphore_view, thread_view};
+    ghost use Rattle.guest_code.specs.Program.{IsWellFormed, program_view};
 
     ghost Value = { model.Program };
 
-    ghost view = { λ p. record { variables = map variable_view p.variables.items; mutexes = map (λ n. n.items) p.mutexes.items; conditions = map (λ n. n.items) p.conditions.items; semaphores = map semaphore_view p.semaphores.items; threads = map thread_view p.threads.items } };
+    ghost view = { λ p. program_view p.variables p.mutexes p.conditions p.semaphores p.threads };
 
-    ghost invariant = { λ p. IsWellFormed (record { variables = map variable_view p.variables.items; mutexes = map (λ n. n.items) p.mutexes.items; conditions = map (λ n. n.items) p.conditions.items; semaphores = map semaphore_view p.semaphores.items; threads = map thread_view p.threads.items }) };
+    ghost invariant = { λ p. IsWellFormed (program_view p.variables p.mutexes p.conditions p.semaphores p.threads) };
 }
 
 impl PartialEq for Program {
@@ -136,8 +167,8 @@ impl Program {
         semaphores: Vec<Semaphore>,
         threads: Vec<Thread>,
     ) -> Program
-        requires { IsWellFormed (record { variables = map variable_view variables.items; mutexes = map (λ n. n.items) mutexes.items; conditions = map (λ n. n.items) conditions.items; semaphores = map semaphore_view semaphores.items; threads = map thread_view threads.items }) }
-        ensures { result ≡ record { variables = map variable_view variables.items; mutexes = map (λ n. n.items) mutexes.items; conditions = map (λ n. n.items) conditions.items; semaphores = map semaphore_view semaphores.items; threads = map thread_view threads.items } }
+        requires { IsWellFormed (program_view variables mutexes conditions semaphores threads) }
+        ensures { result ≡ program_view variables mutexes conditions semaphores threads }
     {
         Program {
             variables,
@@ -153,6 +184,13 @@ impl Program {
         ensures { IsTrue result ↔ (self.now ≡ other.now) }
     {
         *self == *other
+    }
+
+    /// It keeps every limit, and each number in its code is in range. Does nothing.
+    pub fn keeps_limits(&self)
+        ensures { IsWellFormed self.now }
+    {
+        let _ = &self.threads;
     }
 
     /// How many threads it has, 1 to `THREADS`.
@@ -196,76 +234,77 @@ impl Program {
     }
 
     /// The opening value of a variable.
-    pub fn opening(&self, variable: u8) -> i64
+    pub fn opening(&self, variable: usize) -> i64
         requires { variable < length self.now.variables }
         ensures { result ≡ (variable_at self.now variable).opening }
     {
-        self.variables[variable as usize].opening
+        self.variables[variable].opening
     }
 
     /// The opening count of a semaphore.
-    pub fn count(&self, semaphore: u8) -> u16
+    pub fn count(&self, semaphore: usize) -> u16
         requires { semaphore < length self.now.semaphores }
         ensures count { result ≡ (semaphore_at self.now semaphore).count }
         ensures few { result ≤ COUNT }
     {
-        self.semaphores[semaphore as usize].count
+        self.semaphores[semaphore].count
     }
 
     /// The code of a thread.
-    pub fn code(&self, t: u8) -> &[Instruction]
-        requires { t < length self.now.threads }
-        ensures code { result.now ≡ code_of self.now t }
-        ensures fine { IsValidCode self.now result.now }
+    pub fn code(&self, thread: u8) -> &[Instruction]
+        requires { thread < length self.now.threads }
+        ensures code { result.now ≡ code_of self.now thread }
+        ensures valid { IsValidCode self.now result.now }
     {
-        self.threads[t as usize].code.as_slice()
+        self.threads[thread as usize].code.as_slice()
     }
 
-    /// How many locals a thread has.
-    pub fn locals(&self, t: u8) -> usize
-        requires { t < length self.now.threads }
-        ensures { result ≡ (thread_at self.now t).locals }
+    /// How many locals a thread has, at most `LOCALS`.
+    pub fn locals(&self, thread: u8) -> usize
+        requires { thread < length self.now.threads }
+        ensures locals { result ≡ (thread_at self.now thread).locals }
+        ensures few { result ≤ LOCALS }
     {
-        self.threads[t as usize].locals
+        self.threads[thread as usize].locals
     }
 
     /// The name of a variable.
-    pub fn variable_name(&self, variable: u8) -> &[u8]
+    pub fn variable_name(&self, variable: usize) -> &[u8]
         requires { variable < length self.now.variables }
         ensures { result.now ≡ (variable_at self.now variable).name }
     {
-        self.variables[variable as usize].name.as_slice()
+        self.variables[variable].name.as_slice()
     }
 
     /// The name of a mutex.
-    pub fn mutex_name(&self, mutex: u8) -> &[u8]
+    pub fn mutex_name(&self, mutex: usize) -> &[u8]
         requires { mutex < length self.now.mutexes }
         ensures { result.now ≡ slice_index_or self.now.mutexes mutex [] }
     {
-        self.mutexes[mutex as usize].as_slice()
+        self.mutexes[mutex].as_slice()
     }
 
     /// The name of a condition.
-    pub fn condition_name(&self, condition: u8) -> &[u8]
+    pub fn condition_name(&self, condition: usize) -> &[u8]
         requires { condition < length self.now.conditions }
         ensures { result.now ≡ slice_index_or self.now.conditions condition [] }
     {
-        self.conditions[condition as usize].as_slice()
+        self.conditions[condition].as_slice()
     }
 
     /// The name of a semaphore.
-    pub fn semaphore_name(&self, semaphore: u8) -> &[u8]
+    pub fn semaphore_name(&self, semaphore: usize) -> &[u8]
         requires { semaphore < length self.now.semaphores }
         ensures { result.now ≡ (semaphore_at self.now semaphore).name }
     {
-        self.semaphores[semaphore as usize].name.as_slice()
+        self.semaphores[semaphore].name.as_slice()
     }
 
     /// The name of a thread.
-    pub fn thread_name(&self, t: u8) -> &[u8]
-        requires { t < length self.now.threads }
-        ensures { result.now ≡ (thread_at self.now t).name }
+    pub fn thread_name(&self, thread: u8) -> &[u8]
+        requires { thread < length self.now.threads }
+        ensures { result.now ≡ (thread_at self.now thread).name }
     {
-        self.threads[t as usize].name.as_slice()
+        self.threads[thread as usize].name.as_slice()
     }
 }

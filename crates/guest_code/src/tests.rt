@@ -1,12 +1,13 @@
 use crate::error::CheckError;
-use crate::lowering::{first_stands, lower};
+use crate::laws::{first_fault_is_first, limits_are, programs_are_well_formed};
+use crate::lowering::lower;
 use crate::program::{Expression, Instruction, Program, Value};
 use guest_syntax::parse;
 use std::alloc::Global;
 use std::test::*;
 
 /// Texts, and the lines that are printed for their first faults.
-const FAULTS: [(&str, &str); 18] = [
+const FAULTS: [(&str, &str); 27] = [
     ("", "check C4 NoThreads"),
     ("var x; mutex x; thread A { }", "check C1 Duplicate at 1:14"),
     ("var x; thread x { }", "check C1 Duplicate at 1:15"),
@@ -28,20 +29,20 @@ const FAULTS: [(&str, &str); 18] = [
     ),
     ("mutex m; mutex m;", "check C1 Duplicate at 1:16"),
     (
-        "var x; thread A { repeat 100 { store x 1; store x 2; store x 3; } }",
+        "var x; thread A { repeat 100 { store x 1; store x 2; store x 3; store x 4; store x 5; store x 6; store x 7; store x 8; store x 9; store x 10; store x 11; } }",
         "check C6 CodeTooLong in thread 0",
     ),
     (
-        "thread A { } thread B { repeat 100 { assert 1; assert 1; assert 1; } }",
+        "thread A { } thread B { repeat 100 { repeat 11 { assert 1; } } }",
         "check C6 CodeTooLong in thread 1",
     ),
     (
-        "thread A { repeat 100 { assert 1; assert 1; assert 1; } } thread B { leave; }",
-        "check C7 LeaveOutside at 1:70",
+        "thread A { repeat 100 { repeat 11 { assert 1; } } } thread B { leave; }",
+        "check C7 LeaveOutside at 1:64",
     ),
     (
-        "thread A { } thread B { } thread C { } thread D { } thread E { } thread F { } thread G { } thread H { } thread I { } ",
-        "check C5 TooMany at 1:112",
+        "thread A { } thread B { } thread C { } thread D { } thread E { } thread F { } thread G { } thread H { } thread I { } thread J { } thread K { } thread L { } thread M { } thread N { } thread O { } thread P { } thread Q { } ",
+        "check C5 TooMany at 1:216",
     ),
     (
         "var a; var b; var c; var d; var e; var f; var g; var h; var i; var j; var k; var l; var m; var n; var o; var p; var q; thread A { }",
@@ -55,11 +56,63 @@ const FAULTS: [(&str, &str); 18] = [
         "thread A { set a 0; set b 0; set c 0; set d 0; set e 0; set f 0; set g 0; set h 0; set i 0; set j 0; set k 0; set l 0; set m 0; set n 0; set o 0; set p 0; set a 0; repeat 1 { if r { } } }",
         "check C5 TooMany at 1:179",
     ),
+    (
+        "mutex a; mutex b; mutex c; mutex d; mutex e; mutex f; mutex g; mutex h; mutex i; thread A { }",
+        "check C5 TooMany at 1:79",
+    ),
+    (
+        "cond a; cond b; cond c; cond d; cond e; cond f; cond g; cond h; cond i; thread A { }",
+        "check C5 TooMany at 1:70",
+    ),
+    (
+        "sem a = 0; sem b = 0; sem c = 0; sem d = 0; sem e = 0; sem f = 0; sem g = 0; sem h = 0; sem i = 0; thread A { }",
+        "check C5 TooMany at 1:93",
+    ),
+    ("thread A { add r x 1; }", "check C2 Unknown at 1:18"),
+    (
+        "var x; thread A { add x x 1; }",
+        "check C3 WrongKind at 1:23",
+    ),
+    (
+        "var x; thread A { add r x x; }",
+        "check C3 WrongKind at 1:27",
+    ),
+    (
+        "mutex m; thread A { cas r m 0 1; }",
+        "check C3 WrongKind at 1:27",
+    ),
+    (
+        "var x; thread A { cas r x x B; } thread B { }",
+        "check C3 WrongKind at 1:27",
+    ),
+    (
+        "var x; thread A { cas r x q B; } thread B { }",
+        "check C3 WrongKind at 1:29",
+    ),
 ];
 
 /// A text that is cut at each byte.
 const CUT: &[u8] =
     b"mutex m; cond c; thread A { lock m; wait c m; unlock m; } thread B { lock m; wait c m; unlock m; } thread C { lock m; broadcast c; unlock m; }";
+
+/// A text with as many objects of each kind, threads, locals and instructions as the limits allow.
+fn fullest(alloc: Global) -> Result<String, Fail> {
+    let mut text = String::new(alloc);
+    for i in 0..16 {
+        text.push_str(format!(in alloc; "var v{i} = {i}; ")?.as_str())?;
+    }
+    for i in 0..8 {
+        text.push_str(format!(in alloc; "mutex m{i}; cond c{i}; sem s{i} = {i}; ")?.as_str())?;
+    }
+    for t in 0..16 {
+        text.push_str(format!(in alloc; "thread t{t} {{ ")?.as_str())?;
+        for i in 0..16 {
+            text.push_str(format!(in alloc; "load r{i} v{i}; ")?.as_str())?;
+        }
+        text.push_str("repeat 63 { repeat 16 { store v15 r15; } } } ")?;
+    }
+    Ok(text)
+}
 
 /// The program of a text that spells a tree.
 fn program_of(alloc: Global, text: &str) -> Result<Program, Fail> {
@@ -82,7 +135,7 @@ fn nested(alloc: Global, innermost: &str) -> Result<String, Fail> {
 
 #[test]
 fn first_faults(rt: HostRuntime) -> Result<(), Fail> {
-    first_stands();
+    first_fault_is_first();
     let alloc = rt.alloc();
     for (text, want) in FAULTS {
         let tree = parse(alloc, text.as_bytes())?;
@@ -124,9 +177,40 @@ fn nested_copies(rt: HostRuntime) -> Result<(), Fail> {
     let text = nested(alloc, "")?;
     let program = program_of(alloc, &text)?;
     assert_eq!(rt; program.code(0).len(), 0);
-    let text = "var x; thread A { repeat 64 { store x 1; store x 2; store x 3; store x 4; } }";
-    let program = program_of(alloc, text)?;
-    assert_eq!(rt; program.code(0).len(), 256);
+    Ok(())
+}
+
+#[test]
+fn largest_programs(rt: HostRuntime) -> Result<(), Fail> {
+    let alloc = rt.alloc();
+    let text = "var x; thread A { repeat 100 { store x 1; store x 2; store x 3; } }";
+    assert_eq!(rt; program_of(alloc, text)?.code(0).len(), 300);
+    let text =
+        "thread A { } thread B { } thread C { } thread D { } thread E { } thread F { } thread G { } thread H { } thread I { }";
+    assert_eq!(rt; program_of(alloc, text)?.threads(), 9);
+    let program = program_of(alloc, fullest(alloc)?.as_str())?;
+    limits_are();
+    programs_are_well_formed(&program);
+    assert_eq!(rt; (program.threads(), program.variables()), (16, 16));
+    assert_eq!(rt;
+        (
+            program.mutexes(),
+            program.conditions(),
+            program.semaphores()
+        ),
+        (8, 8, 8)
+    );
+    assert_eq!(rt; (program.opening(15), program.count(7)), (15, 7));
+    assert_eq!(rt; program.thread_name(15), b"t15".as_slice());
+    for t in 0..16 {
+        assert_eq!(rt; program.locals(t), 16);
+        assert_eq!(rt; program.code(t).len(), 1_024);
+    }
+    let last = Instruction::Store {
+        variable: 15,
+        value: Value::Local(15),
+    };
+    assert_eq!(rt; program.code(15).last(), Some(&last));
     Ok(())
 }
 
@@ -156,6 +240,35 @@ fn jumps(rt: HostRuntime) -> Result<(), Fail> {
     ];
     assert_eq!(rt; program.code(0), &want[..]);
     assert_eq!(rt; program.locals(0), 2);
+    Ok(())
+}
+
+#[test]
+fn atomic_updates(rt: HostRuntime) -> Result<(), Fail> {
+    let text = "var x; var y; thread A { set q 0; cas r y s t; add s y q; add s x -1; }";
+    let program = program_of(rt.alloc(), text)?;
+    let set = Instruction::Set {
+        local: 0,
+        value: Expression::Single(Value::Literal(0)),
+    };
+    let cas = Instruction::Cas {
+        local: 1,
+        variable: 1,
+        expected: Value::Local(2),
+        new: Value::Local(3),
+    };
+    let add = Instruction::Add {
+        local: 2,
+        variable: 1,
+        value: Value::Local(0),
+    };
+    let subtract = Instruction::Add {
+        local: 2,
+        variable: 0,
+        value: Value::Literal(-1),
+    };
+    assert_eq!(rt; program.code(0), &[set, cas, add, subtract][..]);
+    assert_eq!(rt; program.locals(0), 4);
     Ok(())
 }
 

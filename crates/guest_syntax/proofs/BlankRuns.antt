@@ -6,7 +6,7 @@ use Rattle.std.proofs.lemmas.Bool.{leb-false, lt-leb}
 use Rattle.guest_syntax.specs.declared.place.Pos.{Pos}
 use Rattle.guest_syntax.specs.declared.lexer.Step.{Step}
 use Rattle.guest_syntax.specs.declared.lexer.Step.TheVariants.{Passed, Stops, NotAscii}
-use Rattle.guest_syntax.specs.Place.{past, after}
+use Rattle.guest_syntax.specs.Place.{past, after, Follows}
 use Rattle.guest_syntax.specs.reader.BlankBytes.{gap_step}
 use Rattle.guest_syntax.specs.Tokens.{is_space, blank}
 use Rattle.guest_syntax.specs.reader.Scanner.{skip_by, skipped}
@@ -88,6 +88,12 @@ pub skip_takes : (bytes : List ℕ) (c : Bool) (at : Pos) (x : Pos × List ℕ) 
 unfolding skipped after
 skip_takes [] c at x e = subst (λ y. Gap c at [] y) (some_is (at, []) x e) (record { gap = []; state = c; parts = refl; is_gap = refl; place = refl; ascii = tt; stop = tt })
 skip_takes (b ∷ bs) c at x e = skip_by_takes b bs c at x (gap_step c b) (λ d. skipped d (past at b) bs) refl (λ d h. skip_takes bs d (past at b) x h) e
+
+pub skipped_follows : (at : Pos) (bytes : List ℕ) (later : Pos) (rest : List ℕ)
+    → skipped false at bytes ≡ Some (later, rest) → Follows at bytes later rest
+skipped_follows at bytes later rest e =
+    let g = skip_takes bytes false at (later, rest) e in
+    record { front = g.gap; parts = g.parts; place = g.place }
 
 pub skip_again : (gap : List ℕ) (c : Bool) (at : Pos) (rest : List ℕ) (state : Bool) → blank c gap ≡ Some state → Ascii gap → skipped c at (gap ++ rest) ≡ skipped state (after at gap) rest
 unfolding skipped after

@@ -16,3 +16,4 @@ pub mod LongestPrefix
 pub mod TokenSpelling
 pub mod TokensOfText
 pub mod TreeOfText
+pub mod PlacesInText

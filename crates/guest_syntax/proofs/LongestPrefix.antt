@@ -1,13 +1,10 @@
 -- The longest front of bytes that pass a test.
-use Rattle.std.proofs.Common.{◌≡◌, ℕ, ◌+◌, Bool, true, false, cond, ◌&&◌, List, [], ◌∷◌, ◌++◌, length, take, drop, refl, ap, subst, one-add}
+use Rattle.std.proofs.Common.{◌≡◌, ℕ, ◌+◌, Bool, true, false, cond, List, [], ◌∷◌, ◌++◌, length, take, drop, refl, ap, subst, one-add}
+use Rattle.std.specs.Cmp.Derive.{both_true}
 use Rattle.std.specs.List.{prefix_len, list_all}
 use Rattle.guest_syntax.proofs.ByteClasses.{and_parts}
 
-and_both : (a b : Bool) → a ≡ true → b ≡ true → (a && b) ≡ true
-and_both true b e h = h
-and_both false b e h = absurd cc
-
--- each of the front passes, and the first behind it does not
+-- each of the front passes, and the first after it does not
 pub record Front (p : ℕ → Bool) (s text rest : List ℕ) : Type 0 where
   pub parts : s ≡ text ++ rest
   pub all : list_all p text ≡ true
@@ -15,7 +12,7 @@ pub record Front (p : ℕ → Bool) (s text rest : List ℕ) : Type 0 where
 
 front_by : (p : ℕ → Bool) (b : ℕ) (bs : List ℕ) (t : Bool) → p b ≡ t → Front p bs (take (prefix_len p bs) bs) (drop (prefix_len p bs) bs)
     → Front p (b ∷ bs) (take (cond t (1 + prefix_len p bs) 0) (b ∷ bs)) (drop (cond t (1 + prefix_len p bs) 0) (b ∷ bs))
-front_by p b bs true e f = rw one-add (record { parts = ap (λ r. b ∷ r) f.parts; all = and_both (p b) _ e f.all; next = f.next })
+front_by p b bs true e f = rw one-add (record { parts = ap (λ r. b ∷ r) f.parts; all = both_true e f.all; next = f.next })
 front_by p b bs false e f = record { parts = refl; all = refl; next = λ c more h. let is : b ≡ c = cc in subst (λ c. p c ≡ false) is e }
 
 pub front : (p : ℕ → Bool) (s : List ℕ) → Front p s (take (prefix_len p s) s) (drop (prefix_len p s) s)

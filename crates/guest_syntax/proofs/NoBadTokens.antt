@@ -5,8 +5,8 @@ use Rattle.guest_syntax.specs.declared.tree.Op.{Op}
 use Rattle.guest_syntax.specs.declared.tree.Op.TheVariants as ops
 use Rattle.guest_syntax.specs.declared.tree.Object.{Object}
 use Rattle.guest_syntax.specs.declared.tree.Object.TheVariants as objects
-use Rattle.guest_syntax.specs.Tree.{Name, Operand, local, literal, Expr, single, both, Stmt, load, store, lock, unlock, wait, signal, broadcast, acquire, release, set, assert, if_then, if_else, repeat, leave, Block, nothing, next, Declaration, Thread, Tree}
-use Rattle.guest_syntax.specs.Forms.{Form, ◌then◌, IsToken, IsName, IsNumber, IsLiteral, in_braces, each}
+use Rattle.guest_syntax.specs.Tree.{Name, Operand, local, literal, Expr, single, both, Stmt, load, store, add, cas, lock, unlock, wait, signal, broadcast, acquire, release, set, assert, if_then, if_else, repeat, leave, Block, nothing, next, Declaration, Thread, Tree}
+use Rattle.guest_syntax.specs.Forms.{Form, ◌then◌, IsToken, IsName, IsNumber, IsEnd, IsLiteral, in_braces, each}
 use Rattle.guest_syntax.specs.Grammar.{IsOperand, IsOp, IsExpr, IsTimes, IsStatement, AreStatements, IsObject, IsDeclaration, IsThread, IsTree}
 use Rattle.guest_syntax.specs.reader.SingleTokens.{is_bad}
 
@@ -37,6 +37,9 @@ operand_c : (a : Operand) → Cleans (IsOperand a)
 operand_c (local n) = name_c n
 operand_c (literal z) = literal_c z
 
+operand_end_c : (a : Operand) → Cleans (IsOperand a then IsEnd)
+operand_end_c a = then_c _ _ (operand_c a) (token_c _ refl)
+
 op_c : (op : Op) → Cleans (IsOp op)
 op_c ops.Add = token_c _ refl
 op_c ops.Subtract = token_c _ refl
@@ -62,6 +65,11 @@ mutual
   statement_c : (s : Stmt) (room : ℕ) → Cleans (IsStatement s room)
   statement_c (load r x) room = then_c _ _ (token_c _ refl) (then_c _ _ (name_c r) (then_c _ _ (name_c x) (token_c _ refl)))
   statement_c (store x a) room = then_c _ _ (token_c _ refl) (then_c _ _ (name_c x) (then_c _ _ (operand_c a) (token_c _ refl)))
+  statement_c (add r x a) room =
+      then_c _ _ (token_c _ refl) (then_c _ _ (name_c r) (then_c _ _ (name_c x) (operand_end_c a)))
+  statement_c (cas r x a b) room =
+      then_c _ _ (token_c _ refl)
+      (then_c _ _ (name_c r) (then_c _ _ (name_c x) (then_c _ _ (operand_c a) (operand_end_c b))))
   statement_c (lock m) room = then_c _ _ (token_c _ refl) (then_c _ _ (name_c m) (token_c _ refl))
   statement_c (unlock m) room = then_c _ _ (token_c _ refl) (then_c _ _ (name_c m) (token_c _ refl))
   statement_c (wait c m) room = then_c _ _ (token_c _ refl) (then_c _ _ (name_c c) (then_c _ _ (name_c m) (token_c _ refl)))

@@ -25,8 +25,3 @@ cond_ok false x y e = absurd cc
 pub cond_no : {A : Type 0} (b : Bool) (o : Option A) (y : A) → cond b None o ≡ Some y → (b ≡ false) × (o ≡ Some y)
 cond_no true o y e = absurd cc
 cond_no false o y e = (refl, e)
-
--- a step behind a test
-pub cond_step : {A : Type 0} (b : Bool) (o : Option A) (y : A) → cond b o None ≡ Some y → (b ≡ true) × (o ≡ Some y)
-cond_step true o y e = (refl, e)
-cond_step false o y e = absurd cc

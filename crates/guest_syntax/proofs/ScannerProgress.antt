@@ -85,7 +85,7 @@ scan_same (suc n) zero at bytes h k = absurd (omega arith)
 scan_same (suc n) (suc m) at bytes h k =
     scan_with_same (λ p bs. scan n p bs) (λ p bs. scan m p bs) at bytes (first at bytes) refl (λ p bs lt. scan_same n m p bs (omega arith) (omega arith))
 
--- the tokens are the first and those behind it
+-- the tokens are the first and those after it
 pub tokens_first : (at : Pos) (bytes : List ℕ) (o : Option (Option (Token × Pos × List ℕ))) → first at bytes ≡ o → tokens_from at bytes ≡ scan_with at o tokens_from
 unfolding scan tokens_from
 tokens_first at bytes o e =

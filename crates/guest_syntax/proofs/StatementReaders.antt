@@ -7,14 +7,14 @@ use Rattle.guest_syntax.specs.declared.token.Keyword.TheVariants as keywords
 use Rattle.guest_syntax.specs.declared.token.Symbol.TheVariants as symbols
 use Rattle.guest_syntax.specs.Tokens.{Kind, name, keyword, number, symbol, bad, Token}
 use Rattle.guest_syntax.specs.reader.Scanner.{◌>>=◌}
-use Rattle.guest_syntax.specs.Tree.{Name, Operand, Expr, Stmt, load, store, lock, unlock, wait, signal, broadcast, acquire, release, set, assert, if_then, if_else, repeat, leave, Block, nothing, next, block_of}
+use Rattle.guest_syntax.specs.Tree.{Name, Operand, Expr, Stmt, load, store, add, cas, lock, unlock, wait, signal, broadcast, acquire, release, set, assert, if_then, if_else, repeat, leave, Block, nothing, next, block_of}
 use Rattle.guest_syntax.specs.Forms.{Form, ◌then◌, IsTokenAt, IsToken, IsName, IsEnd, in_braces}
 use Rattle.guest_syntax.specs.Grammar.{IsOperand, IsExpr, IsTimes, IsStatement, AreStatements, IsBlock}
 use Rattle.guest_syntax.specs.reader.Reads.{Read}
 use Rattle.guest_syntax.specs.reader.SingleTokens.{token_at, symbol_from, name_from, times_from}
 use Rattle.guest_syntax.specs.reader.Expressions.{operand_from, op_of, expr_from}
 use Rattle.guest_syntax.specs.reader.Items.{Turn, many_by, many, all_from}
-use Rattle.guest_syntax.specs.reader.Statements.{is_else, one_name_from, two_names_from, store_from, set_from, assert_from, named_by, simple_by, choice_by, choice_from, repeat_from, statement_by, turn_by, turn_from, block_from}
+use Rattle.guest_syntax.specs.reader.Statements.{is_else, one_name_from, two_names_from, store_from, add_from, cas_from, set_from, assert_from, named_by, simple_by, choice_by, choice_from, repeat_from, statement_by, turn_by, turn_from, block_from}
 use Rattle.guest_syntax.proofs.OptionCases.{bind_some, some_is}
 use Rattle.guest_syntax.proofs.TokenReaders.{token_takes, kind_again, kind_takes, symbol_takes, symbol_again, name_takes, name_again, times_takes, times_again}
 use Rattle.guest_syntax.proofs.ExpressionReaders.{operand_takes, operand_again, Ends, expr_takes, expr_again}
@@ -49,30 +49,69 @@ two_names_takes ts x e =
     subst (λ (y : (Name × Name) × List Token). (IsName y.0.0 then IsName y.0.1 then IsEnd) ts y.1) (some_is ((n.0.0, m.0.0), s.0) x s.2)
     (n.0.1, name_takes ts n.0 n.1, (m.0.1, name_takes n.0.1 m.0 m.1, symbol_takes symbols.End m.0.1 s.0 s.1))
 
-store_takes : (room : ℕ) (before ts : List Token) (x : Stmt × List Token) → IsToken (keyword keywords.Store) before ts → store_from ts ≡ Some x → IsStatement x.0 room before x.1
+-- a statement and the tokens after it
+abbrev IsSpelt : ℕ → List Token → Stmt × List Token → Type 0
+IsSpelt room before x = IsStatement x.0 room before x.1
+
+-- what is read after this keyword is spelled so
+abbrev StatementTakes : Keyword → (List Token → Read Stmt) → Type 0
+StatementTakes w reader =
+    (room : ℕ) (before ts : List Token) (x : Stmt × List Token)
+    → IsToken (keyword w) before ts → reader ts ≡ Some x → IsStatement x.0 room before x.1
+
+store_takes : StatementTakes keywords.Store store_from
 unfolding store_from
 store_takes room before ts x w e =
     let r = bind_some (name_from ts) _ _ e in
     let v = bind_some (operand_from r.0.1) _ _ r.2 in
     let s = bind_some (symbol_from symbols.End v.0.1) _ _ v.2 in
-    subst (λ (y : Stmt × List Token). IsStatement y.0 room before y.1) (some_is (store r.0.0 v.0.0, s.0) x s.2)
+    subst (IsSpelt room before) (some_is (store r.0.0 v.0.0, s.0) x s.2)
     (ts, w, (r.0.1, name_takes ts r.0 r.1, (v.0.1, operand_takes r.0.1 v.0 v.1, symbol_takes symbols.End v.0.1 s.0 s.1)))
 
-set_takes : (room : ℕ) (before ts : List Token) (x : Stmt × List Token) → IsToken (keyword keywords.Set) before ts → set_from ts ≡ Some x → IsStatement x.0 room before x.1
+add_takes : StatementTakes keywords.Add add_from
+unfolding add_from
+add_takes room before ts s w e =
+    let r = bind_some (name_from ts) _ _ e in
+    let v = bind_some (name_from r.0.1) _ _ r.2 in
+    let a = bind_some (operand_from v.0.1) _ _ v.2 in
+    let end = bind_some (symbol_from symbols.End a.0.1) _ _ a.2 in
+    let last : (IsOperand a.0.0 then IsEnd) v.0.1 end.0 =
+    (a.0.1, operand_takes v.0.1 a.0 a.1, symbol_takes symbols.End a.0.1 end.0 end.1) in
+    subst (IsSpelt room before)
+    (some_is (add r.0.0 v.0.0 a.0.0, end.0) s end.2)
+    (ts, w, (r.0.1, name_takes ts r.0 r.1, (v.0.1, name_takes r.0.1 v.0 v.1, last)))
+
+cas_takes : StatementTakes keywords.Cas cas_from
+unfolding cas_from
+cas_takes room before ts s w e =
+    let r = bind_some (name_from ts) _ _ e in
+    let v = bind_some (name_from r.0.1) _ _ r.2 in
+    let a = bind_some (operand_from v.0.1) _ _ v.2 in
+    let b = bind_some (operand_from a.0.1) _ _ a.2 in
+    let end = bind_some (symbol_from symbols.End b.0.1) _ _ b.2 in
+    let last : (IsOperand b.0.0 then IsEnd) a.0.1 end.0 =
+    (b.0.1, operand_takes a.0.1 b.0 b.1, symbol_takes symbols.End b.0.1 end.0 end.1) in
+    let operands : (IsOperand a.0.0 then IsOperand b.0.0 then IsEnd) v.0.1 end.0 =
+    (a.0.1, operand_takes v.0.1 a.0 a.1, last) in
+    subst (IsSpelt room before)
+    (some_is (cas r.0.0 v.0.0 a.0.0 b.0.0, end.0) s end.2)
+    (ts, w, (r.0.1, name_takes ts r.0 r.1, (v.0.1, name_takes r.0.1 v.0 v.1, operands)))
+
+set_takes : StatementTakes keywords.Set set_from
 unfolding set_from
 set_takes room before ts x w e =
     let r = bind_some (name_from ts) _ _ e in
     let v = bind_some (expr_from r.0.1) _ _ r.2 in
     let s = bind_some (symbol_from symbols.End v.0.1) _ _ v.2 in
-    subst (λ (y : Stmt × List Token). IsStatement y.0 room before y.1) (some_is (set r.0.0 v.0.0, s.0) x s.2)
+    subst (IsSpelt room before) (some_is (set r.0.0 v.0.0, s.0) x s.2)
     (ts, w, (r.0.1, name_takes ts r.0 r.1, (v.0.1, expr_takes r.0.1 v.0 v.1, symbol_takes symbols.End v.0.1 s.0 s.1)))
 
-assert_takes : (room : ℕ) (before ts : List Token) (x : Stmt × List Token) → IsToken (keyword keywords.Assert) before ts → assert_from ts ≡ Some x → IsStatement x.0 room before x.1
+assert_takes : StatementTakes keywords.Assert assert_from
 unfolding assert_from
 assert_takes room before ts x w e =
     let r = bind_some (expr_from ts) _ _ e in
     let s = bind_some (symbol_from symbols.End r.0.1) _ _ r.2 in
-    subst (λ (y : Stmt × List Token). IsStatement y.0 room before y.1) (some_is (assert r.0.0, s.0) x s.2)
+    subst (IsSpelt room before) (some_is (assert r.0.0, s.0) x s.2)
     (ts, w, (r.0.1, expr_takes ts r.0 r.1, symbol_takes symbols.End r.0.1 s.0 s.1))
 
 -- a statement of one name
@@ -80,7 +119,7 @@ named_takes_by : (w : Keyword) (made : Name → Stmt) (room : ℕ) → ((n : Nam
     → (before ts : List Token) (x : Stmt × List Token) → IsToken (keyword w) before ts → (one_name_from ts >>= λ n. Some (made n.0, n.1)) ≡ Some x → IsStatement x.0 room before x.1
 named_takes_by w made room is before ts x h e =
     let n = bind_some (one_name_from ts) _ _ e in
-    subst (λ (y : Stmt × List Token). IsStatement y.0 room before y.1) (some_is (made n.0.0, n.0.1) x n.2) (is n.0.0 before n.0.1 (ts, h, one_name_takes ts n.0 n.1))
+    subst (IsSpelt room before) (some_is (made n.0.0, n.0.1) x n.2) (is n.0.0 before n.0.1 (ts, h, one_name_takes ts n.0 n.1))
 
 named_takes : (w : Keyword) (room : ℕ) (before ts : List Token) (x : Stmt × List Token) → IsToken (keyword w) before ts → named_by w ts ≡ Some x → IsStatement x.0 room before x.1
 named_takes keywords.Var room before ts x h e = absurd cc
@@ -90,6 +129,8 @@ named_takes keywords.Sem room before ts x h e = absurd cc
 named_takes keywords.Thread room before ts x h e = absurd cc
 named_takes keywords.Load room before ts x h e = absurd cc
 named_takes keywords.Store room before ts x h e = absurd cc
+named_takes keywords.Add room before ts x h e = absurd cc
+named_takes keywords.Cas room before ts x h e = absurd cc
 named_takes keywords.Lock room before ts x h e = named_takes_by keywords.Lock lock room (λ n ts rest h. h) before ts x h e
 named_takes keywords.Unlock room before ts x h e = named_takes_by keywords.Unlock unlock room (λ n ts rest h. h) before ts x h e
 named_takes keywords.Wait room before ts x h e = absurd cc
@@ -112,13 +153,15 @@ simple_takes keywords.Sem room at before ts x h e = named_takes keywords.Sem roo
 simple_takes keywords.Thread room at before ts x h e = named_takes keywords.Thread room before ts x (at, h) e
 simple_takes keywords.Load room at before ts x h e =
     let n = bind_some (two_names_from ts) _ _ e in
-    subst (λ (y : Stmt × List Token). IsStatement y.0 room before y.1) (some_is (load n.0.0.0 n.0.0.1, n.0.1) x n.2) (ts, (at, h), two_names_takes ts n.0 n.1)
+    subst (IsSpelt room before) (some_is (load n.0.0.0 n.0.0.1, n.0.1) x n.2) (ts, (at, h), two_names_takes ts n.0 n.1)
 simple_takes keywords.Store room at before ts x h e = store_takes room before ts x (at, h) e
+simple_takes keywords.Add room at before ts x h e = add_takes room before ts x (at, h) e
+simple_takes keywords.Cas room at before ts x h e = cas_takes room before ts x (at, h) e
 simple_takes keywords.Lock room at before ts x h e = named_takes keywords.Lock room before ts x (at, h) e
 simple_takes keywords.Unlock room at before ts x h e = named_takes keywords.Unlock room before ts x (at, h) e
 simple_takes keywords.Wait room at before ts x h e =
     let n = bind_some (two_names_from ts) _ _ e in
-    subst (λ (y : Stmt × List Token). IsStatement y.0 room before y.1) (some_is (wait n.0.0.0 n.0.0.1, n.0.1) x n.2) (ts, (at, h), two_names_takes ts n.0 n.1)
+    subst (IsSpelt room before) (some_is (wait n.0.0.0 n.0.0.1, n.0.1) x n.2) (ts, (at, h), two_names_takes ts n.0 n.1)
 simple_takes keywords.Signal room at before ts x h e = named_takes keywords.Signal room before ts x (at, h) e
 simple_takes keywords.Broadcast room at before ts x h e = named_takes keywords.Broadcast room before ts x (at, h) e
 simple_takes keywords.Acquire room at before ts x h e = named_takes keywords.Acquire room before ts x (at, h) e
@@ -129,7 +172,7 @@ simple_takes keywords.Else room at before ts x h e = named_takes keywords.Else r
 simple_takes keywords.Repeat room at before ts x h e = named_takes keywords.Repeat room before ts x (at, h) e
 simple_takes keywords.Leave room at before ts x h e =
     let s = bind_some (symbol_from symbols.End ts) _ _ e in
-    subst (λ (y : Stmt × List Token). IsStatement y.0 room before y.1) (some_is (leave at, s.0) x s.2) (ts, h, symbol_takes symbols.End ts s.0 s.1)
+    subst (IsSpelt room before) (some_is (leave at, s.0) x s.2) (ts, h, symbol_takes symbols.End ts s.0 s.1)
 simple_takes keywords.Assert room at before ts x h e = assert_takes room before ts x (at, h) e
 
 is_else_kind : (k : Kind) → is_else k ≡ true → k ≡ keyword keywords.Else
@@ -145,6 +188,8 @@ is_else_kind (keyword keywords.Sem) e = absurd cc
 is_else_kind (keyword keywords.Thread) e = absurd cc
 is_else_kind (keyword keywords.Load) e = absurd cc
 is_else_kind (keyword keywords.Store) e = absurd cc
+is_else_kind (keyword keywords.Add) e = absurd cc
+is_else_kind (keyword keywords.Cas) e = absurd cc
 is_else_kind (keyword keywords.Lock) e = absurd cc
 is_else_kind (keyword keywords.Unlock) e = absurd cc
 is_else_kind (keyword keywords.Wait) e = absurd cc
@@ -162,10 +207,10 @@ is_else_kind (keyword keywords.Assert) e = absurd cc
 choice_by_takes : (block : Reader) (room : ℕ) → Takes block room → (before ts : List Token) (x : Stmt × List Token) (e : Expr) (b : Block) (t1 t2 following : List Token) (k : Kind) (o : Bool) → is_else k ≡ o
     → IsToken (keyword keywords.If) before ts → IsExpr e ts t1 → IsBlock b room t1 t2 → IsToken k t2 following → choice_by block e b t2 following o ≡ Some x → IsStatement x.0 room before x.1
 choice_by_takes block room ih before ts x e b t1 t2 following k false is w he hb hk h =
-    subst (λ (y : Stmt × List Token). IsStatement y.0 room before y.1) (some_is (if_then e b, t2) x h) (ts, w, (t1, he, hb))
+    subst (IsSpelt room before) (some_is (if_then e b, t2) x h) (ts, w, (t1, he, hb))
 choice_by_takes block room ih before ts x e b t1 t2 following k true is w he hb hk h =
     let c = bind_some (block following) _ _ h in
-    subst (λ (y : Stmt × List Token). IsStatement y.0 room before y.1) (some_is (if_else e b c.0.0, c.0.1) x c.2)
+    subst (IsSpelt room before) (some_is (if_else e b c.0.0, c.0.1) x c.2)
     (ts, w, (t1, he, (t2, hb, (following, subst (λ k. IsToken k t2 following) (is_else_kind k is) hk, ih following c.0 c.1))))
 
 choice_takes : (block : Reader) (room : ℕ) → Takes block room → (before ts : List Token) (x : Stmt × List Token) → IsToken (keyword keywords.If) before ts → choice_from block ts ≡ Some x → IsStatement x.0 room before x.1
@@ -181,7 +226,7 @@ unfolding repeat_from
 repeat_takes block room ih before ts x w h =
     let n = bind_some (times_from ts) _ _ h in
     let b = bind_some (block n.0.1) _ _ n.2 in
-    subst (λ (y : Stmt × List Token). IsStatement y.0 room before y.1) (some_is (repeat n.0.0 b.0.0, b.0.1) x b.2) (ts, w, (n.0.1, times_takes ts n.0 n.1, ih n.0.1 b.0 b.1))
+    subst (IsSpelt room before) (some_is (repeat n.0.0 b.0.0, b.0.1) x b.2) (ts, w, (n.0.1, times_takes ts n.0 n.1, ih n.0.1 b.0 b.1))
 
 statement_takes : (block : Reader) (room : ℕ) → Takes block room → (w : Keyword) (at : Pos) (before ts : List Token) (x : Stmt × List Token) → IsTokenAt at (keyword w) before ts → statement_by block w at ts ≡ Some x → IsStatement x.0 room before x.1
 statement_takes block room ih keywords.Var at before ts x h e = simple_takes keywords.Var room at before ts x h e
@@ -191,6 +236,8 @@ statement_takes block room ih keywords.Sem at before ts x h e = simple_takes key
 statement_takes block room ih keywords.Thread at before ts x h e = simple_takes keywords.Thread room at before ts x h e
 statement_takes block room ih keywords.Load at before ts x h e = simple_takes keywords.Load room at before ts x h e
 statement_takes block room ih keywords.Store at before ts x h e = simple_takes keywords.Store room at before ts x h e
+statement_takes block room ih keywords.Add at before ts x h e = simple_takes keywords.Add room at before ts x h e
+statement_takes block room ih keywords.Cas at before ts x h e = simple_takes keywords.Cas room at before ts x h e
 statement_takes block room ih keywords.Lock at before ts x h e = simple_takes keywords.Lock room at before ts x h e
 statement_takes block room ih keywords.Unlock at before ts x h e = simple_takes keywords.Unlock room at before ts x h e
 statement_takes block room ih keywords.Wait at before ts x h e = simple_takes keywords.Wait room at before ts x h e
@@ -277,11 +324,13 @@ symbol_ends : (s : Symbol) (ts rest : List Token) → op_of (symbol s) ≡ None 
 unfolding is_else
 symbol_ends s ts rest e h = record { first = record { kind = symbol s; at = h.0 }; more = rest; read = kind_again (symbol s) ts rest h refl; no_op = e; no_else = refl }
 
--- a statement ends what stands before it
+-- a statement ends what comes before it
 statement_ends : (s : Stmt) (room : ℕ) (ts rest : List Token) → IsStatement s room ts rest → Ends ts
 unfolding is_else
 statement_ends (load r x) room ts rest h = keyword_ends keywords.Load ts h.0 refl h.1
 statement_ends (store x a) room ts rest h = keyword_ends keywords.Store ts h.0 refl h.1
+statement_ends (add r x a) room ts rest h = keyword_ends keywords.Add ts h.0 refl h.1
+statement_ends (cas r x a b) room ts rest h = keyword_ends keywords.Cas ts h.0 refl h.1
 statement_ends (lock m) room ts rest h = keyword_ends keywords.Lock ts h.0 refl h.1
 statement_ends (unlock m) room ts rest h = keyword_ends keywords.Unlock ts h.0 refl h.1
 statement_ends (wait c m) room ts rest h = keyword_ends keywords.Wait ts h.0 refl h.1
@@ -320,6 +369,21 @@ two_names_again n m ts rest (a, hn, (b, hm, he)) = rw (name_again n ts a hn, nam
 store_again : (x : Name) (a : Operand) (ts rest : List Token) → (IsName x then IsOperand a then IsEnd) ts rest → store_from ts ≡ Some (store x a, rest)
 unfolding store_from
 store_again x a ts rest (b, hx, (c, ha, he)) = rw (name_again x ts b hx, operand_again a b c ha, symbol_again symbols.End c rest he) refl
+
+add_again : (r x : Name) (a : Operand) (ts rest : List Token)
+    → (IsName r then IsName x then IsOperand a then IsEnd) ts rest → add_from ts ≡ Some (add r x a, rest)
+unfolding add_from
+add_again r x a ts rest (t1, hr, (t2, hx, (t3, ha, he))) =
+    rw (name_again r ts t1 hr, name_again x t1 t2 hx, operand_again a t2 t3 ha)
+    (rw (symbol_again symbols.End t3 rest he) refl)
+
+cas_again : (r x : Name) (a b : Operand) (ts rest : List Token)
+    → (IsName r then IsName x then IsOperand a then IsOperand b then IsEnd) ts rest
+    → cas_from ts ≡ Some (cas r x a b, rest)
+unfolding cas_from
+cas_again r x a b ts rest (t1, hr, (t2, hx, (t3, ha, (t4, hb, he)))) =
+    rw (name_again r ts t1 hr, name_again x t1 t2 hx, operand_again a t2 t3 ha)
+    (rw (operand_again b t3 t4 hb, symbol_again symbols.End t4 rest he) refl)
 
 set_again : (r : Name) (e : Expr) (ts rest : List Token) → (IsName r then IsExpr e then IsEnd) ts rest → set_from ts ≡ Some (set r e, rest)
 unfolding set_from
@@ -367,6 +431,10 @@ mutual
   statement_again : (s : Stmt) (room : ℕ) (ts rest : List Token) → IsStatement s room ts rest → Ends rest → turn_from (block_from room) ts ≡ Some (Some s, rest)
   statement_again (load r x) room ts rest (mid, w, h) ends = keyword_turn keywords.Load _ ts mid _ w (rw (two_names_again r x mid rest h) refl)
   statement_again (store x a) room ts rest (mid, w, h) ends = keyword_turn keywords.Store _ ts mid _ w (rw (store_again x a mid rest h) refl)
+  statement_again (add r x a) room ts rest (mid, w, h) ends =
+      keyword_turn keywords.Add _ ts mid _ w (rw (add_again r x a mid rest h) refl)
+  statement_again (cas r x a b) room ts rest (mid, w, h) ends =
+      keyword_turn keywords.Cas _ ts mid _ w (rw (cas_again r x a b mid rest h) refl)
   statement_again (lock m) room ts rest (mid, w, h) ends = keyword_turn keywords.Lock _ ts mid _ w (rw (one_name_again m mid rest h) refl)
   statement_again (unlock m) room ts rest (mid, w, h) ends = keyword_turn keywords.Unlock _ ts mid _ w (rw (one_name_again m mid rest h) refl)
   statement_again (wait c m) room ts rest (mid, w, h) ends = keyword_turn keywords.Wait _ ts mid _ w (rw (two_names_again c m mid rest h) refl)

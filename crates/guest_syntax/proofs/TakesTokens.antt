@@ -6,8 +6,8 @@ use Rattle.guest_syntax.specs.declared.tree.Op.{Op}
 use Rattle.guest_syntax.specs.declared.tree.Op.TheVariants as ops
 use Rattle.guest_syntax.specs.declared.tree.Object.{Object}
 use Rattle.guest_syntax.specs.declared.tree.Object.TheVariants as objects
-use Rattle.guest_syntax.specs.Tree.{Name, Operand, local, literal, Expr, single, both, Stmt, load, store, lock, unlock, wait, signal, broadcast, acquire, release, set, assert, if_then, if_else, repeat, leave, Block, nothing, next, Thread}
-use Rattle.guest_syntax.specs.Forms.{Form, ◌then◌, IsToken, IsName, IsNumber, IsLiteral, in_braces}
+use Rattle.guest_syntax.specs.Tree.{Name, Operand, local, literal, Expr, single, both, Stmt, load, store, add, cas, lock, unlock, wait, signal, broadcast, acquire, release, set, assert, if_then, if_else, repeat, leave, Block, nothing, next, Thread}
+use Rattle.guest_syntax.specs.Forms.{Form, ◌then◌, IsToken, IsName, IsNumber, IsEnd, IsLiteral, in_braces}
 use Rattle.guest_syntax.specs.Grammar.{IsOperand, IsOp, IsExpr, IsTimes, IsStatement, AreStatements, IsBlock, IsObject, IsThread}
 
 abbrev pub Shrinks : Form → Type 0
@@ -35,6 +35,9 @@ literal_shrinks z ts rest (n, inr h) = then_shrinks (IsToken (symbol symbols.Min
 pub operand_shrinks : (a : Operand) → Shrinks (IsOperand a)
 operand_shrinks (local n) = name_shrinks n
 operand_shrinks (literal z) = literal_shrinks z
+
+operand_end_shrinks : (a : Operand) → Shrinks (IsOperand a then IsEnd)
+operand_end_shrinks a = then_shrinks _ _ (operand_shrinks a) (token_shrinks _)
 
 op_shrinks : (op : Op) → Shrinks (IsOp op)
 op_shrinks ops.Add = token_shrinks _
@@ -65,6 +68,12 @@ mutual
   pub statement_shorter : (s : Stmt) (room : ℕ) (ts rest : List Token) → IsStatement s room ts rest → length rest < length ts
   statement_shorter (load r x) room = after_token _ _ (then_shrinks _ _ (name_shrinks r) (then_shrinks _ _ (name_shrinks x) (token_shrinks _)))
   statement_shorter (store x a) room = after_token _ _ (then_shrinks _ _ (name_shrinks x) (then_shrinks _ _ (operand_shrinks a) (token_shrinks _)))
+  statement_shorter (add r x a) room =
+      after_token _ _ (then_shrinks _ _ (name_shrinks r) (then_shrinks _ _ (name_shrinks x) (operand_end_shrinks a)))
+  statement_shorter (cas r x a b) room =
+      after_token _ _
+      (then_shrinks _ _ (name_shrinks r)
+      (then_shrinks _ _ (name_shrinks x) (then_shrinks _ _ (operand_shrinks a) (operand_end_shrinks b))))
   statement_shorter (lock m) room = after_token _ _ (then_shrinks _ _ (name_shrinks m) (token_shrinks _))
   statement_shorter (unlock m) room = after_token _ _ (then_shrinks _ _ (name_shrinks m) (token_shrinks _))
   statement_shorter (wait c m) room = after_token _ _ (then_shrinks _ _ (name_shrinks c) (then_shrinks _ _ (name_shrinks m) (token_shrinks _)))

@@ -1,17 +1,16 @@
--- One token: what was read stands there, and what stands there is read.
+-- One token: what was read is spelled there, and what is spelled there is read.
 use Rattle.std.proofs.Common.{◌≡◌, ℕ, ◌≤◌, true, false, List, [], ◌∷◌, Some, None, refl, ap, subst, ◌∙◌, arith, rules}
 use Rattle.std.specs.Prelude.{nat_le, nat_lt}
 use Rattle.std.proofs.lemmas.Bool.{leb-true, le-leb, ltb-true, lt-ltb}
 use denote.Enum.Bare.{same_true}
 use Rattle.guest_syntax.specs.declared.limits.TheConstants.{REPEATS}
-use Rattle.guest_syntax.specs.declared.place.Pos.{Pos}
 use Rattle.guest_syntax.specs.declared.token.Symbol.{Symbol}
 use Rattle.guest_syntax.specs.declared.token.Symbol.TheVariants as symbols
 use Rattle.guest_syntax.specs.contracts.token.Symbol as symbol-type
 use Rattle.guest_syntax.specs.contracts.token.SymbolPartialEq.TheImpl as symbol-eq
 use Rattle.guest_syntax.specs.Tokens.{Kind, name, keyword, number, symbol, bad, Token}
 use Rattle.guest_syntax.specs.Tree.{Name}
-use Rattle.guest_syntax.specs.Forms.{IsToken, IsTokenAt, IsName, IsNumber}
+use Rattle.guest_syntax.specs.Forms.{IsToken, IsName, IsNumber}
 use Rattle.guest_syntax.specs.Grammar.{IsTimes}
 use Rattle.guest_syntax.specs.reader.SingleTokens.{is_bad, token_at, is_symbol, symbol_from, name_in, name_from, number_in, number_from, times_from}
 use Rattle.guest_syntax.proofs.OptionCases.{bind_some, some_is, cond_ok, cond_no}
@@ -27,10 +26,6 @@ token_takes (t ∷ ts) x e =
 pub token_again : (t : Token) (ts : List Token) → is_bad t.kind ≡ false → token_at (t ∷ ts) ≡ Some (t, ts)
 unfolding token_at
 token_again t ts e = rw e refl
-
--- a token of this kind is read
-pub at_again : (at : Pos) (k : Kind) (ts rest : List Token) → IsTokenAt at k ts rest → is_bad k ≡ false → token_at ts ≡ Some (record { kind = k; at = at }, rest)
-at_again at k ts rest h e = ap token_at h ∙ token_again (record { kind = k; at = at }) rest e
 
 pub kind_again : (k : Kind) (ts rest : List Token) (h : IsToken k ts rest) → is_bad k ≡ false → token_at ts ≡ Some (record { kind = k; at = h.0 }, rest)
 kind_again k ts rest h e = ap token_at h.1 ∙ token_again (record { kind = k; at = h.0 }) rest e

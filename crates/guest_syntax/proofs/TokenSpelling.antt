@@ -1,10 +1,12 @@
 -- One token among bytes: what was read is spelled so, and what is spelled so is read.
-use Rattle.std.proofs.Common.{◌≡◌, ◌≢◌, ℕ, ◌+◌, ◌-◌, ◌*◌, ◌^◌, min, ◌<◌, Bool, true, false, cond, ◌&&◌, List, [], ◌∷◌, ◌++◌, length, take, drop, Option, Some, None, refl, sym, ap, subst, ◌∙◌, arith, length-append, true≢false, lit<}
+use Rattle.std.proofs.Common.{◌≡◌, ◌≢◌, ℕ, ◌+◌, ◌-◌, ◌*◌, ◌^◌, min, ◌<◌, Bool, true, false, cond, List, [], ◌∷◌, ◌++◌, length, take, drop, Option, Some, None, refl, sym, ap, subst, ◌∙◌, arith, length-append, true≢false, lit<}
 use Rattle.std.specs.Prelude.{find, fold, nat_eq, ◌==◌}
+use Rattle.std.specs.Cmp.Derive.{both_true}
 use Rattle.std.specs.Option.{option_map_or}
 use Rattle.std.specs.Str.{bytes_eq}
 use Rattle.std.specs.List.{prefix_len, list_all, starts_with, AllByRecursion}
 use Rattle.std.proofs.lemmas.Bool.Decides.{Decides-eqb}
+use Rattle.std.proofs.lemmas.List.Folds.{list_all-append}
 use Rattle.std.proofs.lemmas.List.{take_at, take-append-drop}
 use Rattle.std.proofs.lemmas.Slice.Eq.{bytes_eq-Decides, slice_eq-Decides}
 use Rattle.guest_syntax.specs.declared.token.Keyword.{Keyword}
@@ -23,20 +25,12 @@ use Rattle.guest_syntax.proofs.LongestPrefix.{Front, front, prefix_is}
 -- ---- lists of bytes that pass
 
 all_last : (p : ℕ → Bool) (xs : List ℕ) (b : ℕ) → list_all p (xs ++ b ∷ []) ≡ true → p b ≡ true
-all_last p [] b e = (and_parts (p b) true e).0
-all_last p (x ∷ xs) b e = all_last p xs b (and_parts (p x) (list_all p (xs ++ b ∷ [])) e).1
-
-both_true : (a b : Bool) → a ≡ true → b ≡ true → (a && b) ≡ true
-both_true true b e h = h
-both_true false b e h = absurd cc
+all_last p xs b e =
+    let last = (and_parts (list_all p xs) _ (sym (list_all-append p xs (b ∷ [])) ∙ e)).1 in
+    (and_parts (p b) true last).0
 
 all_then : (p : ℕ → Bool) (xs : List ℕ) (b : ℕ) → list_all p xs ≡ true → p b ≡ true → list_all p (xs ++ b ∷ []) ≡ true
-all_then p [] b e h = both_true (p b) true h refl
-all_then p (x ∷ xs) b e h = let a = and_parts (p x) (list_all p xs) e in both_true (p x) _ a.0 (all_then p xs b a.1 h)
-
-all_weaker : (p q : ℕ → Bool) → ((b : ℕ) → p b ≡ true → q b ≡ true) → (xs : List ℕ) → list_all p xs ≡ true → list_all q xs ≡ true
-all_weaker p q f [] e = refl
-all_weaker p q f (x ∷ xs) e = let a = and_parts (p x) (list_all p xs) e in both_true (q x) _ (f x a.0) (all_weaker p q f xs a.1)
+all_then p xs b e h = list_all-append p xs (b ∷ []) ∙ both_true e (both_true h refl)
 
 all_ascii : (p : ℕ → Bool) → ((b : ℕ) → p b ≡ true → b < 128) → (xs : List ℕ) → list_all p xs ≡ true → Ascii xs
 all_ascii p f [] e = tt
@@ -50,7 +44,7 @@ digit_name b e = or_right (is_letter b) (is_digit b) e
 
 identifier_all : (s : List ℕ) → IsIdentifier s → list_all is_name_byte s ≡ true
 identifier_all [] h = elim h [ ]
-identifier_all (b ∷ s) h = both_true (is_name_byte b) _ (letter_name b h.0) h.1
+identifier_all (b ∷ s) h = both_true (letter_name b h.0) h.1
 
 pub keyword_is_identifier : (w : Keyword) → IsIdentifier (keyword_text w)
 keyword_is_identifier keywords.Var = (refl, refl)
@@ -60,6 +54,8 @@ keyword_is_identifier keywords.Sem = (refl, refl)
 keyword_is_identifier keywords.Thread = (refl, refl)
 keyword_is_identifier keywords.Load = (refl, refl)
 keyword_is_identifier keywords.Store = (refl, refl)
+keyword_is_identifier keywords.Add = (refl, refl)
+keyword_is_identifier keywords.Cas = (refl, refl)
 keyword_is_identifier keywords.Lock = (refl, refl)
 keyword_is_identifier keywords.Unlock = (refl, refl)
 keyword_is_identifier keywords.Wait = (refl, refl)
@@ -115,19 +111,21 @@ each_keyword P h keywords.Sem = h.1.1.1.0
 each_keyword P h keywords.Thread = h.1.1.1.1.0
 each_keyword P h keywords.Load = h.1.1.1.1.1.0
 each_keyword P h keywords.Store = h.1.1.1.1.1.1.0
-each_keyword P h keywords.Lock = h.1.1.1.1.1.1.1.0
-each_keyword P h keywords.Unlock = h.1.1.1.1.1.1.1.1.0
-each_keyword P h keywords.Wait = h.1.1.1.1.1.1.1.1.1.0
-each_keyword P h keywords.Signal = h.1.1.1.1.1.1.1.1.1.1.0
-each_keyword P h keywords.Broadcast = h.1.1.1.1.1.1.1.1.1.1.1.0
-each_keyword P h keywords.Acquire = h.1.1.1.1.1.1.1.1.1.1.1.1.0
-each_keyword P h keywords.Release = h.1.1.1.1.1.1.1.1.1.1.1.1.1.0
-each_keyword P h keywords.Set = h.1.1.1.1.1.1.1.1.1.1.1.1.1.1.0
-each_keyword P h keywords.If = h.1.1.1.1.1.1.1.1.1.1.1.1.1.1.1.0
-each_keyword P h keywords.Else = h.1.1.1.1.1.1.1.1.1.1.1.1.1.1.1.1.0
-each_keyword P h keywords.Repeat = h.1.1.1.1.1.1.1.1.1.1.1.1.1.1.1.1.1.0
-each_keyword P h keywords.Leave = h.1.1.1.1.1.1.1.1.1.1.1.1.1.1.1.1.1.1.0
-each_keyword P h keywords.Assert = h.1.1.1.1.1.1.1.1.1.1.1.1.1.1.1.1.1.1.1.0
+each_keyword P h keywords.Add = h.1.1.1.1.1.1.1.0
+each_keyword P h keywords.Cas = h.1.1.1.1.1.1.1.1.0
+each_keyword P h keywords.Lock = h.1.1.1.1.1.1.1.1.1.0
+each_keyword P h keywords.Unlock = h.1.1.1.1.1.1.1.1.1.1.0
+each_keyword P h keywords.Wait = h.1.1.1.1.1.1.1.1.1.1.1.0
+each_keyword P h keywords.Signal = h.1.1.1.1.1.1.1.1.1.1.1.1.0
+each_keyword P h keywords.Broadcast = h.1.1.1.1.1.1.1.1.1.1.1.1.1.0
+each_keyword P h keywords.Acquire = h.1.1.1.1.1.1.1.1.1.1.1.1.1.1.0
+each_keyword P h keywords.Release = h.1.1.1.1.1.1.1.1.1.1.1.1.1.1.1.0
+each_keyword P h keywords.Set = h.1.1.1.1.1.1.1.1.1.1.1.1.1.1.1.1.0
+each_keyword P h keywords.If = h.1.1.1.1.1.1.1.1.1.1.1.1.1.1.1.1.1.0
+each_keyword P h keywords.Else = h.1.1.1.1.1.1.1.1.1.1.1.1.1.1.1.1.1.1.0
+each_keyword P h keywords.Repeat = h.1.1.1.1.1.1.1.1.1.1.1.1.1.1.1.1.1.1.1.0
+each_keyword P h keywords.Leave = h.1.1.1.1.1.1.1.1.1.1.1.1.1.1.1.1.1.1.1.1.0
+each_keyword P h keywords.Assert = h.1.1.1.1.1.1.1.1.1.1.1.1.1.1.1.1.1.1.1.1.1.0
 
 abbrev looked_up : List ℕ → Option Keyword
 looked_up text = find (λ w. bytes_eq (keyword_text w) text) KEYWORDS
@@ -148,6 +146,8 @@ keyword_itself keywords.Sem = refl
 keyword_itself keywords.Thread = refl
 keyword_itself keywords.Load = refl
 keyword_itself keywords.Store = refl
+keyword_itself keywords.Add = refl
+keyword_itself keywords.Cas = refl
 keyword_itself keywords.Lock = refl
 keyword_itself keywords.Unlock = refl
 keyword_itself keywords.Wait = refl
@@ -230,7 +230,7 @@ symbol_parts symbols.End = (59, [], refl)
 first_is : (a b : ℕ) (xs ys : List ℕ) → a ∷ xs ≡ b ∷ ys → a ≡ b
 first_is a b xs ys e = cc
 
--- the sign that this one and `=` behind it are
+-- the symbol that this one and `=` after it are
 abbrev with_equals : Symbol → Option Symbol
 with_equals symbols.Less = Some symbols.LessOrEqual
 with_equals symbols.Greater = Some symbols.GreaterOrEqual
@@ -317,7 +317,7 @@ symbol_longest g rest none = let p = symbol_parts g in symbol_longest_by g rest 
 symbol_starts : (s : List ℕ) (g : Symbol) → symbol_at s ≡ Some g → take (length (symbol_text g)) s ≡ symbol_text g
 symbol_starts s g e = sym ((slice_eq-Decides Decides-eqb (symbol_text g) (take (length (symbol_text g)) s) _ refl).0 (find_some (λ g. starts_with nat_eq s (symbol_text g)) SYMBOLS g e))
 
--- a sign and `=` behind it is not read as the sign alone
+-- a symbol and `=` after it is not read as the symbol alone
 not_alone : (g u : Symbol) (more : List ℕ) → with_equals g ≡ Some u → symbol_at (symbol_text g ++ 61 ∷ more) ≡ Some g → ⊥
 not_alone symbols.Equal u more l e = absurd cc
 not_alone symbols.NotEqual u more l e = absurd cc

@@ -160,6 +160,8 @@ declaration_by_takes (keyword keywords.Sem) before following x h e =
 declaration_by_takes (keyword keywords.Thread) before following x h e = subst (λ (y : Option Declaration × List Token). IsGiven IsDeclaration Same y.0 before y.1) (some_is (None, before) x e) refl
 declaration_by_takes (keyword keywords.Load) before following x h e = subst (λ (y : Option Declaration × List Token). IsGiven IsDeclaration Same y.0 before y.1) (some_is (None, before) x e) refl
 declaration_by_takes (keyword keywords.Store) before following x h e = subst (λ (y : Option Declaration × List Token). IsGiven IsDeclaration Same y.0 before y.1) (some_is (None, before) x e) refl
+declaration_by_takes (keyword keywords.Add) before following x h e = subst (λ (y : Option Declaration × List Token). IsGiven IsDeclaration Same y.0 before y.1) (some_is (None, before) x e) refl
+declaration_by_takes (keyword keywords.Cas) before following x h e = subst (λ (y : Option Declaration × List Token). IsGiven IsDeclaration Same y.0 before y.1) (some_is (None, before) x e) refl
 declaration_by_takes (keyword keywords.Lock) before following x h e = subst (λ (y : Option Declaration × List Token). IsGiven IsDeclaration Same y.0 before y.1) (some_is (None, before) x e) refl
 declaration_by_takes (keyword keywords.Unlock) before following x h e = subst (λ (y : Option Declaration × List Token). IsGiven IsDeclaration Same y.0 before y.1) (some_is (None, before) x e) refl
 declaration_by_takes (keyword keywords.Wait) before following x h e = subst (λ (y : Option Declaration × List Token). IsGiven IsDeclaration Same y.0 before y.1) (some_is (None, before) x e) refl
@@ -221,6 +223,8 @@ thread_by_takes (keyword keywords.Thread) before following x h e =
     subst (λ (y : Option Thread × List Token). IsGiven IsThread (IsNext None) y.0 before y.1) (some_is (Some v.0.0, v.0.1) x v.2) (thread_takes before following v.0 h v.1)
 thread_by_takes (keyword keywords.Load) before following x h e = absurd cc
 thread_by_takes (keyword keywords.Store) before following x h e = absurd cc
+thread_by_takes (keyword keywords.Add) before following x h e = absurd cc
+thread_by_takes (keyword keywords.Cas) before following x h e = absurd cc
 thread_by_takes (keyword keywords.Lock) before following x h e = absurd cc
 thread_by_takes (keyword keywords.Unlock) before following x h e = absurd cc
 thread_by_takes (keyword keywords.Wait) before following x h e = absurd cc
@@ -258,7 +262,7 @@ no_declaration_end : declaration_turn [] ≡ Some (None, [])
 unfolding declaration_turn next_at
 no_declaration_end = refl
 
--- behind the declarations stands a thread or nothing
+-- after the declarations comes a thread or nothing
 no_declaration : (xs : List Thread) (ts : List Token) → each IsThread xs ts [] → declaration_turn ts ≡ Some (None, ts)
 unfolding declaration_turn
 no_declaration [] ts h = ap declaration_turn h ∙ (no_declaration_end ∙ ap (λ (us : List Token). Some (None, us)) (sym h))

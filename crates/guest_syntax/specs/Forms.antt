@@ -1,17 +1,19 @@
--- Forms: which tokens may stand before which others.
+-- Forms: which tokens may come before which others.
 use Rattle.std.specs.Prelude.{◌≡◌, ℕ, suc, ◌≤◌, ℤ, pos, ◌-ℤ◌, ◌⊎◌, List, [], ◌∷◌}
 use Rattle.guest_syntax.specs.declared.limits.TheConstants.{NUMBER}
 use Rattle.guest_syntax.specs.declared.place.Pos.{Pos}
+use Rattle.guest_syntax.specs.declared.token.Keyword.{Keyword}
+use Rattle.guest_syntax.specs.declared.token.Symbol.{Symbol}
 use Rattle.guest_syntax.specs.declared.token.Symbol.TheVariants as symbols
-use Rattle.guest_syntax.specs.Tokens.{Kind, name, number, symbol, Token}
+use Rattle.guest_syntax.specs.Tokens.{Kind, name, keyword, number, symbol, Token}
 use Rattle.guest_syntax.specs.Tree.{Name}
 
--- which tokens may stand before which
+-- which tokens may come before which
 abbrev pub Form : Type 1
 Form = List Token → List Token → Type 0
 
 infixr 5 ◌then◌
--- one form, and behind it another
+-- one form, and after it another
 abbrev pub ◌then◌ : Form → Form → Form
 (A then B) ts rest = (mid : List Token) × A ts mid × B mid rest
 
@@ -23,6 +25,13 @@ IsTokenAt at k ts rest = ts ≡ record { kind = k; at = at } ∷ rest
 abbrev pub IsToken : Kind → Form
 IsToken k ts rest = (at : Pos) × IsTokenAt at k ts rest
 
+abbrev pub IsKeyword : Keyword → Form
+IsKeyword w = IsToken (keyword w)
+
+-- an operator or a mark
+abbrev pub IsSymbol : Symbol → Form
+IsSymbol s = IsToken (symbol s)
+
 abbrev pub IsName : Name → Form
 IsName n = IsTokenAt n.at (name n.text)
 
@@ -31,12 +40,12 @@ abbrev pub IsNumber : ℕ → ℕ → Form
 IsNumber limit n ts rest = (n ≤ limit) × IsToken (number n) ts rest
 
 abbrev pub IsEnd : Form
-IsEnd = IsToken (symbol symbols.End)
+IsEnd = IsSymbol symbols.End
 
--- a number, or a number behind a minus
+-- a number, or a number after a minus
 abbrev pub IsLiteral : ℤ → Form
 IsLiteral z ts rest =
-    (n : ℕ) × (((z ≡ pos n) × IsNumber NUMBER n ts rest) ⊎ ((z ≡ pos 0 -ℤ pos n) × (IsToken (symbol symbols.Minus) then IsNumber NUMBER n) ts rest))
+    (n : ℕ) × (((z ≡ pos n) × IsNumber NUMBER n ts rest) ⊎ ((z ≡ pos 0 -ℤ pos n) × (IsSymbol symbols.Minus then IsNumber NUMBER n) ts rest))
 
 -- one after the other
 abbrev pub each : {A : Type 0} → (A → Form) → List A → Form
@@ -45,4 +54,4 @@ each F (x ∷ xs) ts rest = (F x then each F xs) ts rest
 
 -- a block, where there is room for it: its statements, with less room, in braces
 abbrev pub in_braces : (ℕ → Form) → ℕ → Form
-in_braces inner room ts rest = (less : ℕ) × (room ≡ suc less) × (IsToken (symbol symbols.Open) then inner less then IsToken (symbol symbols.Close)) ts rest
+in_braces inner room ts rest = (less : ℕ) × (room ≡ suc less) × (IsSymbol symbols.Open then inner less then IsSymbol symbols.Close) ts rest

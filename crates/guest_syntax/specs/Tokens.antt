@@ -8,7 +8,7 @@ use Rattle.guest_syntax.specs.declared.token.Keyword.TheVariants as keywords
 use Rattle.guest_syntax.specs.declared.token.Symbol.TheVariants as symbols
 use Rattle.guest_syntax.specs.Place.{after}
 
--- `bad` stands where no token begins, and nothing spells it
+-- `bad` is where no token begins, and nothing spells it
 pub data Kind : Type 0 where
   name : List ℕ → Kind
   keyword : Keyword → Kind
@@ -20,7 +20,7 @@ pub record Token : Type 0 where
   pub kind : Kind
   pub at : Pos
 
--- how a word is written
+-- how a keyword is written
 abbrev pub keyword_text : Keyword → List ℕ
 keyword_text keywords.Var = codes "var"
 keyword_text keywords.Mutex = codes "mutex"
@@ -29,6 +29,8 @@ keyword_text keywords.Sem = codes "sem"
 keyword_text keywords.Thread = codes "thread"
 keyword_text keywords.Load = codes "load"
 keyword_text keywords.Store = codes "store"
+keyword_text keywords.Add = codes "add"
+keyword_text keywords.Cas = codes "cas"
 keyword_text keywords.Lock = codes "lock"
 keyword_text keywords.Unlock = codes "unlock"
 keyword_text keywords.Wait = codes "wait"
@@ -97,7 +99,7 @@ blank false (b ∷ bs) = if b == 35 then blank true bs else (if is_space b then 
 abbrev pub IsLongest : List ℕ → List ℕ → Type 0
 IsLongest text rest = (b : ℕ) (more : List ℕ) → rest ≡ b ∷ more → (k : Kind) → Spelling k (text ++ b ∷ []) → ⊥
 
--- one token, what stands before it and what stands behind it
+-- one token, what comes before it and what comes after it
 pub record Begins (at : Pos) (bytes : List ℕ) (t : Token) (rest : List ℕ) : Type 0 where
   pub gap : List ℕ
   pub text : List ℕ
@@ -109,7 +111,7 @@ pub record Begins (at : Pos) (bytes : List ℕ) (t : Token) (rest : List ℕ) : 
   pub next : Pos
   pub next_is : next ≡ after t.at text
 
--- the bytes, the first of which stands at this place, spell these tokens
+-- the bytes, the first of which is at this place, spell these tokens
 abbrev pub Tokens : Pos → List ℕ → List Token → Type 0
 Tokens at bytes [] = IsSome (blank false bytes)
 Tokens at bytes (t ∷ ts) = (rest : List ℕ) × (b : Begins at bytes t rest) × Tokens b.next rest ts

@@ -30,6 +30,10 @@ mutual
   pub data Stmt : Type 0 where
     load : (r x : Name) → Stmt
     store : (x : Name) → Operand → Stmt
+    -- the local, the variable and what is added to it
+    add : (r x : Name) → Operand → Stmt
+    -- the local, the variable, the value that it is to have and the new one
+    cas : (r x : Name) → (a b : Operand) → Stmt
     lock : (m : Name) → Stmt
     unlock : (m : Name) → Stmt
     wait : (c m : Name) → Stmt
@@ -81,6 +85,8 @@ block_of (s ∷ ss) = next s (block_of ss)
 abbrev pub view_step : Statement-F Stmt → Stmt
 view_step (Statement-F.Load r x) = load (name_view r) (name_view x)
 view_step (Statement-F.Store x a) = store (name_view x) (operand_view a)
+view_step (Statement-F.Add r x a) = add (name_view r) (name_view x) (operand_view a)
+view_step (Statement-F.Cas r x a b) = cas (name_view r) (name_view x) (operand_view a) (operand_view b)
 view_step (Statement-F.Lock m) = lock (name_view m)
 view_step (Statement-F.Unlock m) = unlock (name_view m)
 view_step (Statement-F.Wait c m) = wait (name_view c) (name_view m)

@@ -4,7 +4,7 @@ ghost use Rattle.std.specs.Prelude.{◌≡◌, ◌<◌, length, map, IfOk, optio
 ghost use Rattle.guest_syntax.specs.reader.Gives.{Gives};
 ghost use Rattle.guest_syntax.specs.reader.TokenViews.{kind_view};
 ghost use Rattle.guest_syntax.specs.Tree.{stmt_view, block_view};
-ghost use Rattle.guest_syntax.specs.reader.Reads.{Reads, TakesToken};
+ghost use Rattle.guest_syntax.specs.reader.Reads.{IsPlaceOf, Reads, StaysIn, TakesToken};
 ghost use Rattle.guest_syntax.specs.reader.Items.{all_from};
 ghost use Rattle.guest_syntax.specs.reader.Statements.{is_else, choice_from, repeat_from, statement_by, turn_from, block_from};
 
@@ -33,6 +33,7 @@ fn choice<'a>(
     room: u32,
 ) -> Result<(Statement, Cursor<'a>), SyntaxError>
     ensures gives { Reads stmt_view result (choice_from (block_from room)) text.entry }
+    ensures within { StaysIn result text.entry }
     ensures shorter { TakesToken result text.entry }
 {
     let (test, text) = expr(alloc, text)?;
@@ -68,6 +69,7 @@ fn repetition<'a>(
     room: u32,
 ) -> Result<(Statement, Cursor<'a>), SyntaxError>
     ensures gives { Reads stmt_view result (repeat_from (block_from room)) text.entry }
+    ensures within { StaysIn result text.entry }
     ensures shorter { TakesToken result text.entry }
 {
     let (times, text) = times(text)?;
@@ -75,7 +77,7 @@ fn repetition<'a>(
     Ok((Statement::Repeat { times, body }, text))
 }
 
-/// A statement behind its word, which stands at this place.
+/// A statement after its keyword, which is at this place.
 #[cycle(block)]
 fn statement<'a>(
     alloc: Global,
@@ -84,7 +86,9 @@ fn statement<'a>(
     text: Cursor<'a>,
     room: u32,
 ) -> Result<(Statement, Cursor<'a>), SyntaxError>
+    requires place { IsPlaceOf text at }
     ensures gives { Reads stmt_view result (statement_by (block_from room) keyword at) text.entry }
+    ensures within { StaysIn result text.entry }
     ensures shorter { TakesToken result text.entry }
 {
     match keyword {
@@ -103,6 +107,7 @@ fn turn<'a>(
     room: u32,
 ) -> Result<(Option<Statement>, Cursor<'a>), SyntaxError>
     ensures gives { Reads (option_map stmt_view) result (turn_from (block_from room)) text.entry }
+    ensures within { StaysIn result text.entry }
     ensures shorter { TakesToken result text.entry }
 {
     let (token, after) = token(text)?;
@@ -124,6 +129,7 @@ fn statements<'a>(
     room: u32,
 ) -> Result<(Vec<Statement>, Cursor<'a>), SyntaxError>
     ensures gives { Reads (λ x. map stmt_view x.items) result (all_from (turn_from (block_from room))) text.entry }
+    ensures within { StaysIn result text.entry }
     ensures shorter { TakesToken result text.entry }
 {
     let mut all = Vec::new(alloc);
@@ -138,7 +144,7 @@ fn statements<'a>(
     }
 }
 
-/// A block, where this many blocks may stand inside one another.
+/// A block, where this many blocks may be inside one another.
 #[tactic(auto, unfolding(crate::specs::reader::Statements::block_from))]
 #[cycle(block)]
 pub fn block<'a>(
@@ -147,6 +153,7 @@ pub fn block<'a>(
     room: u32,
 ) -> Result<(Vec<Statement>, Cursor<'a>), SyntaxError>
     ensures gives { Reads (λ x. block_view x.items) result (block_from room) text.entry }
+    ensures within { StaysIn result text.entry }
     ensures shorter { TakesToken result text.entry }
 {
     let (brace, after) = symbol(text, Symbol::Open)?;

@@ -23,7 +23,7 @@ pub enum SyntaxError {
     /// A number above its limit.
     #[error("syntax S4 NumberTooBig at {0}")]
     NumberTooBig(Pos),
-    /// A text of more than 65,536 bytes; the place is 1:1.
+    /// A text of more than [`TEXT_BYTES`](crate::TEXT_BYTES) bytes; the place is 1:1.
     #[error("syntax S5 TooLong at {0}")]
     TooLong(Pos),
     /// The opening brace of a block that lies too deep.

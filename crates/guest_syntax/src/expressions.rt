@@ -4,7 +4,7 @@ ghost use Rattle.std.specs.Prelude.{◌≡◌, ◌<◌, ◌≤◌, length, IfOk}
 ghost use Rattle.guest_syntax.specs.reader.Gives.{Gives};
 ghost use Rattle.guest_syntax.specs.reader.TokenViews.{kind_view};
 ghost use Rattle.guest_syntax.specs.Tree.{operand_view, expr_view};
-ghost use Rattle.guest_syntax.specs.reader.Reads.{rest_of, Reads, TakesToken};
+ghost use Rattle.guest_syntax.specs.reader.Reads.{IsPlaceOf, rest_of, Reads, StaysIn, TakesToken};
 ghost use Rattle.guest_syntax.specs.reader.Expressions.{literal_by, literal_from, operand_from, op_of, expr_from};
 
 use crate::cursor::Cursor;
@@ -17,7 +17,9 @@ use std::alloc::Global;
 
 /// A literal that begins with this token.
 fn literal_after<'a>(token: Token, after: Cursor<'a>) -> Result<(i64, Cursor<'a>), SyntaxError>
+    requires place { IsPlaceOf after token.at }
     ensures gives { Reads (λ x. x) result (literal_by (kind_view token.entry.kind)) after.entry }
+    ensures within { StaysIn result after.entry }
     ensures shorter { IfOk result (λ x. length (rest_of x.1) ≤ length (rest_of after.entry)) }
 {
     match token.kind {
@@ -31,10 +33,11 @@ fn literal_after<'a>(token: Token, after: Cursor<'a>) -> Result<(i64, Cursor<'a>
     }
 }
 
-/// A number, or a number behind a minus.
+/// A number, or a number after a minus.
 #[tactic(auto, unfolding(crate::specs::reader::Expressions::literal_from))]
 pub fn literal<'a>(text: Cursor<'a>) -> Result<(i64, Cursor<'a>), SyntaxError>
     ensures gives { Reads (λ x. x) result literal_from text.entry }
+    ensures within { StaysIn result text.entry }
     ensures shorter { TakesToken result text.entry }
 {
     let (token, after) = token(text)?;
@@ -45,6 +48,7 @@ pub fn literal<'a>(text: Cursor<'a>) -> Result<(i64, Cursor<'a>), SyntaxError>
 #[tactic(auto, unfolding(crate::specs::reader::Expressions::operand_from))]
 pub fn operand<'a>(alloc: Global, text: Cursor<'a>) -> Result<(Operand, Cursor<'a>), SyntaxError>
     ensures gives { Reads operand_view result operand_from text.entry }
+    ensures within { StaysIn result text.entry }
     ensures shorter { TakesToken result text.entry }
 {
     let (token, after) = token(text)?;
@@ -78,6 +82,7 @@ fn op_of(kind: Kind) -> Option<Op>
 #[tactic(auto, unfolding(crate::specs::reader::Expressions::expr_from))]
 pub fn expr<'a>(alloc: Global, text: Cursor<'a>) -> Result<(Expr, Cursor<'a>), SyntaxError>
     ensures gives { Reads expr_view result expr_from text.entry }
+    ensures within { StaysIn result text.entry }
     ensures shorter { TakesToken result text.entry }
 {
     let (left, following) = operand(alloc, text)?;

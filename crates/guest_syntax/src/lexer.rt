@@ -1,12 +1,15 @@
 //! From bytes to tokens, one at a time as they are asked for.
 
-ghost use Rattle.std.specs.Prelude.{◌≡◌, ◌+◌, ◌<◌, ◌≤◌, ◌^◌, length, false, IfOk, IfSome, None, [], option_map, find, nat_eq};
+ghost use Rattle.std.specs.Prelude.{◌≡◌, ◌+◌, ◌<◌, ◌≤◌, ◌^◌, length, false, IfOk, IfErr, IfSome, None, take, drop, [], option_map, find, nat_eq};
 ghost use Rattle.std.specs.List.{starts_with, prefix_len};
 ghost use Rattle.std.specs.Str.{bytes_eq};
 ghost use Rattle.guest_syntax.specs.reader.BlankBytes.{gap_step};
 ghost use Rattle.guest_syntax.specs.reader.Scanner.{skipped, name_or_keyword, capped, symbol_at, kind_at, first};
 ghost use Rattle.guest_syntax.specs.reader.Gives.{Gives};
-ghost use Rattle.guest_syntax.specs.reader.Reads.{Scans};
+ghost use Rattle.guest_syntax.specs.reader.Reads.{Scans, StaysIn, IsPlaceOf};
+ghost use Rattle.guest_syntax.specs.Place.{after};
+ghost use Rattle.guest_syntax.specs.Place as place;
+ghost use Rattle.guest_syntax.specs.Answers.{RefusalIn};
 ghost use Rattle.guest_syntax.specs.reader.TokenViews.{kind_view, token_view};
 ghost use Rattle.guest_syntax.specs.Tokens.{keyword_text, symbol_text, is_space, is_letter, is_digit, is_name_byte};
 
@@ -17,7 +20,7 @@ use crate::token::{KEYWORDS, Keyword, Kind, SYMBOLS, Symbol, Token};
 
 /// What a byte is to spaces and comments.
 enum Step {
-    /// It is one of them. The flag says whether a comment goes on behind it.
+    /// It is one of them. The flag says whether a comment goes on after it.
     Passed(bool),
     /// It is none of them.
     Stops,
@@ -71,6 +74,7 @@ fn skip<'a>(text: &'a [u8], start: Pos) -> Result<(Pos, &'a [u8]), SyntaxError>
     ensures gives { Gives (λ x. (x.0, x.1.now)) result (skipped false start text.now) }
     ensures line { IfOk result (λ x. x.0.line + length x.1.now ≤ start.line + length text.now) }
     ensures col { IfOk result (λ x. x.0.col + length x.1.now ≤ start.col + length text.now) }
+    ensures refused { IfErr result (RefusalIn start text.now) }
 {
     let mut at = start;
     let mut comment = false;
@@ -83,6 +87,36 @@ fn skip<'a>(text: &'a [u8], start: Pos) -> Result<(Pos, &'a [u8]), SyntaxError>
         at = at.past(*byte);
     }
     Ok((at, &text[text.len()..]))
+}
+
+/// The cursor after spaces and comments.
+fn skip_blanks<'a>(text: Cursor<'a>) -> Result<Cursor<'a>, SyntaxError>
+    ensures gives { Gives (λ x. (x.at, x.rest.now)) result (skipped false text.entry.at text.entry.rest.now) }
+    ensures same { IfOk result (λ x. x.text.now ≡ text.entry.text.now) }
+    ensures refused { IfErr result (RefusalIn place.start text.entry.text.now) }
+{
+    let (at, rest) = skip(text.rest, text.at)?;
+    Ok(Cursor {
+        text: text.text,
+        rest,
+        at,
+    })
+}
+
+/// The cursor this many bytes further on.
+fn advance<'a>(text: Cursor<'a>, len: usize) -> Cursor<'a>
+    requires { len ≤ length text.rest.now }
+    ensures rest { result.rest.now ≡ drop len text.entry.rest.now }
+    ensures at { result.at ≡ after text.entry.at (take len text.entry.rest.now) }
+    ensures text { result.text.now ≡ text.entry.text.now }
+{
+    let (passed, rest) = text.rest.split_at(len);
+    let at = text.at.after(passed);
+    Cursor {
+        text: text.text,
+        rest,
+        at,
+    }
 }
 
 fn keyword_in(keywords: &[Keyword], text: &[u8]) -> Option<Keyword>
@@ -155,21 +189,21 @@ fn kind_at(text: &[u8]) -> Option<(Kind<'_>, usize)>
     }
 }
 
-/// The next token and what stands behind it, or nothing and the end of the text.
+/// The next token and what comes after it, or nothing and the end of the text.
 #[tactic(auto, unfolding(crate::specs::reader::Scanner::first))]
 pub fn first<'a>(text: Cursor<'a>) -> Result<(Option<Token<'a>>, Cursor<'a>), SyntaxError>
     ensures gives { Scans result text.entry }
     ensures end { IfOk result (λ x. x.0 ≡ None → x.1.rest.now ≡ []) }
+    ensures within { StaysIn result text.entry }
+    ensures place { IfOk result (λ x. IfSome x.0 (λ t. IsPlaceOf text.entry t.at)) }
 {
-    let (at, bytes) = skip(text.rest, text.at)?;
-    if bytes.is_empty() {
-        return Ok((None, Cursor { rest: bytes, at }));
+    let start = skip_blanks(text)?;
+    if start.rest.is_empty() {
+        return Ok((None, start));
     }
-    let Some((kind, len)) = kind_at(bytes) else {
-        return Err(SyntaxError::BadChar(at));
+    let Some((kind, len)) = kind_at(start.rest) else {
+        return Err(SyntaxError::BadChar(start.at));
     };
-    let (spelling, rest) = bytes.split_at(len);
-    let at_end = at.after(spelling);
-    let after = Cursor { rest, at: at_end };
-    Ok((Some(Token { kind, at }), after))
+    let token = Token { kind, at: start.at };
+    Ok((Some(token), advance(start, len)))
 }

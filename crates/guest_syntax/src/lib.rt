@@ -2,7 +2,7 @@
 //!
 //! A guest text declares variables, mutexes, conditions and semaphores, and then threads with
 //! their statements. [`parse`] reads a text into a [`tree::Tree`], or answers its first fault and
-//! where it stands. The grammar stands in `specs/Grammar.antt` as a relation between a text and a
+//! where it is. The grammar is in `specs/Grammar.antt`, as a relation between a text and a
 //! tree, `Spells`, which says nothing of how a text is read: which bytes are a token, that the
 //! longest token is taken, which tokens spell which tree, and every limit of `limits.rt`.
 //!
@@ -13,10 +13,14 @@
 //! - Where the text spells a tree, that tree is answered, or memory ran out. So no good text is
 //!   refused, and a refusal for any other reason means that the text spells nothing.
 //! - A text spells at most one tree ([`laws::one_tree`]): the grammar has no two meanings.
-//! - A text of more than 65,536 bytes is refused as too long, before it is read.
+//! - A text of more than [`TEXT_BYTES`] bytes is refused as too long, before it is read, and no
+//!   other text is.
+//! - A refusal is at a place of the text: the place after some number of its bytes.
 //! - Reading ends, reads no byte outside the text and never overflows, also for hostile texts.
 //!
-//! Which fault is the first, and its place, is shown by tests.
+//! Which fault is the first, and which of the text's places it is at, is shown by tests.
+//!
+//! `specs/reader` models the reader of this crate. Only proofs need it: no public contract cites it.
 #![tactic(auto)]
 
 mod blocks;

@@ -2,7 +2,7 @@
 
 /// The bytes of a text.
 pub const TEXT_BYTES: usize = 65_536;
-/// How deep blocks may stand inside the block of a thread, which has depth 0.
+/// How deep blocks may lie inside the block of a thread, which has depth 0.
 pub const DEPTH: u32 = 32;
 /// The greatest number that a text may hold, with or without a minus before it: 2^63 - 1.
 pub const NUMBER: u64 = 9_223_372_036_854_775_807;

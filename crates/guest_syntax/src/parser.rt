@@ -1,9 +1,11 @@
 //! Declarations, threads and the whole of a text.
 
-ghost use Rattle.std.specs.Prelude.{◌≡◌, ◌<◌, length, map, IfOk, IsSome, option_map};
+ghost use Rattle.std.specs.Prelude.{◌≡◌, ◌<◌, length, map, IfOk, IfErr, IsSome, option_map};
 ghost use Rattle.guest_syntax.specs.reader.Gives.{Gives};
 ghost use Rattle.guest_syntax.specs.Tree.{declaration_view, thread_view, tree_view};
-ghost use Rattle.guest_syntax.specs.reader.Reads.{rest_of, Reads, TakesToken, ItemTakesToken};
+ghost use Rattle.guest_syntax.specs.Place.{start};
+ghost use Rattle.guest_syntax.specs.Answers.{RefusalIn};
+ghost use Rattle.guest_syntax.specs.reader.Reads.{rest_of, Reads, StaysIn, TakesToken, ItemTakesToken};
 ghost use Rattle.guest_syntax.specs.reader.Items.{all_from};
 ghost use Rattle.guest_syntax.specs.reader.Trees.{variable_from, plain_from, semaphore_from, declaration_turn, thread_from, thread_turn, tree_from};
 
@@ -18,10 +20,11 @@ use crate::tokens::{name, next_token, number, symbol, token};
 use crate::tree::{Declaration, Object, Thread, Tree};
 use std::alloc::Global;
 
-/// A variable behind its word.
+/// A variable, after its keyword.
 #[tactic(auto, unfolding(crate::specs::reader::Trees::variable_from))]
 fn variable<'a>(alloc: Global, text: Cursor<'a>) -> Result<(Declaration, Cursor<'a>), SyntaxError>
     ensures gives { Reads declaration_view result variable_from text.entry }
+    ensures within { StaysIn result text.entry }
     ensures shorter { TakesToken result text.entry }
 {
     let (name, text) = name(alloc, text)?;
@@ -41,7 +44,7 @@ fn variable<'a>(alloc: Global, text: Cursor<'a>) -> Result<(Declaration, Cursor<
     }
 }
 
-/// An object without an opening value, behind its word.
+/// An object without an opening value, after its keyword.
 #[tactic(auto, unfolding(crate::specs::reader::Trees::plain_from))]
 fn plain<'a>(
     alloc: Global,
@@ -49,16 +52,18 @@ fn plain<'a>(
     text: Cursor<'a>,
 ) -> Result<(Declaration, Cursor<'a>), SyntaxError>
     ensures gives { Reads declaration_view result (plain_from object) text.entry }
+    ensures within { StaysIn result text.entry }
     ensures shorter { TakesToken result text.entry }
 {
     let (name, text) = one_name(alloc, text)?;
     Ok((Declaration { name, object }, text))
 }
 
-/// A semaphore behind its word.
+/// A semaphore, after its keyword.
 #[tactic(auto, unfolding(crate::specs::reader::Trees::semaphore_from))]
 fn semaphore<'a>(alloc: Global, text: Cursor<'a>) -> Result<(Declaration, Cursor<'a>), SyntaxError>
     ensures gives { Reads declaration_view result semaphore_from text.entry }
+    ensures within { StaysIn result text.entry }
     ensures shorter { TakesToken result text.entry }
 {
     let (name, text) = name(alloc, text)?;
@@ -69,13 +74,14 @@ fn semaphore<'a>(alloc: Global, text: Cursor<'a>) -> Result<(Declaration, Cursor
     Ok((Declaration { name, object }, text))
 }
 
-/// The next declaration, or nothing where something else stands.
+/// The next declaration, or nothing where something else comes.
 #[tactic(auto, unfolding(crate::specs::reader::Trees::declaration_turn))]
 fn declaration_turn<'a>(
     alloc: Global,
     text: Cursor<'a>,
 ) -> Result<(Option<Declaration>, Cursor<'a>), SyntaxError>
     ensures gives { Reads (option_map declaration_view) result declaration_turn text.entry }
+    ensures within { StaysIn result text.entry }
     ensures shorter { ItemTakesToken result text.entry }
 {
     let (token, after) = next_token(text)?;
@@ -92,12 +98,13 @@ fn declaration_turn<'a>(
     Ok((Some(declaration), after))
 }
 
-/// The declarations, up to where something else stands.
+/// The declarations, up to where something else comes.
 fn declarations<'a>(
     alloc: Global,
     text: Cursor<'a>,
 ) -> Result<(Vec<Declaration>, Cursor<'a>), SyntaxError>
     ensures gives { Reads (λ x. map declaration_view x.items) result (all_from declaration_turn) text.entry }
+    ensures within { StaysIn result text.entry }
 {
     let mut all = Vec::new(alloc);
     let mut rest = text;
@@ -111,10 +118,11 @@ fn declarations<'a>(
     }
 }
 
-/// A thread behind its word.
+/// A thread, after its keyword.
 #[tactic(auto, unfolding(crate::specs::reader::Trees::thread_from))]
 fn thread<'a>(alloc: Global, text: Cursor<'a>) -> Result<(Thread, Cursor<'a>), SyntaxError>
     ensures gives { Reads thread_view result thread_from text.entry }
+    ensures within { StaysIn result text.entry }
     ensures shorter { TakesToken result text.entry }
 {
     let (name, text) = name(alloc, text)?;
@@ -129,6 +137,7 @@ fn thread_turn<'a>(
     text: Cursor<'a>,
 ) -> Result<(Option<Thread>, Cursor<'a>), SyntaxError>
     ensures gives { Reads (option_map thread_view) result thread_turn text.entry }
+    ensures within { StaysIn result text.entry }
     ensures shorter { ItemTakesToken result text.entry }
 {
     let (token, after) = next_token(text)?;
@@ -147,6 +156,7 @@ fn thread_turn<'a>(
 /// The threads, up to the end of the text.
 fn threads<'a>(alloc: Global, text: Cursor<'a>) -> Result<(Vec<Thread>, Cursor<'a>), SyntaxError>
     ensures gives { Reads (λ x. map thread_view x.items) result (all_from thread_turn) text.entry }
+    ensures within { StaysIn result text.entry }
 {
     let mut all = Vec::new(alloc);
     let mut rest = text;
@@ -163,7 +173,8 @@ fn threads<'a>(alloc: Global, text: Cursor<'a>) -> Result<(Vec<Thread>, Cursor<'
 /// The whole of a text.
 #[tactic(auto, unfolding(crate::specs::reader::Trees::tree_from))]
 pub fn tree(alloc: Global, text: Cursor) -> Result<Tree, SyntaxError>
-    ensures { Gives tree_view result (tree_from (rest_of text.entry)) }
+    ensures gives { Gives tree_view result (tree_from (rest_of text.entry)) }
+    ensures place { IfErr result (RefusalIn start text.entry.text.now) }
 {
     let (declarations, text) = declarations(alloc, text)?;
     let (threads, _) = threads(alloc, text)?;

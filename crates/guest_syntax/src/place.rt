@@ -15,7 +15,7 @@ pub struct Pos {
 }
 
 impl Pos {
-    /// The place behind a byte that stands here.
+    /// The place after a byte that is here.
     #[tactic(auto, unfolding(crate::specs::Place::past))]
     pub(crate) fn past(self, byte: u8) -> Pos
         requires line { self.line + 1 < 2 ^ 32 }
@@ -37,7 +37,7 @@ impl Pos {
         }
     }
 
-    /// The place behind bytes that stand here.
+    /// The place after bytes that are here.
     pub(crate) fn after(self, bytes: &[u8]) -> Pos
         requires line { self.line + length bytes.now < 2 ^ 32 }
         requires col { self.col + length bytes.now < 2 ^ 32 }

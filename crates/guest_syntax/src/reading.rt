@@ -3,7 +3,8 @@
 ghost use Rattle.std.specs.Prelude.{◌≡◌, ◌≢◌, ◌<◌, length, IfOk, IfErr, Err};
 ghost use Rattle.guest_syntax.specs.declared.error.SyntaxError.TheVariants.{OutOfMemory, TooLong};
 ghost use Rattle.guest_syntax.specs.declared.limits.TheConstants.{TEXT_BYTES};
-ghost use Rattle.guest_syntax.specs.Answers.{Answers};
+ghost use Rattle.guest_syntax.specs.Answers.{Answers, RefusalIn};
+ghost use Rattle.guest_syntax.specs.Place.{start};
 ghost use Rattle.guest_syntax.specs.Tree.{tree_view};
 ghost use Rattle.guest_syntax.specs.Tree as model;
 ghost use Rattle.guest_syntax.specs.Grammar.{Spells};
@@ -20,21 +21,30 @@ use std::alloc::Global;
 ///
 /// # Errors
 ///
-/// `TooLong` where the text has more than 65,536 bytes; else the first fault in text order, with
+/// `TooLong` where the text has more than [`TEXT_BYTES`](crate::TEXT_BYTES) bytes; else the first fault in text order, with
 /// its place; `OutOfMemory` where memory runs out before that.
 pub fn parse(alloc: Global, text: &[u8]) -> Result<Tree, SyntaxError>
     // What is answered is spelled by the text.
     ensures found { IfOk result (λ t. Spells text.now (tree_view t)) }
     // What the text spells is answered, unless memory runs out; it is never refused.
     ensures only { (t : model.Tree) → Spells text.now t → Answers result t }
-    // A text that is refused, other than for want of memory, spells nothing.
+    // A text that is refused, other than because memory ran out, spells nothing.
     ensures refused { IfErr result (λ e. e ≢ OutOfMemory → (t : model.Tree) → Spells text.now t → ⊥) }
+    // A refusal is at a place of the text, and it says too long only where the text is.
+    ensures place { IfErr result (RefusalIn start text.now) }
     // A text that is too long is refused as such, at its first byte.
-    ensures long { TEXT_BYTES < length text.now → result ≡ Err (TooLong (record { line = 1; col = 1 })) }
+    ensures long { TEXT_BYTES < length text.now → result ≡ Err (TooLong start) }
 {
     let at = Pos { line: 1, col: 1 };
     if text.len() > TEXT_BYTES {
         return Err(SyntaxError::TooLong(at));
     }
-    tree(alloc, Cursor { rest: text, at })
+    tree(
+        alloc,
+        Cursor {
+            text,
+            rest: text,
+            at,
+        },
+    )
 }

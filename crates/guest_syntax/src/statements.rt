@@ -3,8 +3,8 @@
 ghost use Rattle.std.specs.Prelude.{◌≡◌, ◌<◌, length, IfOk};
 ghost use Rattle.guest_syntax.specs.reader.Gives.{Gives};
 ghost use Rattle.guest_syntax.specs.Tree.{name_view, stmt_view};
-ghost use Rattle.guest_syntax.specs.reader.Reads.{Reads, TakesToken};
-ghost use Rattle.guest_syntax.specs.reader.Statements.{one_name_from, two_names_from, store_from, set_from, assert_from, named_by, simple_by};
+ghost use Rattle.guest_syntax.specs.reader.Reads.{IsPlaceOf, Reads, StaysIn, TakesToken};
+ghost use Rattle.guest_syntax.specs.reader.Statements.{one_name_from, two_names_from, store_from, add_from, cas_from, set_from, assert_from, named_by, simple_by};
 
 use crate::cursor::Cursor;
 use crate::error::SyntaxError;
@@ -15,10 +15,11 @@ use crate::tokens::{name, symbol};
 use crate::tree::{Name, Statement};
 use std::alloc::Global;
 
-/// A name, and the mark that ends what it stands in.
+/// A name, and the mark that ends what it is in.
 #[tactic(auto, unfolding(crate::specs::reader::Statements::one_name_from))]
 pub fn one_name<'a>(alloc: Global, text: Cursor<'a>) -> Result<(Name, Cursor<'a>), SyntaxError>
     ensures gives { Reads name_view result one_name_from text.entry }
+    ensures within { StaysIn result text.entry }
     ensures shorter { TakesToken result text.entry }
 {
     let (name, text) = name(alloc, text)?;
@@ -30,6 +31,7 @@ pub fn one_name<'a>(alloc: Global, text: Cursor<'a>) -> Result<(Name, Cursor<'a>
 #[tactic(auto, unfolding(crate::specs::reader::Statements::two_names_from))]
 fn two_names<'a>(alloc: Global, text: Cursor<'a>) -> Result<((Name, Name), Cursor<'a>), SyntaxError>
     ensures gives { Reads (λ x. (name_view x.0, name_view x.1)) result two_names_from text.entry }
+    ensures within { StaysIn result text.entry }
     ensures shorter { TakesToken result text.entry }
 {
     let (first, text) = name(alloc, text)?;
@@ -41,6 +43,7 @@ fn two_names<'a>(alloc: Global, text: Cursor<'a>) -> Result<((Name, Name), Curso
 #[tactic(auto, unfolding(crate::specs::reader::Statements::store_from))]
 fn store<'a>(alloc: Global, text: Cursor<'a>) -> Result<(Statement, Cursor<'a>), SyntaxError>
     ensures gives { Reads stmt_view result store_from text.entry }
+    ensures within { StaysIn result text.entry }
     ensures shorter { TakesToken result text.entry }
 {
     let (variable, text) = name(alloc, text)?;
@@ -49,9 +52,48 @@ fn store<'a>(alloc: Global, text: Cursor<'a>) -> Result<(Statement, Cursor<'a>),
     Ok((Statement::Store { variable, value }, text))
 }
 
+#[tactic(auto, unfolding(crate::specs::reader::Statements::add_from))]
+fn add<'a>(alloc: Global, text: Cursor<'a>) -> Result<(Statement, Cursor<'a>), SyntaxError>
+    ensures gives { Reads stmt_view result add_from text.entry }
+    ensures within { StaysIn result text.entry }
+    ensures shorter { TakesToken result text.entry }
+{
+    let (local, text) = name(alloc, text)?;
+    let (variable, text) = name(alloc, text)?;
+    let (value, text) = operand(alloc, text)?;
+    let (_, text) = symbol(text, Symbol::End)?;
+    let statement = Statement::Add {
+        local,
+        variable,
+        value,
+    };
+    Ok((statement, text))
+}
+
+#[tactic(auto, unfolding(crate::specs::reader::Statements::cas_from))]
+fn cas<'a>(alloc: Global, text: Cursor<'a>) -> Result<(Statement, Cursor<'a>), SyntaxError>
+    ensures gives { Reads stmt_view result cas_from text.entry }
+    ensures within { StaysIn result text.entry }
+    ensures shorter { TakesToken result text.entry }
+{
+    let (local, text) = name(alloc, text)?;
+    let (variable, text) = name(alloc, text)?;
+    let (expected, text) = operand(alloc, text)?;
+    let (new, text) = operand(alloc, text)?;
+    let (_, text) = symbol(text, Symbol::End)?;
+    let statement = Statement::Cas {
+        local,
+        variable,
+        expected,
+        new,
+    };
+    Ok((statement, text))
+}
+
 #[tactic(auto, unfolding(crate::specs::reader::Statements::set_from))]
 fn set<'a>(alloc: Global, text: Cursor<'a>) -> Result<(Statement, Cursor<'a>), SyntaxError>
     ensures gives { Reads stmt_view result set_from text.entry }
+    ensures within { StaysIn result text.entry }
     ensures shorter { TakesToken result text.entry }
 {
     let (local, text) = name(alloc, text)?;
@@ -63,6 +105,7 @@ fn set<'a>(alloc: Global, text: Cursor<'a>) -> Result<(Statement, Cursor<'a>), S
 #[tactic(auto, unfolding(crate::specs::reader::Statements::assert_from))]
 fn assertion<'a>(alloc: Global, text: Cursor<'a>) -> Result<(Statement, Cursor<'a>), SyntaxError>
     ensures gives { Reads stmt_view result assert_from text.entry }
+    ensures within { StaysIn result text.entry }
     ensures shorter { TakesToken result text.entry }
 {
     let (test, text) = expr(alloc, text)?;
@@ -70,14 +113,16 @@ fn assertion<'a>(alloc: Global, text: Cursor<'a>) -> Result<(Statement, Cursor<'
     Ok((Statement::Assert(test), text))
 }
 
-/// A statement of one name, behind its word, which stands at this place.
+/// A statement of one name, after its keyword, which is at this place.
 fn named<'a>(
     alloc: Global,
     keyword: Keyword,
     at: Pos,
     text: Cursor<'a>,
 ) -> Result<(Statement, Cursor<'a>), SyntaxError>
+    requires place { IsPlaceOf text at }
     ensures gives { Reads stmt_view result (named_by keyword) text.entry }
+    ensures within { StaysIn result text.entry }
     ensures shorter { TakesToken result text.entry }
 {
     match keyword {
@@ -109,14 +154,16 @@ fn named<'a>(
     }
 }
 
-/// A statement without a block, behind its word, which stands at this place.
+/// A statement without a block, after its keyword, which is at this place.
 pub fn simple<'a>(
     alloc: Global,
     keyword: Keyword,
     at: Pos,
     text: Cursor<'a>,
 ) -> Result<(Statement, Cursor<'a>), SyntaxError>
+    requires place { IsPlaceOf text at }
     ensures gives { Reads stmt_view result (simple_by keyword at) text.entry }
+    ensures within { StaysIn result text.entry }
     ensures shorter { TakesToken result text.entry }
 {
     match keyword {
@@ -129,6 +176,8 @@ pub fn simple<'a>(
             Ok((Statement::Wait { condition, mutex }, text))
         }
         Keyword::Store => store(alloc, text),
+        Keyword::Add => add(alloc, text),
+        Keyword::Cas => cas(alloc, text),
         Keyword::Set => set(alloc, text),
         Keyword::Assert => assertion(alloc, text),
         Keyword::Leave => {

@@ -2,13 +2,55 @@ use super::*;
 use std::alloc::Global;
 use std::test::*;
 
-/// Texts and the lines that are printed for their first faults.
-const FAULTS: [(&str, &str); 18] = [
+/// Texts and the lines that are printed for their first faults, by the place in the parser that
+/// finds them. Blocks that lie too deep and texts that are too long are in `limits`.
+const FAULTS: [(&str, &str); 47] = [
+    // A byte above 127, wherever a token is looked for, and in a comment.
+    ("# \u{C3}", "syntax S1 NotAscii at 1:3"),
+    ("\u{FEFF}var x;", "syntax S1 NotAscii at 1:1"),
+    ("var \u{C3}", "syntax S1 NotAscii at 1:5"),
+    ("var x\u{C3};", "syntax S1 NotAscii at 1:6"),
+    // A byte that begins no token. A form feed is no space.
+    ("var !", "syntax S2 BadChar at 1:5"),
+    ("var x;\r\n\t@", "syntax S2 BadChar at 2:2"),
+    ("var\u{C}x;", "syntax S2 BadChar at 1:4"),
+    // The end of the text, where a token must be.
     ("thread A { assert 0;", "syntax S3 Expected at 1:21"),
     (
         "thread A { assert 0; # no end\n ",
         "syntax S3 Expected at 2:2",
     ),
+    ("mutex m", "syntax S3 Expected at 1:8"),
+    // Another token where an operator or a mark must be.
+    ("thread A { store x 1 }", "syntax S3 Expected at 1:22"),
+    ("sem s 1;", "syntax S3 Expected at 1:7"),
+    ("thread A { add r x }", "syntax S3 Expected at 1:20"),
+    ("thread A { add r x 1 2; }", "syntax S3 Expected at 1:22"),
+    ("thread A { cas r x 0 1 2; }", "syntax S3 Expected at 1:24"),
+    // Another token where a name must be.
+    ("cond lock;", "syntax S3 Expected at 1:6"),
+    ("cond 12ab;", "syntax S3 Expected at 1:6"),
+    ("cond 9223372036854775808;", "syntax S3 Expected at 1:6"),
+    ("var add;", "syntax S3 Expected at 1:5"),
+    ("sem cas = 1;", "syntax S3 Expected at 1:5"),
+    ("thread A { add r 1 2; }", "syntax S3 Expected at 1:18"),
+    // A count or a number of turns that is too big.
+    (
+        "sem s = 65536; thread A { }",
+        "syntax S4 NumberTooBig at 1:9",
+    ),
+    (
+        "thread A { repeat 101 { } }",
+        "syntax S4 NumberTooBig at 1:19",
+    ),
+    // Another token where a count or a number of turns must be.
+    ("sem s = x;", "syntax S3 Expected at 1:9"),
+    ("sem s = -1;", "syntax S3 Expected at 1:9"),
+    ("thread A { repeat x { } }", "syntax S3 Expected at 1:19"),
+    // No turn at all.
+    ("thread A { repeat 0 { } }", "syntax S3 Expected at 1:19"),
+    ("thread A { repeat   00 { } }", "syntax S3 Expected at 1:21"),
+    // A literal that is too big, with a minus and without.
     (
         "var x = 9223372036854775808; thread A { }",
         "syntax S4 NumberTooBig at 1:9",
@@ -18,29 +60,34 @@ const FAULTS: [(&str, &str); 18] = [
         "syntax S4 NumberTooBig at 1:10",
     ),
     (
-        "sem s = 65536; thread A { }",
-        "syntax S4 NumberTooBig at 1:9",
+        "thread A { cas r x 0 9223372036854775808; }",
+        "syntax S4 NumberTooBig at 1:22",
     ),
-    ("thread A { repeat 0 { } }", "syntax S3 Expected at 1:19"),
-    ("thread A { repeat   00 { } }", "syntax S3 Expected at 1:21"),
-    (
-        "thread A { repeat 101 { } }",
-        "syntax S4 NumberTooBig at 1:19",
-    ),
-    ("# \u{C3}", "syntax S1 NotAscii at 1:3"),
-    ("var !", "syntax S2 BadChar at 1:5"),
-    ("var x;\r\n\t@", "syntax S2 BadChar at 2:2"),
-    ("mutex m", "syntax S3 Expected at 1:8"),
-    ("cond lock;", "syntax S3 Expected at 1:6"),
-    ("cond 12ab;", "syntax S3 Expected at 1:6"),
-    ("cond 9223372036854775808;", "syntax S3 Expected at 1:6"),
+    // Another token where a literal or an operand must be.
+    ("var x = y;", "syntax S3 Expected at 1:9"),
+    ("var x = -y;", "syntax S3 Expected at 1:10"),
+    ("thread A { store x }", "syntax S3 Expected at 1:20"),
+    ("thread A { cas r x 0; }", "syntax S3 Expected at 1:21"),
+    // A keyword that begins no statement.
+    ("thread A { var }", "syntax S3 Expected at 1:12"),
+    ("thread A { else { } }", "syntax S3 Expected at 1:12"),
+    // Another token where a statement or the end of its block must be.
+    ("thread A { adds r x 1; }", "syntax S3 Expected at 1:12"),
+    ("thread A { 1 }", "syntax S3 Expected at 1:12"),
+    ("thread A { ; }", "syntax S3 Expected at 1:12"),
+    // Neither a value nor the end after the name of a variable.
+    ("var x y;", "syntax S3 Expected at 1:7"),
+    ("var x == 1;", "syntax S3 Expected at 1:7"),
+    // Neither a declaration nor a thread. What comes after the token is not read.
     ("lock m;", "syntax S3 Expected at 1:1"),
     ("thread A { } var x;", "syntax S3 Expected at 1:14"),
     ("thread A { } else { }", "syntax S3 Expected at 1:14"),
+    ("va\u{C3}", "syntax S3 Expected at 1:1"),
+    ("lock \u{C3}", "syntax S3 Expected at 1:1"),
 ];
 
 /// Statements, and how the body of a thread with them is shown.
-const STATEMENTS: [(&str, &str); 19] = [
+const STATEMENTS: [(&str, &str); 23] = [
     (
         "load r x;",
         "[Load { local: Name { text: [114], at: Pos { line: 1, col: 17 } }, variable: Name { text: [120], at: Pos { line: 1, col: 19 } } }]",
@@ -52,6 +99,22 @@ const STATEMENTS: [(&str, &str); 19] = [
     (
         "store x r;",
         "[Store { variable: Name { text: [120], at: Pos { line: 1, col: 18 } }, value: Local(Name { text: [114], at: Pos { line: 1, col: 20 } }) }]",
+    ),
+    (
+        "add r x -3;",
+        "[Add { local: Name { text: [114], at: Pos { line: 1, col: 16 } }, variable: Name { text: [120], at: Pos { line: 1, col: 18 } }, value: Literal(-3) }]",
+    ),
+    (
+        "add r x q;",
+        "[Add { local: Name { text: [114], at: Pos { line: 1, col: 16 } }, variable: Name { text: [120], at: Pos { line: 1, col: 18 } }, value: Local(Name { text: [113], at: Pos { line: 1, col: 20 } }) }]",
+    ),
+    (
+        "cas r x 0 -1;",
+        "[Cas { local: Name { text: [114], at: Pos { line: 1, col: 16 } }, variable: Name { text: [120], at: Pos { line: 1, col: 18 } }, expected: Literal(0), new: Literal(-1) }]",
+    ),
+    (
+        "cas r x r q;",
+        "[Cas { local: Name { text: [114], at: Pos { line: 1, col: 16 } }, variable: Name { text: [120], at: Pos { line: 1, col: 18 } }, expected: Local(Name { text: [114], at: Pos { line: 1, col: 20 } }), new: Local(Name { text: [113], at: Pos { line: 1, col: 22 } }) }]",
     ),
     (
         "lock m;",
@@ -161,16 +224,37 @@ fn bodies(alloc: Global, text: &str) -> Result<String, Fail> {
     Ok(shown)
 }
 
-/// A thread with this many blocks inside one another, and as many closing braces.
-fn nested(alloc: Global, depth: usize) -> Result<String, Fail> {
+/// A thread that opens this many blocks inside one another.
+fn opened(alloc: Global, depth: usize) -> Result<String, Fail> {
     let mut text = String::from_str(alloc, "thread A { ")?;
     for _ in 0..depth {
         text.push_str("if 1 { ")?;
     }
+    Ok(text)
+}
+
+/// A thread with this many blocks inside one another.
+fn nested(alloc: Global, depth: usize) -> Result<String, Fail> {
+    let mut text = opened(alloc, depth)?;
     for _ in 0..depth {
         text.push_str("} ")?;
     }
     text.push_str("}")?;
+    Ok(text)
+}
+
+/// A thread of this many statements, each with its number and on a line of its own, and spaces up to
+/// this many bytes.
+fn long_text(alloc: Global, statements: usize, bytes: usize) -> Result<String, Fail> {
+    let mut text = String::from_str(alloc, "var x;\nthread A {\n")?;
+    for i in 0..statements {
+        let line = format!(in alloc; "add r x {i};\n")?;
+        text.push_str(&line)?;
+    }
+    text.push_str("}")?;
+    for _ in text.len()..bytes {
+        text.push_str(" ")?;
+    }
     Ok(text)
 }
 
@@ -197,10 +281,17 @@ fn limits(rt: HostRuntime) -> Result<(), Fail> {
     );
     let text = nested(alloc, 32)?;
     assert_eq!(rt; answer(alloc, text.as_bytes())?.as_str(), "tree");
-    let text = nested(alloc, 33)?;
+    for text in [nested(alloc, 33)?, opened(alloc, 33)?] {
+        assert_eq!(rt;
+            answer(alloc, text.as_bytes())?.as_str(),
+            "syntax S6 TooDeep at 1:241"
+        );
+    }
+    let mut no_brace = opened(alloc, 32)?;
+    no_brace.push_str("if 1 x")?;
     assert_eq!(rt;
-        answer(alloc, text.as_bytes())?.as_str(),
-        "syntax S6 TooDeep at 1:241"
+        answer(alloc, no_brace.as_bytes())?.as_str(),
+        "syntax S3 Expected at 1:241"
     );
     let largest = b"var x = 9223372036854775807; var y = -9223372036854775807;";
     assert_eq!(rt; answer(alloc, largest)?.as_str(), "tree");
@@ -236,12 +327,24 @@ fn declarations(rt: HostRuntime) -> Result<(), Fail> {
     Ok(())
 }
 
+/// Whether the cut after this byte is inside a keyword or a name.
+fn is_cut_short(last: usize) -> bool {
+    let next = last.saturating_add(1);
+    match (CUT.get(last), CUT.get(next)) {
+        (Some(byte), Some(more)) => byte.is_ascii_alphabetic() && more.is_ascii_alphabetic(),
+        _ => false,
+    }
+}
+
+/// Where the text is cut inside a keyword, the fault is there, since a name may not be there; where
+/// it is cut elsewhere inside a declaration or a thread, the fault is at the end.
 #[test]
 fn cuts(rt: HostRuntime) -> Result<(), Fail> {
     let alloc = rt.alloc();
     assert_eq!(rt; answer(alloc, b"")?.as_str(), "tree");
     let mut depth = 0_u8;
     let mut whole = true;
+    let mut keyword = 0_usize;
     for (i, byte) in CUT.iter().enumerate() {
         match *byte {
             b' ' => {}
@@ -256,9 +359,44 @@ fn cuts(rt: HostRuntime) -> Result<(), Fail> {
             b';' => whole = depth == 0,
             _ => whole = false,
         }
-        let line = answer(alloc, &CUT[..i + 1])?;
-        let want = if whole { "tree" } else { "syntax S3 Expected" };
-        assert!(rt; line.as_str().starts_with(want), "a cut at {i}");
+        let end = i + 1;
+        if !byte.is_ascii_alphabetic() {
+            keyword = end;
+        }
+        let place = if is_cut_short(i) { keyword } else { end };
+        let column = place.saturating_add(1);
+        let fault = format!(in alloc; "syntax S3 Expected at 1:{column}")?;
+        let line = answer(alloc, &CUT[..end])?;
+        let want = if whole { "tree" } else { fault.as_str() };
+        assert_eq!(rt; line.as_str(), want, "a cut at {i}");
+    }
+    Ok(())
+}
+
+/// Texts of 1, 8 and 64 KiB, with the number of statements that fit.
+const LONG: [(usize, usize); 3] = [(70, 1_024), (580, 8_192), (4_650, 65_536)];
+
+#[test]
+fn long_texts(rt: HostRuntime) -> Result<(), Fail> {
+    let alloc = rt.alloc();
+    for (statements, bytes) in LONG {
+        let text = long_text(alloc, statements, bytes)?;
+        assert_eq!(rt; text.len(), bytes);
+        let tree = parse(alloc, text.as_bytes())?;
+        assert_eq!(rt; tree.declarations().len(), 1);
+        assert_eq!(rt; tree.threads().len(), 1);
+        for thread in tree.threads() {
+            assert_eq!(rt; thread.body.len(), statements);
+            for (i, statement) in thread.body.iter().enumerate() {
+                let line = i.saturating_add(3);
+                let name = format!(in alloc; "at: Pos {{ line: {line}, col:")?;
+                let want = format!(in alloc;
+                    "Add {{ local: Name {{ text: [114], {name} 5 }} }}, variable: Name {{ text: [120], {name} 7 }} }}, value: Literal({i}) }}"
+                )?;
+                let shown = format!(in alloc; "{statement:?}")?;
+                assert_eq!(rt; shown.as_str(), want.as_str());
+            }
+        }
     }
     Ok(())
 }

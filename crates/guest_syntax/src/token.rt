@@ -1,11 +1,11 @@
-//! Tokens: names, words, numbers, operators and marks.
+//! Tokens: names, keywords, numbers, operators and marks.
 
 ghost use Rattle.std.specs.Prelude.{◌≡◌};
 ghost use Rattle.guest_syntax.specs.Tokens.{keyword_text, symbol_text};
 
 use crate::place::Pos;
 
-/// A word of the language, which is no name.
+/// A reserved word, which is no name.
 #[derive(Clone, Copy, Debug, PartialEq, Eq)]
 pub enum Keyword {
     Var,
@@ -15,6 +15,8 @@ pub enum Keyword {
     Thread,
     Load,
     Store,
+    Add,
+    Cas,
     Lock,
     Unlock,
     Wait,
@@ -65,8 +67,8 @@ pub struct Token<'a> {
     pub at: Pos,
 }
 
-/// All words.
-pub const KEYWORDS: [Keyword; 20] = [
+/// All keywords.
+pub const KEYWORDS: [Keyword; 22] = [
     Keyword::Var,
     Keyword::Mutex,
     Keyword::Cond,
@@ -74,6 +76,8 @@ pub const KEYWORDS: [Keyword; 20] = [
     Keyword::Thread,
     Keyword::Load,
     Keyword::Store,
+    Keyword::Add,
+    Keyword::Cas,
     Keyword::Lock,
     Keyword::Unlock,
     Keyword::Wait,
@@ -107,7 +111,7 @@ pub const SYMBOLS: [Symbol; 13] = [
 ];
 
 impl Keyword {
-    /// How the word is written.
+    /// How the keyword is written.
     pub fn text(self) -> &'static [u8]
         ensures { result.now ≡ keyword_text self }
     {
@@ -119,6 +123,8 @@ impl Keyword {
             Keyword::Thread => b"thread",
             Keyword::Load => b"load",
             Keyword::Store => b"store",
+            Keyword::Add => b"add",
+            Keyword::Cas => b"cas",
             Keyword::Lock => b"lock",
             Keyword::Unlock => b"unlock",
             Keyword::Wait => b"wait",

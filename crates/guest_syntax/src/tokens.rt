@@ -1,10 +1,12 @@
 //! Single tokens, as the grammar wants them.
 
-ghost use Rattle.std.specs.Prelude.{◌≡◌, ◌<◌, ◌≤◌, length, IfOk, IsSome, option_map};
+ghost use Rattle.std.specs.Prelude.{◌≡◌, ◌<◌, ◌≤◌, length, List, ℕ, IfOk, IfErr, IfSome, IsSome, option_map};
 ghost use Rattle.guest_syntax.specs.reader.Gives.{Gives};
 ghost use Rattle.guest_syntax.specs.reader.TokenViews.{kind_view, token_view};
 ghost use Rattle.guest_syntax.specs.Tree.{name_view};
-ghost use Rattle.guest_syntax.specs.reader.Reads.{rest_of, Reads, TakesToken, ItemTakesToken};
+ghost use Rattle.guest_syntax.specs.Place.{start, IsPlaceIn};
+ghost use Rattle.guest_syntax.specs.Answers.{RefusalIn};
+ghost use Rattle.guest_syntax.specs.reader.Reads.{IsPlaceOf, rest_of, Reads, StaysIn, TakesToken, ItemTakesToken};
 ghost use Rattle.guest_syntax.specs.reader.SingleTokens.{next_at, token_at, symbol_from, name_from, number_in, number_from, times_from};
 
 use crate::cursor::Cursor;
@@ -16,9 +18,11 @@ use crate::token::{Kind, Symbol, Token};
 use crate::tree::Name;
 use std::alloc::Global;
 
-/// The next token and what stands behind it, or nothing and the end of the text.
+/// The next token and what comes after it, or nothing and the end of the text.
 pub fn next_token<'a>(text: Cursor<'a>) -> Result<(Option<Token<'a>>, Cursor<'a>), SyntaxError>
     ensures gives { Reads (option_map token_view) result next_at text.entry }
+    ensures place { IfOk result (λ x. IfSome x.0 (λ t. IsPlaceOf text.entry t.at)) }
+    ensures within { StaysIn result text.entry }
     ensures shorter { ItemTakesToken result text.entry }
 {
     first(text)
@@ -28,6 +32,8 @@ pub fn next_token<'a>(text: Cursor<'a>) -> Result<(Option<Token<'a>>, Cursor<'a>
 #[tactic(auto, unfolding(crate::specs::reader::SingleTokens::next_at, crate::specs::reader::SingleTokens::token_at))]
 pub fn token<'a>(text: Cursor<'a>) -> Result<(Token<'a>, Cursor<'a>), SyntaxError>
     ensures gives { Reads token_view result token_at text.entry }
+    ensures place { IfOk result (λ x. IsPlaceOf text.entry x.0.at) }
+    ensures within { StaysIn result text.entry }
     ensures shorter { TakesToken result text.entry }
 {
     match next_token(text)? {
@@ -40,6 +46,8 @@ pub fn token<'a>(text: Cursor<'a>) -> Result<(Token<'a>, Cursor<'a>), SyntaxErro
 #[tactic(auto, unfolding(crate::specs::reader::SingleTokens::symbol_from))]
 pub fn symbol<'a>(text: Cursor<'a>, wanted: Symbol) -> Result<(Pos, Cursor<'a>), SyntaxError>
     ensures gives { Gives (λ x. rest_of x.1) result (symbol_from wanted (rest_of text.entry)) }
+    ensures place { IfOk result (λ x. IsPlaceOf text.entry x.0) }
+    ensures within { StaysIn result text.entry }
     ensures shorter { TakesToken result text.entry }
 {
     let (token, after) = token(text)?;
@@ -53,6 +61,7 @@ pub fn symbol<'a>(text: Cursor<'a>, wanted: Symbol) -> Result<(Pos, Cursor<'a>),
 #[tactic(auto, unfolding(crate::specs::reader::SingleTokens::name_from))]
 pub fn name<'a>(alloc: Global, text: Cursor<'a>) -> Result<(Name, Cursor<'a>), SyntaxError>
     ensures gives { Reads name_view result name_from text.entry }
+    ensures within { StaysIn result text.entry }
     ensures shorter { TakesToken result text.entry }
 {
     let (token, after) = token(text)?;
@@ -69,6 +78,7 @@ pub fn name<'a>(alloc: Global, text: Cursor<'a>) -> Result<(Name, Cursor<'a>), S
 pub fn number_in(token: Token, limit: u64) -> Result<u64, SyntaxError>
     ensures gives { Gives (λ n. n) result (number_in limit (kind_view token.entry.kind)) }
     ensures limit { IfOk result (λ n. n ≤ limit) }
+    ensures place { (text : List ℕ) → IsPlaceIn start text token.entry.at → IfErr result (RefusalIn start text) }
 {
     match token.kind {
         Kind::Number(n) if n <= limit => Ok(n),
@@ -81,6 +91,7 @@ pub fn number_in(token: Token, limit: u64) -> Result<u64, SyntaxError>
 #[tactic(auto, unfolding(crate::specs::reader::SingleTokens::number_from))]
 pub fn number<'a>(text: Cursor<'a>, limit: u64) -> Result<(u64, Cursor<'a>), SyntaxError>
     ensures gives { Reads (λ x. x) result (number_from limit) text.entry }
+    ensures within { StaysIn result text.entry }
     ensures shorter { TakesToken result text.entry }
     ensures limit { IfOk result (λ x. x.0 ≤ limit) }
 {
@@ -93,6 +104,7 @@ pub fn number<'a>(text: Cursor<'a>, limit: u64) -> Result<(u64, Cursor<'a>), Syn
 #[tactic(auto, unfolding(crate::specs::reader::SingleTokens::times_from))]
 pub fn times<'a>(text: Cursor<'a>) -> Result<(u8, Cursor<'a>), SyntaxError>
     ensures gives { Reads (λ x. x) result times_from text.entry }
+    ensures within { StaysIn result text.entry }
     ensures shorter { TakesToken result text.entry }
 {
     let (token, after) = token(text)?;

@@ -5,7 +5,7 @@ ghost use Rattle.guest_syntax.specs.Tree.{declaration_view, thread_view, tree_vi
 
 use crate::place::Pos;
 
-/// A name, and where it stands.
+/// A name, and where it is.
 #[derive(Debug, Drop)]
 pub struct Name {
     /// The bytes of the name: ASCII letters, digits and `_`.
@@ -27,14 +27,23 @@ pub enum Operand {
 /// signed and give 1 or 0.
 #[derive(Clone, Copy, Debug, PartialEq, Eq)]
 pub enum Op {
+    /// `+`
     Add,
+    /// `-`
     Subtract,
+    /// `*`
     Multiply,
+    /// `==`
     Equal,
+    /// `!=`
     NotEqual,
+    /// `<`
     Less,
+    /// `<=`
     LessOrEqual,
+    /// `>`
     Greater,
+    /// `>=`
     GreaterOrEqual,
 }
 
@@ -47,44 +56,89 @@ pub enum Expr {
     Both(Operand, Op, Operand),
 }
 
-/// A statement of a thread, named after its word; `docs/LANGUAGE.md` says what each does.
+/// A statement of a thread, named after its keyword; `docs/LANGUAGE.md` says what each does.
 #[derive(Debug, Drop)]
 pub enum Statement {
+    /// Reads the variable into the local.
     Load {
+        /// What gets the value.
         local: Name,
+        /// What is read.
         variable: Name,
     },
+    /// Writes the value to the variable.
     Store {
+        /// What is written.
         variable: Name,
+        /// What is written to it.
         value: Operand,
     },
+    /// Adds the value to the variable in one step; the local gets the variable's old value.
+    Add {
+        /// What gets the old value.
+        local: Name,
+        /// What is added to.
+        variable: Name,
+        /// What is added.
+        value: Operand,
+    },
+    /// Compares the variable with the expected value and, where they are equal, sets the new one,
+    /// in one step; the local gets 1 where they were, else 0.
+    Cas {
+        /// What gets 1 or 0.
+        local: Name,
+        /// What is compared and set.
+        variable: Name,
+        /// What the variable is to have.
+        expected: Operand,
+        /// What it is set to.
+        new: Operand,
+    },
+    /// Locks the mutex of this name.
     Lock(Name),
+    /// Unlocks the mutex of this name.
     Unlock(Name),
+    /// Gives up the mutex and waits for the condition, as one step.
     Wait {
+        /// What is waited for.
         condition: Name,
+        /// What is given up until then.
         mutex: Name,
     },
+    /// Wakes the thread that has waited longest for the condition of this name.
     Signal(Name),
+    /// Wakes all threads that wait for the condition of this name.
     Broadcast(Name),
+    /// Takes one from the semaphore of this name.
     Acquire(Name),
+    /// Gives one to the semaphore of this name.
     Release(Name),
+    /// Sets the local to the value.
     Set {
+        /// What is set.
         local: Name,
+        /// What it is set to.
         value: Expr,
     },
+    /// Stops the thread where the value is 0.
     Assert(Expr),
+    /// Runs a block where the value is not 0, else the other one.
     If {
+        /// What is tested.
         test: Expr,
+        /// The block after the test.
         then: Vec<Statement>,
-        /// The block behind `else`, where there is one.
+        /// The block after `else`, where there is one.
         otherwise: Option<Vec<Statement>>,
     },
+    /// Runs a block a number of times.
     Repeat {
-        /// 1 to 100.
+        /// How often: at least once, and at most the limit of `docs/LANGUAGE.md`.
         times: u8,
+        /// The block.
         body: Vec<Statement>,
     },
-    /// The place is that of the word.
+    /// Leaves the nearest `repeat`. The place is that of the keyword.
     Leave(Pos),
 }
 
@@ -93,7 +147,9 @@ pub enum Statement {
 pub enum Object {
     /// A variable, with its opening value: 0 where the text gives none.
     Variable(i64),
+    /// A mutex.
     Mutex,
+    /// A condition.
     Condition,
     /// A semaphore, with its opening count.
     Semaphore(u16),
@@ -102,14 +158,18 @@ pub enum Object {
 /// A declared object.
 #[derive(Debug, Drop)]
 pub struct Declaration {
+    /// Its name.
     pub name: Name,
+    /// What it is.
     pub object: Object,
 }
 
 /// A thread and its statements.
 #[derive(Debug, Drop)]
 pub struct Thread {
+    /// Its name.
     pub name: Name,
+    /// Its statements, in text order.
     pub body: Vec<Statement>,
 }
 

@@ -1,3 +1,4 @@
 pub mod Spelling
 pub mod Run
 pub mod Trace
+pub mod Step

@@ -1,21 +1,19 @@
 -- The run of a schedule, and where a schedule fails to run.
-use Rattle.std.specs.Prelude.{◌≡◌, ℕ, ℤ, ◌<◌, true, false, List, [], ◌∷◌, ◌++◌, length, filter, take, Option, Some, None, slice_index_or}
+use Rattle.std.specs.Prelude.{◌≡◌, ℕ, ℤ, ◌<◌, true, false, List, [], ◌∷◌, ◌++◌, length, filter, take, Option, Some, None, if◌then◌else◌, slice_index_or}
+use Rattle.guest_code.specs.declared.program.Value.{Value}
 use Rattle.guest_code.specs.Program.{Program}
-use Rattle.semantics.specs.declared.state.Stop.{Stop}
-use Rattle.semantics.specs.declared.state.Status.{Status}
-use Rattle.semantics.specs.declared.state.Status.TheVariants.{Stopped}
-use Rattle.semantics.specs.declared.state.VariableAction.TheVariants.{Load as Loads, Store as Stores}
+use Rattle.semantics.specs.declared.state.VariableAction.TheVariants.{Load as Loads, Store as Stores, Add as Adds, Cas as Swaps}
 use Rattle.semantics.specs.declared.state.MutexAction.TheVariants.{Lock as Locks, Unlock as Unlocks, Retake as Retakes}
 use Rattle.semantics.specs.declared.state.ConditionAction.TheVariants.{Signal as Signals, Broadcast as Broadcasts}
 use Rattle.semantics.specs.declared.state.SemaphoreAction.TheVariants.{Acquire as Acquires, Release as Releases}
 use Rattle.semantics.specs.declared.state.Action.{Action}
 use Rattle.semantics.specs.declared.state.Action.TheVariants.{OnVariable, OnMutex, Wait as Waits, OnCondition, OnSemaphore}
 use Rattle.semantics.specs.declared.view.Kind.{Kind}
-use Rattle.semantics.specs.Machine.{Snapshot, thread_at, next_of, value_of, value_of_operand, is_enabled, step, start}
+use Rattle.semantics.specs.Machine.{Snapshot, thread_at, next_of, value_of, value_of_operand, is_expected, var_after, is_enabled, step, start}
 use Rattle.semantics.specs.Schedules.{up_from, state_after, runs, preempts, preemptions}
-use Rattle.semantics.specs.Ends.{is_stopped, kind_of}
+use Rattle.semantics.specs.Ends.{is_stopped, stop_of, kind_of}
 use Rattle.replay.specs.declared.run.Act.{Act}
-use Rattle.replay.specs.declared.run.Act.TheVariants.{Load, Store, Lock, Unlock, Wait, Retake, Signal, Broadcast, Acquire, Release}
+use Rattle.replay.specs.declared.run.Act.TheVariants.{Load, Store, Add, Cas, Lock, Unlock, Wait, Retake, Signal, Broadcast, Acquire, Release}
 use Rattle.replay.specs.declared.run.Line.{Line}
 use Rattle.replay.specs.declared.error.ReplayError.{ReplayError}
 use Rattle.replay.specs.declared.error.ReplayError.TheVariants.{NoSuchThread, NotEnabled, OutOfMemory}
@@ -29,10 +27,17 @@ pub record Run : Type 0 where
   pub vars : List ℤ
   pub kind : Option Kind
 
--- what thread t does in a state by its action: a load is told with the value read, a store with the value stored
+-- the value that a `cas` stores, where it hits
+abbrev pub stored_by : List ℤ → Value → Value → ℤ → Option ℤ
+stored_by locals expected new old = if is_expected locals expected old then Some (value_of_operand locals new) else None
+
+-- what thread t does in a state by its action: a load is told with the value read, a store with the value stored,
+-- an `add` with both, and a `cas` with the value read, and where it hits with the one stored
 abbrev pub act_of : Snapshot → ℕ → Action → Act
 act_of s t (OnVariable x (Loads r)) = Load x (value_of s x)
 act_of s t (OnVariable x (Stores a)) = Store x (value_of_operand (thread_at s t).locals a)
+act_of s t (OnVariable x (Adds r a)) = Add x (value_of s x) (var_after (Adds r a) (thread_at s t).locals (value_of s x))
+act_of s t (OnVariable x (Swaps r a b)) = Cas x (value_of s x) (stored_by (thread_at s t).locals a b (value_of s x))
 act_of s t (OnMutex m Locks) = Lock m
 act_of s t (OnMutex m Unlocks) = Unlock m
 act_of s t (OnMutex m Retakes) = Retake m
@@ -41,11 +46,6 @@ act_of s t (OnCondition c Signals) = Signal c
 act_of s t (OnCondition c Broadcasts) = Broadcast c
 act_of s t (OnSemaphore k Acquires) = Acquire k
 act_of s t (OnSemaphore k Releases) = Release k
-
--- why a thread stopped, if it did
-abbrev pub stop_of : Status → Option Stop
-stop_of (Stopped why) = Some why
-stop_of status = None
 
 -- the line of a step of thread t by this action, after a step of the one thread or of none
 abbrev pub line_of : Program → Snapshot → Option ℕ → ℕ → Action → Line

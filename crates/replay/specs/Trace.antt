@@ -8,7 +8,7 @@ use Rattle.semantics.specs.declared.state.Stop.TheVariants.{Assert, NotHeld, Sem
 use Rattle.semantics.specs.declared.view.Kind.{Kind}
 use Rattle.semantics.specs.declared.view.Kind.TheVariants.{Done, Failed, Stuck}
 use Rattle.replay.specs.declared.run.Act.{Act}
-use Rattle.replay.specs.declared.run.Act.TheVariants.{Load, Store, Lock, Unlock, Wait, Retake, Signal, Broadcast, Acquire, Release}
+use Rattle.replay.specs.declared.run.Act.TheVariants.{Load, Store, Add, Cas, Lock, Unlock, Wait, Retake, Signal, Broadcast, Acquire, Release}
 use Rattle.replay.specs.declared.run.Line.{Line}
 use Rattle.replay.specs.Run.{Run, run_of}
 
@@ -31,10 +31,17 @@ semaphore_name p k = (semaphore_at p k).name
 
 -- parts of a line
 
--- what a step did: its word, its objects, and the value read or stored
+-- whether a `cas` hit, and the value that it then stored
+abbrev pub hit_text : Option ℤ → List ℕ
+hit_text (Some v) = codes " hit " ++ signed_decimal v
+hit_text None = codes " miss"
+
+-- what a step did: its word, its objects, and the values read and stored
 abbrev pub act_text : Program → Act → List ℕ
 act_text p (Load x v) = codes "load " ++ variable_name p x ++ codes " " ++ signed_decimal v
 act_text p (Store x v) = codes "store " ++ variable_name p x ++ codes " " ++ signed_decimal v
+act_text p (Add x v w) = codes "add " ++ variable_name p x ++ codes " " ++ signed_decimal v ++ (codes " " ++ signed_decimal w)
+act_text p (Cas x v hit) = codes "cas " ++ variable_name p x ++ codes " " ++ signed_decimal v ++ hit_text hit
 act_text p (Lock m) = codes "lock " ++ mutex_name p m
 act_text p (Unlock m) = codes "unlock " ++ mutex_name p m
 act_text p (Wait c m) = codes "wait " ++ condition_name p c ++ codes " " ++ mutex_name p m
@@ -71,7 +78,9 @@ start_line p t = codes "start " ++ thread_name p t ++ codes " stop assert\n"
 
 -- the step at place k
 abbrev pub step_line : Program → ℕ → Line → List ℕ
-step_line p k line = decimal k ++ codes " " ++ thread_name p line.thread ++ codes " " ++ act_text p line.act ++ preempt_text line.preempting ++ stop_text line.stop ++ codes "\n"
+step_line p k line =
+    decimal k ++ codes " " ++ thread_name p line.thread ++ codes " " ++ act_text p line.act
+    ++ preempt_text line.preempting ++ stop_text line.stop ++ codes "\n"
 
 -- the steps from place k on
 abbrev pub step_lines : Program → ℕ → List Line → List ℕ
@@ -81,11 +90,14 @@ step_lines p k (line ∷ lines) = step_line p k line ++ step_lines p (k + 1) lin
 -- the values of the variables from number x on
 abbrev pub values_text : Program → ℕ → List ℤ → List ℕ
 values_text p x [] = []
-values_text p x (v ∷ vs) = codes " " ++ variable_name p x ++ codes "=" ++ signed_decimal v ++ values_text p (x + 1) vs
+values_text p x (v ∷ vs) =
+    codes " " ++ variable_name p x ++ codes "=" ++ signed_decimal v ++ values_text p (x + 1) vs
 
 -- the three lines at the end
 abbrev pub end_lines : Program → Run → List ℕ
-end_lines p r = codes "preemptions " ++ decimal r.preemptions ++ codes "\nkind " ++ kind_text r.kind ++ codes "\nvars" ++ values_text p 0 r.vars ++ codes "\n"
+end_lines p r =
+    codes "preemptions " ++ decimal r.preemptions ++ codes "\nkind " ++ kind_text r.kind
+    ++ codes "\nvars" ++ values_text p 0 r.vars ++ codes "\n"
 
 -- the text of a run
 abbrev pub trace : Program → Run → List ℕ
@@ -101,6 +113,8 @@ Trace p w = trace p (run_of p w)
 abbrev pub IsValidAct : Program → Act → Type 0
 IsValidAct p (Load x v) = x < length p.variables
 IsValidAct p (Store x v) = x < length p.variables
+IsValidAct p (Add x v w) = x < length p.variables
+IsValidAct p (Cas x v hit) = x < length p.variables
 IsValidAct p (Lock m) = m < length p.mutexes
 IsValidAct p (Unlock m) = m < length p.mutexes
 IsValidAct p (Wait c m) = (c < length p.conditions) × (m < length p.mutexes)

@@ -1,29 +1,75 @@
 //! Laws of the definitions.
 
-ghost use Rattle.std.specs.Prelude.{◌≡◌, ℕ, List, false};
-ghost use Rattle.guest_code.specs.Program.{Program};
+ghost use Rattle.std.specs.Prelude.{◌≡◌, ◌≢◌, ◌<◌, ◌^◌, ◌++◌, ◌∷◌, ℕ, List, All, length, map, false};
+ghost use Rattle.guest_code.specs.Program.{Program, IsWellFormed};
 ghost use Rattle.semantics.specs.Machine.{start};
 ghost use Rattle.semantics.specs.Schedules.{runs};
-ghost use Rattle.replay.specs.Run.{IsFirstBad};
-ghost use Rattle.replay.specs.Spelling.{Spells, IsBadAt};
+ghost use Rattle.replay.specs.Run.{Run, IsFirstBad, IsRunOf};
+ghost use Rattle.replay.specs.Trace.{IsValidRun};
+ghost use Rattle.replay.specs.Spelling.{Spells, IsBadAt, IsTooLongAt, ScheduleErrorMeans, printed, pieces_of, piece_text, runs_of, steps_of};
+ghost use Rattle.replay.specs.declared.piece.Piece.{Piece};
+ghost use Rattle.replay.specs.declared.piece.TheConstants.{NUMBERS};
+ghost use Rattle.replay.specs.declared.schedule.TheConstants.{PLACES};
+ghost use Rattle.replay.specs.declared.schedule.ScheduleError.{ScheduleError};
 
 /// A schedule that has a first bad place doesn't run, and has no other. So `replay` answers a
-/// schedule that runs by its run, or by want of memory.
+/// schedule that runs by its run, and any other by its first bad place, unless memory runs out.
 pub fn one_place_is_the_first_bad()
-    ensures fails { (p : Program) (w : List ℕ) (k : ℕ) → IsFirstBad p w k → runs p (start p) w ≡ false }
-    ensures one { (p : Program) (w : List ℕ) (j k : ℕ) → IsFirstBad p w j → IsFirstBad p w k → j ≡ k }
+    ensures fails { (p : Program) (w : List ℕ) (k : ℕ) →
+        IsFirstBad p w k → runs p (start p) w ≡ false }
+    ensures one { (p : Program) (w : List ℕ) (j k : ℕ) →
+        IsFirstBad p w j → IsFirstBad p w k → j ≡ k }
 {}
 
-/// A text spells at most one schedule. So a schedule that `schedule_from` reads from a text of
-/// `schedule_text` is the one that was written.
+/// The run of a schedule in a well formed program can be told with the program's names, as
+/// `trace_text` asks for.
+pub fn runs_can_be_told()
+    ensures { (p : Program) (w : List ℕ) (r : Run) →
+        IsWellFormed p → IsRunOf p w r → IsValidRun p r }
+{}
+
+/// A text spells at most one schedule.
 pub fn a_text_spells_one_schedule()
     ensures { (text v w : List ℕ) → Spells text v → Spells text w → v ≡ w }
 {}
 
-/// A text that has a first bad piece spells no schedule, and the piece has one offset. So
-/// `schedule_from` answers a text by the schedule that it spells, or by the offset of its first
-/// bad piece where it spells none, or by want of memory.
-pub fn a_bad_piece_spells_nothing()
-    ensures nothing { (text w : List ℕ) (at : ℕ) → IsBadAt text at → Spells text w → ⊥ }
-    ensures one { (text : List ℕ) (a b : ℕ) → IsBadAt text a → IsBadAt text b → a ≡ b }
+/// A text that is refused spells no schedule, or only one of more than `PLACES` places.
+pub fn a_refused_text_spells_nothing_short()
+    ensures bad { (text w : List ℕ) (at : ℕ) → IsBadAt text at → Spells text w → ⊥ }
+    ensures long { (text w : List ℕ) (at : ℕ) →
+        IsTooLongAt text at → Spells text w → PLACES < length w }
+{}
+
+/// One error fits a text at most. So `schedule_from` answers a text by the schedule that it spells,
+/// where it spells one of at most `PLACES` places, and else by this one error; only of the first
+/// can it say that memory ran out.
+pub fn one_error_fits_a_text()
+    ensures { (text : List ℕ) (e f : ScheduleError) →
+        ScheduleErrorMeans text e → ScheduleErrorMeans text f → e ≡ f }
+{}
+
+/// A schedule that is read has at most 32,768 places.
+pub fn schedules_are_read_within_the_limit()
+    ensures { PLACES ≡ 32768 }
+{}
+
+/// The printed spelling of a schedule spells it. So reading it gives the schedule back, and two
+/// schedules aren't printed alike.
+pub fn the_printed_spelling_is_read_back()
+    ensures spells { (w : List ℕ) →
+        All (λ t. t < NUMBERS) w → length w < 2 ^ 64 → Spells (printed w) w }
+    ensures once { (text v w : List ℕ) →
+        text ≡ printed w → Spells text v → All (λ t. t < NUMBERS) w → length w < 2 ^ 64 → v ≡ w }
+{}
+
+/// The pieces of the printed spelling are the longest runs of the schedule: no two neighbours are of
+/// one thread.
+pub fn the_longest_runs_are_printed()
+    ensures pieces { (w : List ℕ) →
+        All (λ t. t < NUMBERS) w → length w < 2 ^ 64 →
+        pieces_of (printed w) ≡ map piece_text (runs_of w) }
+    ensures steps { (w : List ℕ) → steps_of (runs_of w) ≡ w }
+    ensures some { (w : List ℕ) → All (λ run. 0 < run.count) (runs_of w) }
+    ensures apart { (w : List ℕ) (before after : List Piece) (a b : Piece) →
+        runs_of w ≡ before ++ a ∷ b ∷ after → a.thread ≢ b.thread }
 {}

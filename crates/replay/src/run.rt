@@ -1,16 +1,18 @@
 //! The run of a schedule: what each step did, and where it leads.
 
-ghost use Rattle.std.specs.Prelude.{◌≡◌, ◌<◌, true, false, [], ◌∷◌, length, All, IfOk, IfSome, MatchOption, MatchResult};
+ghost use Rattle.std.specs.Prelude.{◌≡◌, ◌+◌, ◌^◌, ◌<◌, length, All, IfOk, MatchResult};
 ghost use Rattle.guest_code.specs.Program.{Program};
-ghost use Rattle.semantics.specs.Machine.{thread_at, is_enabled, step, next_of};
-ghost use Rattle.semantics.specs.Schedules.{preempts};
-ghost use Rattle.semantics.specs.Reachable.{IsOf, IsValidAction};
+ghost use Rattle.semantics.specs.Reachable.{IsOf, IsValidAction, IsValidAccess};
 ghost use Rattle.semantics.specs.Ends.{is_stopped};
-ghost use Rattle.replay.specs.Run.{act_of, stop_of, line_at, stopped_in, IsRunOf, ReplayErrorMeans};
-ghost use Rattle.replay.specs.Trace.{IsValidAct, IsValidLine, IsValidRun};
+ghost use Rattle.semantics.specs.Execution.{IsExecutionOf};
+ghost use Rattle.semantics.specs.declared.state.Action.TheVariants.{OnVariable};
+ghost use Rattle.replay.specs.Run.{act_of, stopped_in, IsRunOf, ReplayErrorMeans};
+ghost use Rattle.replay.specs.Step.{IsStepOf, RefusalMeans};
+ghost use Rattle.replay.specs.Trace.{IsValidAct, IsValidRun};
 
 use crate::error::ReplayError;
 use guest_code::program::Program;
+use semantics::execution::Execution;
 use semantics::state::{
     Action, ConditionAction, MutexAction, SemaphoreAction, State, Status, Stop, VariableAction,
 };
@@ -23,25 +25,47 @@ use std::marker::Model;
 #[derive(Clone, Copy, Debug, PartialEq, Eq)]
 pub enum Act {
     /// The value is the one read.
-    Load { variable: u8, value: i64 },
+    Load {
+        variable: usize,
+        value: i64,
+    },
     /// The value is the one stored.
-    Store { variable: u8, value: i64 },
+    Store {
+        variable: usize,
+        value: i64,
+    },
+    /// The values before and after the step.
+    Add {
+        variable: usize,
+        old: i64,
+        new: i64,
+    },
+    /// The value before the step, and the one stored where that was the expected one.
+    Cas {
+        variable: usize,
+        old: i64,
+        hit: Option<i64>,
+    },
     /// The mutex was taken.
-    Lock(u8),
+    Lock(usize),
     /// The mutex was given back, or the thread stopped, since it didn't own it.
-    Unlock(u8),
-    /// The first step of a `wait`: the thread gives the mutex back and waits.
-    Wait { condition: u8, mutex: u8 },
+    Unlock(usize),
+    /// The first step of a `wait`: the thread gives the mutex back and waits, or it stopped, since
+    /// it didn't own it.
+    Wait {
+        condition: usize,
+        mutex: usize,
+    },
     /// The second step of a `wait`: the thread takes the mutex again.
-    Retake(u8),
-    /// The thread that waited longest was called, if one waited.
-    Signal(u8),
-    /// All threads that waited were called.
-    Broadcast(u8),
+    Retake(usize),
+    /// The thread that waited longest was woken, if one waited.
+    Signal(usize),
+    /// All threads that waited were woken.
+    Broadcast(usize),
     /// The count fell by 1.
-    Acquire(u8),
+    Acquire(usize),
     /// The count rose by 1, or the thread stopped, since it was at its limit.
-    Release(u8),
+    Release(usize),
 }
 
 /// One step of a run.
@@ -54,7 +78,7 @@ pub struct Line {
     /// Whether the switch to this step was preempting: another thread took the step before it, and
     /// is still enabled.
     pub preempting: bool,
-    /// Why the thread stopped, if it did so in this step or in its own instructions behind it.
+    /// Why the thread stopped, if it did so in this step or in its own instructions after it.
     pub stop: Option<Stop>,
 }
 
@@ -73,7 +97,13 @@ impl Model for Run {
 
     ghost Value = { model.Run };
 
-    ghost view = { λ r. record { stopped = r.stopped.items; lines = r.lines.items; preemptions = r.preemptions; vars = r.variables.items; kind = r.kind } };
+    ghost view = { λ run. record {
+      stopped = run.stopped.items;
+      lines = run.lines.items;
+      preemptions = run.preemptions;
+      vars = run.variables.items;
+      kind = run.kind;
+    } };
 }
 
 impl Run {
@@ -98,7 +128,7 @@ impl Run {
         self.preemptions
     }
 
-    /// The values of the variables behind the last step.
+    /// The values of the variables after the last step.
     pub fn variables(&self) -> &[i64]
         ensures { result.now ≡ self.now.vars }
     {
@@ -119,43 +149,35 @@ impl Run {
 ///
 /// `NoSuchThread` or `NotEnabled` with the first place at which the schedule can't go on,
 /// `OutOfMemory` where memory runs out.
-pub fn replay(alloc: Global, p: &Program, w: &[u8]) -> Result<Run, ReplayError>
-    ensures value { MatchResult result (IsRunOf p.now w.now) (ReplayErrorMeans p.now w.now) }
-    ensures fine { IfOk result (IsValidRun p.now) }
+pub fn replay(alloc: Global, program: &Program, schedule: &[u8]) -> Result<Run, ReplayError>
+    ensures value { MatchResult result
+        (IsRunOf program.now schedule.now) (ReplayErrorMeans program.now schedule.now) }
+    ensures valid { IfOk result (IsValidRun program.now) }
 {
-    let mut state = State::start(alloc, p)?;
-    let stopped = stopped_threads(alloc, p, &state)?;
+    let mut execution = Execution::start(alloc, program)?;
+    let stopped = stopped_threads(alloc, program, execution.state())?;
     let mut lines = Vec::new(alloc);
-    let mut preemptions = 0;
-    let mut last = None;
-    for (at, t) in w.iter().enumerate() {
-        if *t >= p.threads() {
-            return Err(ReplayError::NoSuchThread(at));
-        }
-        let Some(line) = take_step(&mut state, p, last, *t) else {
-            return Err(ReplayError::NotEnabled(at));
-        };
-        preemptions += usize::from(line.preempting);
+    for (at, thread) in schedule.iter().enumerate() {
+        let line = take_step(&mut execution, program, at, *thread)?;
         lines.push(line)?;
-        last = Some(*t);
     }
     Ok(Run {
         stopped,
         lines,
-        preemptions,
-        variables: state.variables().to_vec(alloc)?,
-        kind: state.kind(p),
+        preemptions: execution.preemptions(),
+        variables: execution.state().variables().to_vec(alloc)?,
+        kind: execution.state().kind(program),
     })
 }
 
 // The threads that have stopped, rising.
-fn stopped_threads(alloc: Global, p: &Program, state: &State) -> Result<Vec<u8>, AllocError>
-    requires { IsOf p.now state.now }
+fn stopped_threads(alloc: Global, program: &Program, state: &State) -> Result<Vec<u8>, AllocError>
+    requires { IsOf program.now state.now }
     ensures value { IfOk result (λ v. v.items ≡ stopped_in state.now) }
-    ensures fine { IfOk result (λ v. All (λ t. t < length p.now.threads) v.items) }
+    ensures threads { IfOk result (λ v. All (λ t. t < length program.now.threads) v.items) }
 {
     let mut stopped = Vec::new(alloc);
-    for t in 0..p.threads() {
+    for t in 0..program.threads() {
         if has_stopped(state.status(t)) {
             stopped.push(t)?;
         }
@@ -163,100 +185,91 @@ fn stopped_threads(alloc: Global, p: &Program, state: &State) -> Result<Vec<u8>,
     Ok(stopped)
 }
 
-// Whether a thread that stands so has stopped.
+// Whether a thread of this status has stopped.
 fn has_stopped(status: Status) -> bool
     ensures { result ≡ is_stopped status }
 {
     matches!(status, Status::Stopped(_))
 }
 
-// Takes a step of a thread, and says what it was. `None` where the thread isn't enabled.
-fn take_step(state: &mut State, p: &Program, last: Option<u8>, t: u8) -> Option<Line>
-    requires of { IsOf p.now state.old }
-    requires thread { t < length p.now.threads }
-    requires last { IfSome last (λ u. u < length p.now.threads) }
-    ensures line { MatchOption result (is_enabled p.now state.old t ≡ false) (λ line. line_at p.now state.old last t (next_of p.now state.old t) ≡ line ∷ []) }
-    ensures enabled { IfSome result (λ _. is_enabled p.now state.old t ≡ true) }
-    ensures preempting { IfSome result (λ line. line.preempting ≡ preempts p.now state.old last t) }
-    ensures fine { IfSome result (IsValidLine p.now) }
-    ensures state { IfSome result (λ _. state.new ≡ step p.now state.old t) }
-    ensures of { IfSome result (λ _. IsOf p.now state.new) }
+// Takes the step of a thread at a place of a schedule, and says what it was.
+fn take_step(
+    execution: &mut Execution,
+    program: &Program,
+    at: usize,
+    thread: u8,
+) -> Result<Line, ReplayError>
+    requires of { IsExecutionOf program.now execution.old }
+    requires room { execution.old.preemptions + 1 < 2 ^ 64 }
+    ensures { MatchResult result
+        (IsStepOf program.now execution.old execution.new thread)
+        (RefusalMeans program.now execution.old.state at thread) }
 {
-    if !state.is_enabled(p, t) {
-        return None;
+    if thread >= program.threads() {
+        return Err(ReplayError::NoSuchThread(at));
     }
-    let action = state.next(p, t)?;
-    let act = act_of(state, p, t, action);
-    let preempting = preempts(state, p, last, t);
-    state.step(p, t);
-    Some(Line {
-        thread: t,
+    if !execution.state().is_enabled(program, thread) {
+        return Err(ReplayError::NotEnabled(at));
+    }
+    let action = execution.state().next(program, thread).unwrap();
+    let act = act_of(execution.state(), program, thread, action);
+    let preempting = execution.preempts(program, thread);
+    execution.step(program, thread);
+    Ok(Line {
+        thread,
         act,
         preempting,
-        stop: stop_of(state.status(t)),
+        stop: execution.state().status(thread).stop(),
     })
 }
 
-// Whether a step of this thread is a preempting switch.
-fn preempts(state: &State, p: &Program, last: Option<u8>, t: u8) -> bool
-    requires of { IsOf p.now state.now }
-    requires last { IfSome last (λ u. u < length p.now.threads) }
-    ensures { result ≡ preempts p.now state.now last t }
-{
-    match last {
-        Some(u) => state.is_enabled(p, u) && u != t,
-        None => false,
-    }
-}
-
-// Why a thread stopped, if it did.
-fn stop_of(status: Status) -> Option<Stop>
-    ensures { result ≡ stop_of status }
-{
-    match status {
-        Status::Stopped(why) => Some(why),
-        _ => None,
-    }
-}
-
-// What a thread is about to do by its action, with the value that is read or stored.
-fn act_of(state: &State, p: &Program, t: u8, action: Action) -> Act
-    requires of { IsOf p.now state.now }
-    requires thread { t < length p.now.threads }
-    requires fine { IsValidAction p.now action }
-    ensures value { result ≡ act_of state.now t action }
-    ensures fine { IsValidAct p.now result }
+// What a thread is about to do by its action, with the values that are read and stored.
+fn act_of(state: &State, program: &Program, thread: u8, action: Action) -> Act
+    requires of { IsOf program.now state.now }
+    requires thread { thread < length program.now.threads }
+    requires action { IsValidAction program.now action }
+    ensures value { result ≡ act_of state.now thread action }
+    ensures valid { IsValidAct program.now result }
 {
     match action {
-        Action::OnVariable(x, VariableAction::Load(_)) => Act::Load {
-            variable: object(x, p.variables()),
-            value: state.variables()[x],
-        },
-        Action::OnVariable(x, VariableAction::Store(value)) => Act::Store {
-            variable: object(x, p.variables()),
-            value: state.value_of(t, value),
-        },
-        Action::OnMutex(m, MutexAction::Lock) => Act::Lock(object(m, p.mutexes())),
-        Action::OnMutex(m, MutexAction::Unlock) => Act::Unlock(object(m, p.mutexes())),
-        Action::OnMutex(m, MutexAction::Retake) => Act::Retake(object(m, p.mutexes())),
-        Action::Wait(c, m) => Act::Wait {
-            condition: object(c, p.conditions()),
-            mutex: object(m, p.mutexes()),
-        },
-        Action::OnCondition(c, ConditionAction::Signal) => Act::Signal(object(c, p.conditions())),
-        Action::OnCondition(c, ConditionAction::Broadcast) => Act::Broadcast(object(
-            c,
-            p.conditions(),
-        )),
-        Action::OnSemaphore(k, SemaphoreAction::Acquire) => Act::Acquire(object(k, p.semaphores())),
-        Action::OnSemaphore(k, SemaphoreAction::Release) => Act::Release(object(k, p.semaphores())),
+        Action::OnVariable(x, action) => act_on_variable(state, thread, x, action),
+        Action::OnMutex(m, MutexAction::Lock) => Act::Lock(m),
+        Action::OnMutex(m, MutexAction::Unlock) => Act::Unlock(m),
+        Action::OnMutex(m, MutexAction::Retake) => Act::Retake(m),
+        Action::Wait(condition, mutex) => Act::Wait { condition, mutex },
+        Action::OnCondition(c, ConditionAction::Signal) => Act::Signal(c),
+        Action::OnCondition(c, ConditionAction::Broadcast) => Act::Broadcast(c),
+        Action::OnSemaphore(k, SemaphoreAction::Acquire) => Act::Acquire(k),
+        Action::OnSemaphore(k, SemaphoreAction::Release) => Act::Release(k),
     }
 }
 
-// The number of one of so many objects of a kind.
-fn object(number: usize, objects: u8) -> u8
-    requires { number < objects }
-    ensures { result ≡ number }
+// The same for a variable.
+fn act_on_variable(state: &State, thread: u8, variable: usize, action: VariableAction) -> Act
+    requires thread { thread < length state.now.threads }
+    requires variable { variable < length state.now.vars }
+    requires access { IsValidAccess action }
+    ensures { result ≡ act_of state.now thread (OnVariable variable action) }
 {
-    number as u8
+    let old = state.variables()[variable];
+    match action {
+        VariableAction::Load(_) => Act::Load {
+            variable,
+            value: old,
+        },
+        VariableAction::Store(value) => Act::Store {
+            variable,
+            value: state.value_of(thread, value),
+        },
+        VariableAction::Add(_, value) => Act::Add {
+            variable,
+            old,
+            new: old.wrapping_add(state.value_of(thread, value)),
+        },
+        VariableAction::Cas(_, expected, new) => Act::Cas {
+            variable,
+            old,
+            hit: (old == state.value_of(thread, expected)).then_some(state.value_of(thread, new)),
+        },
+    }
 }

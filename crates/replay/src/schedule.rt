@@ -1,14 +1,17 @@
-//! The texts of schedules: `-` where the schedule is empty, else its thread numbers in decimal,
-//! joined by commas.
+//! The texts of schedules: `-` where the schedule is empty, else pieces joined by commas. A piece is
+//! a thread number, or a thread number, `x` and how many steps of that thread follow one another.
 
-ghost use Rattle.std.specs.Prelude.{◌≡◌, ◌≢◌, ◌<◌, length, IfOk, MatchOption, MatchResult, decimal, List, ℕ, ◌==◌, ◌&&◌, ◌||◌, nat_lt, slice_index, IsTrue, ◌↔◌, codes};
-ghost use Rattle.replay.specs.Spelling.{spelling, Spells, IsNumber, IsBadAt, ScheduleErrorMeans};
+ghost use Rattle.std.specs.Prelude.{◌≡◌, ◌≤◌, false, length, IfOk, MatchResult, codes};
+ghost use Rattle.std.specs.Str.{bytes_eq};
+ghost use Rattle.replay.specs.Spelling.{printed, Spells, IsReadable, RefusalMeans, ScheduleErrorMeans};
 
+use crate::piece::{Piece, piece_of, put_piece, put_steps};
+use semantics::limits::STEPS;
 use std::alloc::{AllocError, AllocFailed, Global};
 use thiserror::Error;
 
-/// How many numbers a schedule's text may name: 0 to 255.
-pub const NUMBERS: usize = 256;
+/// The most places of a schedule that is read from a text: the limit of steps.
+pub const PLACES: usize = STEPS;
 
 /// The empty schedule.
 const EMPTY: &[u8] = b"-";
@@ -16,9 +19,13 @@ const EMPTY: &[u8] = b"-";
 /// Why a text is no schedule.
 #[derive(Debug, Drop, Error)]
 pub enum ScheduleError {
-    /// The offset, in bytes, of the first piece that is no number.
+    /// The offset, in bytes, of the first piece that can't be taken, where it is no piece.
     #[error("schedule Q1 BadSchedule at {0}")]
     BadSchedule(usize),
+    /// The offset, in bytes, of the first piece that can't be taken, where it is one with which
+    /// the schedule has more than [`PLACES`] places.
+    #[error("schedule Q3 TooLong at {0}")]
+    TooLong(usize),
     /// Memory ran out.
     #[error("memory")]
     OutOfMemory,
@@ -44,76 +51,89 @@ impl<T: Drop> From<AllocFailed<T>> for ScheduleError {
     }
 }
 
-/// The text of a schedule.
+/// The printed spelling of a schedule: its longest runs, a run of one step as the number alone.
 ///
 /// # Errors
 ///
 /// `AllocError` where memory runs out.
-pub fn schedule_text(alloc: Global, w: &[u8]) -> Result<Vec<u8>, AllocError>
-    ensures { IfOk result (λ text. Spells text.items w.now) }
+pub fn schedule_text(alloc: Global, schedule: &[u8]) -> Result<Vec<u8>, AllocError>
+    ensures value { IfOk result (λ text. text.items ≡ printed schedule.now) }
+    ensures spells { IfOk result (λ text. Spells text.items schedule.now) }
 {
-    let Some((first, others)) = w.split_first() else {
+    let Some((first, others)) = schedule.split_first() else {
         return Vec::from_slice(alloc, EMPTY);
     };
-    let mut text = first.to_string(alloc)?.into_bytes();
-    for t in others {
-        text.push(b',')?;
-        text.extend_from_slice(t.to_string(alloc)?.as_bytes())?;
+    let mut text = Vec::new(alloc);
+    let mut run = Piece::step(*first);
+    for thread in others {
+        if *thread == run.thread {
+            run.count += 1;
+        } else {
+            put_piece(&mut text, alloc, run)?;
+            text.push(b',')?;
+            run = Piece::step(*thread);
+        }
     }
+    put_piece(&mut text, alloc, run)?;
     Ok(text)
 }
 
-/// The schedule that a text spells.
+/// The schedule that a text spells, in any spelling.
 ///
 /// # Errors
 ///
-/// `BadSchedule` with the offset of the first piece that is no number 0 to 255 in decimal (for a
-/// last piece that is empty, the length of the text), `OutOfMemory` where memory runs out.
+/// The first piece that can't be taken, by its offset (for a last piece that is empty, the length
+/// of the text): `BadSchedule` where it is no piece, `TooLong` where the schedule has more than
+/// [`PLACES`] places with it. `OutOfMemory` where memory runs out.
 pub fn schedule_from(alloc: Global, text: &[u8]) -> Result<Vec<u8>, ScheduleError>
-    ensures { MatchResult result (λ w. Spells text.now w.items) (ScheduleErrorMeans text.now) }
+    ensures value { MatchResult result
+        (λ w. Spells text.now w.items) (ScheduleErrorMeans text.now) }
+    ensures short { IfOk result (λ w. length w.items ≤ PLACES) }
 {
-    let mut schedule = Vec::new(alloc);
     if is_empty(text) {
-        return Ok(schedule);
+        return Ok(Vec::new(alloc));
     }
+    check_pieces(text)?;
+    Ok(steps_of_pieces(alloc, text)?)
+}
+
+// Checks that a text that isn't `-` spells a schedule of at most `PLACES` places.
+fn check_pieces(text: &[u8]) -> Result<(), ScheduleError>
+    requires { bytes_eq text.now (codes "-") ≡ false }
+    ensures { MatchResult result (λ _. IsReadable text.now) (RefusalMeans text.now) }
+{
+    let mut places = 0;
     let mut at = 0;
     for piece in text.split(|b| *b == b',') {
-        match number_of(piece) {
-            Some(t) => schedule.push(t)?,
-            None => return Err(ScheduleError::BadSchedule(at)),
+        let Some(steps) = piece_of(piece) else {
+            return Err(ScheduleError::BadSchedule(at));
+        };
+        if steps.count > PLACES - places {
+            return Err(ScheduleError::TooLong(at));
         }
+        places += steps.count;
         at += piece.len() + 1;
+    }
+    Ok(())
+}
+
+// The steps of the pieces of a text that isn't `-`, one after the other.
+fn steps_of_pieces(alloc: Global, text: &[u8]) -> Result<Vec<u8>, AllocError>
+    requires some { bytes_eq text.now (codes "-") ≡ false }
+    requires readable { IsReadable text.now }
+    ensures value { IfOk result (λ w. Spells text.now w.items) }
+    ensures short { IfOk result (λ w. length w.items ≤ PLACES) }
+{
+    let mut schedule = Vec::new(alloc);
+    for piece in text.split(|b| *b == b',') {
+        put_steps(&mut schedule, piece_of(piece).unwrap())?;
     }
     Ok(schedule)
 }
 
 // Whether the text is that of the empty schedule.
 fn is_empty(text: &[u8]) -> bool
-    ensures { IsTrue result ↔ (text.now ≡ codes "-") }
+    ensures { result ≡ bytes_eq text.now (codes "-") }
 {
     text == EMPTY
-}
-
-// The number 0 to 255 that the piece is in decimal, without leading zeros and without a sign.
-fn number_of(piece: &[u8]) -> Option<u8>
-    ensures { MatchOption result (¬ (IsNumber piece.now)) (λ t. piece.now ≡ decimal t) }
-{
-    if is_padded(piece) {
-        return None;
-    }
-    let Ok(digits) = str::from_utf8(piece) else {
-        return None;
-    };
-    digits.parse().ok()
-}
-
-// Whether a sign stands first, or a zero before other digits.
-fn is_padded(piece: &[u8]) -> bool
-    ensures { result ≡ ((slice_index piece.now 0 == 43) || ((slice_index piece.now 0 == 48) && nat_lt 1 (length piece.now))) }
-{
-    match piece.first() {
-        Some(b'+') => true,
-        Some(b'0') => piece.len() > 1,
-        _ => false,
-    }
 }

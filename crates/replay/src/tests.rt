@@ -10,17 +10,30 @@ use semantics::state::Stop;
 use semantics::view::Kind;
 use std::test::*;
 
-/// A text, and the schedule that it spells.
-static SPELLED: [(&[u8], &[u8]); 5] = [
+/// A printed spelling, and the schedule that it spells.
+static PRINTED: [(&[u8], &[u8]); 7] = [
     (b"-", &[]),
     (b"0", &[0]),
     (b"0,1,0", &[0, 1, 0]),
     (b"10,255,100", &[10, 255, 100]),
-    (b"7,7", &[7, 7]),
+    (b"1x3,0x2", &[1, 1, 1, 0, 0]),
+    (b"0x4,1", &[0, 0, 0, 0, 1]),
+    (
+        b"0,1x2,0x12",
+        &[0, 1, 1, 0, 0, 0, 0, 0, 0, 0, 0, 0, 0, 0, 0],
+    ),
 ];
 
-/// A text, and the offset of the first piece that is no number.
-static REFUSED: [(&[u8], usize); 10] = [
+/// A spelling that isn't printed, and the schedule that it spells.
+static READ: [(&[u8], &[u8]); 4] = [
+    (b"0x1", &[0]),
+    (b"0x2,0", &[0, 0, 0]),
+    (b"7,7", &[7, 7]),
+    (b"1x1,1x2,0", &[1, 1, 1, 0]),
+];
+
+/// A text, and the offset of the first piece that is none.
+static BAD: [(&[u8], usize); 23] = [
     (b"", 0),
     (b"0,", 2),
     (b"0,00", 2),
@@ -31,6 +44,31 @@ static REFUSED: [(&[u8], usize); 10] = [
     (b"0, 1", 2),
     (b"0,1,", 4),
     (b"12,1a,", 3),
+    (b"0x0", 0),
+    (b"1,0x", 2),
+    (b"x", 0),
+    (b"1x01", 0),
+    (b"1x+2", 0),
+    (b"1x-2", 0),
+    (b"1X2", 0),
+    (b"1x2x3", 0),
+    (b"0x2,256x3", 4),
+    (b"00x2", 0),
+    (b"+1", 0),
+    (b"1x\xff", 0),
+    (b"0x0,0x40000", 0),
+];
+
+/// A text, and the offset of the first piece with which the schedule is too long.
+static LONG: [(&[u8], usize); 8] = [
+    (b"0x32768,0", 8),
+    (b"0x32769", 0),
+    (b"0x99999999999999999999", 0),
+    (b"0,1x99999999999999999999999999999999999999999", 2),
+    (b"0x32767,1x2", 8),
+    (b"0,0x18446744073709551615,0", 2),
+    (b"0x18446744073709551616", 0),
+    (b"1x40000,2x0", 0),
 ];
 
 /// A thread that fails where its step comes between two of another, and one that fails at the start.
@@ -70,18 +108,46 @@ const LINES: [Line; 3] = [
 
 #[test]
 fn reads_and_writes_schedules(rt: HostRuntime) -> Result<(), Fail> {
-    for (text, schedule) in SPELLED.iter() {
+    for (text, schedule) in PRINTED.iter() {
         let read = schedule_from(rt.alloc(), text)?;
         assert_eq!(rt; read.as_slice(), *schedule);
         let written = schedule_text(rt.alloc(), schedule)?;
         assert_eq!(rt; written.as_slice(), *text);
     }
-    for (text, at) in REFUSED.iter() {
+    for (text, schedule) in READ.iter() {
+        let read = schedule_from(rt.alloc(), text)?;
+        assert_eq!(rt; read.as_slice(), *schedule);
+    }
+    for (text, at) in BAD.iter() {
         match schedule_from(rt.alloc(), text) {
             Err(ScheduleError::BadSchedule(found)) => assert_eq!(rt; found, *at),
-            _ => return Err(Fail::new("a text that spells no schedule is read")),
+            _ => return Err(Fail::new("a text with a piece that is none is taken")),
         }
     }
+    for (text, at) in LONG.iter() {
+        match schedule_from(rt.alloc(), text) {
+            Err(ScheduleError::TooLong(found)) => assert_eq!(rt; found, *at),
+            _ => return Err(Fail::new("a schedule that is too long is taken")),
+        }
+    }
+    Ok(())
+}
+
+#[test]
+fn reads_the_longest_schedule_and_writes_long_ones(rt: HostRuntime) -> Result<(), Fail> {
+    let longest = schedule_from(rt.alloc(), b"0x32768")?;
+    assert_eq!(rt; longest.len(), 32_768);
+    assert!(rt; longest.as_slice().iter().all(|t| *t == 0));
+    let written = schedule_text(rt.alloc(), longest.as_slice())?;
+    assert_eq!(rt; written.as_slice(), b"0x32768".as_slice());
+    let mut turns = Vec::new(rt.alloc());
+    for _ in 0..150 {
+        turns.extend_from_slice(&[0, 1])?;
+    }
+    let text = schedule_text(rt.alloc(), turns.as_slice())?;
+    assert_eq!(rt; text.len(), 599);
+    let read = schedule_from(rt.alloc(), text.as_slice())?;
+    assert_eq!(rt; read.as_slice(), turns.as_slice());
     Ok(())
 }
 
@@ -103,6 +169,23 @@ fn replays_and_prints(rt: HostRuntime) -> Result<(), Fail> {
 }
 
 #[test]
+fn replays_and_prints_long_schedules(rt: HostRuntime) -> Result<(), Fail> {
+    let text = b"var x; thread A { repeat 100 { store x 1; store x 2; store x 3; } }";
+    let tree = parse(rt.alloc(), text)?;
+    let program = lower(rt.alloc(), &tree)?;
+    let schedule = schedule_from(rt.alloc(), b"0x300")?;
+    let run = replay(rt.alloc(), &program, schedule.as_slice())?;
+    assert_eq!(rt; run.lines().len(), 300);
+    assert_eq!(rt; run.variables(), &[3][..]);
+    assert_eq!(rt; run.kind(), Some(Kind::Done));
+    let trace = trace_text(rt.alloc(), &program, &run)?;
+    // The places have 10, 90 and 200 numbers of one, two and three digits; the rest of a line has
+    // 13 bytes, and the three lines at the end have 33.
+    assert_eq!(rt; trace.len(), 790 + 300 * 13 + 33);
+    Ok(())
+}
+
+#[test]
 fn errors_name_the_refusal_and_its_place(rt: HostRuntime) -> Result<(), Fail> {
     let rows = [
         (
@@ -114,6 +197,17 @@ fn errors_name_the_refusal_and_its_place(rt: HostRuntime) -> Result<(), Fail> {
         (ReplayError::OutOfMemory, "memory"),
     ];
     for (error, text) in &rows {
+        assert_eq!(rt; error.to_string(rt.alloc())?.as_str(), *text);
+    }
+    let texts = [
+        (
+            ScheduleError::BadSchedule(2),
+            "schedule Q1 BadSchedule at 2",
+        ),
+        (ScheduleError::TooLong(8), "schedule Q3 TooLong at 8"),
+        (ScheduleError::OutOfMemory, "memory"),
+    ];
+    for (error, text) in &texts {
         assert_eq!(rt; error.to_string(rt.alloc())?.as_str(), *text);
     }
     Ok(())

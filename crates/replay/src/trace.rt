@@ -4,7 +4,7 @@ ghost use Rattle.std.specs.Prelude.{◌≡◌, ◌<◌, ◌++◌, ℕ, List, len
 ghost use Rattle.std.specs.Fmt.{decimal, signed_decimal};
 ghost use Rattle.std.specs.List.{flat_map};
 ghost use Rattle.replay.specs.Run.{IsRunOf};
-ghost use Rattle.replay.specs.Trace.{Trace, trace, start_line, step_line, step_lines, end_lines, values_text, act_text, preempt_text, stop_text, kind_text, IsValidAct, IsValidLine, IsValidRun};
+ghost use Rattle.replay.specs.Trace.{Trace, trace, start_line, step_line, step_lines, end_lines, values_text, act_text, hit_text, preempt_text, stop_text, kind_text, IsValidAct, IsValidLine, IsValidRun};
 
 use crate::run::{Act, Line, Run};
 use guest_code::program::Program;
@@ -22,25 +22,27 @@ use std::alloc::{AllocError, Global};
 /// # Errors
 ///
 /// `AllocError` where memory runs out.
-pub fn trace_text(alloc: Global, p: &Program, r: &Run) -> Result<Vec<u8>, AllocError>
-    requires { IsValidRun p.now r.now }
-    ensures run { IfOk result (λ text. text.items ≡ trace p.now r.now) }
-    ensures schedule { IfOk result (λ text. (w : List ℕ) → IsRunOf p.now w r.now → text.items ≡ Trace p.now w) }
+pub fn trace_text(alloc: Global, program: &Program, run: &Run) -> Result<Vec<u8>, AllocError>
+    requires { IsValidRun program.now run.now }
+    ensures run { IfOk result (λ text. text.items ≡ trace program.now run.now) }
+    ensures schedule { IfOk result (λ text. (w : List ℕ) →
+        IsRunOf program.now w run.now → text.items ≡ Trace program.now w) }
 {
     let mut text = Vec::new(alloc);
-    put_starts(&mut text, p, r.stopped())?;
-    put_steps(&mut text, alloc, p, r.lines())?;
-    put_end(&mut text, alloc, p, r)?;
+    put_starts(&mut text, program, run.stopped())?;
+    put_steps(&mut text, alloc, program, run.lines())?;
+    put_end(&mut text, alloc, program, run)?;
     Ok(text)
 }
 
 // A line for each thread that stopped at the start.
-fn put_starts(text: &mut Vec<u8>, p: &Program, stopped: &[u8]) -> Result<(), AllocError>
-    requires { All (λ t. t < length p.now.threads) stopped.now }
-    ensures { OnOk result (text.new.items ≡ text.old.items ++ flat_map (start_line p.now) stopped.now) }
+fn put_starts(text: &mut Vec<u8>, program: &Program, stopped: &[u8]) -> Result<(), AllocError>
+    requires { All (λ t. t < length program.now.threads) stopped.now }
+    ensures { OnOk result
+        (text.new.items ≡ text.old.items ++ flat_map (start_line program.now) stopped.now) }
 {
     for t in stopped {
-        put_words(text, b"start ", p.thread_name(*t), b" stop assert\n")?;
+        put_words(text, b"start ", program.thread_name(*t), b" stop assert\n")?;
     }
     Ok(())
 }
@@ -49,14 +51,15 @@ fn put_starts(text: &mut Vec<u8>, p: &Program, stopped: &[u8]) -> Result<(), All
 fn put_steps(
     text: &mut Vec<u8>,
     alloc: Global,
-    p: &Program,
+    program: &Program,
     lines: &[Line],
 ) -> Result<(), AllocError>
-    requires { All (IsValidLine p.now) lines.now }
-    ensures { OnOk result (text.new.items ≡ text.old.items ++ step_lines p.now 0 lines.now) }
+    requires { All (IsValidLine program.now) lines.now }
+    ensures { OnOk result
+        (text.new.items ≡ text.old.items ++ step_lines program.now 0 lines.now) }
 {
     for (k, line) in lines.iter().enumerate() {
-        put_step(text, alloc, p, k, *line)?;
+        put_step(text, alloc, program, k, *line)?;
     }
     Ok(())
 }
@@ -65,16 +68,16 @@ fn put_steps(
 fn put_step(
     text: &mut Vec<u8>,
     alloc: Global,
-    p: &Program,
+    program: &Program,
     k: usize,
     line: Line,
 ) -> Result<(), AllocError>
-    requires { IsValidLine p.now line }
-    ensures { OnOk result (text.new.items ≡ text.old.items ++ step_line p.now k line) }
+    requires { IsValidLine program.now line }
+    ensures { OnOk result (text.new.items ≡ text.old.items ++ step_line program.now k line) }
 {
     put_number(text, alloc, b"", k)?;
-    put_words(text, b" ", p.thread_name(line.thread), b" ")?;
-    put_act(text, alloc, p, line.act)?;
+    put_words(text, b" ", program.thread_name(line.thread), b" ")?;
+    put_act(text, alloc, program, line.act)?;
     put_words(
         text,
         preempt_text(line.preempting),
@@ -85,58 +88,84 @@ fn put_step(
 }
 
 // What a step did.
-fn put_act(text: &mut Vec<u8>, alloc: Global, p: &Program, act: Act) -> Result<(), AllocError>
-    requires { IsValidAct p.now act }
-    ensures { OnOk result (text.new.items ≡ text.old.items ++ act_text p.now act) }
+fn put_act(text: &mut Vec<u8>, alloc: Global, program: &Program, act: Act) -> Result<(), AllocError>
+    requires { IsValidAct program.now act }
+    ensures { OnOk result (text.new.items ≡ text.old.items ++ act_text program.now act) }
 {
     match act {
         Act::Load { variable, value } => {
-            put(text, b"load ", p.variable_name(variable))?;
+            put(text, b"load ", program.variable_name(variable))?;
             put_value(text, alloc, b" ", value)
         }
         Act::Store { variable, value } => {
-            put(text, b"store ", p.variable_name(variable))?;
+            put(text, b"store ", program.variable_name(variable))?;
             put_value(text, alloc, b" ", value)
         }
-        Act::Lock(m) => put(text, b"lock ", p.mutex_name(m)),
-        Act::Unlock(m) => put(text, b"unlock ", p.mutex_name(m)),
-        Act::Wait { condition, mutex } => {
-            put(text, b"wait ", p.condition_name(condition))?;
-            put(text, b" ", p.mutex_name(mutex))
+        Act::Add { variable, old, new } => {
+            put(text, b"add ", program.variable_name(variable))?;
+            put_value(text, alloc, b" ", old)?;
+            put_value(text, alloc, b" ", new)
         }
-        Act::Retake(m) => put(text, b"retake ", p.mutex_name(m)),
-        Act::Signal(c) => put(text, b"signal ", p.condition_name(c)),
-        Act::Broadcast(c) => put(text, b"broadcast ", p.condition_name(c)),
-        Act::Acquire(k) => put(text, b"acquire ", p.semaphore_name(k)),
-        Act::Release(k) => put(text, b"release ", p.semaphore_name(k)),
+        Act::Cas { variable, old, hit } => {
+            put(text, b"cas ", program.variable_name(variable))?;
+            put_value(text, alloc, b" ", old)?;
+            put_hit(text, alloc, hit)
+        }
+        Act::Lock(m) => put(text, b"lock ", program.mutex_name(m)),
+        Act::Unlock(m) => put(text, b"unlock ", program.mutex_name(m)),
+        Act::Wait { condition, mutex } => {
+            put(text, b"wait ", program.condition_name(condition))?;
+            put(text, b" ", program.mutex_name(mutex))
+        }
+        Act::Retake(m) => put(text, b"retake ", program.mutex_name(m)),
+        Act::Signal(c) => put(text, b"signal ", program.condition_name(c)),
+        Act::Broadcast(c) => put(text, b"broadcast ", program.condition_name(c)),
+        Act::Acquire(k) => put(text, b"acquire ", program.semaphore_name(k)),
+        Act::Release(k) => put(text, b"release ", program.semaphore_name(k)),
+    }
+}
+
+// Whether a `cas` hit, and the value that it then stored.
+fn put_hit(text: &mut Vec<u8>, alloc: Global, hit: Option<i64>) -> Result<(), AllocError>
+    ensures { OnOk result (text.new.items ≡ text.old.items ++ hit_text hit) }
+{
+    match hit {
+        Some(value) => put_value(text, alloc, b" hit ", value),
+        None => text.extend_from_slice(b" miss"),
     }
 }
 
 // The three lines at the end.
-fn put_end(text: &mut Vec<u8>, alloc: Global, p: &Program, r: &Run) -> Result<(), AllocError>
-    requires { IsValidRun p.now r.now }
-    ensures { OnOk result (text.new.items ≡ text.old.items ++ end_lines p.now r.now) }
+fn put_end(
+    text: &mut Vec<u8>,
+    alloc: Global,
+    program: &Program,
+    run: &Run,
+) -> Result<(), AllocError>
+    requires { IsValidRun program.now run.now }
+    ensures { OnOk result (text.new.items ≡ text.old.items ++ end_lines program.now run.now) }
 {
-    put_number(text, alloc, b"preemptions ", r.preemptions())?;
-    put_words(text, b"\nkind ", kind_text(r.kind()), b"\nvars")?;
-    put_values(text, alloc, p, r.variables())?;
+    put_number(text, alloc, b"preemptions ", run.preemptions())?;
+    put_words(text, b"\nkind ", kind_text(run.kind()), b"\nvars")?;
+    put_values(text, alloc, program, run.variables())?;
     text.extend_from_slice(b"\n")?;
     Ok(())
 }
 
-// The values of the variables, each behind the variable's name.
+// The values of the variables, each after the variable's name.
 fn put_values(
     text: &mut Vec<u8>,
     alloc: Global,
-    p: &Program,
+    program: &Program,
     values: &[i64],
 ) -> Result<(), AllocError>
-    requires { length values.now ≡ length p.now.variables }
-    ensures { OnOk result (text.new.items ≡ text.old.items ++ values_text p.now 0 values.now) }
+    requires { length values.now ≡ length program.now.variables }
+    ensures { OnOk result
+        (text.new.items ≡ text.old.items ++ values_text program.now 0 values.now) }
 {
-    for x in 0..p.variables() {
-        put(text, b" ", p.variable_name(x))?;
-        put_value(text, alloc, b"=", values[x as usize])?;
+    for (x, value) in values.iter().enumerate() {
+        put(text, b" ", program.variable_name(x))?;
+        put_value(text, alloc, b"=", *value)?;
     }
     Ok(())
 }
@@ -167,7 +196,8 @@ fn put_words(
     second: &[u8],
     third: &[u8],
 ) -> Result<(), AllocError>
-    ensures { OnOk result (text.new.items ≡ text.old.items ++ (first.now ++ second.now ++ third.now)) }
+    ensures { OnOk result
+        (text.new.items ≡ text.old.items ++ (first.now ++ second.now ++ third.now)) }
 {
     put(text, first, second)?;
     text.extend_from_slice(third)

@@ -14,7 +14,7 @@ use Rattle.semantics.proofs.ListMembers.{in_contains, contains_in, in_filter}
 use Rattle.semantics.proofs.ReducedSchedules.{schedules_cut_at}
 use Rattle.semantics.proofs.SchedulesUnderPrefix.{begins_longer}
 
--- a complete schedule from a state, behind a step of the one thread or of none, without a preemption
+-- a complete schedule from a state, after a step of the one thread or of none, without a preemption
 record GoesOn (p : Program) (s : Snapshot) (last : Option ℕ) : Type 0 where
   by : List ℕ
   complete : is_complete p s by ≡ true

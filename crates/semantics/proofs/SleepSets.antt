@@ -17,7 +17,7 @@ pub and_both : (a b : Bool) → a ≡ true → b ≡ true → (a && b) ≡ true
 and_both true b h k = k
 and_both false b h k = cc
 
--- one schedule stands before another
+-- one schedule is before another
 pub data Before : List ℕ → List ℕ → Type 0 where
   ends : {u : ℕ} {w : List ℕ} → Before [] (u ∷ w)
   lower : {t u : ℕ} {v w : List ℕ} → t < u → Before (t ∷ v) (u ∷ w)
@@ -85,7 +85,7 @@ flat_map-filter {A} {B} test f (x ∷ xs) = elim (test x) as (λ b. cond b (f x)
   | false ↦ flat_map-filter test f xs
 ]
 
--- the law of `Red`, where some thread is enabled: the threads that don't sleep, rising, each before what is left behind it
+-- the law of the reduced schedules, where some thread is enabled: the threads that don't sleep, rising, each before what is left after it
 pub reduced_schedules-more : (p : Program) (s : Snapshot) (Z : ℕ → Bool) → is_terminal p s ≡ false → reduced_schedules p s Z ≡ flat_map (λ t. before t (reduced_schedules p (step p s t) (next_sleep_set p s Z t))) (filter (λ t. not (Z t)) (enabled p s))
 unfolding reduced_schedules enabled
 reduced_schedules-more p s Z more =

@@ -14,9 +14,9 @@ pub mod Rising
 pub mod Waiters
 pub mod Mask
 pub mod Reachable
-pub mod Execution
 pub mod FinalKinds
 pub mod OperatorTable
 pub mod Dependence
 pub mod Effects
 pub mod Increments
+pub mod Execution

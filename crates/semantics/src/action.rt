@@ -7,10 +7,10 @@ use crate::state::{Action, ConditionAction, MutexAction, SemaphoreAction, Status
 use guest_code::program::Instruction;
 
 // The step of a visible statement.
-fn action_of(i: Instruction) -> Option<Action>
-    ensures { result ≡ action_of i }
+fn action_of(instruction: Instruction) -> Option<Action>
+    ensures { result ≡ action_of instruction }
 {
-    match i {
+    match instruction {
         Instruction::Load { local, variable } => Some(Action::OnVariable(
             variable,
             VariableAction::Load(local),
@@ -19,6 +19,17 @@ fn action_of(i: Instruction) -> Option<Action>
             variable,
             VariableAction::Store(value),
         )),
+        Instruction::Add {
+            local,
+            variable,
+            value,
+        } => Some(Action::OnVariable(variable, VariableAction::Add(local, value))),
+        Instruction::Cas {
+            local,
+            variable,
+            expected,
+            new,
+        } => Some(Action::OnVariable(variable, VariableAction::Cas(local, expected, new))),
         Instruction::Lock(m) => Some(Action::OnMutex(m, MutexAction::Lock)),
         Instruction::Unlock(m) => Some(Action::OnMutex(m, MutexAction::Unlock)),
         Instruction::Wait { condition, mutex } => Some(Action::Wait(condition, mutex)),
@@ -33,26 +44,28 @@ fn action_of(i: Instruction) -> Option<Action>
     }
 }
 
-/// What a thread does next that stands so at this instruction, if it stands at one.
-pub fn action_at(status: Status, i: Option<Instruction>) -> Option<Action>
-    ensures { result ≡ action_at status i }
+/// What a thread of this status does next at this instruction, if it is at one.
+pub fn action_at(status: Status, instruction: Option<Instruction>) -> Option<Action>
+    ensures { result ≡ action_at status instruction }
 {
-    match (status, i) {
+    match (status, instruction) {
         (Status::Running, Some(i)) => action_of(i),
         (Status::Woken, Some(Instruction::Wait { mutex, .. })) => Some(Action::OnMutex(
             mutex,
             MutexAction::Retake,
         )),
-        _ => None,
+        (Status::Running, None)
+        | (Status::Woken, _)
+        | (Status::Waiting(_) | Status::Ended | Status::Stopped(_), _) => None,
     }
 }
 
 /// Whether a thread owns a mutex.
-pub fn owns(t: u8, owner: Option<u8>) -> bool
-    ensures { result ≡ owns t owner }
+pub fn owns(thread: u8, owner: Option<u8>) -> bool
+    ensures { result ≡ owns thread owner }
 {
     match owner {
-        Some(u) => t == u,
+        Some(other) => thread == other,
         None => false,
     }
 }

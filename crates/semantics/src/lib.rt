@@ -3,7 +3,7 @@
 //! A schedule is a list of thread numbers, one for each step. `State::start` is where all begin:
 //! each thread has run its own instructions up to its first visible statement. `State::enabled`
 //! says who may take a step, `State::step` takes one, and `State::kind` says how a schedule ends
-//! behind which nobody may.
+//! after which nobody may step.
 //!
 //! The contracts speak of a `State` as a snapshot: the lists of the variables' values, the owners
 //! of the mutexes, the queues of the conditions, the counts of the semaphores, and the threads.
@@ -16,7 +16,7 @@
 //!   that no thread has never is;
 //! - a kind and an end view come exactly where nobody is enabled;
 //! - each state that a schedule leads to is again a state of the program: its places are in the
-//!   code, its counts within the limit, and in each queue stand waiting threads, each once.
+//!   code, its counts within the limit, and in each queue threads that wait, each once.
 //!
 //! `laws` says of the definitions themselves what a search for bugs rests on: which schedules
 //! there are, that they are short, which steps commute, and what sleep sets leave.
@@ -30,7 +30,6 @@ mod local;
 pub mod mask;
 mod opening;
 mod queue;
-pub mod reachable;
 mod signals;
 pub mod state;
 #[cfg(test)]

@@ -2,7 +2,8 @@
 
 ghost use Rattle.std.specs.Prelude.{◌≡◌, ◌<◌, ◌≤◌, ◌+◌, length, drop, IsTrue, IsFalse};
 ghost use Rattle.guest_code.specs.Program.{Program, IsValidCode, IsValidValue, IsValidExpression};
-ghost use Rattle.semantics.specs.Machine.{value_of_operand, of_both, value_of_expression, is_zero, advance, local_run, resumed};
+ghost use Rattle.semantics.specs.Machine.{value_of_operand, of_both, value_of_expression, is_zero, run_from, run_past, resumed, var_after, reader_after, is_expected};
+ghost use Rattle.semantics.specs.declared.state.VariableAction.TheVariants.{Add as Adds, Cas as Swaps};
 
 use crate::state::{Status, Stop, Thread};
 use guest_code::limits::LOCALS;
@@ -18,6 +19,48 @@ pub fn operand_at(locals: &[i64; LOCALS], value: Value) -> i64
         Value::Local(r) => locals[r],
         Value::Literal(n) => n,
     }
+}
+
+/// Adds a value to a variable, whose value is in the cell; a local becomes the old value.
+pub fn add(cell: &mut i64, thread: &mut Thread, local: usize, value: Value)
+    requires local { local < LOCALS }
+    requires value { IsValidValue value }
+    ensures cell { cell.new ≡ var_after (Adds local value) thread.old.locals cell.old }
+    ensures thread { thread.new ≡ reader_after (Adds local value) thread.old cell.old }
+{
+    let old = *cell;
+    *cell = old.wrapping_add(operand_at(&thread.locals, value));
+    thread.locals[local] = old;
+}
+
+// Whether a variable of this value has the value that is expected.
+fn is_expected(locals: &[i64; LOCALS], expected: Value, variable: i64) -> bool
+    requires { IsValidValue expected }
+    ensures { result ≡ is_expected locals.now expected variable }
+{
+    variable == operand_at(locals, expected)
+}
+
+/// Where a variable has the value that is expected, it becomes the new one; a local tells whether
+/// it had.
+pub fn compare_and_swap(
+    cell: &mut i64,
+    thread: &mut Thread,
+    local: usize,
+    expected: Value,
+    new: Value,
+)
+    requires local { local < LOCALS }
+    requires expected { IsValidValue expected }
+    requires new { IsValidValue new }
+    ensures cell { cell.new ≡ var_after (Swaps local expected new) thread.old.locals cell.old }
+    ensures thread { thread.new ≡ reader_after (Swaps local expected new) thread.old cell.old }
+{
+    let hit = is_expected(&thread.locals, expected, *cell);
+    if hit {
+        *cell = operand_at(&thread.locals, new);
+    }
+    thread.locals[local] = i64::from(hit);
 }
 
 // What an operator makes of two values. Sums, differences and products wrap.
@@ -38,33 +81,33 @@ fn of_both(op: Op, a: i64, b: i64) -> i64
 }
 
 // The value of an expression.
-fn expression_at(locals: &[i64; LOCALS], e: Expression) -> i64
-    requires { IsValidExpression e }
-    ensures { result ≡ value_of_expression locals.now e }
+fn expression_at(locals: &[i64; LOCALS], expression: Expression) -> i64
+    requires { IsValidExpression expression }
+    ensures { result ≡ value_of_expression locals.now expression }
 {
-    match e {
+    match expression {
         Expression::Single(a) => operand_at(locals, a),
         Expression::Both(a, op, b) => of_both(op, operand_at(locals, a), operand_at(locals, b)),
     }
 }
 
 // Whether an expression is 0.
-fn is_zero_at(locals: &[i64; LOCALS], e: Expression) -> bool
-    requires { IsValidExpression e }
-    ensures { result ≡ is_zero (value_of_expression locals.now e) }
+fn is_zero_at(locals: &[i64; LOCALS], expression: Expression) -> bool
+    requires { IsValidExpression expression }
+    ensures { result ≡ is_zero (value_of_expression locals.now expression) }
 {
-    expression_at(locals, e) == 0
+    expression_at(locals, expression) == 0
 }
 
-// Passes the instruction where the thread stands, and so many behind it, if so many are left.
+// Passes the instruction where the thread is, and so many after it, if so many are left.
 fn pass(code: &[Instruction], thread: &mut Thread, skip: usize)
     requires pc { thread.old.pc < length code.now }
     ensures pc { thread.new.pc ≤ length code.now }
     ensures further { thread.old.pc < thread.new.pc }
-    ensures run { local_run (drop thread.new.pc code.now) 0 thread.new ≡ local_run (drop (thread.old.pc + 1) code.now) skip (advance thread.old 1) }
+    ensures run { run_from code.now thread.new ≡ run_past code.now thread.old skip }
 {
-    let behind = thread.pc + 1;
-    thread.pc = behind + skip.min(code.len() - behind);
+    let next = thread.pc + 1;
+    thread.pc = next + skip.min(code.len() - next);
 }
 
 // One instruction of a local run. False where the run is over.
@@ -73,8 +116,8 @@ fn turn(code: &[Instruction], thread: &mut Thread) -> bool
     requires pc { thread.old.pc ≤ length code.now }
     ensures pc { thread.new.pc ≤ length code.now }
     ensures further { IsTrue result → thread.old.pc < thread.new.pc }
-    ensures same { IsTrue result → local_run (drop thread.new.pc code.now) 0 thread.new ≡ local_run (drop thread.old.pc code.now) 0 thread.old }
-    ensures over { IsFalse result → thread.new ≡ local_run (drop thread.old.pc code.now) 0 thread.old }
+    ensures same { IsTrue result → run_from code.now thread.new ≡ run_from code.now thread.old }
+    ensures over { IsFalse result → thread.new ≡ run_from code.now thread.old }
 {
     if thread.pc >= code.len() {
         thread.status = Status::Ended;
@@ -103,7 +146,17 @@ fn turn(code: &[Instruction], thread: &mut Thread) -> bool
             pass(code, thread, n);
             true
         }
-        _ => false,
+        Instruction::Load { .. }
+        | Instruction::Store { .. }
+        | Instruction::Add { .. }
+        | Instruction::Cas { .. }
+        | Instruction::Lock(_)
+        | Instruction::Unlock(_)
+        | Instruction::Wait { .. }
+        | Instruction::Signal(_)
+        | Instruction::Broadcast(_)
+        | Instruction::Acquire(_)
+        | Instruction::Release(_) => false,
     }
 }
 
@@ -111,7 +164,7 @@ fn turn(code: &[Instruction], thread: &mut Thread) -> bool
 pub fn run_on(code: &[Instruction], thread: &mut Thread)
     requires fine { (p : Program) × IsValidCode p code.now }
     requires pc { thread.old.pc ≤ length code.now }
-    ensures { thread.new ≡ local_run (drop thread.old.pc code.now) 0 thread.old }
+    ensures { thread.new ≡ run_from code.now thread.old }
 {
     let mut running = true;
     while running {
@@ -119,7 +172,7 @@ pub fn run_on(code: &[Instruction], thread: &mut Thread)
     }
 }
 
-/// Behind its visible statement a thread runs on.
+/// After its visible statement a thread runs on.
 pub fn resume(code: &[Instruction], thread: &mut Thread)
     requires fine { (p : Program) × IsValidCode p code.now }
     requires pc { thread.old.pc < length code.now }

@@ -13,10 +13,10 @@ pub struct Mask {
 
 impl Mask {
     /// Whether a thread is in the set.
-    pub fn has(self, t: u8) -> bool
-        ensures { result ≡ has self t }
+    pub fn has(self, thread: u8) -> bool
+        ensures { result ≡ has self thread }
     {
-        (t as usize) < THREADS && self.members[t as usize]
+        (thread as usize) < THREADS && self.members[thread as usize]
     }
 
     /// The empty set.

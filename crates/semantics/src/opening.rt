@@ -10,41 +10,41 @@ use guest_code::program::Program;
 use std::alloc::{AllocError, Global};
 
 /// The opening values of the variables.
-pub fn opening_values(alloc: Global, p: &Program) -> Result<Vec<i64>, AllocError>
-    ensures { IfOk result (λ v. v.items ≡ (start p.now).vars) }
+pub fn opening_values(alloc: Global, program: &Program) -> Result<Vec<i64>, AllocError>
+    ensures { IfOk result (λ v. v.items ≡ (start program.now).vars) }
 {
     let mut values = Vec::new(alloc);
-    for x in 0..p.variables() {
-        values.push(p.opening(x))?;
+    for x in 0..program.variables() {
+        values.push(program.opening(x as usize))?;
     }
     Ok(values)
 }
 
 /// The opening counts of the semaphores.
-pub fn opening_counts(alloc: Global, p: &Program) -> Result<Vec<u16>, AllocError>
-    ensures counts { IfOk result (λ v. v.items ≡ (start p.now).counts) }
+pub fn opening_counts(alloc: Global, program: &Program) -> Result<Vec<u16>, AllocError>
+    ensures counts { IfOk result (λ v. v.items ≡ (start program.now).counts) }
     ensures full { IfOk result (λ v. All (λ n. n ≤ COUNT) v.items) }
 {
     let mut counts = Vec::new(alloc);
-    for k in 0..p.semaphores() {
-        counts.push(p.count(k))?;
+    for k in 0..program.semaphores() {
+        counts.push(program.count(k as usize))?;
     }
     Ok(counts)
 }
 
-/// The threads, each behind its first local run.
-pub fn opening_threads(alloc: Global, p: &Program) -> Result<Vec<Thread>, AllocError>
-    ensures few { length p.now.threads ≤ THREADS }
-    ensures threads { IfOk result (λ v. v.items ≡ (start p.now).threads) }
+/// The threads, each after its first local run.
+pub fn opening_threads(alloc: Global, program: &Program) -> Result<Vec<Thread>, AllocError>
+    ensures few { length program.now.threads ≤ THREADS }
+    ensures threads { IfOk result (λ v. v.items ≡ (start program.now).threads) }
 {
     let mut threads = Vec::new(alloc);
-    for t in 0..p.threads() {
+    for t in 0..program.threads() {
         let mut thread = Thread {
             pc: 0,
             locals: [0; LOCALS],
             status: Status::Running,
         };
-        run_on(p.code(t), &mut thread);
+        run_on(program.code(t), &mut thread);
         threads.push(thread)?;
     }
     Ok(threads)

@@ -39,7 +39,7 @@ impl Clone for Queue {
 }
 
 impl Queue {
-    /// A queue in which nobody stands.
+    /// An empty queue.
     pub fn new() -> Queue
         ensures { result ≡ [] }
     {
@@ -56,12 +56,12 @@ impl Queue {
         &self.threads[..self.length]
     }
 
-    /// A thread stands at the end.
-    pub fn join(&mut self, t: u8)
+    /// A thread joins at the end.
+    pub fn join(&mut self, thread: u8)
         requires room { length self.old < THREADS }
-        ensures { self.new ≡ self.old ++ t ∷ [] }
+        ensures { self.new ≡ self.old ++ thread ∷ [] }
     {
-        self.threads[self.length] = t;
+        self.threads[self.length] = thread;
         self.length += 1;
     }
 

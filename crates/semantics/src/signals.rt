@@ -7,38 +7,38 @@ use crate::queue::Queue;
 use crate::state::{ConditionAction, Status, Thread};
 
 // The thread is woken where it waits for the condition.
-fn wake_one(c: usize, thread: &mut Thread)
-    ensures { thread.new ≡ woken c thread.old }
+fn wake_one(condition: usize, thread: &mut Thread)
+    ensures { thread.new ≡ woken condition thread.old }
 {
-    if thread.status == Status::Waiting(c) {
+    if thread.status == Status::Waiting(condition) {
         thread.status = Status::Woken;
     }
 }
 
 // These threads are woken.
-fn wake(threads: &mut [Thread], c: usize, threads_to_wake: &[u8])
+fn wake(threads: &mut [Thread], condition: usize, threads_to_wake: &[u8])
     requires { All (λ u. u < length threads.old) threads_to_wake.now }
-    ensures { threads.new ≡ wake c threads_to_wake.now threads.old }
+    ensures { threads.new ≡ wake condition threads_to_wake.now threads.old }
 {
     for u in threads_to_wake {
-        wake_one(c, &mut threads[*u as usize]);
+        wake_one(condition, &mut threads[*u as usize]);
     }
 }
 
 /// Takes those whom a step on the condition calls out of its queue, and wakes them.
-pub fn call(queue: &mut Queue, threads: &mut [Thread], c: usize, action: ConditionAction)
+pub fn call(queue: &mut Queue, threads: &mut [Thread], condition: usize, action: ConditionAction)
     requires { All (λ u. u < length threads.old) queue.old }
     ensures queue { queue.new ≡ queue_after action queue.old }
-    ensures threads { threads.new ≡ wake c (threads_to_wake action queue.old) threads.old }
+    ensures threads { threads.new ≡ wake condition (threads_to_wake action queue.old) threads.old }
 {
     match action {
         ConditionAction::Broadcast => {
-            wake(threads, c, queue.threads());
+            wake(threads, condition, queue.threads());
             queue.clear();
         }
         ConditionAction::Signal => {
             if let Some(u) = queue.leave() {
-                wake_one(c, &mut threads[u as usize]);
+                wake_one(condition, &mut threads[u as usize]);
             }
         }
     }

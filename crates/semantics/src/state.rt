@@ -1,16 +1,16 @@
 //! States of a program, and their steps.
 
-ghost use Rattle.std.specs.Prelude.{◌≡◌, ◌<◌, ◌≤◌, ℕ, Some, length, true, All, IfOk, IfSome};
+ghost use Rattle.std.specs.Prelude.{◌≡◌, ◌<◌, ◌≤◌, ℕ, length, slice_get, All, IfOk, IfSome, IsTrue};
 ghost use Rattle.std.specs.List.{list_any, list_all};
 ghost use Rattle.guest_code.specs.Program.{Program, code_of, IsValidValue};
-ghost use Rattle.semantics.specs.Machine.{Snapshot, start, step, acts, is_enabled, next_of, thread_at, queue_of, value_of_operand, sem_allows, count_of};
-ghost use Rattle.semantics.specs.Reachable.{IsOf, IsValidAction};
+ghost use Rattle.semantics.specs.Machine.{Snapshot, start, step, performed, is_enabled, next_of, thread_at, owner_of, queue_of, count_of, value_of_operand};
+ghost use Rattle.semantics.specs.Reachable.{IsOf, IsValidAction, StandsInCode, IsReady};
 ghost use Rattle.semantics.specs.Ends.{is_terminal, kind_of, view_of, final_kind, is_stopped, is_ended, stop_of};
 ghost use Rattle.semantics.specs.Mask.{has};
 ghost use Rattle.semantics.specs.declared.state.Action.TheVariants.{OnVariable, OnMutex, Wait as Waits, OnCondition, OnSemaphore};
 
 use crate::action::{action_at, mutex_allows, owns, semaphore_allows};
-use crate::local::{operand_at, resume};
+use crate::local::{add, compare_and_swap, operand_at, resume};
 use crate::mask::Mask;
 use crate::opening::{opening_counts, opening_threads, opening_values};
 use crate::queue::Queue;
@@ -35,9 +35,9 @@ pub enum Stop {
 /// Whether a thread goes on.
 #[derive(Clone, Copy, Debug, PartialEq, Eq)]
 pub enum Status {
-    /// It stands at a visible statement.
+    /// It is at a visible statement.
     Running,
-    /// It stands in the queue of the condition of this number.
+    /// It is in the queue of the condition of this number.
     Waiting(usize),
     /// It was called, and has to take its mutex again.
     Woken,
@@ -59,10 +59,10 @@ impl Status {
     }
 }
 
-/// Where a thread stands, and its locals.
+/// Where a thread is, and its locals.
 #[derive(Clone, Copy, Debug)]
 pub struct Thread {
-    /// The number of the instruction where it stands; the length of its code where it ended.
+    /// The number of the instruction where it is; the length of its code where it ended.
     pub pc: usize,
     /// The values of its locals; those that it doesn't have stay 0.
     pub locals: [i64; LOCALS],
@@ -76,6 +76,12 @@ pub enum VariableAction {
     Load(usize),
     /// The variable becomes this value.
     Store(Value),
+    /// The local of this number becomes the variable's old value, and the variable the sum of it and
+    /// this value.
+    Add(usize, Value),
+    /// Where the variable equals the first value it becomes the second one, and the local of this
+    /// number 1; else the local becomes 0.
+    Cas(usize, Value, Value),
 }
 
 /// What a step does with a mutex alone.
@@ -145,16 +151,16 @@ impl State {
     /// # Errors
     ///
     /// `AllocError` where memory runs out.
-    pub fn start(alloc: Global, p: &Program) -> Result<State, AllocError>
-        ensures value { IfOk result (λ s. s ≡ start p.now) }
-        ensures of { IfOk result (λ s. IsOf p.now s) }
+    pub fn start(alloc: Global, program: &Program) -> Result<State, AllocError>
+        ensures value { IfOk result (λ s. s ≡ start program.now) }
+        ensures of { IfOk result (λ s. IsOf program.now s) }
     {
         Ok(State {
-            variables: opening_values(alloc, p)?,
-            owners: vec![in alloc; None; p.mutexes() as usize]?,
-            queues: vec![in alloc; Queue::new(); p.conditions() as usize]?,
-            counts: opening_counts(alloc, p)?,
-            threads: opening_threads(alloc, p)?,
+            variables: opening_values(alloc, program)?,
+            owners: vec![in alloc; None; program.mutexes() as usize]?,
+            queues: vec![in alloc; Queue::new(); program.conditions() as usize]?,
+            counts: opening_counts(alloc, program)?,
+            threads: opening_threads(alloc, program)?,
         })
     }
 
@@ -182,42 +188,91 @@ impl State {
         self.variables.as_slice()
     }
 
-    /// Whether a thread goes on.
-    pub fn status(&self, t: u8) -> Status
-        requires { t < length self.now.threads }
-        ensures { result ≡ (thread_at self.now t).status }
+    /// The thread that owns a mutex; `None` where it is free.
+    pub fn owner(&self, mutex: usize) -> Option<u8>
+        requires { mutex < length self.now.owners }
+        ensures { result ≡ owner_of self.now mutex }
     {
-        self.threads[t as usize].status
+        self.owners[mutex]
+    }
+
+    /// How many threads are in the queue of a condition.
+    pub fn queue_length(&self, condition: usize) -> usize
+        requires { condition < length self.now.queues }
+        ensures { result ≡ length (queue_of self.now condition) }
+    {
+        self.queues[condition].threads().len()
+    }
+
+    /// The thread at a place of a condition's queue, counted from 0: the one that waits longest is
+    /// first. `None` past the last one.
+    pub fn queued(&self, condition: usize, place: usize) -> Option<u8>
+        requires { condition < length self.now.queues }
+        ensures { result ≡ slice_get (queue_of self.now condition) place }
+    {
+        self.queues[condition].threads().get(place).copied()
+    }
+
+    /// The count of a semaphore.
+    pub fn count(&self, semaphore: usize) -> u16
+        requires { semaphore < length self.now.counts }
+        ensures { result ≡ count_of self.now semaphore }
+    {
+        self.counts[semaphore]
+    }
+
+    /// The number of the instruction that a thread has come to; the length of its code at the end.
+    pub fn pc(&self, thread: u8) -> usize
+        requires { thread < length self.now.threads }
+        ensures { result ≡ (thread_at self.now thread).pc }
+    {
+        self.threads[thread as usize].pc
+    }
+
+    /// The values of a thread's locals, `LOCALS` of them; those that the thread doesn't have are 0.
+    pub fn locals(&self, thread: u8) -> &[i64; LOCALS]
+        requires { thread < length self.now.threads }
+        ensures { result.now ≡ (thread_at self.now thread).locals }
+    {
+        &self.threads[thread as usize].locals
+    }
+
+    /// Whether a thread goes on.
+    pub fn status(&self, thread: u8) -> Status
+        requires { thread < length self.now.threads }
+        ensures { result ≡ (thread_at self.now thread).status }
+    {
+        self.threads[thread as usize].status
     }
 
     /// The value that a store of a thread would write.
-    pub fn value_of(&self, t: u8, value: Value) -> i64
-        requires thread { t < length self.now.threads }
+    pub fn value_of(&self, thread: u8, value: Value) -> i64
+        requires thread { thread < length self.now.threads }
         requires fine { IsValidValue value }
-        ensures { result ≡ value_of_operand (thread_at self.now t).locals value }
+        ensures { result ≡ value_of_operand (thread_at self.now thread).locals value }
     {
-        operand_at(&self.threads[t as usize].locals, value)
+        operand_at(self.locals(thread), value)
     }
 
     /// What a thread is about to do, if it doesn't wait and is not over.
-    pub fn next(&self, p: &Program, t: u8) -> Option<Action>
-        requires of { IsOf p.now self.now }
-        requires thread { t < length p.now.threads }
-        ensures value { result ≡ next_of p.now self.now t }
-        ensures fine { IfSome result (IsValidAction p.now) }
-        ensures pc { IfSome result (λ _. (thread_at self.now t).pc < length (code_of p.now t)) }
+    pub fn next(&self, program: &Program, thread: u8) -> Option<Action>
+        requires of { IsOf program.now self.now }
+        requires thread { thread < length program.now.threads }
+        ensures value { result ≡ next_of program.now self.now thread }
+        ensures fine { IfSome result (IsValidAction program.now) }
+        ensures pc { IfSome result (λ _. StandsInCode program.now self.now thread) }
     {
-        let thread = &self.threads[t as usize];
-        action_at(thread.status, p.code(t).get(thread.pc).copied())
+        let runner = &self.threads[thread as usize];
+        action_at(runner.status, program.code(thread).get(runner.pc).copied())
     }
 
     /// Whether a thread can take a step.
-    pub fn is_enabled(&self, p: &Program, t: u8) -> bool
-        requires of { IsOf p.now self.now }
-        requires thread { t < length p.now.threads }
-        ensures { result ≡ is_enabled p.now self.now t }
+    pub fn is_enabled(&self, program: &Program, thread: u8) -> bool
+        requires of { IsOf program.now self.now }
+        requires thread { thread < length program.now.threads }
+        ensures { result ≡ is_enabled program.now self.now thread }
     {
-        match self.next(p, t) {
+        match self.next(program, thread) {
             Some(Action::OnMutex(m, action)) => mutex_allows(action, self.owners[m]),
             Some(Action::OnSemaphore(k, action)) => semaphore_allows(action, self.counts[k]),
             Some(Action::OnVariable(_, _) | Action::Wait(_, _) | Action::OnCondition(_, _)) => true,
@@ -226,148 +281,132 @@ impl State {
     }
 
     /// Which threads can take a step.
-    pub fn enabled(&self, p: &Program) -> Mask
-        requires { IsOf p.now self.now }
-        ensures { (t : ℕ) → has result t ≡ is_enabled p.now self.now t }
+    pub fn enabled(&self, program: &Program) -> Mask
+        requires { IsOf program.now self.now }
+        ensures { (t : ℕ) → has result t ≡ is_enabled program.now self.now t }
     {
         let mut members = [false; THREADS];
-        for t in 0..p.threads() {
-            members[t as usize] = self.is_enabled(p, t);
+        for t in 0..program.threads() {
+            members[t as usize] = self.is_enabled(program, t);
         }
         Mask { members }
     }
 
     /// One step of an enabled thread. It takes no memory.
-    pub fn step(&mut self, p: &Program, t: u8) -> Undo
-        requires of { IsOf p.now self.old }
-        requires enabled { is_enabled p.now self.old t ≡ true }
-        ensures value { self.new ≡ step p.now self.old t }
-        ensures of { IsOf p.now self.new }
+    pub fn step(&mut self, program: &Program, thread: u8) -> Undo
+        requires of { IsOf program.now self.old }
+        requires enabled { IsTrue (is_enabled program.now self.old thread) }
+        ensures value { self.new ≡ step program.now self.old thread }
+        ensures of { IsOf program.now self.new }
     {
-        if let Some(action) = self.next(p, t) {
-            self.act(p, t, action);
+        if let Some(action) = self.next(program, thread) {
+            self.execute(program, thread, action);
         }
         Undo {}
     }
 
     // What the thread is about to do.
-    fn act(&mut self, p: &Program, t: u8, action: Action)
-        requires of { IsOf p.now self.old }
-        requires enabled { is_enabled p.now self.old t ≡ true }
-        requires action { next_of p.now self.old t ≡ Some action }
-        requires fine { IsValidAction p.now action }
-        requires pc { (thread_at self.old t).pc < length (code_of p.now t) }
-        ensures { self.new ≡ acts p.now self.old t (thread_at self.old t) (Some action) }
+    fn execute(&mut self, program: &Program, thread: u8, action: Action)
+        requires { IsReady program.now self.old thread action }
+        ensures { self.new ≡ performed program.now self.old thread action }
     {
         match action {
-            Action::OnVariable(x, action) => self.access(p, t, x, action),
-            Action::OnMutex(m, action) => self.hold(p, t, m, action),
-            Action::Wait(c, m) => self.wait(p, t, c, m),
-            Action::OnCondition(c, action) => self.call(p, t, c, action),
-            Action::OnSemaphore(k, action) => self.count(p, t, k, action),
+            Action::OnVariable(x, action) => self.step_variable(program, thread, x, action),
+            Action::OnMutex(m, action) => self.step_mutex(program, thread, m, action),
+            Action::Wait(c, m) => self.begin_wait(program, thread, c, m),
+            Action::OnCondition(c, action) => self.step_condition(program, thread, c, action),
+            Action::OnSemaphore(k, action) => self.step_semaphore(program, thread, k, action),
         }
     }
 
     // A step on a variable.
-    fn access(&mut self, p: &Program, t: u8, x: usize, action: VariableAction)
-        requires of { IsOf p.now self.old }
-        requires thread { t < length p.now.threads }
-        requires pc { (thread_at self.old t).pc < length (code_of p.now t) }
-        requires fine { IsValidAction p.now (OnVariable x action) }
-        ensures { self.new ≡ acts p.now self.old t (thread_at self.old t) (Some (OnVariable x action)) }
+    fn step_variable(&mut self, program: &Program, thread: u8, x: usize, action: VariableAction)
+        requires { IsReady program.now self.old thread (OnVariable x action) }
+        ensures { self.new ≡ performed program.now self.old thread (OnVariable x action) }
     {
-        let thread = &mut self.threads[t as usize];
+        let runner = &mut self.threads[thread as usize];
         match action {
-            VariableAction::Load(r) => thread.locals[r] = self.variables[x],
-            VariableAction::Store(value) => self.variables[x] = operand_at(&thread.locals, value),
+            VariableAction::Load(r) => runner.locals[r] = self.variables[x],
+            VariableAction::Store(value) => self.variables[x] = operand_at(&runner.locals, value),
+            VariableAction::Add(r, value) => add(&mut self.variables[x], runner, r, value),
+            VariableAction::Cas(r, expected, new) => {
+                compare_and_swap(&mut self.variables[x], runner, r, expected, new);
+            }
         }
-        resume(p.code(t), thread);
+        resume(program.code(thread), runner);
     }
 
     // A step on a mutex alone.
-    fn hold(&mut self, p: &Program, t: u8, m: usize, action: MutexAction)
-        requires of { IsOf p.now self.old }
-        requires thread { t < length p.now.threads }
-        requires pc { (thread_at self.old t).pc < length (code_of p.now t) }
-        requires fine { IsValidAction p.now (OnMutex m action) }
-        ensures { self.new ≡ acts p.now self.old t (thread_at self.old t) (Some (OnMutex m action)) }
+    fn step_mutex(&mut self, program: &Program, thread: u8, m: usize, action: MutexAction)
+        requires { IsReady program.now self.old thread (OnMutex m action) }
+        ensures { self.new ≡ performed program.now self.old thread (OnMutex m action) }
     {
-        let thread = &mut self.threads[t as usize];
+        let runner = &mut self.threads[thread as usize];
         match action {
-            MutexAction::Lock | MutexAction::Retake => self.owners[m] = Some(t),
+            MutexAction::Lock | MutexAction::Retake => self.owners[m] = Some(thread),
             MutexAction::Unlock => {
-                if !owns(t, self.owners[m]) {
-                    thread.status = Status::Stopped(Stop::NotHeld);
+                if !owns(thread, self.owners[m]) {
+                    runner.status = Status::Stopped(Stop::NotHeld);
                     return;
                 }
                 self.owners[m] = None;
             }
         }
-        resume(p.code(t), thread);
+        resume(program.code(thread), runner);
     }
 
     // The first step of a `wait`.
-    fn wait(&mut self, p: &Program, t: u8, c: usize, m: usize)
-        requires of { IsOf p.now self.old }
-        requires thread { t < length p.now.threads }
-        requires room { length (queue_of self.old c) < THREADS }
-        requires fine { IsValidAction p.now (Waits c m) }
-        ensures { self.new ≡ acts p.now self.old t (thread_at self.old t) (Some (Waits c m)) }
+    fn begin_wait(&mut self, program: &Program, thread: u8, c: usize, m: usize)
+        requires { IsReady program.now self.old thread (Waits c m) }
+        ensures { self.new ≡ performed program.now self.old thread (Waits c m) }
     {
-        let thread = &mut self.threads[t as usize];
-        if owns(t, self.owners[m]) {
+        let runner = &mut self.threads[thread as usize];
+        if owns(thread, self.owners[m]) {
             self.owners[m] = None;
-            self.queues[c].join(t);
-            thread.status = Status::Waiting(c);
+            self.queues[c].join(thread);
+            runner.status = Status::Waiting(c);
         } else {
-            thread.status = Status::Stopped(Stop::NotHeld);
+            runner.status = Status::Stopped(Stop::NotHeld);
         }
     }
 
     // A step on a condition alone.
-    fn call(&mut self, p: &Program, t: u8, c: usize, action: ConditionAction)
-        requires of { IsOf p.now self.old }
-        requires thread { t < length p.now.threads }
-        requires pc { (thread_at self.old t).pc < length (code_of p.now t) }
-        requires fine { IsValidAction p.now (OnCondition c action) }
-        ensures { self.new ≡ acts p.now self.old t (thread_at self.old t) (Some (OnCondition c action)) }
+    fn step_condition(&mut self, program: &Program, thread: u8, c: usize, action: ConditionAction)
+        requires { IsReady program.now self.old thread (OnCondition c action) }
+        ensures { self.new ≡ performed program.now self.old thread (OnCondition c action) }
     {
-        let mut thread = self.threads[t as usize];
-        resume(p.code(t), &mut thread);
+        let mut runner = self.threads[thread as usize];
+        resume(program.code(thread), &mut runner);
         call(&mut self.queues[c], self.threads.as_mut_slice(), c, action);
-        self.threads[t as usize] = thread;
+        self.threads[thread as usize] = runner;
     }
 
     // A step on a semaphore.
-    fn count(&mut self, p: &Program, t: u8, k: usize, action: SemaphoreAction)
-        requires of { IsOf p.now self.old }
-        requires thread { t < length p.now.threads }
-        requires pc { (thread_at self.old t).pc < length (code_of p.now t) }
-        requires fine { IsValidAction p.now (OnSemaphore k action) }
-        requires allowed { sem_allows action (count_of self.old k) ≡ true }
-        ensures { self.new ≡ acts p.now self.old t (thread_at self.old t) (Some (OnSemaphore k action)) }
+    fn step_semaphore(&mut self, program: &Program, thread: u8, k: usize, action: SemaphoreAction)
+        requires { IsReady program.now self.old thread (OnSemaphore k action) }
+        ensures { self.new ≡ performed program.now self.old thread (OnSemaphore k action) }
     {
-        let thread = &mut self.threads[t as usize];
+        let runner = &mut self.threads[thread as usize];
         match action {
             SemaphoreAction::Acquire => self.counts[k] -= 1,
             SemaphoreAction::Release => {
                 if self.counts[k] == COUNT {
-                    thread.status = Status::Stopped(Stop::SemFull);
+                    runner.status = Status::Stopped(Stop::SemFull);
                     return;
                 }
                 self.counts[k] += 1;
             }
         }
-        resume(p.code(t), thread);
+        resume(program.code(thread), runner);
     }
 
     /// Whether no thread is enabled.
-    pub fn is_terminal(&self, p: &Program) -> bool
-        requires { IsOf p.now self.now }
-        ensures { result ≡ is_terminal p.now self.now }
+    pub fn is_terminal(&self, program: &Program) -> bool
+        requires { IsOf program.now self.now }
+        ensures { result ≡ is_terminal program.now self.now }
     {
-        for t in 0..p.threads() {
-            if self.is_enabled(p, t) {
+        for t in 0..program.threads() {
+            if self.is_enabled(program, t) {
                 return false;
             }
         }
@@ -375,11 +414,11 @@ impl State {
     }
 
     /// How the schedule to this state ends, where it is complete.
-    pub fn kind(&self, p: &Program) -> Option<Kind>
-        requires { IsOf p.now self.now }
-        ensures { result ≡ kind_of p.now self.now }
+    pub fn kind(&self, program: &Program) -> Option<Kind>
+        requires { IsOf program.now self.now }
+        ensures { result ≡ kind_of program.now self.now }
     {
-        if self.is_terminal(p) {
+        if self.is_terminal(program) {
             Some(final_kind(self.threads.as_slice()))
         } else {
             None
@@ -391,11 +430,11 @@ impl State {
     /// # Errors
     ///
     /// `AllocError` where memory runs out.
-    pub fn view(&self, alloc: Global, p: &Program) -> Result<Option<EndView>, AllocError>
-        requires { IsOf p.now self.now }
-        ensures { IfOk result (λ v. v ≡ view_of p.now self.now) }
+    pub fn view(&self, alloc: Global, program: &Program) -> Result<Option<EndView>, AllocError>
+        requires { IsOf program.now self.now }
+        ensures { IfOk result (λ v. v ≡ view_of program.now self.now) }
     {
-        match self.kind(p) {
+        match self.kind(program) {
             Some(kind) => {
                 let values = self.variables().to_vec(alloc)?;
                 Ok(Some(EndView::new(kind, values)))

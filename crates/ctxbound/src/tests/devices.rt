@@ -1,5 +1,6 @@
-//! A reader and a writer that fail at one of their calls.
+//! A reader and a writer that fail at one of their calls, and words that a test gives.
 
+use std::env::{Env, FillError};
 use std::io;
 use std::io::{ErrorKind, Read, Write};
 
@@ -31,7 +32,7 @@ impl<'a> Read for FailingReader<'a> {
 }
 
 /// Takes one byte a call, and fails at the call of this number, counted from 0, or where it is
-/// flushed behind so many calls.
+/// flushed after so many calls.
 #[derive(Drop)]
 pub struct FailingWriter {
     pub fails_at: usize,
@@ -39,6 +40,11 @@ pub struct FailingWriter {
 }
 
 impl FailingWriter {
+    /// A writer that fails at this call.
+    pub fn at(fails_at: usize) -> FailingWriter {
+        FailingWriter { fails_at, calls: 0 }
+    }
+
     fn call(&mut self) -> io::Result<()> {
         let call = self.calls;
         self.calls = self.calls.saturating_add(1);
@@ -57,5 +63,30 @@ impl Write for FailingWriter {
 
     fn flush(&mut self) -> io::Result<()> {
         self.call()
+    }
+}
+
+/// A system that gives these command words and no variables.
+#[derive(Drop)]
+pub struct Words<'a>(pub &'a [&'a [u8]]);
+
+impl<'a> Env for Words<'a> {
+    fn arg(&self, i: usize, buf: &mut [u8]) -> Result<usize, FillError> {
+        let Some(word) = self.0.get(i) else {
+            return Err(FillError::NotPresent);
+        };
+        if buf.len() < word.len() {
+            return Err(FillError::TooLong);
+        }
+        buf[..word.len()].copy_from_slice(word);
+        Ok(word.len())
+    }
+
+    fn var(&self, _name: &str, _buf: &mut [u8]) -> Result<usize, FillError> {
+        Err(FillError::NotPresent)
+    }
+
+    fn var_at(&self, _i: usize, _buf: &mut [u8]) -> Result<usize, FillError> {
+        Err(FillError::NotPresent)
     }
 }

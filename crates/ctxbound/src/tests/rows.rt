@@ -36,10 +36,12 @@ pub const LONGEST: &str =
 pub const THREE_STORES: &str =
     "var x; var y; var z; thread A { store x 1; } thread B { store y 1; } thread C { store z 1; }";
 
+pub const FOUR_STORES: &str = "var x; thread A { repeat 4 { store x 1; } } thread B { store x 2; }";
+
 pub const ONE_STORE: &str = "var x; thread A { store x 1; }";
 
 /// A program, a schedule, its trace and the status.
-pub static TRACES: [(&str, &str, &str, u8); 38] = [
+pub static TRACES: [(&str, &str, &str, u8); 41] = [
     (
         FAILED_ASSERT,
         "-",
@@ -149,6 +151,12 @@ pub static TRACES: [(&str, &str, &str, u8); 38] = [
         1,
     ),
     (
+        LOST_WAKE_UP,
+        "1x3,0x2",
+        "0 B lock m\n1 B signal c\n2 B unlock m\n3 A lock m\n4 A wait c m\npreemptions 0\nkind stuck\nvars\n",
+        1,
+    ),
+    (
         LOCK_TWICE,
         "0",
         "0 A lock m\npreemptions 0\nkind stuck\nvars\n",
@@ -224,8 +232,20 @@ pub static TRACES: [(&str, &str, &str, u8); 38] = [
         1,
     ),
     (
-        "var x; thread A { repeat 4 { store x 1; } } thread B { store x 2; }",
+        FOUR_STORES,
         "0,0,0,0,1",
+        "0 A store x 1\n1 A store x 1\n2 A store x 1\n3 A store x 1\n4 B store x 2\npreemptions 0\nkind done\nvars x=2\n",
+        0,
+    ),
+    (
+        FOUR_STORES,
+        "0x4,1",
+        "0 A store x 1\n1 A store x 1\n2 A store x 1\n3 A store x 1\n4 B store x 2\npreemptions 0\nkind done\nvars x=2\n",
+        0,
+    ),
+    (
+        FOUR_STORES,
+        "0,0x2,0x1,1x1",
         "0 A store x 1\n1 A store x 1\n2 A store x 1\n3 A store x 1\n4 B store x 2\npreemptions 0\nkind done\nvars x=2\n",
         0,
     ),
@@ -256,7 +276,7 @@ pub static TRACES: [(&str, &str, &str, u8); 38] = [
 ];
 
 /// A program, a schedule, and the line of its fault.
-pub static REFUSALS: [(&str, &str, &str); 33] = [
+pub static REFUSALS: [(&str, &str, &str); 42] = [
     (LOCK_TWICE, "1", "ctxbound: schedule P1 NoSuchThread at 0\n"),
     (LOCK_TWICE, "0,0", "ctxbound: schedule P2 NotEnabled at 1\n"),
     (
@@ -304,6 +324,35 @@ pub static REFUSALS: [(&str, &str, &str); 33] = [
     (RACE, ",0", "ctxbound: schedule Q1 BadSchedule at 0\n"),
     (RACE, "0, 1", "ctxbound: schedule Q1 BadSchedule at 2\n"),
     (RACE, "9,0,", "ctxbound: schedule Q1 BadSchedule at 4\n"),
+    (RACE, "0x0", "ctxbound: schedule Q1 BadSchedule at 0\n"),
+    (RACE, "1,0x", "ctxbound: schedule Q1 BadSchedule at 2\n"),
+    (RACE, "1,0x01", "ctxbound: schedule Q1 BadSchedule at 2\n"),
+    (RACE, "0X2", "ctxbound: schedule Q1 BadSchedule at 0\n"),
+    (
+        ONE_STORE,
+        "0x32768",
+        "ctxbound: schedule P2 NotEnabled at 1\n",
+    ),
+    (
+        ONE_STORE,
+        "0x32768,0",
+        "ctxbound: schedule Q3 TooLong at 8\n",
+    ),
+    (
+        ONE_STORE,
+        "0x99999999999999999999",
+        "ctxbound: schedule Q3 TooLong at 0\n",
+    ),
+    (
+        ONE_STORE,
+        "1,0x32768,",
+        "ctxbound: schedule Q3 TooLong at 2\n",
+    ),
+    (
+        RACE,
+        "0,1,0,1,0,1,0,1,0,1,0,1,0,1,0,1,x,0",
+        "ctxbound: schedule Q1 BadSchedule at 32\n",
+    ),
     (
         LOCK_TWICE,
         "0,1,0",

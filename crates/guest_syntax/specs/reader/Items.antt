@@ -4,7 +4,7 @@ use Rattle.guest_syntax.specs.Tokens.{Token}
 use Rattle.guest_syntax.specs.reader.Scanner.{◌>>=◌}
 use Rattle.guest_syntax.specs.reader.Reads.{Read}
 
--- an item and what stands behind it, or the end of the items
+-- an item and what comes after it, or the end of the items
 abbrev pub Turn : Type 0 → Type 0
 Turn A = List Token → Read (Option A)
 

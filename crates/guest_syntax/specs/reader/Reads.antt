@@ -1,9 +1,12 @@
 -- What a function that takes a cursor and answers one reads, by a reader of tokens.
-use Rattle.std.specs.Prelude.{◌<◌, List, length, IfOk, IsSome, Option, Result, option_map}
+use Rattle.std.specs.Prelude.{◌≡◌, ◌<◌, List, length, IfOk, IsSome, Option, Result, Ok, Err, option_map}
 use Rattle.guest_syntax.specs.declared.error.SyntaxError.{SyntaxError}
 use Rattle.guest_syntax.specs.declared.cursor.Cursor.{Cursor}
+use Rattle.guest_syntax.specs.declared.place.Pos.{Pos}
 use Rattle.guest_syntax.specs.declared.token.Token as code
+use Rattle.guest_syntax.specs.Place.{start, IsPlaceIn}
 use Rattle.guest_syntax.specs.Tokens.{Token}
+use Rattle.guest_syntax.specs.Answers.{RefusalIn}
 use Rattle.guest_syntax.specs.reader.Scanner.{first, tokens_from}
 use Rattle.guest_syntax.specs.reader.TokenViews.{token_view}
 use Rattle.guest_syntax.specs.reader.Gives.{Gives}
@@ -32,3 +35,12 @@ TakesToken result text = IfOk result (λ x. length (rest_of x.1) < length (rest_
 -- at least one token was read, where an item was
 abbrev pub ItemTakesToken : {X : Type 0} → Result (Option X × Cursor) SyntaxError → Cursor → Type 0
 ItemTakesToken result text = IfOk result (λ x. IsSome x.0 → length (rest_of x.1) < length (rest_of text))
+
+-- a place in the cursor's text
+abbrev pub IsPlaceOf : Cursor → Pos → Type 0
+IsPlaceOf text p = IsPlaceIn start text.text.now p
+
+-- the cursor that is answered is in the same text, and a refusal is at a place of it
+abbrev pub StaysIn : {X : Type 0} → Result (X × Cursor) SyntaxError → Cursor → Type 0
+StaysIn (Ok x) text = x.1.text.now ≡ text.text.now
+StaysIn (Err e) text = RefusalIn start text.text.now e

@@ -1,6 +1,6 @@
 -- Tokens one after the other, from the front.
 use Rattle.std.specs.Prelude.{ℕ, zero, suc, ◌+◌, ◌^◌, min, List, [], ◌∷◌, length, take, drop, Bool, true, false, Option, Some, None, option_map, find, nat_eq, slice_index, fold, ◌*◌, ◌-◌}
-use Rattle.std.specs.Option.{option_map_or}
+use Rattle.std.specs.Option.{option_and_then, option_map_or}
 use Rattle.std.specs.Str.{bytes_eq}
 use Rattle.std.specs.List.{prefix_len, starts_with}
 use Rattle.guest_syntax.specs.declared.place.Pos.{Pos}
@@ -14,15 +14,14 @@ use Rattle.guest_syntax.specs.Tokens.{Kind, name, keyword, number, symbol, bad, 
 
 infixl 10 ◌>>=◌
 abbrev pub ◌>>=◌ : {A B : Type 0} → Option A → (A → Option B) → Option B
-None >>= f = None
-(Some x) >>= f = f x
+o >>= f = option_and_then f o
 
 abbrev pub skip_by : Step → (Bool → Option (Pos × List ℕ)) → Pos → List ℕ → Option (Pos × List ℕ)
 skip_by (Passed comment) more at bytes = more comment
 skip_by Stops more at bytes = Some (at, bytes)
 skip_by NotAscii more at bytes = None
 
--- what stands behind spaces and comments, where no byte of them is above 127
+-- what comes after spaces and comments, where no byte of them is above 127
 unfoldable pub skipped : Bool → Pos → List ℕ → Option (Pos × List ℕ)
 skipped comment at [] = Some (at, [])
 skipped comment at (b ∷ bs) = skip_by (gap_step comment b) (λ c. skipped c (past at b) bs) at (b ∷ bs)
@@ -52,7 +51,7 @@ first_from at (b ∷ bs) = do
   k ← kind_at (b ∷ bs)
   Some (Some (record { kind = k.0; at = at }, after at (take k.1 (b ∷ bs)), drop k.1 (b ∷ bs)))
 
--- the first token, and what stands behind it
+-- the first token, and what comes after it
 unfoldable pub first : Pos → List ℕ → Option (Option (Token × Pos × List ℕ))
 first at bytes = do
   s ← skipped false at bytes

@@ -35,6 +35,23 @@ store_from ts = do
   e ← symbol_from symbols.End a.1
   Some (tree.store x.0 a.0, e)
 
+unfoldable pub add_from : List Token → Read Stmt
+add_from ts = do
+  r ← name_from ts
+  x ← name_from r.1
+  a ← operand_from x.1
+  e ← symbol_from symbols.End a.1
+  Some (tree.add r.0 x.0 a.0, e)
+
+unfoldable pub cas_from : List Token → Read Stmt
+cas_from ts = do
+  r ← name_from ts
+  x ← name_from r.1
+  a ← operand_from x.1
+  b ← operand_from a.1
+  e ← symbol_from symbols.End b.1
+  Some (tree.cas r.0 x.0 a.0 b.0, e)
+
 unfoldable pub set_from : List Token → Read Stmt
 set_from ts = do
   r ← name_from ts
@@ -48,7 +65,7 @@ assert_from ts = do
   e ← symbol_from symbols.End x.1
   Some (tree.assert x.0, e)
 
--- a statement of one name, whose word was read
+-- a statement of one name, whose keyword was read
 abbrev pub named_by : Keyword → List Token → Read Stmt
 named_by keywords.Lock ts = one_name_from ts >>= λ n. Some (tree.lock n.0, n.1)
 named_by keywords.Unlock ts = one_name_from ts >>= λ n. Some (tree.unlock n.0, n.1)
@@ -58,11 +75,13 @@ named_by keywords.Acquire ts = one_name_from ts >>= λ n. Some (tree.acquire n.0
 named_by keywords.Release ts = one_name_from ts >>= λ n. Some (tree.release n.0, n.1)
 named_by _ ts = None
 
--- a statement without a block, whose word was read at this place
+-- a statement without a block, whose keyword was read at this place
 abbrev pub simple_by : Keyword → Pos → List Token → Read Stmt
 simple_by keywords.Load at ts = two_names_from ts >>= λ n. Some (tree.load n.0.0 n.0.1, n.1)
 simple_by keywords.Wait at ts = two_names_from ts >>= λ n. Some (tree.wait n.0.0 n.0.1, n.1)
 simple_by keywords.Store at ts = store_from ts
+simple_by keywords.Add at ts = add_from ts
+simple_by keywords.Cas at ts = cas_from ts
 simple_by keywords.Set at ts = set_from ts
 simple_by keywords.Assert at ts = assert_from ts
 simple_by keywords.Leave at ts = symbol_from symbols.End ts >>= λ e. Some (tree.leave at, e)
@@ -90,13 +109,13 @@ repeat_from block ts = do
   b ← block n.1
   Some (tree.repeat n.0 b.0, b.1)
 
--- a statement, whose word was read at this place
+-- a statement, whose keyword was read at this place
 abbrev pub statement_by : (List Token → Read Block) → Keyword → Pos → List Token → Read Stmt
 statement_by block keywords.If at ts = choice_from block ts
 statement_by block keywords.Repeat at ts = repeat_from block ts
 statement_by block w at ts = simple_by w at ts
 
--- a statement, whose word was read, or the end of a block
+-- a statement, whose keyword was read, or the end of a block
 abbrev pub turn_by : (List Token → Read Block) → Kind → Pos → List Token → Read (Option Stmt)
 turn_by block (symbol symbols.Close) at ts = Some (None, ts)
 turn_by block (keyword w) at ts = statement_by block w at ts >>= λ s. Some (Some s.0, s.1)
@@ -107,7 +126,7 @@ turn_from block ts = do
   t ← token_at ts
   turn_by block t.0.kind t.0.at t.1
 
--- a block, with the number of blocks that may stand inside one another
+-- a block, with the number of blocks that may be inside one another
 unfoldable pub block_from : ℕ → List Token → Read Block
 block_from zero ts = None
 block_from (suc room) ts = do

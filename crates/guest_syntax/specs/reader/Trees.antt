@@ -22,20 +22,20 @@ variable_by x (symbol symbols.Assign) ts = do
   Some (record { name = x; object = objects.Variable z.0 }, e)
 variable_by x _ ts = None
 
--- a variable behind its word
+-- a variable, after its keyword
 unfoldable pub variable_from : List Token → Read Declaration
 variable_from ts = do
   x ← name_from ts
   t ← token_at x.1
   variable_by x.0 t.0.kind t.1
 
--- an object without an opening value, behind its word
+-- an object without an opening value, after its keyword
 unfoldable pub plain_from : Object → List Token → Read Declaration
 plain_from o ts = do
   x ← one_name_from ts
   Some (record { name = x.0; object = o }, x.1)
 
--- a semaphore behind its word
+-- a semaphore, after its keyword
 unfoldable pub semaphore_from : List Token → Read Declaration
 semaphore_from ts = do
   x ← name_from ts
@@ -55,13 +55,13 @@ abbrev pub declaration_next : Option Token → List Token → List Token → Rea
 declaration_next None before following = Some (None, before)
 declaration_next (Some t) before following = declaration_by t.kind before following
 
--- a declaration, or nothing where something else stands
+-- a declaration, or nothing where something else comes
 unfoldable pub declaration_turn : Turn Declaration
 declaration_turn ts = do
   t ← next_at ts
   declaration_next t.0 ts t.1
 
--- a thread behind its word
+-- a thread, after its keyword
 unfoldable pub thread_from : List Token → Read Thread
 unfolding block_from
 thread_from ts = do

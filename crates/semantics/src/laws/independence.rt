@@ -4,7 +4,7 @@
 
 ghost use Rattle.std.specs.Prelude.{◌≡◌, ◌≢◌, ◌↔◌, ◌⊎◌, ℕ, Bool, true, false, not, List, [], ◌∷◌, map, filter, flat_map, Contains, Some, None};
 ghost use Rattle.guest_code.specs.declared.program.Expression.{Expression};
-ghost use Rattle.guest_code.specs.declared.program.Instruction.TheVariants.{Load, Store, Lock, Unlock, Wait, Signal, Broadcast, Acquire, Release, Set, Assert, SkipIfZero, Skip};
+ghost use Rattle.guest_code.specs.declared.program.Instruction.TheVariants.{Load, Store, Add, Cas, Lock, Unlock, Wait, Signal, Broadcast, Acquire, Release, Set, Assert, SkipIfZero, Skip};
 ghost use Rattle.guest_code.specs.declared.program.Value.{Value};
 ghost use Rattle.guest_code.specs.Program.{Program};
 ghost use Rattle.semantics.specs.declared.state.Action.{Action};
@@ -43,14 +43,18 @@ pub fn dependent_means_a_shared_object()
         next_of p s v ≡ Some (OnVariable y (Loads q)) → independent p s t v ≡ true }
 {}
 
-/// What the step of each instruction accesses: a load reads its variable, a store writes it; lock,
-/// unlock and taking the mutex again write the mutex, a wait writes its condition and its mutex, a
+/// What the step of each instruction accesses: a load reads its variable; a store, an `add` and a
+/// `cas` write it, a `cas` also where it misses; lock, unlock and taking the mutex again write the mutex, a wait writes its condition and its mutex, a
 /// signal and a broadcast write the condition, and acquire and release write the semaphore. The
 /// other instructions take no step.
 pub fn steps_access_these_objects()
     ensures load { (r x : ℕ) → accesses_at Running (Load r x) ≡ Some (reads_var x ∷ []) }
     ensures store { (x : ℕ) (a : Value) →
         accesses_at Running (Store x a) ≡ Some (writes_var x ∷ []) }
+    ensures add { (r x : ℕ) (a : Value) →
+        accesses_at Running (Add r x a) ≡ Some (writes_var x ∷ []) }
+    ensures cas { (r x : ℕ) (a b : Value) →
+        accesses_at Running (Cas r x a b) ≡ Some (writes_var x ∷ []) }
     ensures lock { (m : ℕ) → accesses_at Running (Lock m) ≡ Some (writes_mutex m ∷ []) }
     ensures unlock { (m : ℕ) → accesses_at Running (Unlock m) ≡ Some (writes_mutex m ∷ []) }
     ensures wait { (c m : ℕ) →

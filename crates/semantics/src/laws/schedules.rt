@@ -39,9 +39,9 @@ pub fn schedules_are_short()
     ensures { (p : Program) (w : List ℕ) → runs p (start p) w ≡ true → length w ≤ most_steps p }
 {}
 
-/// In a well formed program no schedule has more than `STEPS` steps, which are 4,096.
+/// In a well formed program no schedule has more than `STEPS` steps.
 pub fn schedules_are_within_the_limit()
-    ensures limit { STEPS ≡ 4096 }
+    ensures limit { STEPS ≡ 32768 }
     ensures within { (p : Program) (w : List ℕ) →
         IsWellFormed p → runs p (start p) w ≡ true → length w ≤ STEPS }
 {}

@@ -1,20 +1,20 @@
 //! What steps do with objects and threads.
 
-ghost use Rattle.std.specs.Prelude.{◌≡◌, ◌≢◌, ◌<◌, ◌↔◌, ℕ, true, List, [], ◌∷◌, ◌++◌, length, Some, None};
+ghost use Rattle.std.specs.Prelude.{◌≡◌, ◌≢◌, ◌<◌, ◌↔◌, ℕ, pos, true, List, [], ◌∷◌, ◌++◌, length, Some, None};
 ghost use Rattle.guest_code.specs.declared.program.Value.{Value};
 ghost use Rattle.guest_code.specs.Program.{Program};
+ghost use Rattle.guest_syntax.specs.declared.tree.Op.TheVariants.{Add as Plus};
 ghost use Rattle.semantics.specs.declared.state.Action.{Action};
 ghost use Rattle.semantics.specs.declared.state.Action.TheVariants.{OnVariable, OnMutex, Wait as Waits, OnCondition};
 ghost use Rattle.semantics.specs.declared.state.ConditionAction.{ConditionAction};
 ghost use Rattle.semantics.specs.declared.state.MutexAction.{MutexAction};
 ghost use Rattle.semantics.specs.declared.state.MutexAction.TheVariants.{Unlock};
-ghost use Rattle.semantics.specs.declared.state.Status.TheVariants.{Waiting, Woken, Stopped};
-ghost use Rattle.semantics.specs.declared.state.Stop.TheVariants.{NotHeld};
-ghost use Rattle.semantics.specs.declared.state.VariableAction.TheVariants.{Load, Store};
+ghost use Rattle.semantics.specs.declared.state.Status.TheVariants.{Waiting, Woken};
+ghost use Rattle.semantics.specs.declared.state.VariableAction.TheVariants.{Load, Store, Add, Cas};
 ghost use Rattle.semantics.specs.Dependence.{Writes};
 ghost use Rattle.semantics.specs.Dependence.Object.{variable, mutex, condition, semaphore};
-ghost use Rattle.semantics.specs.Effects.{RunsOn, PutsInto, IsOver, IsLeft};
-ghost use Rattle.semantics.specs.Machine.{Snapshot, step, start, is_enabled, next_of, threads_to_wake, value_of, owner_of, queue_of, count_of, thread_at, value_of_operand};
+ghost use Rattle.semantics.specs.Effects.{IsAboutTo, RunsOn, PutsInto, StopsNotHeld, IsOver, IsLeft, operand_of};
+ghost use Rattle.semantics.specs.Machine.{Snapshot, step, start, is_enabled, next_of, threads_to_wake, value_of, owner_of, queue_of, count_of, thread_at, of_both};
 ghost use Rattle.semantics.specs.Schedules.{runs, state_after};
 ghost use Rattle.semantics.specs.Waiters.{In, HasWaiters};
 
@@ -23,16 +23,16 @@ ghost use Rattle.semantics.specs.Waiters.{In, HasWaiters};
 /// A step changes no object that it doesn't write.
 pub fn steps_change_only_what_they_write()
     ensures variables { (p : Program) (s : Snapshot) (t x : ℕ) (a : Action) →
-        next_of p s t ≡ Some a → (Writes a (variable x) → ⊥) →
+        IsAboutTo p s t a → (Writes a (variable x) → ⊥) →
         value_of (step p s t) x ≡ value_of s x }
     ensures mutexes { (p : Program) (s : Snapshot) (t m : ℕ) (a : Action) →
-        next_of p s t ≡ Some a → (Writes a (mutex m) → ⊥) →
+        IsAboutTo p s t a → (Writes a (mutex m) → ⊥) →
         owner_of (step p s t) m ≡ owner_of s m }
     ensures conditions { (p : Program) (s : Snapshot) (t c : ℕ) (a : Action) →
-        next_of p s t ≡ Some a → (Writes a (condition c) → ⊥) →
+        IsAboutTo p s t a → (Writes a (condition c) → ⊥) →
         queue_of (step p s t) c ≡ queue_of s c }
     ensures semaphores { (p : Program) (s : Snapshot) (t k : ℕ) (a : Action) →
-        next_of p s t ≡ Some a → (Writes a (semaphore k) → ⊥) →
+        IsAboutTo p s t a → (Writes a (semaphore k) → ⊥) →
         count_of (step p s t) k ≡ count_of s k }
 {}
 
@@ -42,27 +42,54 @@ pub fn steps_leave_other_threads()
         is_enabled p s t ≡ true → u ≢ t → IsLeft (thread_at s u) (thread_at (step p s t) u) }
 {}
 
-// Variables.
+// Variables. In each of these x is the variable, and r the local that the step writes.
 
 /// A load puts the variable's value into its local, and changes no variable.
 pub fn loads_read()
-    ensures local { (p : Program) (s : Snapshot) (t r x : ℕ) →
-        next_of p s t ≡ Some (OnVariable x (Load r)) → PutsInto p s t r (value_of s x) }
-    ensures variables { (p : Program) (s : Snapshot) (t r x : ℕ) →
-        next_of p s t ≡ Some (OnVariable x (Load r)) → (step p s t).vars ≡ s.vars }
+    ensures local { (p : Program) (s : Snapshot) (t x r : ℕ) →
+        IsAboutTo p s t (OnVariable x (Load r)) → PutsInto p s t r (value_of s x) }
+    ensures variables { (p : Program) (s : Snapshot) (t x r : ℕ) →
+        IsAboutTo p s t (OnVariable x (Load r)) → (step p s t).vars ≡ s.vars }
 {}
 
 /// After a store its variable has the value of its operand; it changes no other variable and no
 /// local.
 pub fn stores_write()
     ensures value { (p : Program) (s : Snapshot) (t x : ℕ) (a : Value) →
-        next_of p s t ≡ Some (OnVariable x (Store a)) → x < length s.vars →
-        value_of (step p s t) x ≡ value_of_operand (thread_at s t).locals a }
+        IsAboutTo p s t (OnVariable x (Store a)) → x < length s.vars →
+        value_of (step p s t) x ≡ operand_of s t a }
     ensures others { (p : Program) (s : Snapshot) (t x : ℕ) (a : Value) →
-        next_of p s t ≡ Some (OnVariable x (Store a)) →
+        IsAboutTo p s t (OnVariable x (Store a)) →
         (y : ℕ) → y ≢ x → value_of (step p s t) y ≡ value_of s y }
     ensures thread { (p : Program) (s : Snapshot) (t x : ℕ) (a : Value) →
-        next_of p s t ≡ Some (OnVariable x (Store a)) → RunsOn p s t }
+        IsAboutTo p s t (OnVariable x (Store a)) → RunsOn p s t }
+{}
+
+/// An `add` puts the variable's old value into its local, and the sum of that and its operand, as
+/// `+` makes it, into the variable.
+pub fn adds_are_atomic()
+    ensures local { (p : Program) (s : Snapshot) (t x r : ℕ) (a : Value) →
+        IsAboutTo p s t (OnVariable x (Add r a)) → PutsInto p s t r (value_of s x) }
+    ensures value { (p : Program) (s : Snapshot) (t x r : ℕ) (a : Value) →
+        IsAboutTo p s t (OnVariable x (Add r a)) → x < length s.vars →
+        value_of (step p s t) x ≡ of_both Plus (value_of s x) (operand_of s t a) }
+{}
+
+/// A `cas` whose variable has the expected value gives it the new one, and puts 1 into its local;
+/// any other puts 0 into its local, and changes no variable.
+pub fn swaps_are_atomic()
+    ensures hit { (p : Program) (s : Snapshot) (t x r : ℕ) (a b : Value) →
+        IsAboutTo p s t (OnVariable x (Cas r a b)) → x < length s.vars →
+        value_of s x ≡ operand_of s t a → value_of (step p s t) x ≡ operand_of s t b }
+    ensures hit_local { (p : Program) (s : Snapshot) (t x r : ℕ) (a b : Value) →
+        IsAboutTo p s t (OnVariable x (Cas r a b)) →
+        value_of s x ≡ operand_of s t a → PutsInto p s t r (pos 1) }
+    ensures miss { (p : Program) (s : Snapshot) (t x r : ℕ) (a b : Value) →
+        IsAboutTo p s t (OnVariable x (Cas r a b)) →
+        value_of s x ≢ operand_of s t a → (step p s t).vars ≡ s.vars }
+    ensures miss_local { (p : Program) (s : Snapshot) (t x r : ℕ) (a b : Value) →
+        IsAboutTo p s t (OnVariable x (Cas r a b)) →
+        value_of s x ≢ operand_of s t a → PutsInto p s t r (pos 0) }
 {}
 
 // Mutexes.
@@ -70,49 +97,46 @@ pub fn stores_write()
 /// A thread can lock a mutex, or take it again, exactly where it is free, and owns it then.
 pub fn free_mutexes_are_taken()
     ensures enabled { (p : Program) (s : Snapshot) (t m : ℕ) (d : MutexAction) →
-        d ≢ Unlock → next_of p s t ≡ Some (OnMutex m d) →
+        d ≢ Unlock → IsAboutTo p s t (OnMutex m d) →
         (is_enabled p s t ≡ true) ↔ (owner_of s m ≡ None) }
     ensures owned { (p : Program) (s : Snapshot) (t m : ℕ) (d : MutexAction) →
-        d ≢ Unlock → next_of p s t ≡ Some (OnMutex m d) → m < length s.owners →
+        d ≢ Unlock → IsAboutTo p s t (OnMutex m d) → m < length s.owners →
         owner_of (step p s t) m ≡ Some t }
 {}
 
 /// An unlock by the mutex's owner frees it; one by another thread leaves it and stops that thread.
 pub fn owners_alone_unlock()
     ensures frees { (p : Program) (s : Snapshot) (t m : ℕ) →
-        next_of p s t ≡ Some (OnMutex m Unlock) → owner_of s m ≡ Some t →
+        IsAboutTo p s t (OnMutex m Unlock) → owner_of s m ≡ Some t →
         owner_of (step p s t) m ≡ None }
     ensures runs_on { (p : Program) (s : Snapshot) (t m : ℕ) →
-        next_of p s t ≡ Some (OnMutex m Unlock) → owner_of s m ≡ Some t → RunsOn p s t }
+        IsAboutTo p s t (OnMutex m Unlock) → owner_of s m ≡ Some t → RunsOn p s t }
     ensures leaves { (p : Program) (s : Snapshot) (t m : ℕ) →
-        next_of p s t ≡ Some (OnMutex m Unlock) → owner_of s m ≢ Some t →
+        IsAboutTo p s t (OnMutex m Unlock) → owner_of s m ≢ Some t →
         owner_of (step p s t) m ≡ owner_of s m }
     ensures stops { (p : Program) (s : Snapshot) (t m : ℕ) →
-        next_of p s t ≡ Some (OnMutex m Unlock) → owner_of s m ≢ Some t →
-        (thread_at (step p s t) t).status ≡ Stopped NotHeld }
+        IsAboutTo p s t (OnMutex m Unlock) → owner_of s m ≢ Some t → StopsNotHeld p s t }
 {}
 
 /// A wait by the mutex's owner frees it, and the thread waits, last in the condition's queue; one
 /// by another thread leaves mutex and queue, and stops that thread.
 pub fn owners_alone_wait()
     ensures frees { (p : Program) (s : Snapshot) (t m c : ℕ) →
-        next_of p s t ≡ Some (Waits c m) → owner_of s m ≡ Some t →
-        owner_of (step p s t) m ≡ None }
+        IsAboutTo p s t (Waits c m) → owner_of s m ≡ Some t → owner_of (step p s t) m ≡ None }
     ensures waits { (p : Program) (s : Snapshot) (t m c : ℕ) →
-        next_of p s t ≡ Some (Waits c m) → owner_of s m ≡ Some t →
+        IsAboutTo p s t (Waits c m) → owner_of s m ≡ Some t →
         (thread_at (step p s t) t).status ≡ Waiting c }
     ensures joins { (p : Program) (s : Snapshot) (t m c : ℕ) →
-        next_of p s t ≡ Some (Waits c m) → owner_of s m ≡ Some t → c < length s.queues →
+        IsAboutTo p s t (Waits c m) → owner_of s m ≡ Some t → c < length s.queues →
         queue_of (step p s t) c ≡ queue_of s c ++ t ∷ [] }
     ensures leaves { (p : Program) (s : Snapshot) (t m c : ℕ) →
-        next_of p s t ≡ Some (Waits c m) → owner_of s m ≢ Some t →
+        IsAboutTo p s t (Waits c m) → owner_of s m ≢ Some t →
         owner_of (step p s t) m ≡ owner_of s m }
     ensures leaves_queue { (p : Program) (s : Snapshot) (t m c : ℕ) →
-        next_of p s t ≡ Some (Waits c m) → owner_of s m ≢ Some t →
+        IsAboutTo p s t (Waits c m) → owner_of s m ≢ Some t →
         queue_of (step p s t) c ≡ queue_of s c }
     ensures stops { (p : Program) (s : Snapshot) (t m c : ℕ) →
-        next_of p s t ≡ Some (Waits c m) → owner_of s m ≢ Some t →
-        (thread_at (step p s t) t).status ≡ Stopped NotHeld }
+        IsAboutTo p s t (Waits c m) → owner_of s m ≢ Some t → StopsNotHeld p s t }
 {}
 
 /// A mutex that a thread owns stays its own under every step of another thread.

@@ -24,7 +24,7 @@ returns c =
         same = c.in_ok-program.ensures.1;
       };
       steps = c.in_ok-schedule.schedule.items;
-      spelt = c.in_ok-schedule.ensures;
+      spelt = c.in_ok-schedule.ensures.value;
       runs = is_run.legal;
       trace = c.in_ok-trace.ensures.run ∙ ap (trace c.in_ok-program.program) is_run.same;
       kind = c.kind.ensures ∙ ap (λ (r : Run). r.kind) is_run.same;

@@ -1,7 +1,10 @@
-use Rattle.guest_code.specs.Walk.{all_uses}
-use Rattle.guest_code.proofs.Ends.{declaration_goes}
+use Rattle.guest_code.specs.inner.Walk.{all_uses}
+use Rattle.guest_code.proofs.CheckAnswers.{declaration_goes}
 use Rattle.guest_code.proofs.check.check_declarations.Goals as goal
 
 pub loop-i-preserved : goal.loop-i-preserved
 loop-i-preserved c =
-    declaration_goes (all_uses c.args.tree.now) c.args.declarations.now c.loop-i.i c.index-declarations-i.result c.kind_of-kind.result c.how_many.result tt _ c.loop-i-test.true c.index-declarations-i.is c.kind_of-kind.ensures c.how_many.ensures c.in_ok-check_new.ensures c.loop-i.invariant
+    declaration_goes (all_uses c.args.tree.now) c.args.declarations.now c.loop-i.i
+    c.index-declarations-i.result c.kind_of-kind.result c.how_many.result tt _
+    c.loop-i-test.true c.index-declarations-i.is c.kind_of-kind.ensures c.how_many.ensures
+    c.in_ok-check_new.ensures c.loop-i.invariant

@@ -1,34 +1,62 @@
 use Rattle.std.proofs.Common.{arith, map, refl}
 use Rattle.std.proofs.lemmas.Result.{err_from_is_err_and}
 use Rattle.guest_syntax.specs.Tree.{declaration_view, name_view}
-use Rattle.guest_code.specs.Walk.{all_uses, locals_view}
-use Rattle.guest_code.proofs.Ends.{names_not, names_begin, thread_not, body_not, thread_goes, locals_go, few_go}
+use Rattle.guest_code.specs.Program.{locals_view}
+use Rattle.guest_code.specs.inner.Walk.{all_uses}
+use Rattle.guest_code.proofs.CheckAnswers.{names_not, names_begin, thread_not, body_not, thread_goes, locals_go, few_go}
 use Rattle.guest_code.proofs.check.check_names.Goals as goal
 
 pub returns-in_err-check_declarations-clause-gives :
     goal.returns-in_err-check_declarations-clause-gives
 returns-in_err-check_declarations-clause-gives c =
     let p = err_from_is_err_and c.from_residual.result c.from_residual.ensures.1 in
-    rw (p.1, p.2) (names_not c.args.tree.now _ tt c.in_err-check_declarations.field-0.0 c.declarations-declarations.ensures c.in_err-check_declarations.ensures)
+    rw (p.1, p.2) (names_not c.args.tree.now _ tt c.in_err-check_declarations.field-0.0
+    c.declarations-declarations.ensures c.in_err-check_declarations.ensures)
 
 pub loop-i-init : goal.loop-i-init
-loop-i-init c = record { same = names_begin c.args.tree.now _ c.in_ok-check_declarations.field-0 c.declarations-declarations.ensures c.threads-threads.ensures c.in_ok-check_declarations.ensures; locals = rw c.new-all.ensures.items refl; few = omega arith }
+loop-i-init c = record {
+  same = names_begin c.args.tree.now _ c.in_ok-check_declarations.field-0
+      c.declarations-declarations.ensures c.threads-threads.ensures
+      c.in_ok-check_declarations.ensures;
+  locals = rw c.new-all.ensures.items refl;
+  few =
+      omega arith;
+}
 
 pub returns-in_err-check_new-clause-gives : goal.returns-in_err-check_new-clause-gives
 returns-in_err-check_new-clause-gives c =
-    let p = err_from_is_err_and c.from_residual-in_err-check_new.result c.from_residual-in_err-check_new.ensures.1 in
-    rw (p.1, p.2) (thread_not (all_uses c.args.tree.now) (map declaration_view c.declarations-declarations.result.now) c.threads-threads.result.now c.loop-i.i c.index-threads-i.result tt c.in_err-check_new.field-0.0 _ c.loop-i-test.true c.index-threads-i.is c.in_err-check_new.ensures c.loop-i.invariant.same)
+    let p = err_from_is_err_and c.from_residual-in_err-check_new.result
+    c.from_residual-in_err-check_new.ensures.1 in
+    rw (p.1, p.2)
+    (thread_not (all_uses c.args.tree.now)
+    (map declaration_view c.declarations-declarations.result.now) c.threads-threads.result.now
+    c.loop-i.i c.index-threads-i.result tt c.in_err-check_new.field-0.0 _ c.loop-i-test.true
+    c.index-threads-i.is c.in_err-check_new.ensures c.loop-i.invariant.same)
 
 pub returns-in_err-check_body-clause-gives : goal.returns-in_err-check_body-clause-gives
 returns-in_err-check_body-clause-gives c =
-    let p = err_from_is_err_and c.from_residual-in_err-check_body.result c.from_residual-in_err-check_body.ensures.1 in
-    rw (p.1, p.2) (body_not (all_uses c.args.tree.now) (map declaration_view c.declarations-declarations.result.now) c.threads-threads.result.now c.loop-i.i c.index-threads-i.result tt c.in_err-check_body.field-0.0 _ c.loop-i-test.true c.index-threads-i.is c.in_ok-check_new.ensures c.in_err-check_body.ensures c.loop-i.invariant.same)
+    let p = err_from_is_err_and c.from_residual-in_err-check_body.result
+    c.from_residual-in_err-check_body.ensures.1 in
+    rw (p.1, p.2)
+    (body_not (all_uses c.args.tree.now)
+    (map declaration_view c.declarations-declarations.result.now) c.threads-threads.result.now
+    c.loop-i.i c.index-threads-i.result tt c.in_err-check_body.field-0.0 _ c.loop-i-test.true
+    c.index-threads-i.is c.in_ok-check_new.ensures c.in_err-check_body.ensures
+    c.loop-i.invariant.same)
 
 pub loop-i-preserved : goal.loop-i-preserved
 loop-i-preserved c =
-    let small = few_go (name_view c.index-threads-i.result.name) _ c.loop-i.i tt c.in_ok-check_new.ensures in
+    let small = few_go (name_view c.index-threads-i.result.name) _ c.loop-i.i tt
+    c.in_ok-check_new.ensures in
     record {
-      same = thread_goes (all_uses c.args.tree.now) (map declaration_view c.declarations-declarations.result.now) c.threads-threads.result.now c.loop-i.i c.index-threads-i.result tt (locals_view c.in_ok-check_body.field-0) _ c.loop-i-test.true c.index-threads-i.is c.in_ok-check_new.ensures c.in_ok-check_body.ensures c.loop-i.invariant.same;
-      locals = locals_go (all_uses c.args.tree.now) c.loop-i.all.items c.push.new.self.items c.in_ok-check_body.field-0 c.threads-threads.result.now c.loop-i.i c.index-threads-i.result c.loop-i-test.true c.index-threads-i.is c.in_ok-push.ensures.items c.in_ok-check_body.ensures c.loop-i.invariant.locals;
+      same = thread_goes (all_uses c.args.tree.now)
+          (map declaration_view c.declarations-declarations.result.now)
+          c.threads-threads.result.now c.loop-i.i c.index-threads-i.result tt
+          (locals_view c.in_ok-check_body.field-0) _ c.loop-i-test.true c.index-threads-i.is
+          c.in_ok-check_new.ensures c.in_ok-check_body.ensures c.loop-i.invariant.same;
+      locals = locals_go (all_uses c.args.tree.now) c.loop-i.all.items c.push.new.self.items
+          c.in_ok-check_body.field-0 c.threads-threads.result.now c.loop-i.i
+          c.index-threads-i.result c.loop-i-test.true c.index-threads-i.is
+          c.in_ok-push.ensures.items c.in_ok-check_body.ensures c.loop-i.invariant.locals;
       few = omega (arith, small);
     }

@@ -5,6 +5,8 @@ use Rattle.guest_code.proofs.check.how_many.Given as goal
 
 abbrev pub invariant-loop-declaration : goal.invariant-loop-declaration
 invariant-loop-declaration l = record {
-  same : l.count + how_many l.kind (uses (map declaration_view (drop l.declaration-index l.declarations)) []) ≡ how_many l.kind (uses (map declaration_view l.declarations) []);
+  same : l.count + how_many l.kind
+      (uses (map declaration_view (drop l.declaration-index l.declarations)) []) ≡ how_many l.kind
+      (uses (map declaration_view l.declarations) []);
   small : l.count ≤ l.declaration-index;
 }

@@ -3,9 +3,8 @@ use denote.Param.Weighed.{most}
 use Rattle.guest_syntax.proofs.tree.Statement.TheLaws.{the_size}
 use Rattle.guest_syntax.specs.Tree.{block_view}
 use Rattle.guest_code.specs.declared.limits.TheConstants.{INSTRUCTIONS}
-use Rattle.guest_code.specs.Sizes.{block_size}
-use Rattle.guest_code.specs.Code.{block_code, copies}
-use Rattle.guest_code.specs.Code.{names_of}
+use Rattle.guest_code.specs.Code.{block_code, unrolled}
+use Rattle.guest_code.specs.inner.Emission.{names_of, size_of, block_code_in}
 use Rattle.guest_code.proofs.emit.+emit.Given as goal
 
 abbrev pub decreases-emit_block : goal.decreases-emit_block
@@ -28,14 +27,17 @@ decreases-emit_copies-loop-left l = l.left
 
 abbrev pub invariant-emit_copies-loop-left : goal.invariant-emit_copies-loop-left
 invariant-emit_copies-loop-left l = record {
-  same : l.code.items ++ copies (block_code (names_of l.names.declarations.now l.names.locals.now) (block_view l.body)) l.len l.left ≡ l.fn.code.items ++ copies (block_code (names_of l.names.declarations.now l.names.locals.now) (block_view l.body)) l.len l.times;
+  same : l.code.items ++ unrolled (block_code (names_of l.names) (block_view l.body)) l.len l.left
+      ≡ l.fn.code.items ++ unrolled (block_code (names_of l.names) (block_view l.body)) l.len
+      l.times;
   less : l.left ≤ l.times;
 }
 
 abbrev pub invariant-emit_block-loop-statement : goal.invariant-emit_block-loop-statement
 invariant-emit_block-loop-statement l = record {
-  same : l.code.items ++ block_code (names_of l.names.declarations.now l.names.locals.now) (block_view (drop l.statement-index l.block)) l.behind ≡ l.fn.code.items ++ block_code (names_of l.names.declarations.now l.names.locals.now) (block_view l.block) l.behind;
-  left : l.left ≡ block_size (block_view (drop l.statement-index l.block));
+  same : l.code.items ++ block_code_in l.context (block_view (drop l.statement-index l.block))
+      ≡ l.fn.code.items ++ block_code_in l.context (block_view l.block);
+  left : l.left ≡ size_of (drop l.statement-index l.block);
   small : l.left ≤ INSTRUCTIONS;
-  behind : l.behind + l.left < 2 ^ 32;
+  near : l.context.distance_to_exit + l.left < 2 ^ 32;
 }

@@ -1,7 +1,9 @@
-use Rattle.std.proofs.Common.{◌≡◌, ◌++◌, map, drop}
-use Rattle.guest_syntax.specs.Tree.{declaration_view}
-use Rattle.guest_code.specs.Code.{objects_by, condition_of}
+use Rattle.std.proofs.Common.{◌≡◌, ◌++◌, drop}
+use Rattle.guest_code.specs.Program.{names_view}
+use Rattle.guest_code.specs.Code.{condition_of}
+use Rattle.guest_code.specs.inner.Emission.{objects_in}
 use Rattle.guest_code.proofs.lowering.lower_conditions.Given as goal
 
 abbrev pub invariant-loop-declaration : goal.invariant-loop-declaration
-invariant-loop-declaration l = map (λ n. n.items) l.all.items ++ objects_by condition_of (map declaration_view (drop l.declaration-index l.declarations)) ≡ objects_by condition_of (map declaration_view l.declarations)
+invariant-loop-declaration l = names_view l.all.items ++ objects_in condition_of
+    (drop l.declaration-index l.declarations) ≡ objects_in condition_of l.declarations

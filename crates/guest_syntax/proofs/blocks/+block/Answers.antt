@@ -10,7 +10,7 @@ use Rattle.guest_syntax.proofs.ItemLoops.{begins, goes_on, is_done, stops}
 use Rattle.guest_syntax.proofs.blocks.+block.Goals as goal
 
 pub statements-items-init : goal.statements-items-init
-statements-items-init t c = record { goes = rw c.new-all.ensures.items (begins (turn_from (block_from c.args.room)) (rest_of c.args.text)); shorter = omega arith }
+statements-items-init t c = record { goes = rw c.new-all.ensures.items (begins (turn_from (block_from c.args.room)) (rest_of c.args.text)); same = refl; shorter = omega arith }
 
 pub statements-returns-in_err-statement-clause-gives : goal.statements-returns-in_err-statement-clause-gives
 statements-returns-in_err-statement-clause-gives t c =
@@ -24,6 +24,7 @@ statements-returns-in-None-clause-gives t c =
 pub statements-items-preserved : goal.statements-items-preserved
 statements-items-preserved t c = record {
   goes = rw (c.in_ok-push-in-Some.ensures.items, map_push stmt_view c.items.all.items c.in-Some.statement) (goes_on (turn_from (block_from c.args.room)) (map stmt_view c.items.all.items) (rest_of c.items.rest) (rest_of c.in_ok-statement.after) (stmt_view c.in-Some.statement) (all_from (turn_from (block_from c.args.room)) (rest_of c.args.text)) (rw c.in-Some.is at c.in_ok-statement.ensures.gives) c.in_ok-statement.ensures.shorter c.items.invariant.goes);
+  same = rw c.in_ok-statement.ensures.within c.items.invariant.same;
   shorter = omega (arith, c.in_ok-statement.ensures.shorter, c.items.invariant.shorter);
 }
 

@@ -1,6 +1,7 @@
-use Rattle.std.proofs.Common.{ℕ, length, Some, List, sym, ap, ◌∙◌, arith}
+use Rattle.std.proofs.Common.{ℕ, length, Some, List, refl, sym, ap, ◌∙◌, arith}
 use Rattle.guest_syntax.specs.declared.lexer.Step.TheVariants.{Passed, Stops, NotAscii}
 use Rattle.guest_syntax.proofs.ByteLoops.{from_at, skipped_step, skipped_end}
+use Rattle.guest_syntax.proofs.PlacesInText.{nothing_follows, follows_then, follows_place, byte_follows}
 use Rattle.guest_syntax.proofs.lexer.skip.Goals as goal
 
 pub returns-in-Stops-clause-gives : goal.returns-in-Stops-clause-gives
@@ -15,9 +16,16 @@ pub loop-i-preserved : goal.loop-i-preserved
 loop-i-preserved c =
     record {
       same = rw c.past-at.ensures.place (sym (skipped_step c.args.text.now c.loop-i.i c.loop-i.comment c.loop-i.at c.loop-i-test.true (Passed c.in-Passed.goes_on) (sym c.in-Passed.ensures)) ∙ c.loop-i.invariant.same);
+      follows = rw c.past-at.ensures.place (follows_then c.loop-i.invariant.follows (byte_follows c.args.text.now c.loop-i.i c.loop-i.at c.loop-i-test.true));
       line = omega arith;
       col = omega arith;
     }
 
 pub returns-clause-gives : goal.returns-clause-gives
 returns-clause-gives c = sym c.loop-i.invariant.same ∙ skipped_end c.args.text.now c.loop-i.i c.loop-i.comment c.loop-i.at c.loop-i-test.false ∙ ap (λ (r : List ℕ). Some (c.loop-i.at, r)) (sym (from_at c.args.text.now (length c.args.text.now)))
+
+pub loop-i-init : goal.loop-i-init
+loop-i-init c = record { same = refl; follows = nothing_follows c.args.text.now c.args.start; line = omega arith; col = omega arith }
+
+pub returns-in-NotAscii-clause-refused : goal.returns-in-NotAscii-clause-refused
+returns-in-NotAscii-clause-refused c = follows_place c.loop-i.invariant.follows

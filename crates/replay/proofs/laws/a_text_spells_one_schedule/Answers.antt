@@ -1,4 +1,4 @@
-use Rattle.replay.proofs.Spelt.{spelt_once}
+use Rattle.replay.proofs.SpelledOnce.{spelt_once}
 use Rattle.replay.proofs.laws.a_text_spells_one_schedule.Goals as goal
 
 pub returns : goal.returns

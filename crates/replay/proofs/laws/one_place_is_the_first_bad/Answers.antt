@@ -1,4 +1,4 @@
-use Rattle.replay.proofs.Bad.{first_bad_fails, first_bad_once}
+use Rattle.replay.proofs.FirstBadPlace.{first_bad_fails, first_bad_once}
 use Rattle.replay.proofs.laws.one_place_is_the_first_bad.Goals as goal
 
 pub returns-clause-fails : goal.returns-clause-fails

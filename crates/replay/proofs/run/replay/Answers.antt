@@ -1,17 +1,20 @@
-use Rattle.std.proofs.Common.{arith, ◌≡◌, ◌+◌, ◌∙◌, ap, sym, refl, subst, All}
+use Rattle.std.proofs.Common.{arith, refl, sym, subst, All, length-take}
 use Rattle.std.proofs.lemmas.List.Elements.{All-push}
-use Rattle.semantics.specs.Schedules.{one_if}
 use Rattle.replay.specs.Trace.{IsValidLine}
-use Rattle.replay.specs.Run.{number_at}
-use Rattle.replay.proofs.Steps.{reached_next, from_bool-is}
+use Rattle.replay.proofs.LinesOfSteps.{few_so_far, told_more}
 use Rattle.replay.proofs.run.replay.Goals as goal
+
+pub take_step-requires-clause-room : goal.take_step-requires-clause-room
+take_step-requires-clause-room c =
+    let few = few_so_far c.args.program.now c.args.schedule.now c.loop-at.at c.loop-at.execution c.loop-at.lines.items c.loop-at.invariant.told in
+    let taken = length-take c.loop-at.at c.args.schedule.now in
+    omega (arith, few, taken)
 
 pub loop-at-preserved : goal.loop-at-preserved
 loop-at-preserved c =
-    let one : c.from.result ≡ one_if c.in-Some.line.preempting = c.from.ensures ∙ from_bool-is c.in-Some.line.preempting in
+    let step = c.in_ok-line.ensures in
     record {
-      of = c.in-Some.ensures.of;
-      reached = reached_next c.args.p.now c.args.w.now c.loop-at.at c.loop-at.state _ c.loop-at.last c.loop-at.lines.items _ c.loop-at.preemptions _ (number_at c.args.w.now c.loop-at.at) c.in-Some.line c.loop-at-test.true refl c.loop-at.invariant.reached c.in-Some.ensures.enabled c.in-Some.ensures.line c.in-Some.ensures.preempting c.in-Some.ensures.state c.in_ok-push.ensures.items (ap (λ n. c.loop-at.preemptions + n) one);
-      fine = subst (All (IsValidLine c.args.p.now)) (sym c.in_ok-push.ensures.items) (All-push (IsValidLine c.args.p.now) c.loop-at.lines.items c.in-Some.line c.loop-at.invariant.fine c.in-Some.ensures.fine);
-      before = omega (arith, c.if-t-threads.false, c.threads.ensures.number);
+      of = step.of;
+      told = told_more c.args.program.now c.args.schedule.now c.loop-at.at c.loop-at.execution _ c.loop-at.lines.items _ _ c.in_ok-line.line c.loop-at-test.true refl c.loop-at.invariant.told step.enabled step.told step.value c.in_ok-push.ensures.items;
+      valid = subst (All (IsValidLine c.args.program.now)) (sym c.in_ok-push.ensures.items) (All-push (IsValidLine c.args.program.now) c.loop-at.lines.items c.in_ok-line.line c.loop-at.invariant.valid step.valid);
     }

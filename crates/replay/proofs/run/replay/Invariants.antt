@@ -1,13 +1,12 @@
-use Rattle.std.proofs.Common.{◌<◌, length, take, All, IfSome}
-use Rattle.semantics.specs.Reachable.{IsOf}
+use Rattle.std.specs.Prelude.{All}
+use Rattle.semantics.specs.Execution.{IsExecutionOf}
 use Rattle.replay.specs.Trace.{IsValidLine}
-use Rattle.replay.proofs.Steps.{Reached}
+use Rattle.replay.proofs.LinesOfSteps.{IsToldUpTo}
 use Rattle.replay.proofs.run.replay.Given as goal
 
 abbrev pub invariant-loop-at : goal.invariant-loop-at
 invariant-loop-at l = record {
-  of : IsOf l.p l.state;
-  reached : Reached l.p (take l.at l.w) l.state l.last l.lines.items l.preemptions;
-  fine : All (IsValidLine l.p) l.lines.items;
-  before : IfSome l.last (λ u. u < length l.p.threads);
+  of : IsExecutionOf l.program l.execution;
+  told : IsToldUpTo l.program l.schedule l.at l.execution l.lines.items;
+  valid : All (IsValidLine l.program) l.lines.items;
 }

@@ -8,5 +8,5 @@ use Rattle.replay.proofs.run.stopped_threads.Given as goal
 abbrev pub invariant-loop-t : goal.invariant-loop-t
 invariant-loop-t l = record {
   value : l.stopped.items ≡ filter (λ t. is_stopped (thread_at l.state t).status) (up_from 0 l.t);
-  fine : All (λ t. t < length l.p.threads) l.stopped.items;
+  fine : All (λ t. t < length l.program.threads) l.stopped.items;
 }

@@ -1,6 +1,10 @@
-use Rattle.std.proofs.Common.{◌≡◌, ◌+◌, take, map, decimal}
-use Rattle.std.specs.List.{join_with_byte}
+use Rattle.std.proofs.Common.{◌≤◌, ◌+◌, drop}
+use Rattle.replay.proofs.WrittenRuns.{IsWritten}
 use Rattle.replay.proofs.schedule.schedule_text.Given as goal
 
-abbrev pub invariant-loop-t : goal.invariant-loop-t
-invariant-loop-t l = l.text.items ≡ join_with_byte 44 (map decimal (take (l.t-index + 1) l.w))
+-- the runs before this one are written
+abbrev pub invariant-loop-thread : goal.invariant-loop-thread
+invariant-loop-thread l = record {
+  written : IsWritten l.schedule l.text.items l.run (drop l.thread-index l.others);
+  count : l.run.count ≤ l.thread-index + 1;
+}

@@ -4,4 +4,4 @@ use Rattle.replay.specs.Trace.{start_line}
 use Rattle.replay.proofs.trace.put_starts.Given as goal
 
 abbrev pub invariant-loop-t : goal.invariant-loop-t
-invariant-loop-t l = l.text.items ≡ l.fn.text.items ++ flat_map (start_line l.p) (take l.t-index l.stopped)
+invariant-loop-t l = l.text.items ≡ l.fn.text.items ++ flat_map (start_line l.program) (take l.t-index l.stopped)

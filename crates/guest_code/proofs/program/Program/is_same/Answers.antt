@@ -1,5 +1,5 @@
 use Rattle.std.proofs.Common.{◌∙◌, sym}
-use Rattle.guest_code.proofs.Equal.{same_program-Decides}
+use Rattle.guest_code.proofs.ProgramEquality.{same_program-Decides}
 use Rattle.guest_code.proofs.program.Program.is_same.Goals as goal
 
 pub returns : goal.returns

@@ -1,4 +1,4 @@
-use Rattle.semantics.proofs.StepEffects.{lock_enabled, lock_owns}
+use Rattle.semantics.proofs.MutexSteps.{lock_enabled, lock_owns}
 use Rattle.semantics.proofs.laws.steps.free_mutexes_are_taken.Goals as goal
 
 pub returns : goal.returns

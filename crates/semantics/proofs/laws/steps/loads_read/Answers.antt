@@ -1,4 +1,4 @@
-use Rattle.semantics.proofs.StepEffects.{load_local, load_variables}
+use Rattle.semantics.proofs.VariableSteps.{load_local, load_variables}
 use Rattle.semantics.proofs.laws.steps.loads_read.Goals as goal
 
 pub returns : goal.returns

@@ -1,4 +1,4 @@
-use Rattle.semantics.proofs.StepEffects.{owner_stays}
+use Rattle.semantics.proofs.MutexSteps.{owner_stays}
 use Rattle.semantics.proofs.laws.steps.others_leave_an_owned_mutex.Goals as goal
 
 pub returns : goal.returns

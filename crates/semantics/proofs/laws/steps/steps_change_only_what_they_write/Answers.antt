@@ -1,4 +1,4 @@
-use Rattle.semantics.proofs.StepEffects.{step_variables, step_mutexes, step_conditions, step_semaphores}
+use Rattle.semantics.proofs.StepFrame.{step_variables, step_mutexes, step_conditions, step_semaphores}
 use Rattle.semantics.proofs.laws.steps.steps_change_only_what_they_write.Goals as goal
 
 pub returns : goal.returns

@@ -1,4 +1,4 @@
-use Rattle.semantics.proofs.StepEffects.{others_left}
+use Rattle.semantics.proofs.StepFrame.{others_left}
 use Rattle.semantics.proofs.laws.steps.steps_leave_other_threads.Goals as goal
 
 pub returns : goal.returns

@@ -1,4 +1,4 @@
-use Rattle.semantics.proofs.StepEffects.{store_value, store_others, store_thread}
+use Rattle.semantics.proofs.VariableSteps.{store_value, store_others, store_thread}
 use Rattle.semantics.proofs.laws.steps.stores_write.Goals as goal
 
 pub returns : goal.returns

@@ -6,6 +6,6 @@ use Rattle.semantics.proofs.state.State.step.Goals as goal
 
 pub returns-in-Some-clause-of : goal.returns-in-Some-clause-of
 returns-in-Some-clause-of c =
-    let about : next_of c.args.p.now c.args.self.now c.args.t ≡ Some c.in-Some.action = sym c.next.ensures.value ∙ c.in-Some.is in
-    let value : c.act.new.self ≡ step c.args.p.now c.args.self.now c.args.t = c.act.ensures ∙ ap (acts c.args.p.now c.args.self.now c.args.t (thread_at c.args.self.now c.args.t)) (sym about) in
-    subst (IsOf c.args.p.now) (sym value) (step_is_of c.args.p.now c.args.self.now c.args.t c.requires.of c.requires.enabled)
+    let about : next_of c.args.program.now c.args.self.now c.args.thread ≡ Some c.in-Some.action = sym c.next.ensures.value ∙ c.in-Some.is in
+    let value : c.execute.new.self ≡ step c.args.program.now c.args.self.now c.args.thread = c.execute.ensures ∙ ap (acts c.args.program.now c.args.self.now c.args.thread (thread_at c.args.self.now c.args.thread)) (sym about) in
+    subst (IsOf c.args.program.now) (sym value) (step_is_of c.args.program.now c.args.self.now c.args.thread c.requires.of c.requires.enabled)

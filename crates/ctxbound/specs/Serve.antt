@@ -1,0 +1,27 @@
+-- What is served of a reader whose bytes are known.
+use Rattle.std.specs.Prelude.{◌≡◌, ℕ, ◌+◌, List, Option, Result, OnOk, take}
+use Rattle.std.specs.Io.KnownBytes.{Appends}
+use Rattle.guest_syntax.specs.declared.limits.TheConstants.{TEXT_BYTES}
+use Rattle.ctxbound.specs.declared.asked.Asked.{Asked}
+use Rattle.ctxbound.specs.Answer.{AnswerView, IsAnswerOf, schedule_of}
+
+-- what is read of a file: at most one byte more than a program may have
+abbrev pub part_read : List ℕ → List ℕ
+part_read file = take (TEXT_BYTES + 1) file
+
+abbrev pub IsPartRead : List ℕ → List ℕ → Type 0
+IsPartRead text file = text ≡ part_read file
+
+-- where the bytes that a writer holds are known, a success has added these to them
+abbrev pub IsWritten : {T E : Type 0} → Result T E → Option (List ℕ) → Option (List ℕ) → List ℕ
+    → Type 0
+IsWritten result before after bytes = OnOk result (Appends before after bytes)
+
+-- the request was answered for what is read of this file: the output was added to what the writer
+-- held, and this is the status
+pub record IsServed (request : Asked) (file : List ℕ) (before after : Option (List ℕ)) (status : ℕ)
+    : Type 0 where
+  pub answer : AnswerView
+  pub means : IsAnswerOf (part_read file) (schedule_of request) answer
+  pub output : Appends before after answer.output
+  pub ends : status ≡ answer.status

@@ -1,0 +1,35 @@
+//! Laws, each the contract of a function that does nothing.
+
+ghost use Rattle.std.specs.Prelude.{◌≡◌, List, [], Some};
+ghost use Rattle.guest_code.specs.Program.{IsWellFormed};
+ghost use Rattle.guest_code.specs.Uses.{Use};
+ghost use Rattle.guest_code.specs.Fault.{first};
+ghost use Rattle.guest_code.specs.FirstFault.{IsFirstFault};
+ghost use Rattle.guest_code.specs.declared.error.CheckError.{CheckError};
+
+use crate::limits::{COUNT, INSTRUCTIONS, LOCALS, OBJECTS, THREADS, VARIABLES};
+use crate::program::Program;
+
+/// The first fault among the uses of names is at one use, and no use before it has any: so what
+/// `lower` answers is the first in text order.
+pub fn first_fault_is_first()
+    ensures { (all us : List Use) (e : CheckError) → first all [] us ≡ Some e
+        → IsFirstFault all [] us e }
+{}
+
+/// A program keeps every limit, and each number in its code is in range.
+pub fn programs_are_well_formed(program: &Program)
+    ensures { IsWellFormed program.now }
+{
+    program.keeps_limits();
+}
+
+/// The number of each limit.
+pub fn limits_are()
+    ensures threads { THREADS ≡ 16 }
+    ensures variables { VARIABLES ≡ 16 }
+    ensures objects { OBJECTS ≡ 8 }
+    ensures locals { LOCALS ≡ 16 }
+    ensures instructions { INSTRUCTIONS ≡ 1024 }
+    ensures count { COUNT ≡ 65535 }
+{}

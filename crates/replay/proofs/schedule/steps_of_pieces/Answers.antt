@@ -1,0 +1,30 @@
+use Rattle.std.proofs.Common.{◌==◌, rules, tests, length}
+use Rattle.std.proofs.lemmas.Iterator.Consumers.{YieldsList-at}
+use Rattle.std.proofs.lemmas.Iterator.Splits.{YieldsList-from_slice_split}
+use Rattle.replay.proofs.ReadPieces.{is_piece_here, there_is_one, held_one, more_steps, steps_all, all_short}
+use Rattle.replay.proofs.KnownItems.{turned, ended}
+use Rattle.replay.proofs.schedule.steps_of_pieces.Goals as goal
+
+pub unwrap-requires : goal.unwrap-requires
+unwrap-requires c =
+    let turn = turned c.loop-piece.yielded _ c.loop-piece.yielded_by _ _ _ c.in-Some.is c.next.ensures.steps (YieldsList-at c.into_iter-piece-iterator.ensures.into_iter_gives (YieldsList-from_slice_split _ (λ b. b == 44) c.args.text.now c.split-piece-items.ensures.rest c.split-piece-items.ensures.done c.split-piece-items.ensures.closure (λ x r q k. search (rules, tests)))) in
+    there_is_one c.piece_of.result c.in-Some.piece.now c.piece_of.ensures (is_piece_here c.args.text.now (length c.loop-piece.yielded) c.in-Some.piece.now c.requires.some turn.1 turn.2 c.requires.readable)
+
+pub loop-piece-preserved : goal.loop-piece-preserved
+loop-piece-preserved c =
+    let turn = turned c.loop-piece.yielded _ c.loop-piece.yielded_by _ _ _ c.in-Some.is c.next.ensures.steps (YieldsList-at c.into_iter-piece-iterator.ensures.into_iter_gives (YieldsList-from_slice_split _ (λ b. b == 44) c.args.text.now c.split-piece-items.ensures.rest c.split-piece-items.ensures.done c.split-piece-items.ensures.closure (λ x r q k. search (rules, tests)))) in
+    record {
+      next = search rules;
+      finite = search rules;
+      spelt = more_steps (λ x. x.now) c.args.text.now c.loop-piece.yielded c.in-Some.piece c.loop-piece.schedule.items _ c.unwrap.result c.requires.some turn.0 turn.1 turn.2 c.requires.readable c.loop-piece.invariant.spelt (held_one c.piece_of.result c.in-Some.piece.now c.unwrap.result c.piece_of.ensures c.unwrap.ensures) c.in_ok-put_steps.ensures;
+    }
+
+pub returns-clause-value : goal.returns-clause-value
+returns-clause-value c =
+    let all = ended c.loop-piece.yielded _ c.loop-piece.yielded_by _ _ c.in-None.is c.next.ensures.steps (YieldsList-at c.into_iter-piece-iterator.ensures.into_iter_gives (YieldsList-from_slice_split _ (λ b. b == 44) c.args.text.now c.split-piece-items.ensures.rest c.split-piece-items.ensures.done c.split-piece-items.ensures.closure (λ x r q k. search (rules, tests)))) in
+    steps_all c.args.text.now c.loop-piece.schedule.items c.requires.some (rw all at c.loop-piece.invariant.spelt)
+
+pub returns-clause-short : goal.returns-clause-short
+returns-clause-short c =
+    let all = ended c.loop-piece.yielded _ c.loop-piece.yielded_by _ _ c.in-None.is c.next.ensures.steps (YieldsList-at c.into_iter-piece-iterator.ensures.into_iter_gives (YieldsList-from_slice_split _ (λ b. b == 44) c.args.text.now c.split-piece-items.ensures.rest c.split-piece-items.ensures.done c.split-piece-items.ensures.closure (λ x r q k. search (rules, tests)))) in
+    all_short c.args.text.now c.loop-piece.schedule.items (steps_all c.args.text.now c.loop-piece.schedule.items c.requires.some (rw all at c.loop-piece.invariant.spelt)) c.requires.readable

@@ -1,0 +1,110 @@
+//! The pieces of a schedule's text: a thread number, alone or with `x` and a count.
+
+ghost use Rattle.std.specs.Prelude.{◌≡◌, ◌≢◌, ◌-◌, ◌^◌, OnOk, MatchOption, ℕ, ◌++◌, ◌==◌, min, IsTrue, ◌↔◌, position, replicate, slice_index};
+ghost use Rattle.std.specs.Str.Parse.{IsNumeral};
+ghost use Rattle.replay.specs.Spelling.{SpellsNumber, SpellsCount, IsPiece, IsHeldAs, piece_text};
+
+use std::alloc::{AllocError, Global};
+
+/// How many numbers a schedule's text may name: 0 to 255.
+pub const NUMBERS: usize = 256;
+
+/// The one number that begins with a zero.
+const ZERO: &[u8] = b"0";
+
+/// So many steps of a thread, one after the other.
+#[derive(Clone, Copy)]
+pub struct Piece {
+    /// The thread, by its number.
+    pub thread: u8,
+    /// How many steps.
+    pub count: usize,
+}
+
+impl Piece {
+    /// One step of a thread.
+    pub fn step(thread: u8) -> Piece
+        ensures { result ≡ record { thread = thread; count = 1 } }
+    {
+        Piece { thread, count: 1 }
+    }
+}
+
+/// The piece that a text spells; a count above `usize::MAX` is answered as that.
+pub fn piece_of(text: &[u8]) -> Option<Piece>
+    ensures { MatchOption result (¬ (IsPiece text.now)) (IsHeldAs text.now) }
+{
+    let Some(at) = first_x(text) else {
+        return Some(Piece::step(number_of(text)?));
+    };
+    Some(Piece {
+        thread: number_of(&text[..at])?,
+        count: count_of(&text[at + 1..])?,
+    })
+}
+
+// Where the first `x` is.
+fn first_x(text: &[u8]) -> Option<usize>
+    ensures { result ≡ position (λ b. b == 120) text.now }
+{
+    text.iter().position(|b| *b == b'x')
+}
+
+// The number 0 to 255 that the text is in decimal, without leading zeros and without a sign.
+fn number_of(text: &[u8]) -> Option<u8>
+    ensures { MatchOption result ((t : ℕ) → ¬ (SpellsNumber text.now t)) (SpellsNumber text.now) }
+{
+    if text == ZERO {
+        return Some(0);
+    }
+    let number = count_of(text)?;
+    if number < NUMBERS {
+        Some(number as u8)
+    } else {
+        None
+    }
+}
+
+// The count that the text is in decimal; one above `usize::MAX` is answered as that.
+fn count_of(text: &[u8]) -> Option<usize>
+    ensures { MatchOption result ((n : ℕ) → ¬ (SpellsCount text.now n))
+        (λ held. (n : ℕ) × SpellsCount text.now n × (held ≡ min n (2 ^ 64 - 1))) }
+{
+    if !is_count(text) {
+        return None;
+    }
+    let Ok(digits) = str::from_utf8(text) else {
+        return None;
+    };
+    Some(digits.parse().unwrap_or(usize::MAX))
+}
+
+// Whether the text has digits alone, at least one, and no zero first.
+fn is_count(text: &[u8]) -> bool
+    ensures { IsTrue result ↔ (IsNumeral 10 text.now × (slice_index text.now 0 ≢ 48)) }
+{
+    !text.is_empty() && text[0] != b'0' && text.iter().all(|b| b.is_ascii_digit())
+}
+
+/// Writes a piece: a single step as its thread's number alone.
+pub fn put_piece(text: &mut Vec<u8>, alloc: Global, piece: Piece) -> Result<(), AllocError>
+    ensures { OnOk result (text.new.items ≡ text.old.items ++ piece_text piece) }
+{
+    text.extend_from_slice(piece.thread.to_string(alloc)?.as_bytes())?;
+    if piece.count != 1 {
+        text.push(b'x')?;
+        text.extend_from_slice(piece.count.to_string(alloc)?.as_bytes())?;
+    }
+    Ok(())
+}
+
+/// Writes the steps of a piece.
+pub fn put_steps(schedule: &mut Vec<u8>, piece: Piece) -> Result<(), AllocError>
+    ensures { OnOk result
+        (schedule.new.items ≡ schedule.old.items ++ replicate piece.count piece.thread) }
+{
+    for _ in 0..piece.count {
+        schedule.push(piece.thread)?;
+    }
+    Ok(())
+}
