@@ -4,8 +4,8 @@ ghost use Rattle.std.specs.Prelude.{◌≡◌, OnOk, IfOk, MatchOption, Some, No
 ghost use Rattle.std.specs.List.Sorted.{IsStrictlySortedBy};
 ghost use Rattle.semantics.specs.Order.{precedes, lesser, is_bad};
 ghost use Rattle.semantics.specs.View.{view_cmp};
-ghost use Rattle.walk.specs.Summaries.{SummaryView, IsSummary, schedule_view, nothing, counted_if, is_failed, is_stuck, with_view, sorted_views, join, with_beyond};
-ghost use Rattle.walk.specs.SubtreeInvariant.{added, first_bad_with};
+ghost use Rattle.walk.specs.Summaries.{SummaryView, IsSummary, schedule_view, nothing, is_failed, is_stuck, with_view, sorted_views, join, with_beyond};
+ghost use Rattle.walk.specs.SubtreeInvariant.{added, counted_if, first_bad_with};
 
 use semantics::view::{EndView, Kind};
 use std::alloc::{AllocError, Global};
