@@ -71,45 +71,11 @@ impl fmt::Display for Fault {
     fn fmt<W: fmt::Write>(&self, f: &mut fmt::Formatter<W>) -> fmt::Result {
         match self {
             Fault::File => write!(f, "file"),
-            Fault::Syntax(SyntaxError::NotAscii(at)) => write!(f, "syntax S1 NotAscii at {at}"),
-            Fault::Syntax(SyntaxError::BadChar(at)) => write!(f, "syntax S2 BadChar at {at}"),
-            Fault::Syntax(SyntaxError::Expected(at)) => write!(f, "syntax S3 Expected at {at}"),
-            Fault::Syntax(SyntaxError::NumberTooBig(at)) => {
-                write!(f, "syntax S4 NumberTooBig at {at}")
-            }
-            Fault::Syntax(SyntaxError::TooLong(at)) => write!(f, "syntax S5 TooLong at {at}"),
-            Fault::Syntax(SyntaxError::TooDeep(at)) => write!(f, "syntax S6 TooDeep at {at}"),
-            Fault::Check(CheckError::Duplicate(at)) => write!(f, "check C1 Duplicate at {at}"),
-            Fault::Check(CheckError::Unknown(at)) => write!(f, "check C2 Unknown at {at}"),
-            Fault::Check(CheckError::WrongKind(at)) => write!(f, "check C3 WrongKind at {at}"),
-            Fault::Check(CheckError::NoThreads) => write!(f, "check C4 NoThreads"),
-            Fault::Check(CheckError::TooMany(at)) => write!(f, "check C5 TooMany at {at}"),
-            Fault::Check(CheckError::CodeTooLong(t)) => write!(
-                f,
-                "check C6 CodeTooLong in thread {t}"
-            ),
-            Fault::Check(CheckError::LeaveOutside(at)) => write!(
-                f,
-                "check C7 LeaveOutside at {at}"
-            ),
-            Fault::Schedule(ScheduleError::BadSchedule(at)) => write!(
-                f,
-                "schedule Q1 BadSchedule at {at}"
-            ),
-            Fault::Schedule(ScheduleError::TooLong(at)) => write!(f, "schedule Q3 TooLong at {at}"),
-            Fault::Replay(ReplayError::NoSuchThread(at)) => write!(
-                f,
-                "schedule P1 NoSuchThread at {at}"
-            ),
-            Fault::Replay(ReplayError::NotEnabled(at)) => write!(
-                f,
-                "schedule P2 NotEnabled at {at}"
-            ),
-            Fault::Memory
-            | Fault::Syntax(SyntaxError::OutOfMemory)
-            | Fault::Check(CheckError::OutOfMemory)
-            | Fault::Schedule(ScheduleError::OutOfMemory)
-            | Fault::Replay(ReplayError::OutOfMemory) => write!(f, "memory"),
+            Fault::Syntax(error) => write!(f, "{error}"),
+            Fault::Check(error) => write!(f, "{error}"),
+            Fault::Schedule(error) => write!(f, "{error}"),
+            Fault::Replay(error) => write!(f, "{error}"),
+            Fault::Memory => write!(f, "memory"),
         }
     }
 }

@@ -2,6 +2,7 @@ pub mod Program
 pub mod Uses
 pub mod Sizes
 pub mod Fault
+pub mod ErrorTexts
 pub mod FirstFault
 pub mod Code
 pub mod Same

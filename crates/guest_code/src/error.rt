@@ -5,6 +5,7 @@ ghost use Rattle.guest_code.specs.declared.error.CheckError.TheVariants.{OutOfMe
 
 use guest_syntax::place::Pos;
 use std::alloc::{AllocError, AllocFailed};
+use std::fmt;
 use thiserror::Error;
 
 /// What is wrong with a tree, or that memory ran out. Places are those of names, and of the word
@@ -12,29 +13,44 @@ use thiserror::Error;
 #[derive(Clone, Copy, Debug, PartialEq, Eq, Error)]
 pub enum CheckError {
     /// The name is declared already. Objects and threads share one name space.
-    #[error("check C1 Duplicate at {0}")]
     Duplicate(Pos),
     /// An object must be named here, and nothing declares this name.
-    #[error("check C2 Unknown at {0}")]
     Unknown(Pos),
     /// This name is declared as something else than what must be named here.
-    #[error("check C3 WrongKind at {0}")]
     WrongKind(Pos),
     /// There is no thread.
-    #[error("check C4 NoThreads")]
     NoThreads,
     /// The declaration, the thread or the first use of a local that passes its limit.
-    #[error("check C5 TooMany at {0}")]
     TooMany(Pos),
     /// The first thread, by its number, with more than `INSTRUCTIONS` instructions.
-    #[error("check C6 CodeTooLong in thread {0}")]
     CodeTooLong(u8),
     /// No `repeat` of its thread is round this `leave`.
-    #[error("check C7 LeaveOutside at {0}")]
     LeaveOutside(Pos),
     /// Memory ran out.
-    #[error("memory")]
     OutOfMemory,
+}
+
+/// What the user is told: the number and the name of the refusal, and its place or its thread.
+impl fmt::Display for CheckError {
+    ghost use Rattle.std.specs.Prelude.{Some};
+    ghost use Rattle.guest_code.specs.ErrorTexts.{check_error_text};
+
+    ghost output = { λ e. Some (check_error_text e) };
+
+    fn fmt<W: fmt::Write>(&self, f: &mut fmt::Formatter<W>) -> fmt::Result {
+        match self {
+            CheckError::Duplicate(at) => write!(f, "check C1 Duplicate at {at}"),
+            CheckError::Unknown(at) => write!(f, "check C2 Unknown at {at}"),
+            CheckError::WrongKind(at) => write!(f, "check C3 WrongKind at {at}"),
+            CheckError::NoThreads => write!(f, "check C4 NoThreads"),
+            CheckError::TooMany(at) => write!(f, "check C5 TooMany at {at}"),
+            CheckError::CodeTooLong(thread) => {
+                write!(f, "check C6 CodeTooLong in thread {thread}")
+            }
+            CheckError::LeaveOutside(at) => write!(f, "check C7 LeaveOutside at {at}"),
+            CheckError::OutOfMemory => write!(f, "memory"),
+        }
+    }
 }
 
 impl From<AllocError> for CheckError {

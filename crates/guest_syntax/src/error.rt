@@ -5,33 +5,47 @@ ghost use Rattle.guest_syntax.specs.declared.error.SyntaxError.TheVariants.{OutO
 
 use crate::place::Pos;
 use std::alloc::{AllocError, AllocFailed};
+use std::fmt;
 use thiserror::Error;
 
 /// The first fault of a text, and its place. A text that is too long is refused before all else.
 #[derive(Clone, Copy, Debug, PartialEq, Eq, Error)]
 pub enum SyntaxError {
     /// A byte above 127, in a comment too.
-    #[error("syntax S1 NotAscii at {0}")]
     NotAscii(Pos),
     /// A byte that begins no token.
-    #[error("syntax S2 BadChar at {0}")]
     BadChar(Pos),
     /// A token, or the end of the text, where the grammar wants something else, and the number of
     /// a `repeat 0`.
-    #[error("syntax S3 Expected at {0}")]
     Expected(Pos),
     /// A number above its limit.
-    #[error("syntax S4 NumberTooBig at {0}")]
     NumberTooBig(Pos),
     /// A text of more than [`TEXT_BYTES`](crate::TEXT_BYTES) bytes; the place is 1:1.
-    #[error("syntax S5 TooLong at {0}")]
     TooLong(Pos),
     /// The opening brace of a block that lies too deep.
-    #[error("syntax S6 TooDeep at {0}")]
     TooDeep(Pos),
     /// Memory ran out.
-    #[error("memory")]
     OutOfMemory,
+}
+
+/// What the user is told: the number and the name of the refusal, and its place.
+impl fmt::Display for SyntaxError {
+    ghost use Rattle.std.specs.Prelude.{Some};
+    ghost use Rattle.guest_syntax.specs.ErrorTexts.{syntax_error_text};
+
+    ghost output = { λ e. Some (syntax_error_text e) };
+
+    fn fmt<W: fmt::Write>(&self, f: &mut fmt::Formatter<W>) -> fmt::Result {
+        match self {
+            SyntaxError::NotAscii(at) => write!(f, "syntax S1 NotAscii at {at}"),
+            SyntaxError::BadChar(at) => write!(f, "syntax S2 BadChar at {at}"),
+            SyntaxError::Expected(at) => write!(f, "syntax S3 Expected at {at}"),
+            SyntaxError::NumberTooBig(at) => write!(f, "syntax S4 NumberTooBig at {at}"),
+            SyntaxError::TooLong(at) => write!(f, "syntax S5 TooLong at {at}"),
+            SyntaxError::TooDeep(at) => write!(f, "syntax S6 TooDeep at {at}"),
+            SyntaxError::OutOfMemory => write!(f, "memory"),
+        }
+    }
 }
 
 impl From<AllocError> for SyntaxError {

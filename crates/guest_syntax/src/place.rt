@@ -55,10 +55,10 @@ impl Pos {
 
 /// Line and column with a colon between them, as `1:21`.
 impl fmt::Display for Pos {
-    ghost use Rattle.std.specs.Prelude.{◌++◌, Some, codes};
-    ghost use Rattle.std.specs.Fmt.{decimal};
+    ghost use Rattle.std.specs.Prelude.{Some};
+    ghost use Rattle.guest_syntax.specs.ErrorTexts.{place_text};
 
-    ghost output = { λ at. Some (decimal at.line ++ codes ":" ++ decimal at.col) };
+    ghost output = { λ at. Some (place_text at) };
 
     fn fmt<W: fmt::Write>(&self, f: &mut fmt::Formatter<W>) -> fmt::Result {
         write!(f, "{}:{}", self.line, self.col)

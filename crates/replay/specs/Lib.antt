@@ -1,4 +1,5 @@
 pub mod Spelling
 pub mod Run
 pub mod Trace
+pub mod ErrorTexts
 pub mod inner

@@ -48,7 +48,7 @@ pub fn one_error_fits_a_text()
         ScheduleErrorMeans text e → ScheduleErrorMeans text f → e ≡ f }
 {}
 
-/// A schedule that is read has at most 32,768 places.
+/// A schedule that is read has at most `PLACES` places, which is this number.
 pub fn schedules_are_read_within_the_limit()
     ensures { PLACES ≡ 32768 }
 {}

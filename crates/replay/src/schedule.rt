@@ -9,6 +9,7 @@ ghost use Rattle.replay.specs.inner.Piece.{RefusalMeans};
 use crate::piece::{Piece, piece_of, put_piece, put_steps};
 use semantics::limits::STEPS;
 use std::alloc::{AllocError, AllocFailed, Global};
+use std::fmt;
 use thiserror::Error;
 
 /// The most places of a schedule that is read from a text: the limit of steps.
@@ -21,15 +22,28 @@ const EMPTY: &[u8] = b"-";
 #[derive(Debug, Drop, Error)]
 pub enum ScheduleError {
     /// The offset, in bytes, of the first piece that can't be taken, where it is no piece.
-    #[error("schedule Q1 BadSchedule at {0}")]
     BadSchedule(usize),
     /// The offset, in bytes, of the first piece that can't be taken, where it is one with which
     /// the schedule has more than [`PLACES`] places.
-    #[error("schedule Q3 TooLong at {0}")]
     TooLong(usize),
     /// Memory ran out.
-    #[error("memory")]
     OutOfMemory,
+}
+
+/// What the user is told: the number and the name of the refusal, and the offset in the text.
+impl fmt::Display for ScheduleError {
+    ghost use Rattle.std.specs.Prelude.{Some};
+    ghost use Rattle.replay.specs.ErrorTexts.{schedule_error_text};
+
+    ghost output = { λ e. Some (schedule_error_text e) };
+
+    fn fmt<W: fmt::Write>(&self, f: &mut fmt::Formatter<W>) -> fmt::Result {
+        match self {
+            ScheduleError::BadSchedule(at) => write!(f, "schedule Q1 BadSchedule at {at}"),
+            ScheduleError::TooLong(at) => write!(f, "schedule Q3 TooLong at {at}"),
+            ScheduleError::OutOfMemory => write!(f, "memory"),
+        }
+    }
 }
 
 impl From<AllocError> for ScheduleError {

@@ -5,7 +5,7 @@ ghost use Rattle.semantics.specs.Machine.{start, is_enabled};
 ghost use Rattle.semantics.specs.Schedules.{runs};
 ghost use Rattle.semantics.specs.Execution.{Reaches, IsExecutionOf, stepped};
 ghost use Rattle.walk.specs.Items.{prefix_sum};
-ghost use Rattle.walk.specs.SubtreeInvariant.{ExtendsUnder};
+ghost use Rattle.walk.specs.inner.SubtreeInvariant.{ExtendsUnder};
 
 use crate::summary::Summary;
 use guest_code::program::Program;

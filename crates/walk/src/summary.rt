@@ -5,7 +5,7 @@ ghost use Rattle.std.specs.List.Sorted.{IsStrictlySortedBy};
 ghost use Rattle.semantics.specs.Order.{precedes, lesser, is_bad};
 ghost use Rattle.semantics.specs.View.{view_cmp};
 ghost use Rattle.walk.specs.Summaries.{SummaryView, IsSummary, schedule_view, nothing, is_failed, is_stuck, with_view, sorted_views, join, with_beyond};
-ghost use Rattle.walk.specs.SubtreeInvariant.{added, counted_if, first_bad_with};
+ghost use Rattle.walk.specs.inner.SubtreeInvariant.{added, counted_if, first_bad_with};
 
 use semantics::view::{EndView, Kind};
 use std::alloc::{AllocError, Global};
@@ -133,7 +133,7 @@ impl Summary {
     }
 
     // The summary with one more complete schedule, which ends so.
-    #[tactic(auto, using(crate::proofs::SumsJoin::added_kept), unfolding(crate::specs::SubtreeInvariant::added))]
+    #[tactic(auto, using(crate::proofs::SumsJoin::added_kept), unfolding(crate::specs::inner::SubtreeInvariant::added))]
     pub(crate) fn with_schedule(
         self,
         alloc: Global,

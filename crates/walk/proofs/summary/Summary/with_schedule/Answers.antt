@@ -1,7 +1,7 @@
 use Rattle.std.proofs.Common.{◌∙◌, ap}
 use Rattle.semantics.specs.Order.{is_bad}
 use Rattle.walk.specs.Summaries.{schedule_view, is_failed, is_stuck}
-use Rattle.walk.specs.SubtreeInvariant.{counted_if, first_bad_with}
+use Rattle.walk.specs.inner.SubtreeInvariant.{counted_if, first_bad_with}
 use Rattle.walk.proofs.SumsJoin.{parts_kept}
 use Rattle.walk.proofs.summary.Summary.with_schedule.Goals as goal
 
