@@ -4,7 +4,18 @@ ghost use Rattle.std.specs.Prelude.{◌≡◌, List, ℕ};
 ghost use Rattle.guest_syntax.specs.Tree as model;
 ghost use Rattle.guest_syntax.specs.Grammar.{Spells};
 
+use crate::limits::{COUNT, DEPTH, NUMBER, REPEATS, TEXT_BYTES};
+
 /// A text spells at most one tree.
 pub fn one_tree()
     ensures { (text : List ℕ) (t u : model.Tree) → Spells text t → Spells text u → t ≡ u }
+{}
+
+/// The number of each limit.
+pub fn limits_are()
+    ensures text_bytes { TEXT_BYTES ≡ 65536 }
+    ensures depth { DEPTH ≡ 32 }
+    ensures number { NUMBER ≡ 9223372036854775807 }
+    ensures count { COUNT ≡ 65535 }
+    ensures repeats { REPEATS ≡ 100 }
 {}

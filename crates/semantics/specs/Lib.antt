@@ -19,5 +19,6 @@ pub mod OperatorTable
 pub mod Dependence
 pub mod Effects
 pub mod Increments
+pub mod PrunedAway
 pub mod Execution
 pub mod Branches

@@ -1,15 +1,16 @@
 //! The schedules of small programs, one by one.
 
-ghost use Rattle.std.specs.Prelude.{◌≡◌, pos, [], ◌∷◌, map};
+ghost use Rattle.std.specs.Prelude.{◌≡◌, pos, nat_le, [], ◌∷◌, map, filter};
 ghost use Rattle.semantics.specs.declared.state.Status.TheVariants.{Ended, Stopped};
 ghost use Rattle.semantics.specs.declared.state.Stop.TheVariants.{Assert as FailedAssert};
-ghost use Rattle.semantics.specs.declared.view.Kind.TheVariants.{Failed};
+ghost use Rattle.semantics.specs.declared.view.Kind.TheVariants.{Done, Failed};
 ghost use Rattle.semantics.specs.Branches.{branches, IsAt};
 ghost use Rattle.semantics.specs.Machine.{start, thread_at};
 ghost use Rattle.semantics.specs.Schedules.{complete_schedules, preemptions};
 ghost use Rattle.semantics.specs.Ends.{end_of};
 ghost use Rattle.semantics.specs.Sleep.{reduced_schedules, none_asleep};
 ghost use Rattle.semantics.specs.Increments.{increments, six_schedules, four_schedules, done_with};
+ghost use Rattle.semantics.specs.PrunedAway.{pruned_away, last, between, three_schedules};
 
 /// Two threads that each load a variable, add 1 and store the sum have six complete schedules, with
 /// these preemptions; only the two without preemptions don't lose an update. Sleep sets keep four:
@@ -21,6 +22,20 @@ pub fn increments_have_six_schedules()
         ≡ done_with (pos 2) ∷ done_with (pos 1) ∷ done_with (pos 1)
         ∷ done_with (pos 1) ∷ done_with (pos 1) ∷ done_with (pos 2) ∷ [] }
     ensures reduced { reduced_schedules increments (start increments) none_asleep ≡ four_schedules }
+{}
+
+/// Why a search within a bound must not prune by sleep sets: of this program's three complete
+/// schedules the first one is done, and the others fail, the last one of them with no preemption.
+/// Sleep sets keep the first two, and of those only the one that is done has no preemption.
+pub fn pruning_within_a_bound_loses_a_failure()
+    ensures complete { complete_schedules pruned_away (start pruned_away) ≡ three_schedules }
+    ensures preemptions { map (preemptions pruned_away) three_schedules ≡ 0 ∷ 1 ∷ 0 ∷ [] }
+    ensures kinds { map (λ w. (end_of pruned_away w).kind) three_schedules
+        ≡ Done ∷ Failed ∷ Failed ∷ [] }
+    ensures reduced { reduced_schedules pruned_away (start pruned_away) none_asleep
+        ≡ last ∷ between ∷ [] }
+    ensures within { filter (λ w. nat_le (preemptions pruned_away w) 0)
+        (reduced_schedules pruned_away (start pruned_away) none_asleep) ≡ last ∷ [] }
 {}
 
 /// Two threads that set a local, branch on it and assert: the one whose test holds takes the first
