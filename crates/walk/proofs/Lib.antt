@@ -6,3 +6,4 @@ pub mod SumsJoin
 pub mod ListParts
 pub mod WalkedItems
 pub mod Splits
+pub mod WalkedFurther
