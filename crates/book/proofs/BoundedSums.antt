@@ -5,16 +5,15 @@ use Rattle.std.proofs.lemmas.List.Elements.{All-nil, All-cons, All-head, All-tai
 use Rattle.guest_code.specs.Program.{Program}
 use Rattle.semantics.specs.Order.{precedes, lesser, least, is_bad}
 use Rattle.semantics.specs.Schedules.{begins_with}
-use Rattle.semantics.specs.View.{View}
 use Rattle.semantics.specs.Waiters.{In}
 use Rattle.semantics.proofs.LeastSchedule.{least_some}
 use Rattle.semantics.proofs.ListMembers.{in_contains, contains_in, from_filter}
 use Rattle.walk.specs.declared.mode.Mode.{Mode}
-use Rattle.walk.specs.Summaries.{SummaryView, IsSummary, nothing, cut, greatest_count, end_kind, sum_of, join, with_beyond, sorted_views}
+use Rattle.walk.specs.Summaries.{SummaryView, IsSummary, nothing, cut, greatest_count, end_kind, sum_of, join, sorted_views}
 use Rattle.walk.specs.Items.{ItemView, root_of, schedules_of, goes_beyond, item_sum, item_sums, is_under, whole}
 use Rattle.walk.specs.Walks.{clear_of}
 use Rattle.walk.proofs.ListParts.{all_left}
-use Rattle.walk.proofs.SumsJoin.{sum_kept, join_kept, join_comm, join_assoc, join_nothing, join_first_bad, join_members}
+use Rattle.walk.proofs.SumsJoin.{sum_kept, nothing_kept, join_kept, join_comm, join_assoc, join_nothing, join_first_bad, join_members}
 use Rattle.walk.proofs.WalkedItems.{HasItsOf, rest_has}
 use Rattle.walk.proofs.Splits.{split_sum, split_kept}
 use Rattle.book.specs.Quick.{IsBoundedBy}
@@ -45,17 +44,8 @@ bounded_join x g k h = record {
 item_sum_kept : (mode : Mode) (i : ItemView) → IsSummary (item_sum mode i)
 item_sum_kept mode i = sum_kept i.program (schedules_of mode i) (goes_beyond mode i)
 
-nothing_is_kept : IsSummary nothing
-nothing_is_kept = record {
-  tried = omega arith;
-  failed = omega arith;
-  stuck = omega arith;
-  ends = refl;
-  first_bad = refl;
-}
-
 sums_kept : (mode : Mode) (is : List ItemView) → IsSummary (item_sums mode is)
-sums_kept mode [] = nothing_is_kept
+sums_kept mode [] = nothing_kept [] refl
 sums_kept mode (i ∷ is) =
     join_kept (item_sum mode i) (item_sums mode is) (item_sum_kept mode i) (sums_kept mode is)
 
@@ -87,14 +77,14 @@ item_after mode item i w has h = subst (IsAfter w) (sym (bad_of mode i)) (go (le
     member : (v : List ℕ) → least bad ≡ Some v → In (schedules_of mode i) v
     member v e =
         (from_filter (λ u. is_bad (end_kind i.program u)) (schedules_of mode i) v
-            (contains_in bad v (least_some bad v e).0)).0
+        (contains_in bad v (least_some bad v e).0)).0
 
     go : (o : Option (List ℕ)) → least bad ≡ o → IsAfter w o
     go None e = tt
     go (Some v) e =
         begins_later w i.prefix v h
         (from_filter (begins_with i.prefix) (schedules_of mode item) v
-            (subst (λ K. In K v) has (member v e))).1
+        (subst (λ K. In K v) has (member v e))).1
 
 sums_after : (mode : Mode) (item : ItemView) (w : List ℕ) (is : List ItemView) →
     All (HasItsOf mode item) is → ComeAfter w is → IsAfter w (item_sums mode is).first_bad
@@ -102,10 +92,10 @@ sums_after mode item w [] s h = tt
 sums_after mode item w (i ∷ is) s h =
     subst (IsAfter w) (sym (join_first_bad (item_sum mode i) (item_sums mode is)))
     (lesser_after w (item_sum mode i).first_bad (item_sums mode is).first_bad
-        (item_after mode item i w (All-head (HasItsOf mode item) i is s)
-            (All-head (λ (i : ItemView). precedes w i.prefix ≡ true) i is h))
-        (sums_after mode item w is (All-tail (HasItsOf mode item) i is s)
-            (All-tail (λ (i : ItemView). precedes w i.prefix ≡ true) i is h)))
+    (item_after mode item i w (All-head (HasItsOf mode item) i is s)
+    (All-head (λ (i : ItemView). precedes w i.prefix ≡ true) i is h))
+    (sums_after mode item w is (All-tail (HasItsOf mode item) i is s)
+    (All-tail (λ (i : ItemView). precedes w i.prefix ≡ true) i is h)))
 
 -- the whole is what the book knows joined with the sums of what it dropped
 whole_is : (b : BookView) → (t : IsThinned b) →
@@ -113,11 +103,11 @@ whole_is : (b : BookView) → (t : IsThinned b) →
     join (join b.finished (item_sums b.mode b.open_items)) (item_sums b.mode t.gone)
 whole_is b t =
     split_sum b.mode (root_of b.program) b.finished (t.gone ++ b.open_items) b.deferred t.split
-    ∙ (ap (join b.finished) (sums-append b.mode t.gone b.open_items ∙ join_comm dropped open)
-    ∙ sym (join_assoc b.finished open dropped))
+    ∙ (ap (join b.finished) (sums-append b.mode t.gone b.open_items ∙ join_comm dropped still_open)
+    ∙ sym (join_assoc b.finished still_open dropped))
   where
-    open : SummaryView
-    open = item_sums b.mode b.open_items
+    still_open : SummaryView
+    still_open = item_sums b.mode b.open_items
 
     dropped : SummaryView
     dropped = item_sums b.mode t.gone
@@ -126,37 +116,37 @@ pub thinned_bounded : (b : BookView) → IsThinned b →
     IsBoundedBy (join b.finished (item_sums b.mode b.open_items)) (whole b.program b.mode)
 thinned_bounded b t =
     let known = join b.finished (item_sums b.mode b.open_items) in
-    let open = item_sums b.mode b.open_items in
+    let still_open = item_sums b.mode b.open_items in
     let dropped = item_sums b.mode t.gone in
-    let l = lesser_some t.first open.first_bad in
+    let l = lesser_some t.first still_open.first_bad in
     let is : known.first_bad ≡ Some l.0 =
-        join_first_bad b.finished open ∙ (ap (λ o. lesser o open.first_bad) t.found ∙ l.1) in
+    join_first_bad b.finished still_open ∙ (ap (λ o. lesser o still_open.first_bad) t.found ∙ l.1) in
     let has : All (HasItsOf b.mode (root_of b.program)) t.gone =
-        all_left (HasItsOf b.mode (root_of b.program)) t.gone b.open_items
-            (rest_has b.mode (root_of b.program) (t.gone ++ b.open_items) b.deferred
-                t.split.below t.split.cut) in
+    all_left (HasItsOf b.mode (root_of b.program)) t.gone b.open_items
+    (rest_has b.mode (root_of b.program) (t.gone ++ b.open_items) b.deferred
+    t.split.below t.split.cut) in
     let after : IsAfter l.0 dropped.first_bad =
-        after_more t.first l.0 dropped.first_bad l.2
-            (sums_after b.mode (root_of b.program) t.first t.gone has t.later) in
+    after_more t.first l.0 dropped.first_bad l.2
+    (sums_after b.mode (root_of b.program) t.first t.gone has t.later) in
     subst (IsBoundedBy known) (sym (whole_is b t))
     (bounded_join known dropped
-        (join_kept b.finished open (finished_kept b t) (sums_kept b.mode b.open_items))
-        (ap (λ o. lesser o dropped.first_bad) is
-        ∙ (lesser_first l.0 dropped.first_bad after ∙ sym is)))
+    (join_kept b.finished still_open (finished_kept b t) (sums_kept b.mode b.open_items))
+    (ap (λ o. lesser o dropped.first_bad) is
+    ∙ (lesser_first l.0 dropped.first_bad after ∙ sym is)))
   where
     finished_kept : (b : BookView) → (t : IsThinned b) → IsSummary b.finished
     finished_kept b t =
         split_kept b.mode (root_of b.program) b.finished (t.gone ++ b.open_items) b.deferred t.split
 
--- where nothing is open
+-- where nothing is still_open
 closes_thinned : (b : BookView) → IsThinned b → b.open_items ≡ [] →
     IsBoundedBy b.finished (whole b.program b.mode)
 closes_thinned b t none =
     subst (λ x. IsBoundedBy x (whole b.program b.mode))
     (ap (λ is. join b.finished (item_sums b.mode is)) none
     ∙ join_nothing b.finished
-        (split_kept b.mode (root_of b.program) b.finished (t.gone ++ b.open_items) b.deferred
-            t.split))
+    (split_kept b.mode (root_of b.program) b.finished (t.gone ++ b.open_items) b.deferred
+    t.split))
     (thinned_bounded b t)
 
 bounded_itself : (x : SummaryView) → IsBoundedBy x x
@@ -177,10 +167,10 @@ pub thinned_found : (b : BookView) → (t : IsThinned b) →
     Contains (book_schedules b) t.first × (is_bad (end_kind b.program t.first) ≡ true)
 thinned_found b t =
     let m = from_filter (λ v. is_bad (end_kind b.program v)) tried t.first
-        (contains_in (bad_ones b.program tried) t.first
-            (least_some (bad_ones b.program tried) t.first is_first).0) in
+    (contains_in (bad_ones b.program tried) t.first
+    (least_some (bad_ones b.program tried) t.first is_first).0) in
     let n = from_filter (λ v. not (is_under (t.gone ++ b.open_items) v)) (book_schedules b) t.first
-        m.0 in
+    m.0 in
     (in_contains (book_schedules b) t.first n.0, m.1)
   where
     tried : List (List ℕ)

@@ -87,8 +87,8 @@ pub record IsDropped (b : BookView) (first : List ℕ) (items : List ItemView) (
     Type 0 where
   pub quick : b.quick ≡ true
   pub found : b.finished.first_bad ≡ Some first
-  pub items : items ≡ filter (λ i. not (is_later first i.prefix)) b.open_items
-  pub number : number ≡ count_by (λ i. is_later first i.prefix) b.open_items
+  pub left : items ≡ filter (λ i. not (is_later first i.prefix)) b.open_items
+  pub counted : number ≡ count_by (λ i. is_later first i.prefix) b.open_items
 
 -- the book with these open items where so many were dropped
 abbrev pub after_drop : BookView → List ItemView → ℕ → BookView
@@ -102,7 +102,7 @@ pub thinned_is : (b : BookView) (first : List ℕ) (items : List ItemView) (numb
     IsDropped b first items number → after_drop b items number ≡ thinned b
 thinned_is b first items number h =
     λ k. record b {
-      open_items = (h.items ∙ ap (λ (g : ItemView → Bool). filter (λ i. not (g i)) b.open_items) f) k;
+      open_items = (h.left ∙ ap (λ (g : ItemView → Bool). filter (λ i. not (g i)) b.open_items) f) k;
       dropped = ap (λ z. b.dropped || z) (ap (nat_lt 0) (count_is h) ∙ sym any) k;
     }
   where
@@ -113,14 +113,14 @@ thinned_is b first items number h =
     any = some_counted (drops b) b.open_items
 
     count_is : IsDropped b first items number → number ≡ count_by (drops b) b.open_items
-    count_is h = h.number ∙ ap (λ (g : ItemView → Bool). count_by g b.open_items) f
+    count_is h = h.counted ∙ ap (λ (g : ItemView → Bool). count_by g b.open_items) f
 
 pub count_is_dropped : (b : BookView) (first : List ℕ) (items : List ItemView) (number : ℕ) →
     IsDropped b first items number → number ≡ count_by (drops b) b.open_items
 count_is_dropped b first items number h =
-    h.number
+    h.counted
     ∙ ap (λ (g : ItemView → Bool). count_by g b.open_items)
-        (later_are_dropped b first h.quick h.found)
+    (later_are_dropped b first h.quick h.found)
 
 pub drop_keeps : (b : BookView) (first : List ℕ) (items : List ItemView) (number : ℕ) →
     IsDropped b first items number → Keeps b → Keeps (after_drop b items number)

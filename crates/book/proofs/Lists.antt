@@ -19,7 +19,7 @@ one_more xs first k x lo hi is =
     sym (ap (λ j. take j (drop first xs)) e
     ∙ take-suc (drop first xs) (k - first) x (omega arith)
     ∙ ap (λ y. take (k - first) (drop first xs) ++ y ∷ [])
-        (get_or-drop first xs (k - first) x ∙ ap (λ j. get_or xs j x) same ∙ sym is))
+    (get_or-drop first xs (k - first) x ∙ ap (λ j. get_or xs j x) same ∙ sym is))
 
 pub no_items : {X : Type 0} (xs : List X) → length xs ≡ 0 → xs ≡ []
 no_items [] e = refl

@@ -30,8 +30,8 @@ module _ (f : ItemView → Bool) where
   all_by P a xs h =
       let r = all_right P a xs h in
       All-append P a (by_test xs) (all_left P a xs h)
-          (All-append P (filter f xs) (filter (λ i. not (f i)) xs) (all_filter P f xs r)
-              (all_filter P (λ i. not (f i)) xs r))
+      (All-append P (filter f xs) (filter (λ i. not (f i)) xs) (all_filter P f xs r)
+      (all_filter P (λ i. not (f i)) xs r))
 
   -- the members that pass, those that don't, where one more is in front
   abbrev parted : Bool → ItemView → List ItemView → List ItemView
@@ -55,7 +55,7 @@ module _ (f : ItemView → Bool) where
           list_any-append g (filter f xs) (x ∷ filter (λ i. not (f i)) xs)
           ∙ (swap (list_any g (filter f xs)) (g x) (list_any g (filter (λ i. not (f i)) xs))
           ∙ ap (λ z. g x || z)
-              (sym (list_any-append g (filter f xs) (filter (λ i. not (f i)) xs)) ∙ r))
+          (sym (list_any-append g (filter f xs) (filter (λ i. not (f i)) xs)) ∙ r))
 
   covers_by : (v : List ℕ) (xs : List ItemView) → covers v (by_test xs) ≡ covers v xs
   covers_by v [] = refl
@@ -80,7 +80,7 @@ module _ (f : ItemView → Bool) where
       All P ((a ++ xs) ++ deferred) → All P ((a ++ by_test xs) ++ deferred)
   below_by P a xs deferred h =
       All-append P (a ++ by_test xs) deferred (all_by P a xs (all_left P (a ++ xs) deferred h))
-          (all_right P (a ++ xs) deferred h)
+      (all_right P (a ++ xs) deferred h)
 
   cut_by : (mode : Mode) (item : ItemView) (a xs deferred : List ItemView) →
       IsCut mode item (a ++ xs) deferred → IsCut mode item (a ++ by_test xs) deferred

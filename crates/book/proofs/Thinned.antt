@@ -1,10 +1,10 @@
 -- What a quick book keeps where items are dropped, and where a walk is settled after that.
-use Rattle.std.proofs.Common.{◌≡◌, ℕ, suc, Bool, true, false, cond, ◌&&◌, ◌||◌, not, List, [], ◌∷◌, ◌++◌, take, drop, Option, Some, None, refl, ap, ◌∙◌, sym, subst, append_assoc}
+use Rattle.std.proofs.Common.{◌≡◌, ℕ, suc, Bool, true, false, cond, ◌&&◌, ◌||◌, not, List, [], ◌∷◌, ◌++◌, take, drop, Some, refl, ap, ◌∙◌, sym, subst, append_assoc}
 use Rattle.std.specs.List.{filter, list_any, All}
 use Rattle.std.proofs.lemmas.List.Elements.{All-nil, All-cons, All-append, All-weaker}
 use Rattle.semantics.specs.Order.{precedes, lesser}
 use Rattle.walk.specs.declared.mode.Mode.{Mode}
-use Rattle.walk.specs.Summaries.{SummaryView, join}
+use Rattle.walk.specs.Summaries.{join}
 use Rattle.walk.specs.Items.{ItemView, root_of}
 use Rattle.walk.specs.Walks.{WalkView, IsWalked, IsSplit}
 use Rattle.walk.proofs.Splits.{split_further}
@@ -98,13 +98,13 @@ settles_thinned b w place t walk of at =
       gone = t.gone;
       split = subst
           (λ is. IsSplit b.mode (root_of b.program) (join b.finished w.part) is
-              (b.deferred ++ w.deferred))
+          (b.deferred ++ w.deferred))
           after
           (split_further b.mode (root_of b.program) w.item b.finished w.part
-              (t.gone ++ left) right b.deferred w.rest w.deferred
-              (subst (IsBookWith b) before t.split)
-              (subst (λ (m : Mode). IsSplit m w.item w.part w.rest w.deferred) (sym of.0)
-                  walk.split));
+          (t.gone ++ left) right b.deferred w.rest w.deferred
+          (subst (IsBookWith b) before t.split)
+          (subst (λ (m : Mode). IsSplit m w.item w.part w.rest w.deferred) (sym of.0)
+          walk.split));
       first = l.0;
       found = join_first_bad b.finished w.part
           ∙ (ap (λ o. lesser o w.part.first_bad) t.found ∙ l.1);

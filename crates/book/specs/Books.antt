@@ -120,7 +120,7 @@ settled b w place = record b {
 pub record Settles (old : BookView) (w : WalkView) (new : BookView) : Type 0 where
   pub of : IsWalkOf old w
   pub place : ℕ
-  pub open : IsOpenAt old w.item place
+  pub is_open : IsOpenAt old w.item place
   pub book : new ≡ settled old w place
 
 -- why a walk is refused

@@ -14,4 +14,5 @@
 
 pub mod books;
 pub mod errors;
+pub mod laws;
 pub mod limits;
