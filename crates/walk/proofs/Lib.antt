@@ -3,3 +3,5 @@ pub mod SortedViews
 pub mod SumsJoin
 pub mod SubtreeInvariant
 pub mod WalkedItems
+pub mod WayBytes
+pub mod PackedPrefixes
