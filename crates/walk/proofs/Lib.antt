@@ -1,7 +1,11 @@
+pub mod Covers
+pub mod Filters
 pub mod LesserSchedules
 pub mod SortedViews
 pub mod SumsJoin
-pub mod SubtreeInvariant
+pub mod ListParts
 pub mod WalkedItems
 pub mod WayBytes
 pub mod PackedPrefixes
+pub mod Splits
+pub mod WalkedFurther
