@@ -90,8 +90,7 @@ item_kept i w = (there, back)
     there : Contains (schedules_of Reduced i) w →
         (v : List ℕ) × (w ≡ i.prefix ++ v) × (is_kept i.program (state_of i) (has i.mask) v ≡ true)
     there c =
-        let from = from_map (λ v. i.prefix ++ v) left w (contains_in (schedules_of Reduced i) w c) in
-        (
+        let from = from_map (λ v. i.prefix ++ v) left w (contains_in (schedules_of Reduced i) w c) in (
           from.0,
           sym from.2,
           ((reduced_members i.program (state_of i) (has i.mask) from.0).0
