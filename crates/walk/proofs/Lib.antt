@@ -7,3 +7,9 @@ pub mod ListParts
 pub mod WalkedItems
 pub mod Splits
 pub mod WalkedFurther
+pub mod Masks
+pub mod Reduced
+pub mod Children
+pub mod ItemsWalked
+pub mod Turns
+pub mod PartsJoin

@@ -19,6 +19,7 @@ use Rattle.semantics.proofs.SchedulesUnderPrefix.{schedules_under-longer, begins
 use Rattle.walk.specs.declared.mode.Mode.TheVariants.{Reduced}
 use Rattle.walk.specs.Items.{ItemView, IsItem, kept_schedules}
 use Rattle.walk.specs.inner.Children.{state_of, child_of}
+use Rattle.walk.proofs.Filters.{filter_same}
 use Rattle.walk.proofs.Masks.{has_mask_of}
 
 -- the schedules that sleep sets leave after a prefix where these threads sleep
@@ -137,12 +138,6 @@ filter_swap {A} f g (x ∷ L) = go (f x) (g x) refl refl (filter_swap f g L)
     go false true d e r = rw d r
     go false false d e r = r
 
-filter_alike : {A : Type 0} (f g : A → Bool) (L : List A) → ((x : A) → In L x → f x ≡ g x) →
-    filter f L ≡ filter g L
-filter_alike f g [] h = refl
-filter_alike f g (x ∷ L) h = λ i. cond (h x (inl refl) i)
-    (x ∷ filter_alike f g L (λ y m. h y (inr m)) i) (filter_alike f g L (λ y m. h y (inr m)) i)
-
 kept_filter : (p : Program) (x : List ℕ) (Z : ℕ → Bool) → runs p (start p) x ≡ true →
     kept_after p x Z ≡ filter (is_kept_after p x Z) (schedules_under p x)
 unfolding reduced_schedules
@@ -159,7 +154,7 @@ kept_after_step : (p : Program) (x : List ℕ) (Z : ℕ → Bool) (t : ℕ) →
 kept_after_step p x Z t h e z =
     let k : runs p (start p) y ≡ true = runs-push p (start p) x t h e in
     kept_filter p y after k
-    ∙ (filter_alike (is_kept_after p y after) (is_kept_after p x Z) (schedules_under p y)
+    ∙ (filter_same (is_kept_after p y after) (is_kept_after p x Z) (schedules_under p y)
     (λ w m. alike w (from_map (λ v. y ++ v) (complete_schedules p (state_after p (start p) y)) w
     (subst (λ L. In L w) (schedules_under_is p y k) m)))
     ∙ (ap (filter (is_kept_after p x Z)) (schedules_under-longer p x y (begins_longer x (t ∷ [])))
