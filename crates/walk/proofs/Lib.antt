@@ -7,7 +7,6 @@ pub mod ListParts
 pub mod WalkedItems
 pub mod Splits
 pub mod WalkedFurther
-pub mod Masks
 pub mod Reduced
 pub mod Children
 pub mod ItemsWalked

@@ -9,6 +9,7 @@ use Rattle.semantics.specs.Schedules.{complete_schedules, schedules_under, state
 use Rattle.semantics.specs.Ends.{is_terminal}
 use Rattle.semantics.specs.Sleep.{reduced_schedules, is_kept, next_sleep_set, independent}
 use Rattle.semantics.specs.Waiters.{In}
+use Rattle.semantics.proofs.Masks.{has-mask_of}
 use Rattle.semantics.proofs.ListMembers.{from_map, from_filter}
 use Rattle.semantics.proofs.WorkFalls.{enabled_below}
 use Rattle.semantics.proofs.StepsKeepStates.{step_is_of}
@@ -20,7 +21,6 @@ use Rattle.walk.specs.declared.mode.Mode.TheVariants.{Reduced}
 use Rattle.walk.specs.Items.{ItemView, IsItem, kept_schedules}
 use Rattle.walk.specs.inner.Children.{state_of, child_of}
 use Rattle.walk.proofs.Filters.{filter_same}
-use Rattle.walk.proofs.Masks.{has_mask_of}
 
 -- the schedules that sleep sets leave after a prefix where these threads sleep
 abbrev pub kept_after : Program → List ℕ → (ℕ → Bool) → List (List ℕ)
@@ -84,7 +84,7 @@ kept_child : (i : ItemView) (t : ℕ) → IsOf i.program (state_of i) →
     (next_sleep_set i.program (state_of i) (has i.mask) t)
 kept_child i t of e =
     ap (map (λ w. (i.prefix ++ t ∷ []) ++ w))
-    (reduced_alike i.program next (has (child_of Reduced i t).mask) sleep (λ u k. has_mask_of sleep u (small u k)))
+    (reduced_alike i.program next (has (child_of Reduced i t).mask) sleep (λ u k. has-mask_of sleep u (small u k)))
   where
     next : Snapshot
     next = state_after i.program (start i.program) (i.prefix ++ t ∷ [])
