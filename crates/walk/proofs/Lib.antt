@@ -9,3 +9,8 @@ pub mod WayBytes
 pub mod PackedPrefixes
 pub mod Splits
 pub mod WalkedFurther
+pub mod Reduced
+pub mod Children
+pub mod ItemsWalked
+pub mod Turns
+pub mod PartsJoin
