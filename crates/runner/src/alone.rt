@@ -1,7 +1,8 @@
 //! The search of one thread.
 
-ghost use Rattle.std.specs.Prelude.{◌≤◌, false, IfOk};
+ghost use Rattle.std.specs.Prelude.{◌≡◌, ◌≤◌, false, IfOk, IfErr};
 ghost use Rattle.std.specs.Arc.{arc_value};
+ghost use Rattle.runner.specs.declared.error.ExploreError.TheVariants.{OutOfMemory};
 ghost use Rattle.runner.specs.Promises.{IsSearch, IsReport};
 
 use crate::error::ExploreError;
@@ -28,7 +29,8 @@ pub fn explore_alone(
 ) -> Result<Report, ExploreError>
     requires search { IsSearch options.search }
     requires quota { 1 ≤ options.quota }
-    ensures { IfOk result (IsReport false (arc_value program.now) options) }
+    ensures report { IfOk result (IsReport false (arc_value program.now) options) }
+    ensures error { IfErr result (λ e. e ≡ OutOfMemory) }
 {
     Err(ExploreError::OutOfMemory)
 }
