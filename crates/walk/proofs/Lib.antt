@@ -1,5 +1,9 @@
+pub mod Covers
+pub mod Filters
 pub mod LesserSchedules
 pub mod SortedViews
 pub mod SumsJoin
-pub mod SubtreeInvariant
+pub mod ListParts
 pub mod WalkedItems
+pub mod Splits
+pub mod WalkedFurther
