@@ -1,0 +1,158 @@
+//! Boards: the numbers below a limit, each drawn by one seat, and the least number told.
+
+ghost use Rattle.std.specs.Prelude.{◌≡◌, ◌≤◌, true, vec_len, IfOk, IfSome, IfNone, ◌<◌};
+ghost use Rattle.std.specs.List.{All};
+ghost use Rattle.board.specs.Board.{new_seat};
+ghost use Rattle.board.specs.Claims.{Draws, marked, with_told, IsAnswered, HasEachBelow};
+ghost use Rattle.board.specs.Claims.{IsLeastTold, IsSomeTold, drawn_by, told_by, answered_to};
+
+use crate::account::{Account, Size};
+use crate::claims::Claims;
+use crate::rule::{Asking, BoardRule, Claiming, Closing, Counting, Seating, Telling};
+use crate::seat::Seat;
+use atomic_table::Table;
+use std::alloc::{AllocError, Global};
+use std::marker::Model;
+
+/// The answer of [`Board::least`] where no number was told: no told number is above it.
+pub const NONE_TOLD: u64 = u64::MAX;
+
+// The word of the numbers drawn: how many, and one more for each mark.
+const DRAWN: usize = 0;
+
+// The word of the least number told.
+const LEAST: usize = 1;
+
+/// A board, which threads share by a `&`. A contract sees which board it is, the limit of its
+/// numbers, and how many seats were made with it.
+#[derive(Drop)]
+pub struct Board {
+    table: Table<(), Account, Size, BoardRule, Global>,
+    limit: u64,
+    seats: u64,
+}
+
+impl Model for Board {
+    ghost use Rattle.std.specs.Prelude.{◌≡◌, ◌<◌, ◌^◌};
+    ghost use Rattle.board.specs.Board.{BoardView};
+
+    ghost Value = { BoardView };
+
+    ghost view = { λ b. record {
+      id = record { table = b.table.shared.table_id; limit = b.limit };
+      seats = b.seats;
+    } };
+
+    ghost invariant = { λ b. (b.table.shared.table_id.words ≡ 2)
+        × (b.table.shared.key.limit ≡ b.limit) × (b.table.shared.key.seats ≡ b.seats)
+        × (b.limit < 2 ^ 32) × (b.seats < 2 ^ 32) × (0 < b.seats) };
+}
+
+impl Board {
+    /// A board of the numbers below `n`, and its seats.
+    ///
+    /// # Errors
+    ///
+    /// Memory ran out.
+    pub fn new(alloc: Global, n: u32, seats: u32) -> Result<(Board, Vec<Seat>), AllocError>
+        requires { 0 < seats }
+        ensures limit { IfOk result (λ made. made.0.id.limit ≡ n) }
+        ensures seats { IfOk result (λ made. made.0.seats ≡ seats) }
+        ensures count { IfOk result (λ made. vec_len made.1 ≡ seats) }
+        ensures fresh { IfOk result (λ made. All (λ s. s ≡ new_seat made.0.id) made.1.items) }
+    {
+        let limit = u64::from(n);
+        let count = u64::from(seats);
+        let size = Size {
+            limit,
+            seats: count,
+        };
+        let (table, mut root) = Table::of_words(alloc, &[0, NONE_TOLD], &size)?;
+        let mut all = Vec::new(alloc);
+        for _ in 0..count {
+            let inner = table.shared.split_seat::<Seating>(&mut root);
+            all.push(Seat {
+                inner,
+                marked: false,
+            })?;
+        }
+        let board = Board {
+            table,
+            limit,
+            seats: count,
+        };
+        Ok((board, all))
+    }
+
+    /// Draws a number: the least one that no seat drew. None where all are drawn; the seat is then
+    /// marked, and answers None from now on without a step.
+    pub fn claim(&self, seat: &mut Seat) -> Option<u64>
+        requires { seat.old.board ≡ self.now.id }
+        ensures some { IfSome result (λ k. Draws seat.old k seat.new) }
+        ensures none { IfNone result (seat.new ≡ marked seat.old) }
+    {
+        if seat.marked {
+            return None;
+        }
+        let found = self
+            .table
+            .shared
+            .fetch_add::<Claiming>(&mut seat.inner, DRAWN, 1);
+        if found < self.limit {
+            Some(found)
+        } else {
+            seat.marked = true;
+            None
+        }
+    }
+
+    /// Tells a number to all seats.
+    pub fn tell(&self, seat: &mut Seat, k: u64)
+        requires { seat.old.board ≡ self.now.id }
+        ensures { seat.new ≡ with_told seat.old k }
+    {
+        self.table
+            .shared
+            .fetch_min::<Telling>(&mut seat.inner, LEAST, k);
+    }
+
+    /// The least number that any seat told so far, or [`NONE_TOLD`].
+    pub fn least(&self, seat: &mut Seat) -> u64
+        requires { seat.old.board ≡ self.now.id }
+        ensures { IsAnswered seat.old result seat.new }
+    {
+        self.table.shared.load::<Asking>(&mut seat.inner, LEAST)
+    }
+
+    /// Ends the board, with all its seats.
+    pub fn gather(self, mut seats: Vec<Seat>) -> Claims
+        requires board { All (λ s. s.board ≡ self.id) seats.items }
+        requires all { vec_len seats ≡ self.seats }
+        ensures drawn { HasEachBelow result.count (drawn_by seats.items) }
+        ensures within { result.count ≤ self.id.limit }
+        ensures full { All (λ s. s.marked ≡ true → result.count ≡ self.id.limit) seats.items }
+        ensures least { IsLeastTold result.least (told_by seats.items) }
+        ensures answered { All (IsSomeTold result.least (told_by seats.items))
+            (answered_to seats.items) }
+    {
+        let limit = self.limit;
+        let shared = &self.table.shared;
+        let Some(last) = seats.pop() else {
+            unreachable!()
+        };
+        let Seat {
+            inner: mut first,
+            ..
+        } = last;
+        while let Some(seat) = seats.pop() {
+            let Seat { inner, .. } = seat;
+            shared.join_seat::<Seating>(&mut first, inner);
+        }
+        let found = shared.load::<Counting>(&mut first, DRAWN);
+        let least = shared.load::<Closing>(&mut first, LEAST);
+        Claims {
+            count: found.min(limit),
+            least,
+        }
+    }
+}

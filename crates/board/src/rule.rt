@@ -1,0 +1,67 @@
+//! The rule of a board's words, and what each step on them tells.
+
+ghost use Rattle.std.specs.Prelude.{[]};
+ghost use Rattle.board.specs.inner.Rule.{IsBoard, account, Claimed, Told, Asked, Counted, Closed};
+ghost use Rattle.board.specs.inner.Rule.{without_one, of_one_seat, both, empty};
+
+use crate::account::{Account, Size};
+use atomic_table::{Join, Play, Split, TableRule};
+
+// The rule that the words and all accounts keep.
+pub struct BoardRule;
+
+impl TableRule<(), Account, Size> for BoardRule {
+    ghost holds = { λ size s. IsBoard size.limit size.seats s.words s.views };
+
+    ghost first = { λ size. account size.limit size.seats 0 [] [] [] };
+}
+
+// A step that draws a number, or marks the seat.
+pub struct Claiming;
+
+impl Play<(), Account> for Claiming {
+    ghost then = { λ _ before found after. Claimed before found after };
+}
+
+// A step that tells a number.
+pub struct Telling;
+
+impl Play<(), Account> for Telling {
+    ghost then = { λ st before _ after. Told st.first before after };
+}
+
+// A step that asks for the least number told.
+pub struct Asking;
+
+impl Play<(), Account> for Asking {
+    ghost then = { λ _ before found after. Asked before found after };
+}
+
+// The step that counts what was drawn, when one account has all seats.
+pub struct Counting;
+
+impl Play<(), Account> for Counting {
+    ghost then = { λ _ before found after. Counted before found after };
+}
+
+// The step that reads the least number told, when one account has all seats.
+pub struct Closing;
+
+impl Play<(), Account> for Closing {
+    ghost then = { λ _ before found _. Closed before.0 found };
+}
+
+// How seats are made from an account, and taken in again.
+pub struct Seating;
+
+impl Split<Account> for Seating {
+    ghost left = { without_one };
+
+    ghost right = { of_one_seat };
+}
+
+impl Join<Account> for Seating {
+    ghost both = { both };
+
+    ghost spent = { empty };
+}

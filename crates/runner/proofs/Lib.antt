@@ -1,0 +1,3 @@
+pub mod PrintedSchedules
+pub mod ReadTexts
+pub mod ReportTexts

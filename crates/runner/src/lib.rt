@@ -1,0 +1,28 @@
+//! Searches of a program, and their reports.
+//!
+//! - [`explore_alone`] searches bound after bound, from no preemption on, and stops at the first
+//!   bound that a bad schedule is within; or without a bound, where sleep sets prune. Its contract
+//!   says what the report means of all complete schedules of the program.
+//! - [`explore_text_alone`] does the same from the bytes of a text on, or says what is wrong with
+//!   it.
+//! - [`report_text`] prints a report: its text is the defined one, byte for byte.
+#![tactic(auto)]
+
+mod alone;
+mod error;
+
+pub mod limits;
+mod options;
+mod printing;
+mod report;
+
+
+mod text;
+
+pub use alone::explore_alone;
+pub use error::ExploreError;
+pub use limits::{BOUND, QUOTA, WORKERS};
+pub use options::{Options, Search};
+pub use printing::report_text;
+pub use report::{Cause, Report, Verdict};
+pub use text::explore_text_alone;
