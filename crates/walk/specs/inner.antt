@@ -2,3 +2,4 @@
 -- cite it, so nobody has to believe it.
 pub mod SubtreeInvariant
 pub mod Packed
+pub mod EndPlaces
