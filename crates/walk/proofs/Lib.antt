@@ -1,5 +1,5 @@
 pub mod LesserSchedules
 pub mod SortedViews
 pub mod SumsJoin
-pub mod SubtreeInvariant
+pub mod ListParts
 pub mod WalkedItems

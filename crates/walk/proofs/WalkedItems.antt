@@ -1,51 +1,33 @@
 -- What an item's schedules are, what is known of a walk, and what follows.
-use Rattle.std.proofs.Common.{◌≡◌, ◌↔◌, ◌⊎◌, inl, inr, ℕ, zero, suc, ◌+◌, ◌<◌, ◌≤◌, Bool, true, false, not, cond, ◌||◌, nat_le, nat_lt, List, [], ◌∷◌, ◌++◌, length, get_or, refl, ap, ◌∙◌, sym, arith, subst, length-append}
+use Rattle.std.proofs.Common.{◌≡◌, ◌↔◌, ◌⊎◌, inl, inr, ℕ, zero, suc, ◌+◌, ◌<◌, ◌≤◌, Bool, true, false, not, cond, ◌||◌, nat_eq, nat_le, nat_lt, List, [], ◌∷◌, ◌++◌, length, map, get_or, refl, ap, ◌∙◌, sym, arith, subst, length-append}
 use Rattle.std.specs.List.{filter, flat_map, list_any, All, AllPairs, Contains}
 use Rattle.std.proofs.lemmas.Bool.{not-true, not_from_false, or_parts}
-use Rattle.std.proofs.lemmas.List.{append-nil, get_or_append_left, get_or-append-add}
+use Rattle.std.proofs.lemmas.Bool.Decides.{nat_tests}
+use Rattle.std.proofs.lemmas.List.{get_or_append_left, get_or-append-add, get_or-map, length-map}
 use Rattle.std.proofs.lemmas.List.Elements.{All-nil, All-cons, All-head, All-tail, All-weaker, All-contains, All-contains_itself, All-filter, filter_passes, Contains-append_cases}
 use Rattle.std.proofs.lemmas.List.Folds.{list_any_none}
 use Rattle.std.proofs.lemmas.List.Kept.{AllPairs-filter}
-use Rattle.std.proofs.Math.Bool.{or-false}
 use Rattle.guest_code.specs.Program.{Program}
-use Rattle.semantics.specs.Machine.{start}
-use Rattle.semantics.specs.Schedules.{begins_with, preemptions, complete_schedules, schedules_under, schedules_within, exceeds_bound}
+use Rattle.semantics.specs.Machine.{Snapshot, start}
+use Rattle.semantics.specs.Mask.{has}
+use Rattle.semantics.specs.Schedules.{state_after, begins_with, one_if, preemptions, complete_schedules, schedules_under, schedules_within, exceeds_bound}
 use Rattle.semantics.specs.Order.{precedes}
+use Rattle.semantics.specs.Sleep.{reduced_schedules, is_kept}
 use Rattle.semantics.specs.Rising.{IsRising}
 use Rattle.semantics.proofs.CompleteSchedulesRise.{all_rise}
 use Rattle.semantics.proofs.SchedulesUnderPrefix.{schedules_within-longer, in_under, in_within, beyond_is}
 use Rattle.semantics.proofs.UnfoldingUnderPrefix.{schedules_within-past, exceeds_bound-past}
 use Rattle.walk.specs.declared.mode.Mode.{Mode}
-use Rattle.walk.specs.declared.mode.Mode.TheVariants.{Bounded}
+use Rattle.walk.specs.declared.mode.Mode.TheVariants.{Bounded, Reduced}
 use Rattle.walk.specs.Summaries.{SummaryView, cut, greatest_count, nothing, sum_of, join, with_beyond}
 use Rattle.walk.specs.Items.{ItemView, IsItem, IsScheduleOf, schedules_of, goes_beyond, item_sum, item_sums, schedule_count, covers, is_under}
-use Rattle.walk.specs.Walks.{WalkView, IsWalked, IsBelow, tried_by}
+use Rattle.walk.specs.Walks.{WalkView, IsWalked, IsBelow, IsCut, tried_by}
+use Rattle.walk.proofs.ListParts.{all_left}
 use Rattle.walk.proofs.SumsJoin.{sum_of-append}
 
 filter_true : {A : Type 0} (xs : List A) → filter (λ x. true) xs ≡ xs
 filter_true [] = refl
 filter_true (x ∷ xs) = ap (λ ys. x ∷ ys) (filter_true xs)
-
--- a walk that left nothing
-walked_none : (mode : Mode) (item : ItemView) →
-    IsWalked (record { mode = mode; item = item; part = item_sum mode item; rest = [] })
-walked_none mode item = record {
-  part = ap (λ L. with_beyond (sum_of item.program L) (goes_beyond mode item))
-      (sym (filter_true (schedules_of mode item)));
-  schedules = sym
-      (append-nil (filter (λ v. true) (schedules_of mode item))
-      ∙ filter_true (schedules_of mode item));
-  beyond = sym (or-false (goes_beyond mode item));
-  rest = All-nil (IsBelow item);
-  apart = λ v. omega arith;
-}
-
-pub walked_whole : (mode : Mode) (item : ItemView) (part : SummaryView) (rest : List ItemView) →
-    part ≡ item_sum mode item → rest ≡ [] →
-    IsWalked (record { mode = mode; item = item; part = part; rest = rest })
-walked_whole mode item part rest e f =
-    subst IsWalked (λ i. record { mode = mode; item = item; part = sym e i; rest = sym f i })
-    (walked_none mode item)
 
 -- the item of all schedules
 
@@ -108,8 +90,33 @@ within_in_order p prefix bound =
     (complete_schedules p (start p))
     (in_order (complete_schedules p (start p)) (all_rise p (start p))))
 
+precedes_after : (x v w : List ℕ) → precedes v w ≡ true → precedes (x ++ v) (x ++ w) ≡ true
+precedes_after [] v w h = h
+precedes_after (t ∷ x) v w h =
+    let later : nat_lt t t ≡ false = grind (arith, nat_tests) in
+    let same : nat_eq t t ≡ true = grind (arith, nat_tests) in
+    rw (later, same) (precedes_after x v w h)
+
+after_in_order : (x : List ℕ) (L : List (List ℕ)) → InOrder L → InOrder (map (λ w. x ++ w) L)
+after_in_order x L h i j d less within =
+    let count : length (map (λ w. x ++ w) L) ≡ length L = length-map L (λ w. x ++ w) in
+    let late : j < length L = omega (arith, within, count) in
+    let early : i < length L = omega (arith, less, late) in
+    (λ k. precedes (get_or-map (λ w. x ++ w) L i d d early k) (get_or-map (λ w. x ++ w) L j d d late k))
+    ∙ precedes_after x (get_or L i d) (get_or L j d) (h i j d less late)
+
+kept_in_order : (p : Program) (prefix : List ℕ) (Z : ℕ → Bool) →
+    InOrder (map (λ w. prefix ++ w) (reduced_schedules p (state_after p (start p) prefix) Z))
+unfolding reduced_schedules
+kept_in_order p prefix Z =
+    let s : Snapshot = state_after p (start p) prefix in
+    after_in_order prefix (filter (is_kept p s Z) (complete_schedules p s))
+    (AllPairs-filter (λ v w. precedes v w ≡ true) (is_kept p s Z) (complete_schedules p s)
+    (in_order (complete_schedules p s) (all_rise p s)))
+
 items_in_order : (mode : Mode) (i : ItemView) → InOrder (schedules_of mode i)
 items_in_order (Bounded bound) i = within_in_order i.program i.prefix bound
+items_in_order Reduced i = kept_in_order i.program i.prefix (has i.mask)
 
 pub item_rises : (mode : Mode) (i : ItemView) → IsRising (schedules_of mode i)
 item_rises mode item i j h k = items_in_order mode item i j [] h k
@@ -149,33 +156,44 @@ joined_is p mode (x ∷ xs) h =
     ∙ (λ i. join (with_beyond (sum_of (sym same i) (schedules_of mode x)) (goes_beyond mode x))
     (joined_is p mode xs rest i))
 
+-- the rest lies under the item
+pub rest_below : (w : WalkView) → IsWalked w → All (IsBelow w.item) w.rest
+rest_below w h = all_left (IsBelow w.item) w.rest w.deferred h.split.below
+
 pub walked_sum : (w : WalkView) → IsWalked w →
     item_sum w.mode w.item ≡ join w.part (item_sums w.mode w.rest)
 walked_sum w h =
     let same : All (λ (r : ItemView). r.program ≡ w.item.program) w.rest =
     All-weaker (IsBelow w.item) (λ (r : ItemView). r.program ≡ w.item.program)
-    (λ r b. b.program) w.rest h.rest in
-    (λ i. with_beyond (sum_of w.item.program (h.schedules i)) (h.beyond i))
+    (λ r b. b.program) w.rest (rest_below w h) in
+    (λ i. with_beyond (sum_of w.item.program (h.schedules i)) (h.split.beyond i))
     ∙ (join-beyond w.item.program (tried_by w) (flat_map (schedules_of w.mode) w.rest) w.part.beyond
     (list_any (goes_beyond w.mode) w.rest)
-    ∙ (λ i. join (sym h.part i) (joined_is w.item.program w.mode w.rest same i)))
+    ∙ (λ i. join (sym h.split.sum i) (joined_is w.item.program w.mode w.rest same i)))
 
 -- the schedules of the rest
 
-below_set : (mode : Mode) (above below : ItemView) → IsBelow above below →
-    schedules_of mode below ≡ filter (begins_with below.prefix) (schedules_of mode above)
-below_set (Bounded bound) above below b =
+-- an item has those of another's schedules that begin with its prefix
+abbrev pub HasItsOf : Mode → ItemView → ItemView → Type 0
+HasItsOf mode item r = schedules_of mode r ≡ filter (begins_with r.prefix) (schedules_of mode item)
+
+bounded_has : (bound : ℕ) (above below : ItemView) → IsBelow above below →
+    HasItsOf (Bounded bound) above below
+bounded_has bound above below b =
     ap (λ (p : Program). schedules_within p below.prefix bound) b.program
     ∙ schedules_within-longer above.program above.prefix below.prefix bound b.prefix
 
-pub walked_sets : (w : WalkView) → IsWalked w →
-    All (λ r. schedules_of w.mode r
-    ≡ filter (begins_with r.prefix) (schedules_of w.mode w.item)) w.rest
-walked_sets w h =
-    All-weaker (IsBelow w.item)
-    (λ (r : ItemView). schedules_of w.mode r
-    ≡ filter (begins_with r.prefix) (schedules_of w.mode w.item))
-    (λ r b. below_set w.mode w.item r b) w.rest h.rest
+-- each of the rest has the item's that begin with its prefix
+pub rest_has : (mode : Mode) (item : ItemView) (rest deferred : List ItemView) →
+    All (IsBelow item) (rest ++ deferred) → IsCut mode item rest deferred →
+    All (HasItsOf mode item) rest
+rest_has (Bounded bound) item rest deferred below parted =
+    All-weaker (IsBelow item) (HasItsOf (Bounded bound) item)
+    (λ r b. bounded_has bound item r b) rest (all_left (IsBelow item) rest deferred below)
+rest_has Reduced item rest deferred below parted = parted.schedules
+
+pub walked_has : (w : WalkView) → IsWalked w → All (HasItsOf w.mode w.item) w.rest
+walked_has w h = rest_has w.mode w.item w.rest w.deferred h.split.below h.split.cut
 
 -- no schedule lies under two
 
@@ -200,19 +218,32 @@ counted_twice v (x ∷ xs) (suc i) (suc j) d h k e f =
     let more : 2 ≤ covers v xs = counted_twice v xs i j d (omega arith) (omega arith) e f in
     omega (arith, more)
 
-pub walked_apart : (w : WalkView) (v : List ℕ) (i j : ℕ) (d : ItemView) → IsWalked w → i < j →
-    j < length w.rest →
-    begins_with (get_or w.rest i d).prefix v ≡ true →
-    begins_with (get_or w.rest j d).prefix v ≡ false
-walked_apart w v i j d h l k e = go (begins_with (get_or w.rest j d).prefix v) refl
+-- of these items none lies under two of their places
+pub one_place : (items : List ItemView) (v : List ℕ) (i j : ℕ) (d : ItemView) →
+    covers v items ≤ 1 → i < j → j < length items →
+    begins_with (get_or items i d).prefix v ≡ true →
+    begins_with (get_or items j d).prefix v ≡ false
+one_place items v i j d one l k e = go (begins_with (get_or items j d).prefix v) refl
   where
-    go : (b : Bool) → begins_with (get_or w.rest j d).prefix v ≡ b →
-        begins_with (get_or w.rest j d).prefix v ≡ false
+    go : (b : Bool) → begins_with (get_or items j d).prefix v ≡ b →
+        begins_with (get_or items j d).prefix v ≡ false
     go true f =
-        let two : 2 ≤ covers v w.rest = counted_twice v w.rest i j d l k e f in
-        let one : covers v w.rest ≤ 1 = h.apart v in
+        let two : 2 ≤ covers v items = counted_twice v items i j d l k e f in
         absurd (omega (arith, two, one))
     go false f = f
+
+at_most_one : (b : Bool) → one_if b ≤ 1
+at_most_one true = omega arith
+at_most_one false = omega arith
+
+pub walked_apart : (w : WalkView) (v : List ℕ) (i j : ℕ) (d : ItemView) → IsWalked w → i < j →
+    j < length (w.rest ++ w.deferred) →
+    begins_with (get_or (w.rest ++ w.deferred) i d).prefix v ≡ true →
+    begins_with (get_or (w.rest ++ w.deferred) j d).prefix v ≡ false
+walked_apart w v i j d h l k e =
+    let few = at_most_one (begins_with w.item.prefix v) in
+    let all = h.split.apart v in
+    one_place (w.rest ++ w.deferred) v i j d (omega (arith, few, all)) l k e
 
 -- what was tried
 
@@ -283,7 +314,7 @@ unfolding sum_of
 tried_of p L b = refl
 
 pub walked_count : (w : WalkView) → IsWalked w → w.part.tried ≡ cut (length (tried_by w))
-walked_count w h = ap (λ (t : SummaryView). t.tried) h.part
+walked_count w h = ap (λ (t : SummaryView). t.tried) h.split.sum
     ∙ tried_of w.item.program (tried_by w) w.part.beyond
 
 pub walked_uncut : (w : WalkView) → IsWalked w → w.part.tried < greatest_count →

@@ -13,7 +13,7 @@ use std::sync::Arc;
 use walk::item::Item;
 use walk::mode::Mode;
 use walk::summary::Summary;
-use walk::walked::walk_whole;
+use walk::walker::walk;
 
 /// How many schedules were tried, failed and got stuck.
 fn counts_of(part: &Summary) -> (u64, u64, u64)
@@ -28,7 +28,7 @@ fn counts(alloc: Global, text: &[u8], bound: u32) -> Option<(u64, u64, u64)> {
     let tree = parse(alloc, text).ok()?;
     let program = lower(alloc, &tree).ok()?;
     let item = Item::root(alloc, Arc::new(alloc, program).ok()?).ok()?;
-    let walked = walk_whole(alloc, &item, Mode::Bounded(bound)).ok()?;
+    let walked = walk(alloc, &item, Mode::Bounded(bound), u32::MAX).ok()?;
     Some(counts_of(walked.part()))
 }
 
