@@ -235,7 +235,7 @@ impl Trail {
             Some(thread) => {
                 self.node.next = thread + 1;
                 let asleep = self.sleepers(item.program(), mode, thread);
-                let child = item.other(alloc, self.steps.as_slice(), thread, asleep)?;
+                let child = item.further(alloc, self.steps.as_slice(), thread, asleep)?;
                 rest.push(child)?;
                 Ok(true)
             }

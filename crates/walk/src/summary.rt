@@ -163,6 +163,27 @@ impl Summary {
         })
     }
 
+    // Adds one more complete schedule, which ends so.
+    pub(crate) fn add(
+        &mut self,
+        _alloc: Global,
+        schedule: &[u8],
+        kind: Kind,
+        values: &[i64],
+    ) -> Result<(), AllocError>
+        ensures { OnOk result (self.new ≡ added self.old schedule.now
+            (record { kind = kind; vars = values.now })) }
+    {
+        Err(AllocError)
+    }
+
+    // Some schedule is beyond the bound.
+    pub(crate) fn set_beyond(&mut self)
+        ensures { self.new ≡ with_beyond self.old true }
+    {
+        self.beyond = true;
+    }
+
     // The summary where some schedule is beyond the bound.
     pub(crate) fn with_beyond(self) -> Summary
         ensures { result ≡ with_beyond self true }
