@@ -1,3 +1,5 @@
+pub mod Covers
+pub mod Filters
 pub mod LesserSchedules
 pub mod SortedViews
 pub mod SumsJoin
@@ -6,4 +8,8 @@ pub mod WalkedItems
 pub mod WayBytes
 pub mod PackedPrefixes
 pub mod TrailSteps
+pub mod Splits
+pub mod Masks
+pub mod Reduced
+pub mod Children
 pub mod WalkTurns

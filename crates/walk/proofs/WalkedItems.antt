@@ -22,12 +22,10 @@ use Rattle.walk.specs.declared.mode.Mode.TheVariants.{Bounded, Reduced}
 use Rattle.walk.specs.Summaries.{SummaryView, cut, greatest_count, nothing, sum_of, join, with_beyond}
 use Rattle.walk.specs.Items.{ItemView, IsItem, IsScheduleOf, schedules_of, goes_beyond, item_sum, item_sums, schedule_count, covers, is_under}
 use Rattle.walk.specs.Walks.{WalkView, IsWalked, IsBelow, IsCut, tried_by}
+use Rattle.walk.proofs.Covers.{at_most_one}
+use Rattle.walk.proofs.Filters.{filter_all}
 use Rattle.walk.proofs.ListParts.{all_left}
 use Rattle.walk.proofs.SumsJoin.{sum_of-append}
-
-filter_true : {A : Type 0} (xs : List A) → filter (λ x. true) xs ≡ xs
-filter_true [] = refl
-filter_true (x ∷ xs) = ap (λ ys. x ∷ ys) (filter_true xs)
 
 -- the item of all schedules
 
@@ -36,7 +34,7 @@ pub root_set : (p : Program) (bound : ℕ) →
     ≡ filter (λ w. nat_le (preemptions p w) bound) (complete_schedules p (start p))
 unfolding schedules_within schedules_under
 root_set p bound =
-    ap (filter (λ w. nat_le (preemptions p w) bound)) (filter_true (complete_schedules p (start p)))
+    ap (filter (λ w. nat_le (preemptions p w) bound)) (filter_all (complete_schedules p (start p)))
 
 pub root_beyond : (p : Program) (bound : ℕ) →
     exceeds_bound p [] bound
@@ -44,7 +42,7 @@ pub root_beyond : (p : Program) (bound : ℕ) →
 unfolding exceeds_bound schedules_under
 root_beyond p bound =
     ap (list_any (λ w. nat_lt bound (preemptions p w)))
-    (filter_true (complete_schedules p (start p)))
+    (filter_all (complete_schedules p (start p)))
 
 -- each item's schedules
 
@@ -231,10 +229,6 @@ one_place items v i j d one l k e = go (begins_with (get_or items j d).prefix v)
         let two : 2 ≤ covers v items = counted_twice v items i j d l k e f in
         absurd (omega (arith, two, one))
     go false f = f
-
-at_most_one : (b : Bool) → one_if b ≤ 1
-at_most_one true = omega arith
-at_most_one false = omega arith
 
 pub walked_apart : (w : WalkView) (v : List ℕ) (i j : ℕ) (d : ItemView) → IsWalked w → i < j →
     j < length (w.rest ++ w.deferred) →
