@@ -12,4 +12,8 @@ pub mod Splits
 pub mod Masks
 pub mod Reduced
 pub mod Children
+pub mod ItemsWalked
+pub mod Turns
+pub mod PartsJoin
 pub mod WalkTurns
+pub mod WalkSteps

@@ -6,14 +6,16 @@ ghost use Rattle.semantics.specs.Mask.{has, members_from};
 ghost use Rattle.walk.specs.Items.{IsItem};
 ghost use Rattle.walk.specs.Summaries.{nothing, with_beyond};
 ghost use Rattle.walk.specs.inner.Children.{child_of, mask_after};
-ghost use Rattle.walk.specs.inner.Paths.{leaves};
-ghost use Rattle.walk.specs.inner.WalkerInvariant.{IsPlace, IsSearch, here, left_above, still_open, turns_left, is_kept_at, is_past_at, IsWithinAt};
+ghost use Rattle.walk.specs.inner.Paths.{leaves, IsTrail};
+ghost use Rattle.walk.specs.Walks.{IsWalked, IsPastBound, walk_past_bound};
+ghost use Rattle.walk.specs.inner.WalkerInvariant.{IsPlace, IsSearch, here, left_above, still_open, turns_left, is_kept_at, is_past_at, is_past_here, IsWithinAt};
 
 use crate::item::Item;
 use crate::mode::Mode;
 use crate::prefixes::Prefixes;
 use crate::summary::Summary;
 use crate::trail::{Node, Trail};
+use crate::walked::Walked;
 use guest_code::program::Program;
 use semantics::mask::Mask;
 use semantics::independence::sleepers_after;
@@ -255,5 +257,54 @@ impl Trail {
             going = self.give_back(alloc, item, mode, &mut rest)?;
         }
         Ok(rest)
+    }
+
+    // Goes to an item's prefix.
+    fn stand_at(&mut self, item: &Item) -> Result<(), AllocError>
+        requires { IsTrail item.now.program self.old }
+        ensures trail { IsTrail item.now.program self.new }
+        ensures place { OnOk result (IsPlace item.now.program self.new) }
+        ensures item { OnOk result (here item.now.program self.new ≡ item.now) }
+        ensures base { OnOk result (self.new.base ≡ length self.new.steps.items) }
+    {
+        self.go_to(item.program(), item.prefix())?;
+        self.node.asleep = item.mask();
+        self.base = self.steps.len();
+        Ok(())
+    }
+
+    // Whether the node has more preemptions than the bound.
+    fn is_past(&self, mode: Mode) -> bool
+        ensures { result ≡ is_past_here mode self.now.node }
+    {
+        match mode {
+            Mode::Bounded(bound) => self.node.used > bound as usize,
+            Mode::Reduced => false,
+        }
+    }
+
+    /// Tries the first schedules of an item, up to a quota.
+    pub fn walk(&mut self, alloc: Global, item: &Item, mode: Mode, quota: u32) -> Result<Walked, AllocError>
+        requires trail { IsTrail item.now.program self.old }
+        requires quota { 1 ≤ quota }
+        ensures trail { IsTrail item.now.program self.new }
+        ensures item { IfOk result (λ w. w.item ≡ item.now) }
+        ensures mode { IfOk result (λ w. w.mode ≡ mode) }
+        ensures tried { IfOk result (λ w. w.part.tried ≤ quota) }
+        ensures rest { IfOk result (λ w. w.part.tried < quota → w.rest ≡ []) }
+        ensures past { IfOk result (λ w.
+            IsPastBound mode item.now → w ≡ walk_past_bound mode item.now) }
+        ensures walked { IfOk result IsWalked }
+    {
+        self.stand_at(item)?;
+        let mut found = Found::new(alloc);
+        if self.is_past(mode) {
+            found.part.set_beyond();
+            return Ok(Walked::new(mode, item.try_clone(alloc)?, found.part, Vec::new(alloc), found.deferred));
+        }
+        self.arrive(alloc, &mut found, item, mode)?;
+        self.search(alloc, &mut found, item, mode, quota)?;
+        let rest = self.give_all_back(alloc, item, mode)?;
+        Ok(Walked::new(mode, item.try_clone(alloc)?, found.part, rest, found.deferred))
     }
 }

@@ -76,3 +76,8 @@ is_past_at Reduced n t = false
 abbrev pub IsWithinAt : Mode → Node → Type 0
 IsWithinAt (Bounded bound) n = n.used ≤ bound
 IsWithinAt Reduced n = Unit {0}
+
+-- they are not
+abbrev pub is_past_here : Mode → Node → Bool
+is_past_here (Bounded bound) n = nat_lt bound n.used
+is_past_here Reduced n = false
