@@ -15,5 +15,6 @@ pub mod Children
 pub mod ItemsWalked
 pub mod Turns
 pub mod PartsJoin
+pub mod WalkedFurther
 pub mod WalkTurns
 pub mod WalkSteps
