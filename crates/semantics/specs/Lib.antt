@@ -22,3 +22,5 @@ pub mod Increments
 pub mod PrunedAway
 pub mod Execution
 pub mod Branches
+pub mod Undoing
+pub mod inner

@@ -26,6 +26,7 @@
 
 mod action;
 pub mod execution;
+pub mod independence;
 pub mod laws;
 pub mod limits;
 mod local;
@@ -36,4 +37,5 @@ mod signals;
 pub mod state;
 #[cfg(test)]
 mod tests;
+pub mod undo;
 pub mod view;

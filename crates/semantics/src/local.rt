@@ -3,9 +3,12 @@
 ghost use Rattle.std.specs.Prelude.{◌≡◌, ◌<◌, ◌≤◌, ◌+◌, length, drop, IsTrue, IsFalse};
 ghost use Rattle.guest_code.specs.Program.{Program, IsValidCode, IsValidValue, IsValidExpression};
 ghost use Rattle.semantics.specs.Machine.{value_of_operand, of_both, value_of_expression, is_zero, run_from, run_past, resumed, var_after, reader_after, is_expected};
+ghost use Rattle.semantics.specs.Reachable.{IsValidAccess};
+ghost use Rattle.semantics.specs.Undoing.{restored};
 ghost use Rattle.semantics.specs.declared.state.VariableAction.TheVariants.{Add as Adds, Cas as Swaps};
 
-use crate::state::{Status, Stop, Thread};
+use crate::state::{Status, Stop, Thread, VariableAction};
+use crate::undo::{Saved, keep, put};
 use guest_code::limits::LOCALS;
 use guest_code::program::{Expression, Instruction, Value};
 use guest_syntax::tree::Op;
@@ -63,6 +66,30 @@ pub fn compare_and_swap(
     thread.locals[local] = i64::from(hit);
 }
 
+/// What a thread does with a variable, whose value is in the cell. The locals that it writes are
+/// kept first.
+pub fn access(cell: &mut i64, thread: &mut Thread, saved: &mut Saved, action: VariableAction)
+    requires action { IsValidAccess action }
+    requires few { saved.old.count ≤ LOCALS }
+    ensures cell { cell.new ≡ var_after action thread.old.locals cell.old }
+    ensures thread { thread.new ≡ reader_after action thread.old cell.old }
+    ensures few { saved.new.count ≤ LOCALS }
+    ensures kept { restored saved.new thread.new.locals ≡ restored saved.old thread.old.locals }
+{
+    match action {
+        VariableAction::Load(local) => put(thread, saved, local, *cell),
+        VariableAction::Store(value) => *cell = operand_at(&thread.locals, value),
+        VariableAction::Add(local, value) => {
+            keep(&thread.locals, saved, local);
+            add(cell, thread, local, value);
+        }
+        VariableAction::Cas(local, expected, new) => {
+            keep(&thread.locals, saved, local);
+            compare_and_swap(cell, thread, local, expected, new);
+        }
+    }
+}
+
 // What an operator makes of two values. Sums, differences and products wrap.
 fn of_both(op: Op, a: i64, b: i64) -> i64
     ensures { result ≡ of_both op a b }
@@ -104,6 +131,7 @@ fn pass(code: &[Instruction], thread: &mut Thread, skip: usize)
     requires pc { thread.old.pc < length code.now }
     ensures pc { thread.new.pc ≤ length code.now }
     ensures further { thread.old.pc < thread.new.pc }
+    ensures locals { thread.new.locals ≡ thread.old.locals }
     ensures run { run_from code.now thread.new ≡ run_past code.now thread.old skip }
 {
     let next = thread.pc + 1;
@@ -111,13 +139,16 @@ fn pass(code: &[Instruction], thread: &mut Thread, skip: usize)
 }
 
 // One instruction of a local run. False where the run is over.
-fn turn(code: &[Instruction], thread: &mut Thread) -> bool
+fn turn(code: &[Instruction], thread: &mut Thread, saved: &mut Saved) -> bool
     requires fine { (p : Program) × IsValidCode p code.now }
     requires pc { thread.old.pc ≤ length code.now }
+    requires few { saved.old.count ≤ LOCALS }
     ensures pc { thread.new.pc ≤ length code.now }
     ensures further { IsTrue result → thread.old.pc < thread.new.pc }
     ensures same { IsTrue result → run_from code.now thread.new ≡ run_from code.now thread.old }
     ensures over { IsFalse result → thread.new ≡ run_from code.now thread.old }
+    ensures few { saved.new.count ≤ LOCALS }
+    ensures kept { restored saved.new thread.new.locals ≡ restored saved.old thread.old.locals }
 {
     if thread.pc >= code.len() {
         thread.status = Status::Ended;
@@ -125,7 +156,8 @@ fn turn(code: &[Instruction], thread: &mut Thread) -> bool
     }
     match code[thread.pc] {
         Instruction::Set { local, value } => {
-            thread.locals[local] = expression_at(&thread.locals, value);
+            let value = expression_at(&thread.locals, value);
+            put(thread, saved, local, value);
             thread.pc += 1;
             true
         }
@@ -161,24 +193,30 @@ fn turn(code: &[Instruction], thread: &mut Thread) -> bool
 }
 
 /// Runs a thread's own instructions, up to a visible statement, the end or a failed assertion.
-pub fn run_on(code: &[Instruction], thread: &mut Thread)
+pub fn run_on(code: &[Instruction], thread: &mut Thread, saved: &mut Saved)
     requires fine { (p : Program) × IsValidCode p code.now }
     requires pc { thread.old.pc ≤ length code.now }
-    ensures { thread.new ≡ run_from code.now thread.old }
+    requires few { saved.old.count ≤ LOCALS }
+    ensures value { thread.new ≡ run_from code.now thread.old }
+    ensures few { saved.new.count ≤ LOCALS }
+    ensures kept { restored saved.new thread.new.locals ≡ restored saved.old thread.old.locals }
 {
     let mut running = true;
     while running {
-        running = turn(code, thread);
+        running = turn(code, thread, saved);
     }
 }
 
 /// After its visible statement a thread runs on.
-pub fn resume(code: &[Instruction], thread: &mut Thread)
+pub fn resume(code: &[Instruction], thread: &mut Thread, saved: &mut Saved)
     requires fine { (p : Program) × IsValidCode p code.now }
     requires pc { thread.old.pc < length code.now }
-    ensures { thread.new ≡ resumed code.now thread.old }
+    requires few { saved.old.count ≤ LOCALS }
+    ensures value { thread.new ≡ resumed code.now thread.old }
+    ensures few { saved.new.count ≤ LOCALS }
+    ensures kept { restored saved.new thread.new.locals ≡ restored saved.old thread.old.locals }
 {
     thread.pc += 1;
     thread.status = Status::Running;
-    run_on(code, thread);
+    run_on(code, thread, saved);
 }

@@ -1,14 +1,14 @@
 //! Sets of thread numbers.
 
-ghost use Rattle.std.specs.Prelude.{◌≡◌};
-ghost use Rattle.semantics.specs.Mask.{has, no_threads};
+ghost use Rattle.std.specs.Prelude.{◌≡◌, ◌≢◌, ◌<◌, ◌≤◌, ◌+◌, ◌∷◌, ◌&&◌, [], ℕ, false, not, IsTrue, MatchOption};
+ghost use Rattle.semantics.specs.Mask.{has, no_threads, members_from};
 
 use guest_code::limits::THREADS;
 
-/// A set of thread numbers.
+/// A set of thread numbers, a bit for each thread.
 #[derive(Clone, Copy, Debug, PartialEq, Eq)]
 pub struct Mask {
-    pub(crate) members: [bool; THREADS],
+    pub(crate) bits: u16,
 }
 
 impl Mask {
@@ -16,15 +16,59 @@ impl Mask {
     pub fn has(self, thread: u8) -> bool
         ensures { result ≡ has self thread }
     {
-        (thread as usize) < THREADS && self.members[thread as usize]
+        (thread as usize) < THREADS && (self.bits >> thread) & 1 == 1
     }
 
     /// The empty set.
     pub fn empty() -> Mask
         ensures { result ≡ no_threads }
     {
-        Mask {
-            members: [false; THREADS],
+        Mask { bits: 0 }
+    }
+
+    /// The set with this thread, or without it.
+    pub fn with(self, thread: u8, on: bool) -> Mask
+        requires { thread < THREADS }
+        ensures same { has result thread ≡ on }
+        ensures others { (u : ℕ) → u ≢ thread → has result u ≡ has self u }
+    {
+        if on {
+            Mask {
+                bits: self.bits | (1 << thread),
+            }
+        } else {
+            Mask {
+                bits: self.bits & !(1 << thread),
+            }
         }
+    }
+
+    /// The members that aren't in the other set.
+    pub fn minus(self, other: Mask) -> Mask
+        ensures { (u : ℕ) → has result u ≡ (has self u && not (has other u)) }
+    {
+        Mask {
+            bits: self.bits & !other.bits,
+        }
+    }
+
+    /// The least member from a number on.
+    pub fn first_from(self, least: u8) -> Option<u8>
+        ensures list { MatchOption result (members_from self least ≡ [])
+            (λ t. members_from self least ≡ t ∷ members_from self (t + 1)) }
+        ensures member { MatchOption result (members_from self least ≡ [])
+            (λ t. IsTrue (has self t) × (least ≤ t) × (t < THREADS)) }
+        ensures none { MatchOption result (members_from self least ≡ [])
+            (λ t. (u : ℕ) → least ≤ u → u < t → has self u ≡ false) }
+    {
+        if least as usize >= THREADS {
+            return None;
+        }
+        let rest = self.bits >> least;
+        if rest == 0 {
+            return None;
+        }
+        let more = rest.trailing_zeros() as u8;
+        Some(least + more)
     }
 }

@@ -1,6 +1,6 @@
 //! The queue of a condition.
 
-ghost use Rattle.std.specs.Prelude.{◌≡◌, ◌<◌, length, [], ◌∷◌, ◌++◌, take, drop, map, MatchOption};
+ghost use Rattle.std.specs.Prelude.{◌≡◌, ◌<◌, ◌≤◌, length, [], ◌∷◌, ◌++◌, take, drop, map, MatchOption};
 
 use guest_code::limits::THREADS;
 use std::alloc::AllocError;
@@ -54,6 +54,23 @@ impl Queue {
         ensures { result.now ≡ self.now }
     {
         &self.threads[..self.length]
+    }
+
+    /// The array of the queue, and how many of its first places are in use.
+    pub fn parts(&self) -> (&[u8; THREADS], usize)
+        ensures threads { take result.1 result.0.now ≡ self.now }
+        ensures few { result.1 ≤ THREADS }
+    {
+        (&self.threads, self.length)
+    }
+
+    /// The queue becomes so many of these threads.
+    pub fn refill(&mut self, threads: &[u8; THREADS], length: usize)
+        requires { length ≤ THREADS }
+        ensures { self.new ≡ take length threads.now }
+    {
+        self.threads = *threads;
+        self.length = length;
     }
 
     /// A thread joins at the end.

@@ -1,6 +1,7 @@
 //! Whom a signal or a broadcast wakes.
 
 ghost use Rattle.std.specs.Prelude.{◌≡◌, ◌<◌, length, All};
+ghost use Rattle.semantics.specs.Undoing.{waiting_again};
 ghost use Rattle.semantics.specs.Machine.{threads_to_wake, queue_after, woken, wake};
 
 use crate::queue::Queue;
@@ -41,5 +42,15 @@ pub fn call(queue: &mut Queue, threads: &mut [Thread], condition: usize, action:
                 wake_one(condition, &mut threads[u as usize]);
             }
         }
+    }
+}
+
+/// These threads wait for the condition again.
+pub fn wait_again(threads: &mut [Thread], condition: usize, waiting: &[u8])
+    requires { All (λ u. u < length threads.old) waiting.now }
+    ensures { threads.new ≡ waiting_again condition waiting.now threads.old }
+{
+    for u in waiting {
+        threads[*u as usize].status = Status::Waiting(condition);
     }
 }

@@ -1,20 +1,23 @@
 //! States of a program, and their steps.
 
-ghost use Rattle.std.specs.Prelude.{◌≡◌, ◌<◌, ◌≤◌, ℕ, length, slice_get, All, IfOk, IfSome, IsTrue};
+ghost use Rattle.std.specs.Prelude.{◌≡◌, ◌≢◌, ◌<◌, ◌≤◌, ℕ, length, slice_get, All, IfOk, IfSome, IsTrue};
 ghost use Rattle.std.specs.List.{list_any, list_all};
 ghost use Rattle.guest_code.specs.Program.{Program, code_of, IsValidValue};
 ghost use Rattle.semantics.specs.Machine.{Snapshot, start, step, performed, is_enabled, next_of, thread_at, owner_of, queue_of, count_of, value_of_operand};
 ghost use Rattle.semantics.specs.Reachable.{IsOf, IsValidAction, StandsInCode, IsReady};
 ghost use Rattle.semantics.specs.Ends.{is_terminal, kind_of, view_of, final_kind, is_stopped, is_ended, stop_of};
-ghost use Rattle.semantics.specs.Mask.{has};
+ghost use Rattle.semantics.specs.Mask.{has, HasEnabled};
+ghost use Rattle.semantics.specs.Undoing.{undone, restored, IsRecordOf};
+ghost use Rattle.semantics.specs.inner.Recording.{HasBegun, HasObject, KeepsOthers};
 ghost use Rattle.semantics.specs.declared.state.Action.TheVariants.{OnVariable, OnMutex, Wait as Waits, OnCondition, OnSemaphore};
 
-use crate::action::{action_at, mutex_allows, owns, semaphore_allows};
-use crate::local::{add, compare_and_swap, operand_at, resume};
+use crate::action::{action_at, keeps_others, mutex_allows, owns, semaphore_allows};
+use crate::local::{access, operand_at, resume};
 use crate::mask::Mask;
 use crate::opening::{opening_counts, opening_threads, opening_values};
 use crate::queue::Queue;
-use crate::signals::call;
+use crate::signals::{call, wait_again};
+use crate::undo::{Change, Undo, restore};
 use crate::view::{EndView, Kind};
 use guest_code::limits::{COUNT, LOCALS, THREADS};
 use guest_code::program::{Program, Value};
@@ -121,10 +124,6 @@ pub enum Action {
     OnCondition(usize, ConditionAction),
     OnSemaphore(usize, SemaphoreAction),
 }
-
-/// How to take a step back.
-#[derive(Clone, Copy, Debug)]
-pub struct Undo {}
 
 /// A state of a program: the values of its variables, the owner of each mutex, the queue of each
 /// condition, the count of each semaphore, and its threads.
@@ -283,65 +282,165 @@ impl State {
     /// Which threads can take a step.
     pub fn enabled(&self, program: &Program) -> Mask
         requires { IsOf program.now self.now }
-        ensures { (t : ℕ) → has result t ≡ is_enabled program.now self.now t }
+        ensures { HasEnabled result program.now self.now }
     {
-        let mut members = [false; THREADS];
+        let mut mask = Mask::empty();
         for t in 0..program.threads() {
-            members[t as usize] = self.is_enabled(program, t);
+            mask = mask.with(t, self.is_enabled(program, t));
         }
-        Mask { members }
+        mask
     }
 
-    /// One step of an enabled thread. It takes no memory.
+    /// One step of an enabled thread, and how to take it back. It takes no memory.
     pub fn step(&mut self, program: &Program, thread: u8) -> Undo
         requires of { IsOf program.now self.old }
         requires enabled { IsTrue (is_enabled program.now self.old thread) }
         ensures value { self.new ≡ step program.now self.old thread }
         ensures of { IsOf program.now self.new }
+        ensures record { IsRecordOf result self.new }
+        ensures back { undone result self.new ≡ self.old }
+    {
+        let mut undo = Undo::new();
+        self.step_recorded(program, thread, &mut undo);
+        undo
+    }
+
+    /// The same, with the record written over one that is there. Where the mask has the threads
+    /// that are enabled before the step, the answer has those that are enabled after it.
+    pub fn step_into(
+        &mut self,
+        program: &Program,
+        thread: u8,
+        undo: &mut Undo,
+        mask: Mask,
+    ) -> Mask
+        requires of { IsOf program.now self.old }
+        requires enabled { IsTrue (is_enabled program.now self.old thread) }
+        ensures value { self.new ≡ step program.now self.old thread }
+        ensures of { IsOf program.now self.new }
+        ensures record { IsRecordOf undo.new self.new }
+        ensures back { undone undo.new self.new ≡ self.old }
+        ensures mask { HasEnabled mask program.now self.old →
+            HasEnabled result program.now self.new }
+    {
+        let alone = self.step_recorded(program, thread, undo);
+        if alone {
+            mask.with(thread, self.is_enabled(program, thread))
+        } else {
+            self.enabled(program)
+        }
+    }
+
+    // A step, with its record; whether it is known that no other thread is enabled or disabled by
+    // it.
+    fn step_recorded(&mut self, program: &Program, thread: u8, undo: &mut Undo) -> bool
+        requires of { IsOf program.now self.old }
+        requires enabled { IsTrue (is_enabled program.now self.old thread) }
+        ensures value { self.new ≡ step program.now self.old thread }
+        ensures of { IsOf program.now self.new }
+        ensures record { IsRecordOf undo.new self.new }
+        ensures back { undone undo.new self.new ≡ self.old }
+        ensures others { IsTrue result → KeepsOthers program.now self.old thread self.new }
     {
         if let Some(action) = self.next(program, thread) {
-            self.execute(program, thread, action);
+            self.execute(program, thread, action, undo);
+            return keeps_others(&action);
         }
-        Undo {}
+        false
+    }
+
+    /// Takes back the step of which this is the record. It takes no memory.
+    pub fn undo(&mut self, undo: &Undo)
+        requires { IsRecordOf undo.now self.old }
+        ensures { self.new ≡ undone undo.now self.old }
+    {
+        let runner = &mut self.threads[undo.thread as usize];
+        runner.pc = undo.pc;
+        runner.status = undo.status;
+        restore(&mut runner.locals, &undo.saved);
+        match undo.change {
+            Change::Variable => self.variables[undo.object] = undo.value,
+            Change::Owner => self.owners[undo.object] = undo.owner,
+            Change::Count => self.counts[undo.object] = undo.count,
+            Change::Wait => {
+                self.owners[undo.mutex] = undo.owner;
+                self.queues[undo.object].refill(&undo.queue, undo.length);
+            }
+            Change::Call => {
+                self.queues[undo.object].refill(&undo.queue, undo.length);
+                let waiting = &undo.queue[..undo.length];
+                wait_again(self.threads.as_mut_slice(), undo.object, waiting);
+            }
+        }
     }
 
     // What the thread is about to do.
-    fn execute(&mut self, program: &Program, thread: u8, action: Action)
+    fn execute(&mut self, program: &Program, thread: u8, action: Action, undo: &mut Undo)
         requires { IsReady program.now self.old thread action }
-        ensures { self.new ≡ performed program.now self.old thread action }
+        ensures value { self.new ≡ performed program.now self.old thread action }
+        ensures begun { HasBegun undo.new thread (thread_at self.old thread) }
+        ensures few { undo.new.saved.count ≤ LOCALS }
+        ensures object { HasObject undo.new self.old action }
+        ensures locals { restored undo.new.saved (thread_at self.new thread).locals
+            ≡ (thread_at self.old thread).locals }
     {
         match action {
-            Action::OnVariable(x, action) => self.step_variable(program, thread, x, action),
-            Action::OnMutex(m, action) => self.step_mutex(program, thread, m, action),
-            Action::Wait(c, m) => self.begin_wait(program, thread, c, m),
-            Action::OnCondition(c, action) => self.step_condition(program, thread, c, action),
-            Action::OnSemaphore(k, action) => self.step_semaphore(program, thread, k, action),
+            Action::OnVariable(x, action) => self.step_variable(program, thread, x, action, undo),
+            Action::OnMutex(m, action) => self.step_mutex(program, thread, m, action, undo),
+            Action::Wait(c, m) => self.begin_wait(program, thread, c, m, undo),
+            Action::OnCondition(c, action) => self.step_condition(program, thread, c, action, undo),
+            Action::OnSemaphore(k, action) => self.step_semaphore(program, thread, k, action, undo),
         }
     }
 
     // A step on a variable.
-    fn step_variable(&mut self, program: &Program, thread: u8, x: usize, action: VariableAction)
+    fn step_variable(
+        &mut self,
+        program: &Program,
+        thread: u8,
+        x: usize,
+        action: VariableAction,
+        undo: &mut Undo,
+    )
         requires { IsReady program.now self.old thread (OnVariable x action) }
-        ensures { self.new ≡ performed program.now self.old thread (OnVariable x action) }
+        ensures value { self.new ≡ performed program.now self.old thread (OnVariable x action) }
+        ensures begun { HasBegun undo.new thread (thread_at self.old thread) }
+        ensures few { undo.new.saved.count ≤ LOCALS }
+        ensures object { HasObject undo.new self.old (OnVariable x action) }
+        ensures locals { restored undo.new.saved (thread_at self.new thread).locals
+            ≡ (thread_at self.old thread).locals }
     {
         let runner = &mut self.threads[thread as usize];
-        match action {
-            VariableAction::Load(r) => runner.locals[r] = self.variables[x],
-            VariableAction::Store(value) => self.variables[x] = operand_at(&runner.locals, value),
-            VariableAction::Add(r, value) => add(&mut self.variables[x], runner, r, value),
-            VariableAction::Cas(r, expected, new) => {
-                compare_and_swap(&mut self.variables[x], runner, r, expected, new);
-            }
-        }
-        resume(program.code(thread), runner);
+        undo.begin(thread, runner);
+        undo.change = Change::Variable;
+        undo.object = x;
+        undo.value = self.variables[x];
+        access(&mut self.variables[x], runner, &mut undo.saved, action);
+        resume(program.code(thread), runner, &mut undo.saved);
     }
 
     // A step on a mutex alone.
-    fn step_mutex(&mut self, program: &Program, thread: u8, m: usize, action: MutexAction)
+    fn step_mutex(
+        &mut self,
+        program: &Program,
+        thread: u8,
+        m: usize,
+        action: MutexAction,
+        undo: &mut Undo,
+    )
         requires { IsReady program.now self.old thread (OnMutex m action) }
-        ensures { self.new ≡ performed program.now self.old thread (OnMutex m action) }
+        ensures value { self.new ≡ performed program.now self.old thread (OnMutex m action) }
+        ensures begun { HasBegun undo.new thread (thread_at self.old thread) }
+        ensures few { undo.new.saved.count ≤ LOCALS }
+        ensures object { HasObject undo.new self.old (OnMutex m action) }
+        ensures locals { restored undo.new.saved (thread_at self.new thread).locals
+            ≡ (thread_at self.old thread).locals }
     {
         let runner = &mut self.threads[thread as usize];
+        undo.begin(thread, runner);
+        undo.change = Change::Owner;
+        undo.object = m;
+        undo.owner = self.owners[m];
         match action {
             MutexAction::Lock | MutexAction::Retake => self.owners[m] = Some(thread),
             MutexAction::Unlock => {
@@ -352,15 +451,35 @@ impl State {
                 self.owners[m] = None;
             }
         }
-        resume(program.code(thread), runner);
+        resume(program.code(thread), runner, &mut undo.saved);
     }
 
     // The first step of a `wait`.
-    fn begin_wait(&mut self, program: &Program, thread: u8, c: usize, m: usize)
+    fn begin_wait(
+        &mut self,
+        program: &Program,
+        thread: u8,
+        c: usize,
+        m: usize,
+        undo: &mut Undo,
+    )
         requires { IsReady program.now self.old thread (Waits c m) }
-        ensures { self.new ≡ performed program.now self.old thread (Waits c m) }
+        ensures value { self.new ≡ performed program.now self.old thread (Waits c m) }
+        ensures begun { HasBegun undo.new thread (thread_at self.old thread) }
+        ensures few { undo.new.saved.count ≤ LOCALS }
+        ensures object { HasObject undo.new self.old (Waits c m) }
+        ensures locals { restored undo.new.saved (thread_at self.new thread).locals
+            ≡ (thread_at self.old thread).locals }
     {
         let runner = &mut self.threads[thread as usize];
+        undo.begin(thread, runner);
+        undo.change = Change::Wait;
+        undo.object = c;
+        undo.mutex = m;
+        undo.owner = self.owners[m];
+        let (queue, length) = self.queues[c].parts();
+        undo.queue = *queue;
+        undo.length = length;
         if owns(thread, self.owners[m]) {
             self.owners[m] = None;
             self.queues[c].join(thread);
@@ -371,22 +490,56 @@ impl State {
     }
 
     // A step on a condition alone.
-    fn step_condition(&mut self, program: &Program, thread: u8, c: usize, action: ConditionAction)
+    fn step_condition(
+        &mut self,
+        program: &Program,
+        thread: u8,
+        c: usize,
+        action: ConditionAction,
+        undo: &mut Undo,
+    )
         requires { IsReady program.now self.old thread (OnCondition c action) }
-        ensures { self.new ≡ performed program.now self.old thread (OnCondition c action) }
+        ensures value { self.new ≡ performed program.now self.old thread (OnCondition c action) }
+        ensures begun { HasBegun undo.new thread (thread_at self.old thread) }
+        ensures few { undo.new.saved.count ≤ LOCALS }
+        ensures object { HasObject undo.new self.old (OnCondition c action) }
+        ensures locals { restored undo.new.saved (thread_at self.new thread).locals
+            ≡ (thread_at self.old thread).locals }
     {
         let mut runner = self.threads[thread as usize];
-        resume(program.code(thread), &mut runner);
+        undo.begin(thread, &runner);
+        undo.change = Change::Call;
+        undo.object = c;
+        let (queue, length) = self.queues[c].parts();
+        undo.queue = *queue;
+        undo.length = length;
+        resume(program.code(thread), &mut runner, &mut undo.saved);
         call(&mut self.queues[c], self.threads.as_mut_slice(), c, action);
         self.threads[thread as usize] = runner;
     }
 
     // A step on a semaphore.
-    fn step_semaphore(&mut self, program: &Program, thread: u8, k: usize, action: SemaphoreAction)
+    fn step_semaphore(
+        &mut self,
+        program: &Program,
+        thread: u8,
+        k: usize,
+        action: SemaphoreAction,
+        undo: &mut Undo,
+    )
         requires { IsReady program.now self.old thread (OnSemaphore k action) }
-        ensures { self.new ≡ performed program.now self.old thread (OnSemaphore k action) }
+        ensures value { self.new ≡ performed program.now self.old thread (OnSemaphore k action) }
+        ensures begun { HasBegun undo.new thread (thread_at self.old thread) }
+        ensures few { undo.new.saved.count ≤ LOCALS }
+        ensures object { HasObject undo.new self.old (OnSemaphore k action) }
+        ensures locals { restored undo.new.saved (thread_at self.new thread).locals
+            ≡ (thread_at self.old thread).locals }
     {
         let runner = &mut self.threads[thread as usize];
+        undo.begin(thread, runner);
+        undo.change = Change::Count;
+        undo.object = k;
+        undo.count = self.counts[k];
         match action {
             SemaphoreAction::Acquire => self.counts[k] -= 1,
             SemaphoreAction::Release => {
@@ -397,7 +550,14 @@ impl State {
                 self.counts[k] += 1;
             }
         }
-        resume(program.code(thread), runner);
+        resume(program.code(thread), runner, &mut undo.saved);
+    }
+
+    /// How a complete schedule to this state ends.
+    pub fn final_kind(&self) -> Kind
+        ensures { result ≡ final_kind self.now.threads }
+    {
+        final_kind(self.threads.as_slice())
     }
 
     /// Whether no thread is enabled.
@@ -419,7 +579,7 @@ impl State {
         ensures { result ≡ kind_of program.now self.now }
     {
         if self.is_terminal(program) {
-            Some(final_kind(self.threads.as_slice()))
+            Some(self.final_kind())
         } else {
             None
         }

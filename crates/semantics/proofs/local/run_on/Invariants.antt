@@ -1,5 +1,7 @@
-use Rattle.std.proofs.Common.{◌≡◌, ◌≤◌, ◌+◌, ◌-◌, length, IsTrue, IsFalse, cond}
+use Rattle.std.proofs.Common.{◌≡◌, ◌≤◌, ◌+◌, ◌-◌, length, drop, IsTrue, IsFalse, cond}
+use Rattle.guest_code.specs.declared.limits.TheConstants.{LOCALS}
 use Rattle.semantics.specs.Machine.{run_from}
+use Rattle.semantics.specs.Undoing.{restored}
 use Rattle.semantics.proofs.local.run_on.Given as goal
 
 abbrev pub invariant-loop-running : goal.invariant-loop-running
@@ -7,6 +9,8 @@ invariant-loop-running l = record {
   within : l.thread.pc ≤ length l.code;
   same : IsTrue l.running → run_from l.code l.thread ≡ run_from l.code l.fn.thread;
   over : IsFalse l.running → l.thread ≡ run_from l.code l.fn.thread;
+  few : l.saved.count ≤ LOCALS;
+  kept : restored l.saved l.thread.locals ≡ restored l.fn.saved l.fn.thread.locals;
 }
 
 abbrev pub decreases-loop-running : goal.decreases-loop-running

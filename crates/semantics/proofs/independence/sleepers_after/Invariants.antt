@@ -1,0 +1,11 @@
+use Rattle.std.proofs.Common.{◌≡◌, ◌<◌, ◌≤◌, ◌^◌, ℕ, false}
+use Rattle.semantics.specs.Mask.{has}
+use Rattle.semantics.specs.Sleep.{next_sleep_set}
+use Rattle.semantics.proofs.independence.sleepers_after.Given as goal
+
+abbrev pub invariant-loop-other : goal.invariant-loop-other
+invariant-loop-other l = record {
+  fits : l.sleepers.bits < 2 ^ 16;
+  below : (v : ℕ) → v < l.other → has l.sleepers v ≡ next_sleep_set l.program l.state (has l.asleep) l.thread v;
+  above : (v : ℕ) → l.other ≤ v → has l.sleepers v ≡ false;
+}

@@ -1,0 +1,70 @@
+-- Taking a step back: what its record keeps, and the state that it gives back.
+use Rattle.std.specs.Prelude.{ℕ, ℤ, ◌<◌, ◌≤◌, List, [], ◌∷◌, ◌++◌, length, take, drop, slice_index_or, slice_set, All}
+use Rattle.guest_code.specs.declared.limits.TheConstants.{THREADS, LOCALS}
+use Rattle.semantics.specs.declared.state.Thread.{Thread}
+use Rattle.semantics.specs.declared.state.Status.TheVariants.{Waiting}
+use Rattle.semantics.specs.declared.undo.Saved.{Saved}
+use Rattle.semantics.specs.declared.undo.Undo.{Undo}
+use Rattle.semantics.specs.declared.undo.Change.{Change}
+use Rattle.semantics.specs.declared.undo.Change.TheVariants.{Variable, Owner, Count, Wait, Call}
+use Rattle.semantics.specs.Machine.{Snapshot, thread_at, with_status, missing_thread}
+
+-- the locals, of which the first so many get back their values
+abbrev pub restored : Saved → List ℤ → List ℤ
+restored v locals = take v.count v.locals ++ drop v.count locals
+
+-- the thread before the step
+abbrev pub thread_before : Undo → Thread → Thread
+thread_before u th = record { pc = u.pc; locals = restored u.saved th.locals; status = u.status }
+
+-- these threads wait for condition c
+abbrev pub waiting_again : ℕ → List ℕ → List Thread → List Thread
+waiting_again c [] threads = threads
+waiting_again c (u ∷ us) threads =
+    waiting_again c us
+    (slice_set threads u (with_status (slice_index_or threads u missing_thread) (Waiting c)))
+
+-- the queue that the record keeps
+abbrev pub old_queue : Undo → List ℕ
+old_queue u = take u.length u.queue
+
+-- the object that the step touched is as it was; after a signal or a broadcast all that were in
+-- the queue wait again
+abbrev pub with_change : Change → Undo → Snapshot → Snapshot
+with_change Variable u s = record s { vars = slice_set s.vars u.object u.value }
+with_change Owner u s = record s { owners = slice_set s.owners u.object u.owner }
+with_change Count u s = record s { counts = slice_set s.counts u.object u.count }
+with_change Wait u s = record s {
+  owners = slice_set s.owners u.mutex u.owner;
+  queues = slice_set s.queues u.object (old_queue u);
+}
+with_change Call u s = record s {
+  queues = slice_set s.queues u.object (old_queue u);
+  threads = waiting_again u.object (old_queue u) s.threads;
+}
+
+-- the state, with the thread that took the step as it was
+abbrev pub with_thread_before : Undo → Snapshot → Snapshot
+with_thread_before u s =
+    record s { threads = slice_set s.threads u.thread (thread_before u (thread_at s u.thread)) }
+
+-- the state before the step of which this is the record
+abbrev pub undone : Undo → Snapshot → Snapshot
+undone u s = with_change u.change u (with_thread_before u s)
+
+-- the object that the step touched is one of the state, and so are the threads of its queue
+abbrev pub IsInRange : Change → Undo → Snapshot → Type 0
+IsInRange Variable u s = u.object < length s.vars
+IsInRange Owner u s = u.object < length s.owners
+IsInRange Count u s = u.object < length s.counts
+IsInRange Wait u s =
+    (u.object < length s.queues) × (u.mutex < length s.owners) × (u.length ≤ THREADS)
+IsInRange Call u s =
+    (u.object < length s.queues) × (u.length ≤ THREADS)
+    × All (λ x. x < length s.threads) (old_queue u)
+
+-- the record can be put back into the state
+pub record IsRecordOf (u : Undo) (s : Snapshot) : Type 0 where
+  pub thread : u.thread < length s.threads
+  pub few : u.saved.count ≤ LOCALS
+  pub range : IsInRange u.change u s
