@@ -1,6 +1,6 @@
 -- What a walk puts in the place of an item: the items of one more step, and how much there is to do.
 -- No public contract cites it.
-use Rattle.std.specs.Prelude.{ℕ, zero, suc, ◌+◌, ◌*◌, Bool, true, false, not, nat_le, nat_lt, List, [], ◌∷◌, ◌++◌, map, filter}
+use Rattle.std.specs.Prelude.{ℕ, zero, suc, ◌+◌, ◌*◌, ◌≤◌, Bool, false, not, nat_le, nat_lt, List, [], ◌∷◌, ◌++◌, map, filter}
 use Rattle.guest_code.specs.declared.limits.TheConstants.{THREADS}
 use Rattle.semantics.specs.declared.mask.Mask.{Mask}
 use Rattle.semantics.specs.Mask.{no_threads, has}
@@ -19,6 +19,11 @@ mask_of test = record { members = map test (up_from 0 THREADS) }
 -- the state after an item's prefix
 abbrev pub state_of : ItemView → Snapshot
 state_of i = state_after i.program (start i.program) i.prefix
+
+-- the item's prefix stays within the bound
+abbrev pub IsWithin : Mode → ItemView → Type 0
+IsWithin (Bounded bound) i = preemptions i.program i.prefix ≤ bound
+IsWithin Reduced i = Unit {0}
 
 -- the threads that can take the next step
 abbrev pub next_steps : ItemView → List ℕ
