@@ -12,14 +12,15 @@ use Rattle.semantics.specs.Ends.{is_terminal}
 use Rattle.semantics.specs.Waiters.{In}
 use Rattle.semantics.proofs.ListMembers.{contains_in}
 use Rattle.semantics.proofs.SleepSets.{reduced_schedules-terminal}
-use Rattle.semantics.proofs.UnfoldingUnderPrefix.{schedules_under-terminal, schedules_within-terminal, schedules_within-past, exceeds_bound-terminal, exceeds_bound-past}
+use Rattle.semantics.proofs.UnfoldingUnderPrefix.{schedules_under-terminal, schedules_within-terminal, exceeds_bound-terminal}
 use Rattle.semantics.proofs.SchedulesUnderPrefix.{begins_itself, in_under}
 use Rattle.walk.specs.declared.mode.Mode.{Mode}
 use Rattle.walk.specs.declared.mode.Mode.TheVariants.{Bounded, Reduced}
 use Rattle.walk.specs.Summaries.{nothing, sum_of, with_beyond}
 use Rattle.walk.specs.Items.{ItemView, IsItem, schedules_of, goes_beyond, is_under}
-use Rattle.walk.specs.Walks.{IsWalked, IsBelow, IsDeferred, IsCut, clear_of}
+use Rattle.walk.specs.Walks.{IsWalked, IsBelow, IsDeferred, IsCut, IsPastBound, walk_past_bound, clear_of}
 use Rattle.walk.specs.inner.Children.{state_of, IsWithin, passes_bound, children_of, children, past_children}
+use Rattle.walk.proofs.WalkedItems.{past_none, past_beyond}
 use Rattle.walk.proofs.Children.{begins_own, clear_none, children_schedules, children_clear, children_beyond, children_below, children_apart, children_within, children_deferred, children_have, children_pruned, reduced_past}
 
 -- a walk that has not begun: the item is its own rest
@@ -192,20 +193,13 @@ node_walked mode i h of more fits = record {
 
 -- an item whose own prefix is past the bound has nothing to try
 
-pub past_walked : (bound : ℕ) (i : ItemView) → IsItem i →
-    bound < preemptions i.program i.prefix →
-    IsWalked (record {
-      mode = Bounded bound;
-      item = i;
-      part = with_beyond nothing true;
-      rest = [];
-      deferred = [];
-    })
+pub past_walked : (mode : Mode) (i : ItemView) → IsItem i → IsPastBound mode i →
+    IsWalked (walk_past_bound mode i)
 unfolding sum_of
-past_walked bound i h past = record {
+past_walked (Bounded bound) i h past = record {
   split = record {
     sum = λ j. with_beyond (sum_of i.program (clear_of [] (sym none j))) true;
-    beyond = exceeds_bound-past i.program i.prefix bound h past;
+    beyond = past_beyond i bound h past;
     below = All-nil (IsBelow i);
     apart = λ v. omega arith;
     cut = record {
@@ -218,4 +212,5 @@ past_walked bound i h past = record {
 }
   where
     none : schedules_of (Bounded bound) i ≡ []
-    none = schedules_within-past i.program i.prefix bound h past
+    none = past_none i bound h past
+past_walked Reduced i h past = absurd past

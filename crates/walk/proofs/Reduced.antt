@@ -9,6 +9,7 @@ use Rattle.semantics.specs.Schedules.{complete_schedules, schedules_under, state
 use Rattle.semantics.specs.Ends.{is_terminal}
 use Rattle.semantics.specs.Sleep.{reduced_schedules, is_kept, next_sleep_set, independent}
 use Rattle.semantics.specs.Waiters.{In}
+use Rattle.semantics.proofs.Masks.{has-mask_of}
 use Rattle.semantics.proofs.ListMembers.{from_map, from_filter}
 use Rattle.semantics.proofs.WorkFalls.{enabled_below}
 use Rattle.semantics.proofs.StepsKeepStates.{step_is_of}
@@ -19,7 +20,7 @@ use Rattle.semantics.proofs.SchedulesUnderPrefix.{schedules_under-longer, begins
 use Rattle.walk.specs.declared.mode.Mode.TheVariants.{Reduced}
 use Rattle.walk.specs.Items.{ItemView, IsItem, kept_schedules}
 use Rattle.walk.specs.inner.Children.{state_of, child_of}
-use Rattle.walk.proofs.Masks.{has_mask_of}
+use Rattle.walk.proofs.Filters.{filter_same}
 
 -- the schedules that sleep sets leave after a prefix where these threads sleep
 abbrev pub kept_after : Program → List ℕ → (ℕ → Bool) → List (List ℕ)
@@ -83,7 +84,7 @@ kept_child : (i : ItemView) (t : ℕ) → IsOf i.program (state_of i) →
     (next_sleep_set i.program (state_of i) (has i.mask) t)
 kept_child i t of e =
     ap (map (λ w. (i.prefix ++ t ∷ []) ++ w))
-    (reduced_alike i.program next (has (child_of Reduced i t).mask) sleep (λ u k. has_mask_of sleep u (small u k)))
+    (reduced_alike i.program next (has (child_of Reduced i t).mask) sleep (λ u k. has-mask_of sleep u (small u k)))
   where
     next : Snapshot
     next = state_after i.program (start i.program) (i.prefix ++ t ∷ [])
@@ -137,12 +138,6 @@ filter_swap {A} f g (x ∷ L) = go (f x) (g x) refl refl (filter_swap f g L)
     go false true d e r = rw d r
     go false false d e r = r
 
-filter_alike : {A : Type 0} (f g : A → Bool) (L : List A) → ((x : A) → In L x → f x ≡ g x) →
-    filter f L ≡ filter g L
-filter_alike f g [] h = refl
-filter_alike f g (x ∷ L) h = λ i. cond (h x (inl refl) i)
-    (x ∷ filter_alike f g L (λ y m. h y (inr m)) i) (filter_alike f g L (λ y m. h y (inr m)) i)
-
 kept_filter : (p : Program) (x : List ℕ) (Z : ℕ → Bool) → runs p (start p) x ≡ true →
     kept_after p x Z ≡ filter (is_kept_after p x Z) (schedules_under p x)
 unfolding reduced_schedules
@@ -159,7 +154,7 @@ kept_after_step : (p : Program) (x : List ℕ) (Z : ℕ → Bool) (t : ℕ) →
 kept_after_step p x Z t h e z =
     let k : runs p (start p) y ≡ true = runs-push p (start p) x t h e in
     kept_filter p y after k
-    ∙ (filter_alike (is_kept_after p y after) (is_kept_after p x Z) (schedules_under p y)
+    ∙ (filter_same (is_kept_after p y after) (is_kept_after p x Z) (schedules_under p y)
     (λ w m. alike w (from_map (λ v. y ++ v) (complete_schedules p (state_after p (start p) y)) w
     (subst (λ L. In L w) (schedules_under_is p y k) m)))
     ∙ (ap (filter (is_kept_after p x Z)) (schedules_under-longer p x y (begins_longer x (t ∷ [])))

@@ -3,18 +3,14 @@
 use Rattle.std.specs.Prelude.{ℕ, zero, suc, ◌+◌, ◌*◌, ◌≤◌, Bool, false, not, nat_le, nat_lt, List, [], ◌∷◌, ◌++◌, map, filter}
 use Rattle.guest_code.specs.declared.limits.TheConstants.{THREADS}
 use Rattle.semantics.specs.declared.mask.Mask.{Mask}
-use Rattle.semantics.specs.Mask.{no_threads, has}
+use Rattle.semantics.specs.Mask.{no_threads, has, mask_of}
 use Rattle.semantics.specs.Machine.{Snapshot, start}
-use Rattle.semantics.specs.Schedules.{enabled, state_after, preemptions, up_from, work}
+use Rattle.semantics.specs.Schedules.{enabled, state_after, preemptions, work}
 use Rattle.semantics.specs.Sleep.{next_sleep_set}
 use Rattle.semantics.specs.Ends.{is_empty}
 use Rattle.walk.specs.declared.mode.Mode.{Mode}
 use Rattle.walk.specs.declared.mode.Mode.TheVariants.{Bounded, Reduced}
 use Rattle.walk.specs.Items.{ItemView}
-
--- stand-in until the crate of the mask has it: the set of the threads that a test picks
-abbrev pub mask_of : (ℕ → Bool) → Mask
-mask_of test = record { members = map test (up_from 0 THREADS) }
 
 -- the state after an item's prefix
 abbrev pub state_of : ItemView → Snapshot
