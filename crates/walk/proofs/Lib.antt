@@ -9,7 +9,6 @@ pub mod WayBytes
 pub mod PackedPrefixes
 pub mod TrailSteps
 pub mod Splits
-pub mod Masks
 pub mod Reduced
 pub mod Children
 pub mod ItemsWalked
@@ -18,3 +17,5 @@ pub mod PartsJoin
 pub mod WalkedFurther
 pub mod WalkTurns
 pub mod WalkSteps
+pub mod Arrivals
+pub mod Walks

@@ -1,5 +1,7 @@
 -- What one step down or back does to the way from the start.
-use Rattle.std.proofs.Common.{◌≡◌, ℕ, zero, suc, ◌+◌, ◌-◌, ◌<◌, ◌≤◌, Bool, true, false, ◌&&◌, nat_eq, not, List, [], ◌∷◌, ◌++◌, length, Option, Some, None, refl, ap, ◌∙◌, sym, arith, subst, reverse, take, set, get_or, length-set, vec_len}
+use Rattle.std.proofs.Common.{◌≡◌, ℕ, zero, suc, ◌+◌, ◌-◌, ◌<◌, ◌≤◌, Bool, true, false, ◌&&◌, nat_eq, not, List, [], ◌∷◌, ◌++◌, length, Option, Some, None, refl, ap, ◌∙◌, sym, arith, subst, reverse, take, set, get_or, length-set, vec_len, inl, inr}
+use Rattle.std.proofs.lemmas.Bool.{cases_lt, false≢true}
+use Rattle.semantics.proofs.WorkFalls.{disabled_past}
 use Rattle.std.proofs.lemmas.List.{reverse-append, length_push, take_more, take_more_set, take_at}
 use Rattle.std.specs.declared.vec.Vec.{Vec}
 use Rattle.std.specs.declared.alloc.Global.{Global}
@@ -161,7 +163,7 @@ trail_entered p old new S t u enabled asleep h on there same items frames steppe
       room = let k : length new.frames.items ≡ length S = ap length frames ∙ length-set S (length old.steps.items) f in
         let m : length new.steps.items ≡ length old.steps.items + 1 = ap length items ∙ length_push old.steps.items t in
         omega (arith, k, m, there);
-    }, record { steps = items; frame = f; above = up; node = refl; asleep = ap (λ (n : Node). n.asleep) node; base = base })
+    }, record { steps = items; frame = f; above = up; node = refl; sleepers = ap (λ (n : Node). n.asleep) node; base = base })
 
 -- frames after the steps don't matter, nor what is still to be tried
 pub trail_same : (p : Program) (old new : Trail) → IsTrail p old → new.steps.items ≡ old.steps.items →
@@ -177,3 +179,9 @@ trail_same p old new h items frames room state node =
       steps = items ∙ (h.steps ∙ ap path (sym up));
       room = let k : length new.steps.items ≡ length old.steps.items = ap length items in omega (arith, k, room);
     }
+
+-- an enabled thread is one of the program
+pub enabled_within : (p : Program) (s : Snapshot) (t : ℕ) → IsOf p s → is_enabled p s t ≡ true → t < length p.threads
+enabled_within p s t of' on = elim (cases_lt t (length s.threads))
+    [ inl l ↦ (let e = of'.threads in omega (arith, l, e))
+    | inr g ↦ absurd (false≢true (sym (disabled_past p s t g) ∙ on)) ]

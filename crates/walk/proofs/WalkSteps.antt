@@ -15,7 +15,8 @@ use Rattle.walk.specs.Items.{ItemView, IsItem, schedules_of}
 use Rattle.walk.specs.Walks.{WalkView, IsWalked, IsBelow, IsSplit, IsCut, IsCutAt, IsPruned}
 use Rattle.walk.specs.inner.SubtreeInvariant.{added}
 use Rattle.walk.specs.inner.Children.{state_of, IsWithin, passes_bound, children, past_children, cost_of, costs}
-use Rattle.walk.proofs.Splits.{split_kept, walked_further}
+use Rattle.walk.proofs.Splits.{split_kept}
+use Rattle.walk.proofs.WalkedFurther.{walked_further}
 use Rattle.walk.proofs.ItemsWalked.{leaf_walked, node_walked}
 use Rattle.walk.proofs.PartsJoin.{join_past, join_leaf}
 use Rattle.walk.proofs.Turns.{costs-append, cost_two, children_cost}
@@ -49,7 +50,7 @@ walked_leaf mode i c part rest deferred over h =
     let kept : IsSummary part = split_kept mode i part (c ∷ rest) deferred h.split in
     subst (λ (s : SummaryView). IsWalked (walk_of mode i s rest deferred)) (join_leaf c.program part c.prefix kept)
       (subst (λ (ds : List ItemView). IsWalked (walk_of mode i (join part (sum_of c.program (c.prefix ∷ []))) rest ds)) (append-nil deferred)
-        (walked_further mode i c part (sum_of c.program (c.prefix ∷ [])) rest [] deferred [] h (leaf_walked mode c f.item over f.within)))
+        (walked_further mode i c part (sum_of c.program (c.prefix ∷ [])) rest deferred [] [] h (leaf_walked mode c f.item over f.within)))
 
 -- it goes on, and gives way to its children
 pub walked_node : (mode : Mode) (i c : ItemView) (part : SummaryView) (rest deferred : List ItemView) →
@@ -62,7 +63,7 @@ walked_node mode i c part rest deferred of' more h =
     let kept : IsSummary part = split_kept mode i part (c ∷ rest) deferred h.split in
     subst (λ (s : SummaryView). IsWalked (walk_of mode i s (children mode c ++ rest) (deferred ++ past_children mode c)))
       (join_past part (passes_bound mode c) kept)
-      (walked_further mode i c part (with_beyond nothing (passes_bound mode c)) rest (children mode c) deferred (past_children mode c) h (node_walked mode c f.item of' more f.within))
+      (walked_further mode i c part (with_beyond nothing (passes_bound mode c)) rest deferred (children mode c) (past_children mode c) h (node_walked mode c f.item of' more f.within))
 
 -- nothing is enabled, or something is
 pub over_none : (p : Program) (s : Snapshot) → enabled p s ≡ [] → is_terminal p s ≡ true

@@ -1,7 +1,7 @@
 -- What is still open after one turn of a walk.
-use Rattle.std.proofs.Common.{◌≡◌, ℕ, zero, suc, ◌+◌, ◌-◌, ◌<◌, ◌≤◌, Bool, true, false, ◌&&◌, not, List, [], ◌∷◌, ◌++◌, length, map, Option, Some, None, refl, ap, ◌∙◌, sym, arith, subst, cond, take, get_or, get_or_at, nat_le, nat_lt}
+use Rattle.std.proofs.Common.{◌≡◌, ℕ, zero, suc, ◌+◌, ◌-◌, ◌<◌, ◌≤◌, Bool, true, false, ◌&&◌, not, List, [], ◌∷◌, ◌++◌, length, map, Option, Some, None, refl, ap, ◌∙◌, sym, arith, subst, cond, take, get_or, nat_le, nat_lt}
 use Rattle.std.specs.List.{filter, All}
-use Rattle.std.proofs.lemmas.List.{length_push, take_at, map-append}
+use Rattle.std.proofs.lemmas.List.{length_push, take_at, get_or_at, map-append}
 use Rattle.std.proofs.lemmas.List.Elements.{All-head}
 use Rattle.guest_code.specs.Program.{Program}
 use Rattle.semantics.specs.Machine.{Snapshot, is_enabled, start, step}
@@ -65,11 +65,8 @@ open_done mode p t e = ap (λ (ts : List ℕ). children_of mode (here p t) ts ++
 -- filters by two tests, one after the other
 filter_both : (f g : ℕ → Bool) (xs : List ℕ) → filter (λ t. g t && f t) xs ≡ filter f (filter g xs)
 filter_both f g [] = refl
-filter_both f g (x ∷ xs) = go (g x) refl
-  where
-    go : (b : Bool) → g x ≡ b → filter (λ t. g t && f t) (x ∷ xs) ≡ filter f (filter g (x ∷ xs))
-    go true e = rw e (ap (λ (ys : List ℕ). cond (f x) (x ∷ ys) ys) (filter_both f g xs))
-    go false e = rw e (filter_both f g xs)
+filter_both f g (x ∷ xs) = elim (g x) as (λ b. cond (b && f x) (x ∷ filter (λ t. g t && f t) xs) (filter (λ t. g t && f t) xs) ≡ filter f (cond b (x ∷ filter g xs) (filter g xs)))
+    [ true ↦ ap (λ (ys : List ℕ). cond (f x) (x ∷ ys) ys) (filter_both f g xs) | false ↦ filter_both f g xs ]
 
 filter_alike : (f g : ℕ → Bool) (xs : List ℕ) → ((t : ℕ) → f t ≡ g t) → filter f xs ≡ filter g xs
 filter_alike f g [] h = refl

@@ -2,10 +2,11 @@
 
 ghost use Rattle.std.specs.Prelude.{◌≡◌, ◌+◌, ◌-◌, ◌++◌, ◌∷◌, ◌<◌, ◌≤◌, ◌&&◌, ◌||◌, not, [], ℕ, true, map, IfOk, OnOk, IsTrue, IsFalse, length, All};
 ghost use Rattle.semantics.specs.Ends.{is_empty};
+ghost use Rattle.semantics.specs.Machine.{is_enabled};
 ghost use Rattle.semantics.specs.Mask.{has, members_from};
 ghost use Rattle.walk.specs.Items.{IsItem};
 ghost use Rattle.walk.specs.Summaries.{nothing, with_beyond};
-ghost use Rattle.walk.specs.inner.Children.{child_of, mask_after};
+ghost use Rattle.walk.specs.inner.Children.{child_of, mask_after, cost_of, costs};
 ghost use Rattle.walk.specs.inner.Paths.{leaves, IsTrail};
 ghost use Rattle.walk.specs.Walks.{IsWalked, IsPastBound, walk_past_bound};
 ghost use Rattle.walk.specs.inner.WalkerInvariant.{IsPlace, IsSearch, here, left_above, still_open, turns_left, is_kept_at, is_past_at, is_past_here, IsWithinAt};
@@ -63,9 +64,10 @@ impl Found {
 
 impl Node {
     // The threads whose step from here passes the bound.
-    fn past(&self, bound: u32) -> Mask
-        requires { self.now.used ≤ bound }
-        ensures { (t : ℕ) → has result t ≡ (has self.now.enabled t && is_past_at (Bounded bound) self.now t) }
+    #[inline(always)]
+    fn past(self, bound: u32) -> Mask
+        requires { self.used ≤ bound }
+        ensures { (t : ℕ) → has result t ≡ (has self.enabled t && is_past_at (Mode.Bounded bound) self t) }
     {
         if self.used < bound as usize {
             return Mask::empty();
@@ -108,7 +110,8 @@ impl Trail {
     // The threads that sleep after a step.
     #[inline(always)]
     fn sleepers(&self, program: &Program, mode: Mode, thread: u8) -> Mask
-        requires { IsPlace program.now self.now }
+        requires place { IsPlace program.now self.now }
+        requires enabled { IsTrue (is_enabled program.now self.now.state thread) }
         ensures { result ≡ mask_after mode (here program.now self.now) thread }
     {
         match mode {
@@ -132,9 +135,13 @@ impl Trail {
     {
         let past = self.node.open(mode);
         match self.node.enabled.first_from(0) {
-            Some(_) => found.defer(&mut self.steps, past),
-            None => found.part.add(alloc, self.steps.as_slice(), self.state.final_kind(), self.state.variables()),
+            Some(_) => found.defer(&mut self.steps, past)?,
+            None => {
+                let kind = self.state.final_kind();
+                found.part.add(alloc, self.steps.as_slice(), kind, self.state.variables())?;
+            }
         }
+        Ok(())
     }
 
     // Goes into the next open child.
@@ -143,7 +150,7 @@ impl Trail {
         requires search { IsSearch mode item.now self.old found.old
             (child_of mode (here item.now.program self.old) thread
             ∷ still_open mode item.now.program self.old) }
-        ensures place { IsPlace item.now.program self.new }
+        ensures trail { IsTrail item.now.program self.new }
         ensures search { OnOk result (IsSearch mode item.now self.new found.new
             (still_open mode item.now.program self.new)) }
         ensures further { OnOk result (turns_left mode item.now.program self.new
@@ -181,7 +188,7 @@ impl Trail {
     #[inline(always)]
     fn turn(&mut self, alloc: Global, found: &mut Found, item: &Item, mode: Mode) -> Result<bool, AllocError>
         requires search { IsSearch mode item.now self.old found.old (still_open mode item.now.program self.old) }
-        ensures place { IsPlace item.now.program self.new }
+        ensures trail { IsTrail item.now.program self.new }
         ensures search { OnOk result (IsSearch mode item.now self.new found.new
             (still_open mode item.now.program self.new)) }
         ensures further { IfOk result (λ more. IsTrue more →
@@ -205,7 +212,7 @@ impl Trail {
     fn search(&mut self, alloc: Global, found: &mut Found, item: &Item, mode: Mode, quota: u32) -> Result<(), AllocError>
         requires search { IsSearch mode item.now self.old found.old (still_open mode item.now.program self.old) }
         requires few { found.old.part.tried ≤ quota }
-        ensures place { IsPlace item.now.program self.new }
+        ensures trail { IsTrail item.now.program self.new }
         ensures search { OnOk result (IsSearch mode item.now self.new found.new
             (still_open mode item.now.program self.new)) }
         ensures few { OnOk result (found.new.part.tried ≤ quota) }

@@ -200,20 +200,20 @@ impl Trail {
     {
         let shared = shared_length(self.steps.as_slice(), schedule);
         self.go_back(program, shared);
-        for thread in &schedule[shared..] {
-            self.enter(program, *thread, Mask::empty())?;
+        for place in shared..schedule.len() {
+            self.enter(program, schedule[place], Mask::empty())?;
         }
         Ok(())
     }
 
     // Takes steps back until so many are left.
-    fn go_back(&mut self, program: &Program, length: usize)
+    fn go_back(&mut self, program: &Program, count: usize)
         requires trail { IsTrail program.now self.old }
-        requires fewer { length ≤ (length self.old.steps.items) }
+        requires fewer { count ≤ length self.old.steps.items }
         ensures trail { IsTrail program.now self.new }
-        ensures steps { self.new.steps.items ≡ take length self.old.steps.items }
+        ensures steps { self.new.steps.items ≡ take count self.old.steps.items }
     {
-        while self.steps.len() > length {
+        while self.steps.len() > count {
             self.leave(program);
         }
     }

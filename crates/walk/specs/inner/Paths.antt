@@ -76,7 +76,7 @@ pub record IsEntered (old new : Trail) (t : ℕ) (asleep : Mask) : Type 0 where
   pub frame : Frame
   pub above : above new ≡ frame ∷ above old
   pub node : frame.node ≡ old.node
-  pub asleep : new.node.asleep ≡ asleep
+  pub sleepers : new.node.asleep ≡ asleep
   pub base : new.base ≡ old.base
 
 -- one step back
