@@ -11,6 +11,7 @@ use semantics::view::{EndView, Kind};
 use std::alloc::{AllocError, Global};
 use std::cmp::Ordering;
 use std::marker::Model;
+use std::mem;
 
 /// What is known of a list of complete schedules. Counts stop at the greatest `u64`.
 #[derive(Drop)]
@@ -166,7 +167,7 @@ impl Summary {
     // Adds one more complete schedule, which ends so.
     pub(crate) fn add(
         &mut self,
-        _alloc: Global,
+        alloc: Global,
         schedule: &[u8],
         kind: Kind,
         values: &[i64],
@@ -174,7 +175,10 @@ impl Summary {
         ensures { OnOk result (self.new ≡ added self.old schedule.now
             (record { kind = kind; vars = values.now })) }
     {
-        Err(AllocError)
+        let values = values.to_vec(alloc)?;
+        let old = mem::replace(self, Summary::empty(alloc));
+        *self = old.with_schedule(alloc, schedule, EndView::new(kind, values))?;
+        Ok(())
     }
 
     // Some schedule is beyond the bound.
