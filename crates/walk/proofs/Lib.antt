@@ -3,6 +3,7 @@ pub mod Filters
 pub mod LesserSchedules
 pub mod SortedViews
 pub mod SumsJoin
+pub mod EndSearch
 pub mod ListParts
 pub mod WalkedItems
 pub mod WayBytes

@@ -5,3 +5,4 @@ pub mod Children
 pub mod Packed
 pub mod Paths
 pub mod WalkerInvariant
+pub mod EndPlaces
