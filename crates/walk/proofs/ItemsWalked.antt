@@ -20,7 +20,7 @@ use Rattle.walk.specs.Summaries.{nothing, sum_of, with_beyond}
 use Rattle.walk.specs.Items.{ItemView, IsItem, schedules_of, goes_beyond, is_under}
 use Rattle.walk.specs.Walks.{IsWalked, IsBelow, IsDeferred, IsCut, IsPastBound, walk_past_bound, clear_of}
 use Rattle.walk.specs.inner.Children.{state_of, IsWithin, passes_bound, children_of, children, past_children}
-use Rattle.walk.proofs.WalkedItems.{past_none, past_beyond}
+use Rattle.walk.proofs.WalkedItems.{HasItsOf, past_none, past_beyond}
 use Rattle.walk.proofs.Children.{begins_own, clear_none, children_schedules, children_clear, children_beyond, children_below, children_apart, children_within, children_deferred, children_have, children_pruned, reduced_past}
 
 -- a walk that has not begun: the item is its own rest
@@ -45,13 +45,10 @@ open_cut (Bounded bound) i fits = record {
 }
 open_cut Reduced i fits = record {
   none = refl;
-  schedules = All-cons same i []
-      (filter_whole (begins_with i.prefix) (schedules_of Reduced i) (λ v m. begins_own Reduced i v m))
-      (All-nil same);
+  schedules = All-cons (HasItsOf Reduced i) i []
+      (filter_whole (begins_with i.prefix) (schedules_of Reduced i) (begins_own Reduced i))
+      (All-nil (HasItsOf Reduced i));
 }
-  where
-    same : ItemView → Type 0
-    same r = schedules_of Reduced r ≡ filter (begins_with r.prefix) (schedules_of Reduced i)
 
 pub open_walked : (mode : Mode) (i : ItemView) → IsItem i → IsWithin mode i →
     IsWalked (record {
@@ -123,8 +120,7 @@ none_cut (Bounded bound) i h over = record {
     not_past fits v (inr m) k = m
 none_cut Reduced i h over = record {
   none = refl;
-  schedules =
-      All-nil (λ r. schedules_of Reduced r ≡ filter (begins_with r.prefix) (schedules_of Reduced i));
+  schedules = All-nil (HasItsOf Reduced i);
 }
 
 pub leaf_walked : (mode : Mode) (i : ItemView) → IsItem i →

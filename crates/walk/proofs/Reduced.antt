@@ -84,7 +84,8 @@ kept_child : (i : ItemView) (t : ℕ) → IsOf i.program (state_of i) →
     (next_sleep_set i.program (state_of i) (has i.mask) t)
 kept_child i t of e =
     ap (map (λ w. (i.prefix ++ t ∷ []) ++ w))
-    (reduced_alike i.program next (has (child_of Reduced i t).mask) sleep (λ u k. has-mask_of sleep u (small u k)))
+    (reduced_alike i.program next (has (child_of Reduced i t).mask) sleep
+    (λ u k. has-mask_of sleep u (small u k)))
   where
     next : Snapshot
     next = state_after i.program (start i.program) (i.prefix ++ t ∷ [])
@@ -222,7 +223,7 @@ kept_after_more p x Z more =
     each (t ∷ ts) = put_append (before t (after t)) (flat_map (λ u. before u (after u)) ts)
         ∙ (λ i. one t i ++ each ts i)
 
--- the child of a thread that doesn't sleep has the schedules of its item that begin with its prefix
+-- the child of a thread that doesn't sleep has its item's schedules that begin with its prefix
 pub child_keeps : (i : ItemView) (t : ℕ) → IsItem i → IsOf i.program (state_of i) →
     is_enabled i.program (state_of i) t ≡ true → has i.mask t ≡ false →
     kept_schedules (child_of Reduced i t)
@@ -238,14 +239,18 @@ pub children_keep : (i : ItemView) → IsOf i.program (state_of i) →
     (filter (λ t. not (has i.mask t)) (enabled i.program (state_of i)))
 children_keep i of more =
     kept_after_more p i.prefix (has i.mask) more
-    ∙ flat_map_alike (filter (λ t. not (has i.mask t)) (enabled p s)) (λ t m. sym (kept_child i t of
-    (from_enabled p s t (from_filter (λ u. not (has i.mask u)) (enabled p s) t m).0)))
+    ∙ flat_map_alike (filter awake (enabled p s))
+    (λ t m. sym (kept_child i t of
+    (from_enabled p s t (from_filter awake (enabled p s) t m).0)))
   where
     p : Program
     p = i.program
 
     s : Snapshot
     s = state_of i
+
+    awake : ℕ → Bool
+    awake t = not (has i.mask t)
 
     expected : ℕ → List (List ℕ)
     expected t = kept_after p (i.prefix ++ t ∷ []) (next_sleep_set p s (has i.mask) t)

@@ -1,6 +1,6 @@
 -- End views, sorted by their order, each once.
 use Rattle.std.proofs.Common.{◌≡◌, ◌↔◌, ◌⊎◌, inl, inr, ℕ, zero, suc, Bool, true, false, cond, ◌||◌, List, [], ◌∷◌, ◌++◌, length, map, Option, Some, None, is_some, refl, ap, ◌∙◌, sym, arith, ◌+◌, ◌<◌, take, get_or}
-use Rattle.std.proofs.lemmas.List.{append_assoc, take_more}
+use Rattle.std.proofs.lemmas.List.{append_assoc, append-nil, take_more}
 use Rattle.std.proofs.lemmas.List.Elements.{Contains-append_left, Contains-append_right, Contains-append_cases}
 use Rattle.std.proofs.lemmas.List.Folds.{list_any-append, Any-from_list_any, list_any-from_Any}
 use Rattle.std.proofs.Math.Bool.{or_comm, or_assoc, or-false}
@@ -20,7 +20,7 @@ use Rattle.semantics.specs.declared.view.Kind.TheVariants.{Done, Failed, Stuck}
 use Rattle.semantics.specs.View.{View, view_cmp, kind_rank}
 use Rattle.walk.specs.Summaries.{with_view, sorted_views}
 
-view_total : IsTotalOrder view_cmp
+pub view_total : IsTotalOrder view_cmp
 view_total = then_total (on_total (λ (v : View). kind_rank v.kind) nat_cmp_total)
     (on_total (λ (v : View). v.vars) (lists_total int_cmp_total))
 
@@ -41,7 +41,7 @@ then_equal Equal b h = (refl, h)
 then_equal Greater b h = cc
 
 -- views that compare alike are one
-view_same : IsAntisymmetric view_cmp
+pub view_same : IsAntisymmetric view_cmp
 view_same v w h =
     let both = then_equal (nat_cmp (kind_rank v.kind) (kind_rank w.kind))
     (slice_cmp int_cmp v.vars w.vars) h in
@@ -55,7 +55,7 @@ view_same v w h =
 -- strictly sorted lists
 
 -- each of these is after x
-After : View → List View → Type 0
+unfoldable pub After : View → List View → Type 0
 After x vs = AllByRecursion (λ y. view_cmp x y ≡ Less) vs
 
 after_later : (x y : View) (vs : List View) → view_cmp x y ≡ Less → After y vs → After x vs
@@ -292,3 +292,52 @@ sorted_views-more first second i v h =
     ∙ ap sorted_views
     (append_assoc first (take i second) (get_or second i v ∷ [])
     ∙ ap (λ vs. first ++ vs) (sym (take_more second i v h)))
+
+any_has : (test : View → Bool) (vs : List View) (i : ℕ) (d : View) → i < length vs →
+    (test (get_or vs i d) || list_any test vs) ≡ list_any test vs
+any_has test [] i d h = absurd (omega arith)
+any_has test (v ∷ vs) zero d h = or_twice (test v) (list_any test vs)
+any_has test (v ∷ vs) (suc i) d h =
+    or_swap (test (get_or vs i d)) (test v) (list_any test vs)
+    ∙ ap (λ b. test v || b) (any_has test vs i d (omega arith))
+
+-- a view that is there changes nothing
+pub with_view_there : (v : View) (vs : List View) (i : ℕ) (d : View) →
+    IsStrictlySortedBy view_cmp vs → i < length vs → v ≡ get_or vs i d → with_view v vs ≡ vs
+with_view_there v vs i d sorted h e =
+    ap (with_view v) (sym (sorted_already vs sorted))
+    ∙ (same_members (v ∷ vs) vs (λ q.
+    ap (λ w. eq_by_cmp view_cmp q w || list_any (eq_by_cmp view_cmp q) vs) e
+    ∙ any_has (eq_by_cmp view_cmp q) vs i d h)
+    ∙ sorted_already vs sorted)
+
+or_moved : (a b c : Bool) → ((a || b) || c) ≡ (b || (c || (a || false)))
+or_moved true true c = refl
+or_moved true false true = refl
+or_moved true false false = refl
+or_moved false true c = refl
+or_moved false false true = refl
+or_moved false false false = refl
+
+-- a view that goes from the end of one list into the other
+pub sorted_views-moved : (v : View) (K L : List View) →
+    sorted_views (with_view v K ++ L) ≡ sorted_views (K ++ (L ++ v ∷ []))
+sorted_views-moved v K L = same_members (with_view v K ++ L) (K ++ (L ++ v ∷ [])) (λ q.
+    let test : View → Bool = eq_by_cmp view_cmp q in
+    list_any-append test (with_view v K) L
+    ∙ (ap (λ b. b || list_any test L) (any-with_view test v K)
+    ∙ (or_moved (test v) (list_any test K) (list_any test L)
+    ∙ (ap (λ b. list_any test K || b) (sym (list_any-append test L (v ∷ [])))
+    ∙ sym (list_any-append test K (L ++ v ∷ []))))))
+
+-- one more view of the second list that the first one has
+pub sorted_views-had : (first second : List View) (i : ℕ) (v : View) → i < length second →
+    with_view (get_or second i v) first ≡ first → sorted_views (first ++ take i second) ≡ first →
+    sorted_views (first ++ take (i + 1) second) ≡ first
+sorted_views-had first second i v h e f =
+    sym (sorted_views-more first second i v h) ∙ ap (with_view (get_or second i v)) f ∙ e
+
+-- none of a second list
+pub sorted_views-alone : (first : List View) → IsStrictlySortedBy view_cmp first →
+    sorted_views (first ++ []) ≡ first
+sorted_views-alone first h = ap sorted_views (append-nil first) ∙ sorted_already first h

@@ -3,3 +3,6 @@
 pub mod SubtreeInvariant
 pub mod Children
 pub mod Packed
+pub mod Paths
+pub mod WalkerInvariant
+pub mod EndPlaces

@@ -1,12 +1,15 @@
 //! Summaries of schedules: how many were tried, how they ended, and the first bad one.
 
-ghost use Rattle.std.specs.Prelude.{◌≡◌, OnOk, IfOk, MatchOption, Some, None, true, false, ◌++◌, ◌≤◌, length, insert};
+ghost use Rattle.std.specs.Prelude.{◌≡◌, ◌+◌, ◌<◌, ◌≤◌, IfOk, IsOk, IsTrue, MatchOption, Some, None, true, false, ◌++◌, length, is_ok, if◌then◌else◌, vec_len, vec_capacity};
 ghost use Rattle.std.specs.List.Sorted.{IsStrictlySortedBy};
+ghost use Rattle.std.specs.Option.{option_or};
 ghost use Rattle.semantics.specs.Order.{precedes, lesser, is_bad};
 ghost use Rattle.semantics.specs.View.{view_cmp};
-ghost use Rattle.walk.specs.Summaries.{SummaryView, IsSummary, schedule_view, nothing, is_failed, is_stuck, with_view, sorted_views, join, with_beyond};
+ghost use Rattle.walk.specs.Summaries.{SummaryView, IsSummary, schedule_view, cut, nothing, is_failed, is_stuck, with_view, sorted_views, join, with_beyond};
 ghost use Rattle.walk.specs.inner.SubtreeInvariant.{added, counted_if, first_bad_with};
+ghost use Rattle.walk.specs.inner.EndPlaces.{end_with, IsPlaceOf};
 
+use crate::hints::EndHints;
 use semantics::view::{EndView, Kind};
 use std::alloc::{AllocError, Global};
 use std::cmp::Ordering;
@@ -132,15 +135,15 @@ impl Summary {
         })
     }
 
-    // The summary with one more complete schedule, which ends so.
-    #[tactic(auto, using(crate::proofs::SumsJoin::added_kept), unfolding(crate::specs::inner::SubtreeInvariant::added))]
-    pub(crate) fn with_schedule(
-        self,
-        alloc: Global,
-        schedule: &[u8],
-        view: EndView,
-    ) -> Result<Summary, AllocError>
-        ensures { IfOk result (λ s. s ≡ added self schedule.now view) }
+    /// Joins another summary in, in place: what [`Summary::join`] answers. Nothing is cloned, and nothing
+    /// is allocated where the other has no end view that is new.
+    ///
+    /// # Errors
+    ///
+    /// `AllocError` where memory runs out; the summary is then as before.
+    #[tactic(auto, unfolding(crate::specs::Summaries::join))]
+    pub fn join_in(&mut self, other: Summary) -> Result<(), AllocError>
+        ensures { self.new ≡ (if is_ok result then join self.old other else self.old) }
     {
         let Summary {
             tried,
@@ -148,37 +151,51 @@ impl Summary {
             stuck,
             beyond,
             first_bad,
-            mut ends,
-        } = self;
-        let kind = view.kind();
-        insert_view(&mut ends, view)?;
-        let first_bad = first_bad_with(alloc, first_bad, schedule, kind)?;
-        Ok(Summary {
-            tried: tried.saturating_add(1),
-            failed: counted_if(is_failed(kind), failed),
-            stuck: counted_if(is_stuck(kind), stuck),
-            beyond,
-            first_bad,
             ends,
-        })
+        } = other;
+        join_views(&mut self.ends, ends)?;
+        take_lesser(&mut self.first_bad, first_bad);
+        increase(&mut self.tried, tried);
+        increase(&mut self.failed, failed);
+        increase(&mut self.stuck, stuck);
+        self.beyond = self.beyond || beyond;
+        Ok(())
     }
 
-    // The summary where some schedule is beyond the bound.
-    pub(crate) fn with_beyond(self) -> Summary
-        ensures { result ≡ with_beyond self true }
-    {
-        Summary {
-            beyond: true,
-            ..self
-        }
-    }
-
-    /// Forgets whether some schedule is beyond the bound, where the bound is raised. It takes no memory.
+    /// Forgets that some schedule is beyond the bound, for a bound that is raised.
     pub fn forget_beyond(&mut self)
         ensures { self.new ≡ with_beyond self.old false }
     {
-        let Summary { beyond, .. } = self;
-        *beyond = false;
+        self.beyond = false;
+    }
+
+    // Counts one more complete schedule, which ends so, in place.
+    #[tactic(auto, unfolding(crate::specs::inner::SubtreeInvariant::added))]
+    pub(crate) fn add(
+        &mut self,
+        alloc: Global,
+        hints: &mut EndHints,
+        schedule: &[u8],
+        kind: Kind,
+        values: &[i64],
+    ) -> Result<(), AllocError>
+        ensures { self.new ≡ (if is_ok result
+            then added self.old schedule.now (end_with kind values.now) else self.old) }
+    {
+        let better = lesser_bad(alloc, &self.first_bad, schedule, kind)?;
+        add_view(alloc, &mut self.ends, hints, kind, values)?;
+        replace_by(&mut self.first_bad, better);
+        increase(&mut self.tried, 1);
+        count_if(is_failed(kind), &mut self.failed);
+        count_if(is_stuck(kind), &mut self.stuck);
+        Ok(())
+    }
+
+    // Some schedule is beyond the bound.
+    pub(crate) fn set_beyond(&mut self)
+        ensures { self.new ≡ with_beyond self.old true }
+    {
+        self.beyond = true;
     }
 }
 
@@ -194,31 +211,73 @@ fn is_stuck(kind: Kind) -> bool
     matches!(kind, Kind::Stuck)
 }
 
+// So many more.
+fn increase(count: &mut u64, more: u64)
+    ensures { count.new ≡ cut (count.old + more) }
+{
+    *count = count.saturating_add(more);
+}
+
 // One more, where it is to be counted.
-fn counted_if(counted: bool, number: u64) -> u64
-    ensures { result ≡ counted_if counted number }
+fn count_if(counted: bool, count: &mut u64)
+    ensures { count.new ≡ counted_if counted count.old }
 {
     if counted {
-        number.saturating_add(1)
-    } else {
-        number
+        increase(count, 1);
     }
 }
 
-// The first bad schedule where one more ends so.
-fn first_bad_with(
+// A copy of a schedule that ends so, where it comes before the first bad one.
+fn lesser_bad(
     alloc: Global,
-    first: Option<Vec<u8>>,
+    first: &Option<Vec<u8>>,
     schedule: &[u8],
     kind: Kind,
 ) -> Result<Option<Vec<u8>>, AllocError>
-    ensures { IfOk result (λ v.
-        schedule_view v ≡ first_bad_with (is_bad kind) (schedule_view first) schedule.now) }
+    ensures { IfOk result (λ better. option_or (schedule_view better) (schedule_view first.now)
+        ≡ first_bad_with (is_bad kind) (schedule_view first.now) schedule.now) }
 {
-    if kind.is_bad() {
-        keep_lesser(alloc, first, schedule)
+    if kind.is_bad() && comes_first(schedule, first) {
+        Ok(Some(schedule.to_vec(alloc)?))
     } else {
-        Ok(first)
+        Ok(None)
+    }
+}
+
+// Whether a schedule comes before another, where there is another.
+fn comes_first(schedule: &[u8], first: &Option<Vec<u8>>) -> bool
+    ensures { lesser (schedule_view first.now) (Some schedule.now)
+        ≡ (if result then Some schedule.now else schedule_view first.now) }
+{
+    match first {
+        None => true,
+        Some(there) => precedes(schedule, there.as_slice()),
+    }
+}
+
+// Puts a schedule in place of another, where there is one to put.
+fn replace_by(first: &mut Option<Vec<u8>>, better: Option<Vec<u8>>)
+    ensures { schedule_view first.new ≡ option_or (schedule_view better) (schedule_view first.old) }
+{
+    match better {
+        None => {}
+        Some(schedule) => {
+            *first = Some(schedule);
+        }
+    }
+}
+
+// The lesser of two schedules, in place of the first; one that is there where the other isn't.
+fn take_lesser(first: &mut Option<Vec<u8>>, other: Option<Vec<u8>>)
+    ensures { schedule_view first.new ≡ lesser (schedule_view first.old) (schedule_view other) }
+{
+    match other {
+        None => {}
+        Some(schedule) => {
+            if comes_first(schedule.as_slice(), first) {
+                *first = Some(schedule);
+            }
+        }
     }
 }
 
@@ -276,30 +335,116 @@ fn lesser_of(
     }
 }
 
-// The index at which a view belongs in a sorted list, unless it is there.
-fn insertion_index(ends: &[EndView], view: &EndView) -> Option<usize>
-    ensures { MatchOption result (with_view view.now ends.now ≡ ends.now) (λ at.
-        (at ≤ length ends.now) × (with_view view.now ends.now ≡ insert ends.now at view.now)) }
+// Where the view of a kind and values stands in a sorted list, or the index at which it belongs.
+fn search_view(ends: &[EndView], kind: Kind, values: &[i64]) -> Result<usize, usize>
+    requires { IsStrictlySortedBy view_cmp ends.now }
+    ensures { IsPlaceOf (end_with kind values.now) ends.now result }
 {
-    for (at, end) in ends.iter().enumerate() {
-        match view.compare(end) {
-            Ordering::Less => return Some(at),
-            Ordering::Equal => return None,
-            Ordering::Greater => {}
+    ends.binary_search_by(|end| EndView::compare_parts(kind, values, end).reverse())
+}
+
+// The same, by a hint where it is right.
+fn find_view(
+    ends: &[EndView],
+    hints: &mut EndHints,
+    kind: Kind,
+    values: &[i64],
+) -> Result<usize, usize>
+    requires { IsStrictlySortedBy view_cmp ends.now }
+    ensures { IsPlaceOf (end_with kind values.now) ends.now result }
+{
+    let place = EndHints::place_of(kind, values);
+    let hint = hints.hint(place);
+    if stands_at(ends, hint, kind, values) {
+        return Ok(hint);
+    }
+    let found = search_view(ends, kind, values);
+    match found {
+        Ok(index) | Err(index) => hints.keep(place, index),
+    }
+    found
+}
+
+// Whether the view of a kind and values stands at an index.
+fn stands_at(ends: &[EndView], index: usize, kind: Kind, values: &[i64]) -> bool
+    requires { IsStrictlySortedBy view_cmp ends.now }
+    ensures { IsTrue result → (index < length ends.now)
+        × (with_view (end_with kind values.now) ends.now ≡ ends.now) }
+{
+    if index >= ends.len() {
+        return false;
+    }
+    match EndView::compare_parts(kind, values, &ends[index]) {
+        Ordering::Equal => true,
+        Ordering::Less | Ordering::Greater => false,
+    }
+}
+
+// Puts the view of a kind and values where it belongs in a sorted list, unless it is there.
+fn add_view(
+    alloc: Global,
+    ends: &mut Vec<EndView>,
+    hints: &mut EndHints,
+    kind: Kind,
+    values: &[i64],
+) -> Result<(), AllocError>
+    requires { IsStrictlySortedBy view_cmp ends.old.items }
+    ensures { ends.new.items ≡ (if is_ok result
+        then with_view (end_with kind values.now) ends.old.items else ends.old.items) }
+{
+    match find_view(ends.as_slice(), hints, kind, values) {
+        Ok(_) => Ok(()),
+        Err(index) => {
+            ends.insert(index, EndView::new(kind, values.to_vec(alloc)?))?;
+            Ok(())
         }
     }
-    Some(ends.len())
 }
 
 // Puts a view where it belongs in a sorted list, unless it is there.
 fn insert_view(ends: &mut Vec<EndView>, view: EndView) -> Result<(), AllocError>
-    ensures { OnOk result (ends.new.items ≡ with_view view ends.old.items) }
+    requires { IsStrictlySortedBy view_cmp ends.old.items }
+    ensures items { ends.new.items ≡ (if is_ok result
+        then with_view view ends.old.items else ends.old.items) }
+    ensures length { vec_len ends.new ≤ vec_len ends.old + 1 }
+    ensures capacity { vec_capacity ends.old ≤ vec_capacity ends.new }
+    ensures room { vec_len ends.old < vec_capacity ends.old → IsOk result }
 {
-    match insertion_index(ends.as_slice(), &view) {
-        Some(at) => {
-            ends.insert(at, view)?;
+    match search_view(ends.as_slice(), view.kind(), view.vars()) {
+        Ok(_) => Ok(()),
+        Err(index) => {
+            ends.insert(index, view)?;
+            Ok(())
         }
-        None => {}
+    }
+}
+
+// Whether each of these views is in a sorted list.
+fn has_all(ends: &[EndView], views: &[EndView]) -> bool
+    requires { IsStrictlySortedBy view_cmp ends.now }
+    ensures { IsTrue result → sorted_views (ends.now ++ views.now) ≡ ends.now }
+{
+    for view in views {
+        match search_view(ends, view.kind(), view.vars()) {
+            Ok(_) => {}
+            Err(_) => return false,
+        }
+    }
+    true
+}
+
+// Puts views into a sorted list: sorted, each once.
+fn join_views(ends: &mut Vec<EndView>, mut views: Vec<EndView>) -> Result<(), AllocError>
+    requires { IsStrictlySortedBy view_cmp ends.old.items }
+    ensures { ends.new.items ≡ (if is_ok result
+        then sorted_views (ends.old.items ++ views.items) else ends.old.items) }
+{
+    if has_all(ends.as_slice(), views.as_slice()) {
+        return Ok(());
+    }
+    ends.reserve(views.len())?;
+    while let Some(view) = views.pop() {
+        let _ = insert_view(ends, view);
     }
     Ok(())
 }
