@@ -16,3 +16,4 @@ pub mod books;
 pub mod errors;
 pub mod laws;
 pub mod limits;
+mod packed;
