@@ -17,3 +17,5 @@ pub mod errors;
 pub mod laws;
 pub mod limits;
 mod packed;
+#[cfg(test)]
+mod tests;
