@@ -1,10 +1,12 @@
 -- A walk of the first of the rest, put in that item's place, makes a walk of a walk.
 use Rattle.std.proofs.Common.{◌≡◌, ℕ, ◌+◌, ◌≤◌, Bool, true, false, not, ◌||◌, ◌&&◌, List, [], ◌∷◌, ◌++◌, refl, ap, ◌∙◌, sym, subst, arith, inl, inr, append_assoc}
 use Rattle.std.specs.List.{filter, flat_map, list_any, All, Contains}
+use Rattle.std.proofs.lemmas.Bool.{or_right}
 use Rattle.std.proofs.lemmas.List.{append-nil}
 use Rattle.std.proofs.lemmas.List.Elements.{All-append, All-head, All-tail, filter-append}
 use Rattle.std.proofs.lemmas.List.Folds.{list_any-append}
-use Rattle.semantics.specs.Schedules.{begins_with, one_if, preemptions, schedules_under}
+use Rattle.std.proofs.Math.Bool.{or-false}
+use Rattle.semantics.specs.Schedules.{begins_with, one_if, preemptions}
 use Rattle.semantics.specs.Waiters.{In}
 use Rattle.semantics.proofs.ListMembers.{from_filter}
 use Rattle.walk.specs.declared.mode.Mode.{Mode}
@@ -157,12 +159,8 @@ module _ (mode : Mode) (item c : ItemView) (a b : SummaryView) (rest deferred r 
   tried_now : filter clear its ≡ clear_of r its
   tried_now = filter_same clear (λ v. not (is_under r v)) its (λ v m. same v (from_filter (begins_with c.prefix) all v (subst (λ L. In L v) its_are m)).1)
     where
-      or_none : (x : Bool) → (x || false) ≡ x
-      or_none true = refl
-      or_none false = refl
-
       same : (v : List ℕ) → begins_with c.prefix v ≡ true → clear v ≡ not (is_under r v)
-      same v h = clear_is v ∙ (ap (λ b. not (is_under r v || b)) (alone v h) ∙ ap not (or_none (is_under r v)))
+      same v h = clear_is v ∙ (ap (λ b. not (is_under r v || b)) (alone v h) ∙ ap not (or-false (is_under r v)))
 
   none_left : (xs : List ItemView) → All (HasItsOf mode item) xs →
       ((v : List ℕ) → is_under xs v ≡ true → clear v ≡ false) →
@@ -173,11 +171,7 @@ module _ (mode : Mode) (item c : ItemView) (a b : SummaryView) (rest deferred r 
       ∙ (λ i. one i ++ none_left xs (All-tail (HasItsOf mode item) x xs h) (λ v u. k v (or_more v u)) i)
     where
       or_more : (v : List ℕ) → is_under xs v ≡ true → is_under (x ∷ xs) v ≡ true
-      or_more v u = ap (λ b. begins_with x.prefix v || b) u ∙ or_true (begins_with x.prefix v)
-        where
-          or_true : (y : Bool) → (y || true) ≡ true
-          or_true true = refl
-          or_true false = refl
+      or_more v u = ap (λ b. begins_with x.prefix v || b) u ∙ or_right (begins_with x.prefix v) true refl
 
       its_x : schedules_of mode x ≡ filter (begins_with x.prefix) all
       its_x = All-head (HasItsOf mode item) x xs h
@@ -199,17 +193,17 @@ module _ (mode : Mode) (item c : ItemView) (a b : SummaryView) (rest deferred r 
       ap (filter clear) old.schedules
       ∙ (filter-append clear (clear_of (c ∷ rest) all) (its ++ left)
       ∙ (λ i. tried_before i ++ (filter-append clear its left
-        ∙ ((λ j. tried_now j ++ none_left rest (All-tail (HasItsOf mode item) c rest have) under_left j)
-        ∙ append-nil (clear_of r its))) i))
+      ∙ ((λ j. tried_now j ++ none_left rest (All-tail (HasItsOf mode item) c rest have) under_left j)
+      ∙ append-nil (clear_of r its))) i))
 
   in_order : all ≡ clear_of (r ++ rest) all ++ flat_map (schedules_of mode) (r ++ rest)
   in_order =
       old.schedules
       ∙ (ap (λ l. clear_of (c ∷ rest) all ++ l)
-        (ap (λ l. l ++ left) walk.schedules
-        ∙ append_assoc (clear_of r its) (flat_map (schedules_of mode) r) left)
+      (ap (λ l. l ++ left) walk.schedules
+      ∙ append_assoc (clear_of r its) (flat_map (schedules_of mode) r) left)
       ∙ (sym (append_assoc (clear_of (c ∷ rest) all) (clear_of r its)
-        (flat_map (schedules_of mode) r ++ left))
+      (flat_map (schedules_of mode) r ++ left))
       ∙ (λ i. sym tried_both i ++ sym (flat_map-both (schedules_of mode) r rest) i)))
 
 -- where the first of the rest of a walk is walked, what that left comes in its place

@@ -2,3 +2,6 @@
 -- cite it, so nobody has to believe it.
 pub mod SubtreeInvariant
 pub mod Children
+pub mod Packed
+pub mod Paths
+pub mod WalkerInvariant
