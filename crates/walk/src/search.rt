@@ -138,7 +138,7 @@ impl Trail {
             Some(_) => found.defer(&mut self.steps, past)?,
             None => {
                 let kind = self.state.final_kind();
-                found.part.add(alloc, self.steps.as_slice(), kind, self.state.variables())?;
+                found.part.add(alloc, &mut self.hints, self.steps.as_slice(), kind, self.state.variables())?;
             }
         }
         Ok(())

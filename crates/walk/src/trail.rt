@@ -5,6 +5,7 @@ ghost use Rattle.semantics.specs.Machine.{start, is_enabled};
 ghost use Rattle.semantics.specs.Schedules.{runs};
 ghost use Rattle.walk.specs.inner.Paths.{IsTrail, IsEntered, IsLeft, leaves, after};
 
+use crate::hints::EndHints;
 use guest_code::program::Program;
 use semantics::mask::Mask;
 use semantics::state::State;
@@ -45,6 +46,8 @@ pub struct Trail {
     pub node: Node,
     /// How many of the steps are the prefix of the item that is walked.
     pub base: usize,
+    /// Where end views were found, for the next look-up.
+    pub hints: EndHints,
 }
 
 impl Node {
@@ -146,6 +149,7 @@ impl Trail {
             frames: Vec::new(alloc),
             node,
             base: 0,
+            hints: EndHints::new(),
         })
     }
 
