@@ -235,3 +235,13 @@ next_one m t fits h some = record {
 
     small : t + k < 16
     small = elim (cases_lt (t + k) 16) [ inl l ↦ l | inr g ↦ (let z : bit_at m.bits (t + k) ≡ 0 = bit_at_above m.bits 16 (t + k) fits g in let e : 0 ≡ 1 = sym z ∙ one in absurd (omega (arith, e))) ]
+
+-- the threads that aren't in a mask
+
+opposite : (x : ℕ) → x < 2 → nat_eq (1 - x) 1 ≡ not (nat_eq x 1)
+opposite zero h = refl
+opposite (suc zero) h = refl
+opposite (suc (suc x)) h = absurd (omega arith)
+
+pub complement_bits : (a u : ℕ) → a < 2 ^ 16 → u < 16 → nat_eq (bit_at (bit_not w16 a) u) 1 ≡ not (nat_eq (bit_at a u) 1)
+complement_bits a u fits h = ap (λ n. nat_eq n 1) (bit_at_not w16 a u fits h) ∙ opposite (bit_at a u) (bit_at-lt a u)

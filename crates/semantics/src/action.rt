@@ -1,9 +1,7 @@
 //! What a thread does next, and whether the objects allow it.
 
-ghost use Rattle.std.specs.Prelude.{◌≡◌, ℕ, IsTrue};
-ghost use Rattle.guest_code.specs.Program.{Program};
-ghost use Rattle.semantics.specs.inner.Recording.{KeepsOthers};
-ghost use Rattle.semantics.specs.Machine.{Snapshot, performed, action_of, action_at, owns, is_free, mutex_allows, sem_allows};
+ghost use Rattle.std.specs.Prelude.{◌≡◌};
+ghost use Rattle.semantics.specs.Machine.{action_of, action_at, owns, is_free, mutex_allows, sem_allows};
 
 use crate::state::{Action, ConditionAction, MutexAction, SemaphoreAction, Status, VariableAction};
 use guest_code::program::Instruction;
@@ -92,16 +90,13 @@ pub fn semaphore_allows(action: SemaphoreAction, count: u16) -> bool
     }
 }
 
-/// Whether a step is known to enable or disable no other thread.
-pub fn keeps_others(action: &Action) -> bool
-    ensures { IsTrue result → (p : Program) (s : Snapshot) (t : ℕ) →
-        KeepsOthers p s t (performed p s t action.now) }
-{
-    match action {
-        Action::OnVariable(_, _) => true,
-        Action::OnMutex(_, _)
-        | Action::Wait(_, _)
-        | Action::OnCondition(_, _)
-        | Action::OnSemaphore(_, _) => false,
-    }
+/// What a step does to which other threads are enabled.
+#[derive(Clone, Copy, Debug, PartialEq, Eq)]
+pub enum Others {
+    /// They stay enabled or disabled.
+    Same,
+    /// None is enabled that wasn't.
+    Fewer,
+    /// None is disabled that wasn't.
+    More,
 }

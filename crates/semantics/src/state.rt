@@ -1,17 +1,18 @@
 //! States of a program, and their steps.
 
-ghost use Rattle.std.specs.Prelude.{◌≡◌, ◌≢◌, ◌<◌, ◌≤◌, ℕ, length, slice_get, All, IfOk, IfSome, IsTrue};
+ghost use Rattle.std.specs.Prelude.{◌≡◌, ◌≢◌, ◌<◌, ◌≤◌, ℕ, Option, None, length, slice_get, All, IfOk, IfSome, IsTrue, if◌then◌else◌};
 ghost use Rattle.std.specs.List.{list_any, list_all};
+ghost use Rattle.guest_code.specs.declared.program.Instruction.{Instruction};
 ghost use Rattle.guest_code.specs.Program.{Program, code_of, IsValidValue};
-ghost use Rattle.semantics.specs.Machine.{Snapshot, start, step, performed, is_enabled, next_of, thread_at, owner_of, queue_of, count_of, value_of_operand};
+ghost use Rattle.semantics.specs.Machine.{Snapshot, start, step, performed, action_at, is_enabled, next_of, thread_at, owner_of, queue_of, count_of, value_of_operand};
 ghost use Rattle.semantics.specs.Reachable.{IsOf, IsValidAction, StandsInCode, IsReady};
 ghost use Rattle.semantics.specs.Ends.{is_terminal, kind_of, view_of, final_kind, is_stopped, is_ended, stop_of};
 ghost use Rattle.semantics.specs.Mask.{has, HasEnabled};
 ghost use Rattle.semantics.specs.Undoing.{undone, restored, IsRecordOf};
-ghost use Rattle.semantics.specs.inner.Recording.{HasBegun, HasObject, KeepsOthers};
+ghost use Rattle.semantics.specs.inner.Recording.{HasBegun, HasObject, Changes, others_after};
 ghost use Rattle.semantics.specs.declared.state.Action.TheVariants.{OnVariable, OnMutex, Wait as Waits, OnCondition, OnSemaphore};
 
-use crate::action::{action_at, keeps_others, mutex_allows, owns, semaphore_allows};
+use crate::action::{Others, action_at, mutex_allows, owns, semaphore_allows};
 use crate::local::{access, operand_at, resume};
 use crate::mask::Mask;
 use crate::opening::{opening_counts, opening_threads, opening_values};
@@ -59,6 +60,13 @@ impl Status {
             Status::Stopped(why) => Some(why),
             Status::Running | Status::Waiting(_) | Status::Woken | Status::Ended => None,
         }
+    }
+
+    // Whether a thread of this status takes no step, wherever it is.
+    fn has_no_step(self) -> bool
+        ensures { IsTrue result → (o : Option Instruction) → action_at self o ≡ None }
+    {
+        matches!(self, Status::Waiting(_) | Status::Ended | Status::Stopped(_))
     }
 }
 
@@ -271,6 +279,9 @@ impl State {
         requires thread { thread < length program.now.threads }
         ensures { result ≡ is_enabled program.now self.now thread }
     {
+        if self.threads[thread as usize].status.has_no_step() {
+            return false;
+        }
         match self.next(program, thread) {
             Some(Action::OnMutex(m, action)) => mutex_allows(action, self.owners[m]),
             Some(Action::OnSemaphore(k, action)) => semaphore_allows(action, self.counts[k]),
@@ -323,30 +334,77 @@ impl State {
         ensures mask { HasEnabled mask program.now self.old →
             HasEnabled result program.now self.new }
     {
-        let alone = self.step_recorded(program, thread, undo);
-        if alone {
-            mask.with(thread, self.is_enabled(program, thread))
-        } else {
-            self.enabled(program)
+        let others = self.step_recorded(program, thread, undo);
+        self.renew(program, thread, mask, others)
+    }
+
+    // The threads that are enabled now, after a step of this one, where these were before it.
+    fn renew(&self, program: &Program, thread: u8, mask: Mask, others: Others) -> Mask
+        requires of { IsOf program.now self.now }
+        requires thread { thread < length program.now.threads }
+        ensures { (s : Snapshot) → IsOf program.now s → HasEnabled mask program.now s →
+            Changes others program.now s thread self.now →
+            HasEnabled result program.now self.now }
+    {
+        match others {
+            Others::Same => mask.with(thread, self.is_enabled(program, thread)),
+            Others::Fewer => self.test_again(program, mask, mask.with(thread, true)),
+            Others::More => {
+                self.test_again(program, mask, mask.complement().with(thread, true))
+            }
         }
     }
 
-    // A step, with its record; whether it is known that no other thread is enabled or disabled by
-    // it.
-    fn step_recorded(&mut self, program: &Program, thread: u8, undo: &mut Undo) -> bool
+    // The mask, where it is tested again for some threads whether they are enabled.
+    fn test_again(&self, program: &Program, mask: Mask, some: Mask) -> Mask
+        requires { IsOf program.now self.now }
+        ensures below { (u : ℕ) → u < length program.now.threads →
+            has result u ≡ if has some u then is_enabled program.now self.now u else has mask u }
+        ensures above { (u : ℕ) → length program.now.threads ≤ u → has result u ≡ has mask u }
+    {
+        let mut mask = mask;
+        for thread in 0..program.threads() {
+            if some.has(thread) {
+                mask = mask.with(thread, self.is_enabled(program, thread));
+            }
+        }
+        mask
+    }
+
+    // A step, with its record, and what it does to which other threads are enabled.
+    fn step_recorded(&mut self, program: &Program, thread: u8, undo: &mut Undo) -> Others
         requires of { IsOf program.now self.old }
         requires enabled { IsTrue (is_enabled program.now self.old thread) }
         ensures value { self.new ≡ step program.now self.old thread }
         ensures of { IsOf program.now self.new }
         ensures record { IsRecordOf undo.new self.new }
         ensures back { undone undo.new self.new ≡ self.old }
-        ensures others { IsTrue result → KeepsOthers program.now self.old thread self.new }
+        ensures others { Changes result program.now self.old thread self.new }
     {
         if let Some(action) = self.next(program, thread) {
+            let others = self.others_after(program, thread, action);
             self.execute(program, thread, action, undo);
-            return keeps_others(&action);
+            return others;
         }
-        false
+        Others::Same
+    }
+
+    // What the step that a thread is about to take does to which other threads are enabled.
+    fn others_after(&self, program: &Program, thread: u8, action: Action) -> Others
+        requires { IsReady program.now self.now thread action }
+        ensures { result ≡ others_after self.now action }
+    {
+        match action {
+            Action::OnVariable(_, _) => Others::Same,
+            Action::OnMutex(_, MutexAction::Lock | MutexAction::Retake) => Others::Fewer,
+            Action::OnMutex(_, MutexAction::Unlock) | Action::Wait(_, _) => Others::More,
+            Action::OnCondition(c, _) if self.queue_length(c) == 0 => Others::Same,
+            Action::OnCondition(_, _) => Others::More,
+            Action::OnSemaphore(k, SemaphoreAction::Acquire) if self.counts[k] > 1 => Others::Same,
+            Action::OnSemaphore(_, SemaphoreAction::Acquire) => Others::Fewer,
+            Action::OnSemaphore(k, SemaphoreAction::Release) if self.counts[k] > 0 => Others::Same,
+            Action::OnSemaphore(_, SemaphoreAction::Release) => Others::More,
+        }
     }
 
     /// Takes back the step of which this is the record. It takes no memory.

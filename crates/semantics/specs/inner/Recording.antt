@@ -1,8 +1,12 @@
 -- What a step writes into its record.
-use Rattle.std.specs.Prelude.{◌≡◌, ◌≢◌, ℕ, ◌≤◌}
+use Rattle.std.specs.Prelude.{◌≡◌, ◌≢◌, ℕ, ◌≤◌, true, false, nat_eq, nat_lt, length, if◌then◌else◌}
 use Rattle.guest_code.specs.declared.limits.TheConstants.{THREADS}
 use Rattle.guest_code.specs.Program.{Program}
 use Rattle.semantics.specs.declared.state.Thread.{Thread}
+use Rattle.semantics.specs.declared.action.Others.{Others}
+use Rattle.semantics.specs.declared.action.Others.TheVariants.{Same, Fewer, More}
+use Rattle.semantics.specs.declared.state.MutexAction.TheVariants.{Lock as Locks, Unlock as Unlocks, Retake as Retakes}
+use Rattle.semantics.specs.declared.state.SemaphoreAction.TheVariants.{Acquire as Acquires, Release as Releases}
 use Rattle.semantics.specs.declared.state.Action.{Action}
 use Rattle.semantics.specs.declared.state.Action.TheVariants.{OnVariable, OnMutex, Wait as Waits, OnCondition, OnSemaphore}
 use Rattle.semantics.specs.declared.undo.Undo.{Undo}
@@ -29,6 +33,30 @@ HasObject u s (Waits c m) =
 HasObject u s (OnCondition c d) = (u.change ≡ Call) × (u.object ≡ c) × HasQueue u s c
 HasObject u s (OnSemaphore k d) = (u.change ≡ Count) × (u.object ≡ k) × (u.count ≡ count_of s k)
 
--- each thread but t is enabled in the second state where it is in the first one
-abbrev pub KeepsOthers : Program → Snapshot → ℕ → Snapshot → Type 0
-KeepsOthers p s t new = (u : ℕ) → u ≢ t → is_enabled p new u ≡ is_enabled p s u
+-- each thread but t that is enabled in the first state is so in the second one
+abbrev pub KeepsEnabled : Program → Snapshot → ℕ → Snapshot → Type 0
+KeepsEnabled p s t new =
+    (u : ℕ) → u ≢ t → is_enabled p s u ≡ true → is_enabled p new u ≡ true
+
+-- each thread but t that isn't enabled in the first state is not in the second one
+abbrev pub KeepsDisabled : Program → Snapshot → ℕ → Snapshot → Type 0
+KeepsDisabled p s t new =
+    (u : ℕ) → u ≢ t → is_enabled p s u ≡ false → is_enabled p new u ≡ false
+
+-- which of the threads but t are enabled in the second state, measured by the first one
+abbrev pub Changes : Others → Program → Snapshot → ℕ → Snapshot → Type 0
+Changes Same p s t new = (u : ℕ) → u ≢ t → is_enabled p new u ≡ is_enabled p s u
+Changes Fewer p s t new = KeepsDisabled p s t new
+Changes More p s t new = KeepsEnabled p s t new
+
+-- what a step does to which other threads are enabled, as far as its object tells: taking lets
+-- nobody in, giving back holds nobody up
+abbrev pub others_after : Snapshot → Action → Others
+others_after s (OnVariable x d) = Same
+others_after s (OnMutex m Locks) = Fewer
+others_after s (OnMutex m Unlocks) = More
+others_after s (OnMutex m Retakes) = Fewer
+others_after s (Waits c m) = More
+others_after s (OnCondition c d) = if nat_eq (length (queue_of s c)) 0 then Same else More
+others_after s (OnSemaphore k Acquires) = if nat_lt 1 (count_of s k) then Same else Fewer
+others_after s (OnSemaphore k Releases) = if nat_lt 0 (count_of s k) then Same else More

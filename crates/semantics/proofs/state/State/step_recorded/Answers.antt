@@ -1,9 +1,12 @@
 use Rattle.std.proofs.Common.{◌≡◌, Some, ap, ◌∙◌, sym, subst}
-use Rattle.semantics.specs.Machine.{Snapshot, acts, step, next_of, thread_at}
+use Rattle.semantics.specs.Machine.{Snapshot, acts, performed, step, next_of, thread_at}
 use Rattle.semantics.specs.Reachable.{IsOf}
 use Rattle.semantics.specs.Undoing.{restored, undone, IsRecordOf}
 use Rattle.semantics.proofs.StepsKeepStates.{step_is_of}
 use Rattle.semantics.proofs.WorkFalls.{enabled_below}
+use Rattle.semantics.specs.declared.action.Others.{Others}
+use Rattle.semantics.specs.inner.Recording.{Changes}
+use Rattle.semantics.proofs.EnabledAfter.{changes}
 use Rattle.semantics.proofs.Undone.{back, in_range}
 use Rattle.semantics.proofs.state.State.step_recorded.Goals as goal
 
@@ -24,3 +27,9 @@ returns-in-Some-clause-back c =
     let locals = subst (λ (z : Snapshot). restored c.execute.new.undo.saved (thread_at z c.args.thread).locals ≡ (thread_at c.args.self.now c.args.thread).locals) c.execute.ensures.value c.execute.ensures.locals in
     ap (undone c.execute.new.undo) c.execute.ensures.value
     ∙ back c.args.program.now c.args.self.now c.args.thread c.in-Some.action c.execute.new.undo c.requires.of.waiters about c.execute.ensures.begun c.execute.ensures.object locals
+
+pub returns-in-Some-clause-others : goal.returns-in-Some-clause-others
+returns-in-Some-clause-others c =
+    subst (λ (z : Snapshot). Changes c.others_after-others.result c.args.program.now c.args.self.now c.args.thread z) (sym c.execute.ensures.value)
+    (subst (λ (o : Others). Changes o c.args.program.now c.args.self.now c.args.thread (performed c.args.program.now c.args.self.now c.args.thread c.in-Some.action)) (sym c.others_after-others.ensures)
+    (changes c.args.program.now c.args.self.now c.args.thread c.in-Some.action))
