@@ -13,12 +13,12 @@ use Rattle.walk.specs.declared.mode.Mode.{Mode}
 use Rattle.walk.specs.declared.mode.Mode.TheVariants.{Bounded, Reduced}
 use Rattle.walk.specs.Summaries.{SummaryView, sum_of, join, with_beyond}
 use Rattle.walk.specs.Items.{ItemView, schedules_of, goes_beyond, covers, is_under}
-use Rattle.walk.specs.Walks.{WalkView, IsWalked, IsBelow, IsCut, IsSplit, clear_of}
+use Rattle.walk.specs.Walks.{HasItsOf, WalkView, IsWalked, IsBelow, IsCut, IsSplit, clear_of}
 use Rattle.walk.proofs.Covers.{covers-append, under-append, under_counts, at_most_one}
 use Rattle.walk.proofs.Filters.{filter_same, filter_all, filter_none}
 use Rattle.walk.proofs.ListParts.{all_left, all_right}
 use Rattle.walk.proofs.Splits.{split_further}
-use Rattle.walk.proofs.WalkedItems.{HasItsOf, rest_has}
+use Rattle.walk.proofs.WalkedItems.{rest_has}
 
 or_swap : (a b : Bool) → (a || b) ≡ (b || a)
 or_swap true true = refl
@@ -69,7 +69,8 @@ split_swap mode item part xs ys deferred h = record {
   cut = swap_cut mode item xs ys deferred h.cut;
 }
   where
-    clear : clear_of (xs ++ ys) (schedules_of mode item) ≡ clear_of (ys ++ xs) (schedules_of mode item)
+    clear : clear_of (xs ++ ys) (schedules_of mode item) ≡ clear_of (ys ++ xs)
+        (schedules_of mode item)
     clear = ap (λ (test : List ℕ → Bool). filter test (schedules_of mode item))
         (λ i v. not (under_swap v xs ys i))
 
@@ -88,7 +89,8 @@ flat_map-both f (x ∷ xs) ys =
 
 -- what is in order: the schedules that were tried, of both walks, and then those that are left
 module _ (mode : Mode) (item c : ItemView) (a b : SummaryView) (rest deferred r e : List ItemView)
-    (old : IsWalked (record { mode = mode; item = item; part = a; rest = c ∷ rest; deferred = deferred }))
+    (old : IsWalked (record { mode = mode; item = item; part = a; rest = c ∷ rest; deferred =
+        deferred }))
     (walk : IsWalked (record { mode = mode; item = c; part = b; rest = r; deferred = e })) where
   abbrev all : List (List ℕ)
   all = schedules_of mode item
@@ -145,7 +147,8 @@ module _ (mode : Mode) (item c : ItemView) (a b : SummaryView) (rest deferred r 
 
   tried_before : filter clear (clear_of (c ∷ rest) all) ≡ clear_of (c ∷ rest) all
   tried_before =
-      filter_same clear (λ v. true) (clear_of (c ∷ rest) all) (λ v m. stays v (from_filter (λ u. not (is_under (c ∷ rest) u)) all v m).1)
+      filter_same clear (λ v. true) (clear_of (c ∷ rest) all)
+          (λ v m. stays v (from_filter (λ u. not (is_under (c ∷ rest) u)) all v m).1)
       ∙ filter_all (clear_of (c ∷ rest) all)
     where
       go : (x y z : Bool) → (x ≡ false → z ≡ false) → not (x || y) ≡ true → not (z || y) ≡ true
@@ -153,14 +156,20 @@ module _ (mode : Mode) (item c : ItemView) (a b : SummaryView) (rest deferred r 
       go false true z h k = absurd (let f : false ≡ true = k in cc)
       go false false z h k = ap (λ b. not (b || false)) (h refl)
 
-      stays : (v : List ℕ) → not (begins_with c.prefix v || is_under rest v) ≡ true → clear v ≡ true
-      stays v h = clear_is v ∙ go (begins_with c.prefix v) (is_under rest v) (is_under r v) (outside v) h
+      stays : (v : List ℕ) → not (begins_with c.prefix v || is_under rest v) ≡ true →
+          clear v ≡ true
+      stays v h = clear_is v ∙ go (begins_with c.prefix v) (is_under rest v) (is_under r v)
+          (outside v) h
 
   tried_now : filter clear its ≡ clear_of r its
-  tried_now = filter_same clear (λ v. not (is_under r v)) its (λ v m. same v (from_filter (begins_with c.prefix) all v (subst (λ L. In L v) its_are m)).1)
+  tried_now =
+      filter_same clear (λ v. not (is_under r v)) its
+      (λ v m. same v (from_filter (begins_with c.prefix) all v (subst (λ L. In L v) its_are m)).1)
     where
       same : (v : List ℕ) → begins_with c.prefix v ≡ true → clear v ≡ not (is_under r v)
-      same v h = clear_is v ∙ (ap (λ b. not (is_under r v || b)) (alone v h) ∙ ap not (or-false (is_under r v)))
+      same v h =
+          clear_is v ∙ (ap (λ b. not (is_under r v || b)) (alone v h)
+          ∙ ap not (or-false (is_under r v)))
 
   none_left : (xs : List ItemView) → All (HasItsOf mode item) xs →
       ((v : List ℕ) → is_under xs v ≡ true → clear v ≡ false) →
@@ -168,17 +177,20 @@ module _ (mode : Mode) (item c : ItemView) (a b : SummaryView) (rest deferred r 
   none_left [] h k = refl
   none_left (x ∷ xs) h k =
       filter-append clear (schedules_of mode x) (flat_map (schedules_of mode) xs)
-      ∙ (λ i. one i ++ none_left xs (All-tail (HasItsOf mode item) x xs h) (λ v u. k v (or_more v u)) i)
+      ∙ (λ i. one i ++ none_left xs (All-tail (HasItsOf mode item) x xs h)
+          (λ v u. k v (or_more v u)) i)
     where
       or_more : (v : List ℕ) → is_under xs v ≡ true → is_under (x ∷ xs) v ≡ true
-      or_more v u = ap (λ b. begins_with x.prefix v || b) u ∙ or_right (begins_with x.prefix v) true refl
+      or_more v u = ap (λ b. begins_with x.prefix v || b) u ∙ or_right (begins_with x.prefix v)
+          true refl
 
       its_x : schedules_of mode x ≡ filter (begins_with x.prefix) all
       its_x = All-head (HasItsOf mode item) x xs h
 
       one : filter clear (schedules_of mode x) ≡ []
       one = filter_same clear (λ v. false) (schedules_of mode x)
-          (λ v m. k v (ap (λ b. b || is_under xs v) (from_filter (begins_with x.prefix) all v (subst (λ L. In L v) its_x m)).1))
+          (λ v m. k v (ap (λ b. b || is_under xs v) (from_filter (begins_with x.prefix) all v
+              (subst (λ L. In L v) its_x m)).1))
           ∙ filter_none (schedules_of mode x)
 
   under_left : (v : List ℕ) → is_under rest v ≡ true → clear v ≡ false
@@ -193,7 +205,8 @@ module _ (mode : Mode) (item c : ItemView) (a b : SummaryView) (rest deferred r 
       ap (filter clear) old.schedules
       ∙ (filter-append clear (clear_of (c ∷ rest) all) (its ++ left)
       ∙ (λ i. tried_before i ++ (filter-append clear its left
-      ∙ ((λ j. tried_now j ++ none_left rest (All-tail (HasItsOf mode item) c rest have) under_left j)
+      ∙ ((λ j. tried_now j ++ none_left rest (All-tail (HasItsOf mode item) c rest have) under_left
+          j)
       ∙ append-nil (clear_of r its))) i))
 
   in_order : all ≡ clear_of (r ++ rest) all ++ flat_map (schedules_of mode) (r ++ rest)
@@ -209,7 +222,8 @@ module _ (mode : Mode) (item c : ItemView) (a b : SummaryView) (rest deferred r 
 -- where the first of the rest of a walk is walked, what that left comes in its place
 pub walked_further : (mode : Mode) (item c : ItemView) (a b : SummaryView)
     (rest deferred r e : List ItemView) →
-    IsWalked (record { mode = mode; item = item; part = a; rest = c ∷ rest; deferred = deferred }) →
+    IsWalked (record { mode = mode; item = item; part = a; rest = c ∷ rest; deferred = deferred })
+        →
     IsWalked (record { mode = mode; item = c; part = b; rest = r; deferred = e }) →
     IsWalked (record {
       mode = mode;

@@ -27,6 +27,7 @@ use Rattle.walk.specs.declared.mode.Mode.TheVariants.{Bounded, Reduced}
 use Rattle.walk.specs.Summaries.{SummaryView, cut, greatest_count, nothing, sum_of, join, with_beyond}
 use Rattle.walk.specs.Items.{ItemView, IsItem, IsScheduleOf, state_of, root_of, schedules_of, goes_beyond, item_sum, item_sums, schedule_count, covers, is_under}
 use Rattle.walk.specs.Walks.{WalkView, IsWalked, IsBelow, IsCut, tried_by}
+pub use Rattle.walk.specs.Walks.{HasItsOf}
 use Rattle.walk.proofs.Covers.{at_most_one}
 use Rattle.walk.proofs.Filters.{filter_all}
 use Rattle.walk.proofs.ListParts.{all_left}
@@ -85,14 +86,16 @@ item_kept i w = (there, back)
     there : Contains (schedules_of Reduced i) w →
         (v : List ℕ) × (w ≡ i.prefix ++ v) × (is_kept i.program (state_of i) (has i.mask) v ≡ true)
     there c =
-        let from = from_map (λ v. i.prefix ++ v) left w (contains_in (schedules_of Reduced i) w c) in (
+        let from =
+            from_map (λ v. i.prefix ++ v) left w (contains_in (schedules_of Reduced i) w c) in (
           from.0,
           sym from.2,
           ((reduced_members i.program (state_of i) (has i.mask) from.0).0
               (in_contains left from.0 from.1)).1,
         )
 
-    back : (v : List ℕ) × (w ≡ i.prefix ++ v) × (is_kept i.program (state_of i) (has i.mask) v ≡ true) →
+    back : (v : List ℕ) × (w ≡ i.prefix ++ v) × (is_kept i.program (state_of i) (has i.mask)
+        v ≡ true) →
         Contains (schedules_of Reduced i) w
     back h =
         let whole = kept_complete i.program (state_of i) (has i.mask) h.0 h.2 in
@@ -148,7 +151,8 @@ after_in_order x L h i j d less within =
     let count : length (map (λ w. x ++ w) L) ≡ length L = length-map L (λ w. x ++ w) in
     let late : j < length L = omega (arith, within, count) in
     let early : i < length L = omega (arith, less, late) in
-    (λ k. precedes (get_or-map (λ w. x ++ w) L i d d early k) (get_or-map (λ w. x ++ w) L j d d late k))
+    (λ k. precedes (get_or-map (λ w. x ++ w) L i d d early k) (get_or-map (λ w. x ++ w) L j d d
+        late k))
     ∙ precedes_after x (get_or L i d) (get_or L j d) (h i j d less late)
 
 kept_in_order : (p : Program) (prefix : List ℕ) (Z : ℕ → Bool) →
@@ -213,15 +217,12 @@ walked_sum w h =
     All-weaker (IsBelow w.item) (λ (r : ItemView). r.program ≡ w.item.program)
     (λ r b. b.program) w.rest (rest_below w h) in
     (λ i. with_beyond (sum_of w.item.program (h.schedules i)) (h.split.beyond i))
-    ∙ (join-beyond w.item.program (tried_by w) (flat_map (schedules_of w.mode) w.rest) w.part.beyond
+    ∙ (join-beyond w.item.program (tried_by w) (flat_map (schedules_of w.mode) w.rest)
+        w.part.beyond
     (list_any (goes_beyond w.mode) w.rest)
     ∙ (λ i. join (sym h.split.sum i) (joined_is w.item.program w.mode w.rest same i)))
 
 -- the schedules of the rest
-
--- an item has those of another's schedules that begin with its prefix
-abbrev pub HasItsOf : Mode → ItemView → ItemView → Type 0
-HasItsOf mode item r = schedules_of mode r ≡ filter (begins_with r.prefix) (schedules_of mode item)
 
 bounded_has : (bound : ℕ) (above below : ItemView) → IsBelow above below →
     HasItsOf (Bounded bound) above below
@@ -294,7 +295,8 @@ none_under : (v : List ℕ) (items : List ItemView) → is_under items v ≡ fal
 none_under v [] h = All-nil (λ (i : ItemView). begins_with i.prefix v ≡ false)
 none_under v (x ∷ xs) h =
     let both = or_parts (begins_with x.prefix v) (is_under xs v) h in
-    All-cons (λ (i : ItemView). begins_with i.prefix v ≡ false) x xs both.0 (none_under v xs both.1)
+    All-cons (λ (i : ItemView). begins_with i.prefix v ≡ false) x xs both.0
+        (none_under v xs both.1)
 
 filter_member : (test : List ℕ → Bool) (L : List (List ℕ)) (v : List ℕ) → Contains L v →
     test v ≡ true → Contains (filter test L) v
