@@ -1,9 +1,10 @@
 //! States of a program, and their steps.
 
-ghost use Rattle.std.specs.Prelude.{◌≡◌, ◌≢◌, ◌<◌, ◌≤◌, ℕ, length, slice_get, All, IfOk, IfSome, IsTrue, if◌then◌else◌};
+ghost use Rattle.std.specs.Prelude.{◌≡◌, ◌≢◌, ◌<◌, ◌≤◌, ℕ, Option, None, length, slice_get, All, IfOk, IfSome, IsTrue, if◌then◌else◌};
 ghost use Rattle.std.specs.List.{list_any, list_all};
+ghost use Rattle.guest_code.specs.declared.program.Instruction.{Instruction};
 ghost use Rattle.guest_code.specs.Program.{Program, code_of, IsValidValue};
-ghost use Rattle.semantics.specs.Machine.{Snapshot, start, step, performed, is_enabled, next_of, thread_at, owner_of, queue_of, count_of, value_of_operand};
+ghost use Rattle.semantics.specs.Machine.{Snapshot, start, step, performed, action_at, is_enabled, next_of, thread_at, owner_of, queue_of, count_of, value_of_operand};
 ghost use Rattle.semantics.specs.Reachable.{IsOf, IsValidAction, StandsInCode, IsReady};
 ghost use Rattle.semantics.specs.Ends.{is_terminal, kind_of, view_of, final_kind, is_stopped, is_ended, stop_of};
 ghost use Rattle.semantics.specs.Mask.{has, HasEnabled};
@@ -59,6 +60,13 @@ impl Status {
             Status::Stopped(why) => Some(why),
             Status::Running | Status::Waiting(_) | Status::Woken | Status::Ended => None,
         }
+    }
+
+    // Whether a thread of this status takes no step, wherever it is.
+    fn has_no_step(self) -> bool
+        ensures { IsTrue result → (o : Option Instruction) → action_at self o ≡ None }
+    {
+        matches!(self, Status::Waiting(_) | Status::Ended | Status::Stopped(_))
     }
 }
 
@@ -271,6 +279,9 @@ impl State {
         requires thread { thread < length program.now.threads }
         ensures { result ≡ is_enabled program.now self.now thread }
     {
+        if self.threads[thread as usize].status.has_no_step() {
+            return false;
+        }
         match self.next(program, thread) {
             Some(Action::OnMutex(m, action)) => mutex_allows(action, self.owners[m]),
             Some(Action::OnSemaphore(k, action)) => semaphore_allows(action, self.counts[k]),
