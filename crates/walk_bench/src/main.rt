@@ -43,7 +43,7 @@ fn counts_of(walked: &Walked) -> Counts
 
 /// The counts of one walk of all schedules in a mode: none where the text spells no program, or
 /// memory ran out.
-fn counts(alloc: Global, text: &[u8], mode: Mode) -> Option<Counts> {
+fn walk_all(alloc: Global, text: &[u8], mode: Mode) -> Option<Counts> {
     let tree = parse(alloc, text).ok()?;
     let program = lower(alloc, &tree).ok()?;
     let item = Item::root(alloc, Arc::new(alloc, program).ok()?).ok()?;
@@ -78,7 +78,7 @@ fn main(rt: HostRuntime) -> ExitCode {
             stuck,
             deferred,
         },
-    ) = counts(rt.alloc(), text.as_slice(), mode)
+    ) = walk_all(rt.alloc(), text.as_slice(), mode)
     else {
         return ExitCode::FAILURE;
     };
