@@ -1,0 +1,92 @@
+-- What a round comes to.
+use Rattle.std.specs.Prelude.{◌≡◌, ◌≤◌, ◌<◌, ◌+◌, ◌⊎◌, not, ℕ, [], Bool, true, false, Option, Some, None}
+use Rattle.guest_code.specs.Program.{Program}
+use Rattle.walk.specs.declared.mode.Mode.{Mode}
+use Rattle.walk.specs.declared.mode.Mode.TheVariants.{Bounded, Reduced}
+use Rattle.walk.specs.Summaries.{SummaryView}
+use Rattle.walk.specs.Items.{whole}
+use Rattle.book.specs.Books.{BookView}
+use Rattle.runner.specs.declared.options.Options.{Options}
+use Rattle.runner.specs.declared.options.Search.{Search}
+use Rattle.runner.specs.declared.options.Search.TheVariants.{UpTo, Unbounded}
+use Rattle.runner.specs.declared.judge.Next.{Next}
+use Rattle.runner.specs.declared.judge.Next.TheVariants.{Answer, Raise, Again}
+use Rattle.runner.specs.Reports.{NoBadBelow, SomeExceeds, IsSummaryOf, IsFinished}
+use Rattle.runner.specs.Promises.{IsReport}
+
+-- the bounds below this one were finished without a bad schedule, and some schedule exceeds each
+pub record HasPassedBounds (p : Program) (bound : ℕ) : Type 0 where
+  pub none : NoBadBelow p bound
+  pub past : (b : ℕ) → b < bound → SomeExceeds p b
+
+-- what is known of a program where a search of it comes to a mode
+abbrev pub HasPassed : Program → Mode → Type 0
+HasPassed p (Bounded bound) = HasPassedBounds p bound
+HasPassed p Reduced = Unit {0}
+
+-- the search comes to the mode
+abbrev pub IsModeOf : Search → Mode → Type 0
+IsModeOf (UpTo last) (Bounded bound) = bound ≤ last
+IsModeOf (UpTo last) Reduced = ⊥
+IsModeOf Unbounded (Bounded bound) = ⊥
+IsModeOf Unbounded Reduced = Unit {0}
+
+-- a search has come to this mode of the program
+pub record IsStage (p : Program) (search : Search) (mode : Mode) : Type 0 where
+  pub of : IsModeOf search mode
+  pub passed : HasPassed p mode
+
+-- the book is of this program and mode, a quick one or not
+pub record IsOf (b : BookView) (p : Program) (mode : Mode) (quick : Bool) : Type 0 where
+  pub program : b.program ≡ p
+  pub mode : b.mode ≡ mode
+  pub quick : b.quick ≡ quick
+
+-- the mode is the search's last one
+abbrev pub IsLast : Search → Mode → Type 0
+IsLast (UpTo last) (Bounded bound) = bound ≡ last
+IsLast (UpTo last) Reduced = ⊥
+IsLast Unbounded (Bounded bound) = ⊥
+IsLast Unbounded Reduced = Unit {0}
+
+-- the bound of a mode, if it has one
+abbrev pub mode_bound : Mode → Option ℕ
+mode_bound (Bounded bound) = Some bound
+mode_bound Reduced = None
+
+-- the search goes on to the next bound, with what is known there
+abbrev pub CanRaise : Program → Search → Mode → Type 0
+CanRaise p (UpTo last) (Bounded bound) = (bound < last) × HasPassedBounds p (bound + 1)
+CanRaise p (UpTo last) Reduced = ⊥
+CanRaise p Unbounded mode = ⊥
+
+-- the last bound that was finished, where a search is cut short in a mode
+abbrev pub IsFinishedIn : Program → Mode → Option ℕ → Type 0
+IsFinishedIn p (Bounded bound) finished = IsFinished p bound finished
+IsFinishedIn p Reduced finished = finished ≡ None
+
+-- the summary is that of the whole program in a mode where it has no bad schedule, and else what a
+-- report says of the whole
+pub record IsFound (quick : Bool) (p : Program) (mode : Mode) (sum : SummaryView) : Type 0 where
+  pub sum : IsSummaryOf quick sum (whole p mode)
+  pub clean : sum.first_bad ≡ None → sum ≡ whole p mode
+
+-- what comes next where nothing is open
+abbrev pub ComesWhole : Bool → Program → Options → Mode → SummaryView → Next → Type 0
+ComesWhole may p o mode sum (Answer r) = IsReport may p o r
+ComesWhole may p o mode sum Raise = (sum.first_bad ≡ None) × CanRaise p o.search mode
+ComesWhole may p o mode sum Again = ⊥
+
+-- what comes next after a round
+abbrev pub Comes : Bool → Program → Options → Mode → BookView → Next → Type 0
+Comes may p o mode book (Answer r) = IsReport may p o r
+Comes may p o mode book Raise =
+    (book.open_items ≡ []) × (book.dropped ≡ false) × CanRaise p o.search mode
+Comes may p o mode book Again = book.open_items ≡ [] → ⊥
+
+-- what comes next after all rounds of a mode
+abbrev pub ComesAfter : Program → Options → Mode → BookView → Next → Type 0
+ComesAfter p o mode book (Answer r) = IsReport false p o r
+ComesAfter p o mode book Raise =
+    IsOf book p mode o.quick × Comes false p o mode book Raise
+ComesAfter p o mode book Again = ⊥
