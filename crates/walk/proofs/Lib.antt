@@ -5,5 +5,7 @@ pub mod SortedViews
 pub mod SumsJoin
 pub mod ListParts
 pub mod WalkedItems
+pub mod WayBytes
+pub mod PackedPrefixes
 pub mod Splits
 pub mod WalkedFurther

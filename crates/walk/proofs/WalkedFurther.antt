@@ -198,17 +198,17 @@ module _ (mode : Mode) (item c : ItemView) (a b : SummaryView) (rest deferred r 
       ap (filter clear) old.schedules
       ∙ (filter-append clear (clear_of (c ∷ rest) all) (its ++ left)
       ∙ (λ i. tried_before i ++ (filter-append clear its left
-        ∙ ((λ j. tried_now j ++ none_left rest (All-tail (HasItsOf mode item) c rest have) under_left j)
-        ∙ append-nil (clear_of r its))) i))
+      ∙ ((λ j. tried_now j ++ none_left rest (All-tail (HasItsOf mode item) c rest have) under_left j)
+      ∙ append-nil (clear_of r its))) i))
 
   in_order : all ≡ clear_of (r ++ rest) all ++ flat_map (schedules_of mode) (r ++ rest)
   in_order =
       old.schedules
       ∙ (ap (λ l. clear_of (c ∷ rest) all ++ l)
-        (ap (λ l. l ++ left) walk.schedules
-        ∙ append_assoc (clear_of r its) (flat_map (schedules_of mode) r) left)
+      (ap (λ l. l ++ left) walk.schedules
+      ∙ append_assoc (clear_of r its) (flat_map (schedules_of mode) r) left)
       ∙ (sym (append_assoc (clear_of (c ∷ rest) all) (clear_of r its)
-        (flat_map (schedules_of mode) r ++ left))
+      (flat_map (schedules_of mode) r ++ left))
       ∙ (λ i. sym tried_both i ++ sym (flat_map-both (schedules_of mode) r rest) i)))
 
 -- where the first of the rest of a walk is walked, what that left comes in its place

@@ -1,6 +1,6 @@
 //! Summaries of schedules: how many were tried, how they ended, and the first bad one.
 
-ghost use Rattle.std.specs.Prelude.{◌≡◌, OnOk, IfOk, MatchOption, Some, None, true, ◌++◌, ◌≤◌, length, insert};
+ghost use Rattle.std.specs.Prelude.{◌≡◌, OnOk, IfOk, MatchOption, Some, None, true, false, ◌++◌, ◌≤◌, length, insert};
 ghost use Rattle.std.specs.List.Sorted.{IsStrictlySortedBy};
 ghost use Rattle.semantics.specs.Order.{precedes, lesser, is_bad};
 ghost use Rattle.semantics.specs.View.{view_cmp};
@@ -171,6 +171,14 @@ impl Summary {
             beyond: true,
             ..self
         }
+    }
+
+    /// Forgets whether some schedule is beyond the bound, where the bound is raised. It takes no memory.
+    pub fn forget_beyond(&mut self)
+        ensures { self.new ≡ with_beyond self.old false }
+    {
+        let Summary { beyond, .. } = self;
+        *beyond = false;
     }
 }
 
