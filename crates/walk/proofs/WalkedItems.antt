@@ -1,5 +1,5 @@
 -- What an item's schedules are, what is known of a walk, and what follows.
-use Rattle.std.proofs.Common.{◌≡◌, ◌↔◌, ◌⊎◌, inl, inr, ℕ, zero, suc, ◌+◌, ◌<◌, ◌≤◌, Bool, true, false, not, cond, ◌||◌, nat_eq, nat_le, nat_lt, List, [], ◌∷◌, ◌++◌, length, map, replicate, slice_index_or, get_or, refl, ap, ◌∙◌, sym, arith, subst, length-append}
+use Rattle.std.proofs.Common.{◌≡◌, ◌↔◌, ◌⊎◌, inl, inr, ℕ, zero, suc, ◌+◌, ◌<◌, ◌≤◌, Bool, true, false, not, cond, ◌||◌, nat_eq, nat_le, nat_lt, List, [], ◌∷◌, ◌++◌, length, map, get_or, refl, ap, ◌∙◌, sym, arith, subst, length-append}
 use Rattle.std.specs.List.{filter, flat_map, list_any, All, AllPairs, Contains}
 use Rattle.std.proofs.lemmas.Bool.{not-true, not_from_false, or_parts}
 use Rattle.std.proofs.lemmas.Bool.Decides.{nat_tests}
@@ -9,13 +9,13 @@ use Rattle.std.proofs.lemmas.List.Folds.{list_any_none}
 use Rattle.std.proofs.lemmas.List.Kept.{AllPairs-filter}
 use Rattle.guest_code.specs.Program.{Program}
 use Rattle.semantics.specs.Machine.{Snapshot, start}
-use Rattle.guest_code.specs.declared.limits.TheConstants.{THREADS}
 use Rattle.semantics.specs.Mask.{has, no_threads}
 use Rattle.semantics.specs.Schedules.{state_after, begins_with, one_if, preemptions, complete_schedules, schedules_under, schedules_within, exceeds_bound}
 use Rattle.semantics.specs.Order.{precedes}
 use Rattle.semantics.specs.Sleep.{reduced_schedules, is_kept, none_asleep}
 use Rattle.semantics.specs.Waiters.{In}
 use Rattle.semantics.proofs.KeptSchedules.{reduced_members, kept_complete}
+use Rattle.semantics.proofs.Masks.{empty_has}
 use Rattle.semantics.proofs.ListMembers.{in_contains, contains_in, from_map}
 use Rattle.semantics.proofs.StatedLaws.{complete}
 use Rattle.semantics.specs.Rising.{IsRising}
@@ -49,16 +49,11 @@ root_beyond p bound =
     ap (list_any (λ w. nat_lt bound (preemptions p w)))
     (filter_all (complete_schedules p (start p)))
 
-none_has : (n t : ℕ) → slice_index_or (replicate n false) t false ≡ false
-none_has zero t = refl
-none_has (suc n) zero = refl
-none_has (suc n) (suc t) = none_has n t
-
 pub root_pruned : (p : Program) →
     schedules_of Reduced (root_of p) ≡ reduced_schedules p (start p) none_asleep
 root_pruned p =
     itself (reduced_schedules p (start p) (has no_threads))
-    ∙ (λ i. reduced_schedules p (start p) (λ t. none_has THREADS t i))
+    ∙ (λ i. reduced_schedules p (start p) (λ t. empty_has t i))
   where
     itself : (L : List (List ℕ)) → map (λ w. w) L ≡ L
     itself [] = refl
