@@ -1,11 +1,10 @@
 -- From the sum of what sleep sets leave to what is known of all complete schedules.
-use Rattle.std.proofs.Common.{◌≡◌, ℕ, Bool, true, false, List, [], ◌∷◌, map, Some, None}
+use Rattle.std.proofs.Common.{◌≡◌, ℕ, Bool, true, false, List, [], map, Some, None}
 use Rattle.std.proofs.Common.{refl, ap, ◌∙◌, sym, subst}
 use Rattle.std.specs.List.{filter}
 use Rattle.guest_code.specs.Program.{Program}
 use Rattle.semantics.specs.declared.view.Kind.{Kind}
 use Rattle.semantics.specs.Machine.{start}
-use Rattle.semantics.specs.Mask.{has, no_threads}
 use Rattle.semantics.specs.Schedules.{complete_schedules, preemptions}
 use Rattle.semantics.specs.Sleep.{reduced_schedules, none_asleep}
 use Rattle.semantics.specs.Order.{least, ends_badly}
@@ -13,28 +12,15 @@ use Rattle.semantics.specs.Ends.{end_of}
 use Rattle.semantics.specs.Waiters.{In}
 use Rattle.semantics.proofs.LeastSchedule.{least_none, least_some}
 use Rattle.semantics.proofs.ListMembers.{in_contains, contains_in, in_filter, from_filter}
-use Rattle.semantics.proofs.Masks.{empty_has}
 use Rattle.semantics.proofs.ReducedSchedules.{least_bad, ends_pass}
 use Rattle.walk.specs.declared.mode.Mode.TheVariants.{Reduced}
 use Rattle.walk.specs.Summaries.{SummaryView, sum_of, end_kind, sorted_views}
 use Rattle.walk.specs.Items.{whole, root_of, kept_schedules}
 use Rattle.walk.proofs.SortedViews.{sorted_views-alike}
+use Rattle.walk.proofs.WalkedItems.{root_pruned}
 use Rattle.runner.specs.Reports.{IsSummaryOf}
 use Rattle.runner.specs.Unbounded.{IsReducedSummary, IsReducedSummaryOf, IsFirstBad, HasNoBad}
 use Rattle.runner.proofs.Promises.{same_bad}
-
-nothing_before : (L : List (List ℕ)) → map (λ w. [] ++ w) L ≡ L
-nothing_before [] = refl
-nothing_before (w ∷ L) = ap (λ K. w ∷ K) (nothing_before L)
-
-nobody_sleeps : has no_threads ≡ none_asleep
-nobody_sleeps i t = empty_has t i
-
-reduced_root : (p : Program)
-    → kept_schedules (root_of p) ≡ reduced_schedules p (start p) none_asleep
-reduced_root p =
-    nothing_before (reduced_schedules p (start p) (has no_threads))
-    ∙ ap (reduced_schedules p (start p)) nobody_sleeps
 
 bad_of : (p : Program) (L : List (List ℕ))
     → (sum_of p L).first_bad ≡ least (filter (ends_badly p (start p)) L)
@@ -52,14 +38,14 @@ all_bad p = filter (ends_badly p (start p)) (complete_schedules p (start p))
 first_bad : (p : Program) → (whole p Reduced).first_bad ≡ least (all_bad p)
 first_bad p =
     bad_of p (kept_schedules (root_of p))
-    ∙ ap (λ L. least (filter (ends_badly p (start p)) L)) (reduced_root p)
+    ∙ ap (λ L. least (filter (ends_badly p (start p)) L)) (root_pruned p)
     ∙ sym (least_bad p (start p))
 
 all_ends : (p : Program)
     → (whole p Reduced).ends ≡ sorted_views (map (end_of p) (complete_schedules p (start p)))
 all_ends p =
     ends_of p (kept_schedules (root_of p))
-    ∙ ap (λ L. sorted_views (map (end_of p) L)) (reduced_root p)
+    ∙ ap (λ L. sorted_views (map (end_of p) L)) (root_pruned p)
     ∙ sorted_views-alike (map (end_of p) (reduced_schedules p (start p) none_asleep))
         (map (end_of p) (complete_schedules p (start p))) (λ test. sym (ends_pass p (start p) test))
 
