@@ -300,12 +300,12 @@ impl Book {
         let Ok(()) = self.deferred.reserve(walked.deferred_length()) else {
             return Err(SettleError::OutOfMemory);
         };
-        let mut parts = walked.into_parts();
+        let mut rest = parts.rest;
         drop(self.open_items.remove(k));
-        let Ok(()) = self.open_items.append(&mut parts.rest) else {
+        let Ok(()) = self.open_items.append(&mut rest) else {
             unreachable!()
         };
-        let Ok(()) = self.deferred.append(&mut parts.deferred) else {
+        let Ok(()) = self.deferred.append(&mut deferred) else {
             unreachable!()
         };
         self.finished = finished;
