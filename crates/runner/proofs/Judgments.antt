@@ -1,6 +1,6 @@
 -- What is known after a round, by what was asked for and the mode that the search has come to.
 use Rattle.std.proofs.Common.{◌≡◌, ◌⊎◌, inl, inr, ℕ, ◌+◌, ◌<◌, ◌≤◌, ◌∙◌, Bool, true, false, not}
-use Rattle.std.proofs.Common.{List, ◌++◌, Option, Some, None, refl, ap, sym, subst, arith}
+use Rattle.std.proofs.Common.{List, [], ◌++◌, Option, Some, None, refl, ap, sym, subst, arith}
 use Rattle.std.specs.List.{Contains}
 use Rattle.guest_code.specs.Program.{Program}
 use Rattle.semantics.specs.declared.view.Kind.{Kind}
@@ -15,14 +15,17 @@ use Rattle.book.specs.Books.{BookView, Keeps, KeepsWhere, bound_of}
 use Rattle.runner.specs.declared.options.Options.{Options}
 use Rattle.runner.specs.declared.options.Search.{Search}
 use Rattle.runner.specs.declared.options.Search.TheVariants.{UpTo, Unbounded}
+use Rattle.runner.specs.declared.judge.Next.{Next}
+use Rattle.runner.specs.declared.judge.Next.TheVariants.{Answer, Raise, Again}
 use Rattle.runner.specs.declared.report.Cause.{Cause}
 use Rattle.runner.specs.declared.report.Verdict.{Verdict}
 use Rattle.runner.specs.declared.report.Verdict.TheVariants.{Clean, Bad, Incomplete}
-use Rattle.runner.specs.Reports.{IsBad, IsSummaryOf, HasItems, IsCause}
+use Rattle.runner.specs.Reports.{IsBad, IsSummaryOf, HasItems, IsReached, IsCause}
 use Rattle.runner.specs.Unbounded.{IsFirstBad}
 use Rattle.runner.specs.Promises.{IsSearch, IsReportFor, IsReport}
 use Rattle.runner.specs.inner.Judging.{HasPassed, IsModeOf, IsStage, IsLast, IsFound, IsFinishedIn, IsFirstMode}
 use Rattle.runner.specs.inner.Judging.{mode_bound, CanRaise, IsVerdictOn, report_in, bounds_left, IsBoundBelow}
+use Rattle.runner.specs.inner.Judging.{ComesWhole, ComesOpen, Comes}
 use Rattle.runner.proofs.Promises.{passed_next, found_bad, found_none, finished_here}
 use Rattle.runner.proofs.Promises.{finished_below, passed_none, same_bad, least_within}
 use Rattle.runner.proofs.Unbounded.{found_first, found_no_bad}
@@ -160,3 +163,38 @@ pub not_the_greatest : (p : Program) (search : Search) (mode : Mode) → IsSearc
 not_the_greatest p (UpTo last) (Bounded bound) known h le = omega (arith, known, h.0, le)
 not_the_greatest p (UpTo last) Reduced known h le = absurd h
 not_the_greatest p Unbounded mode known h le = absurd h
+
+-- what comes next where items are open, from what was read of the book
+pub open_is_reported : (may : Bool) (o : Options) (b : BookView) (mode : Mode)
+    (tried sum : SummaryView) (cause : Cause) (below : Option ℕ) → mode ≡ b.mode
+    → tried ≡ b.finished → sum ≡ b.finished → IsStage b.program o.search b.mode → Keeps b
+    → IsCause may o.limit tried cause → IsBoundBelow mode below
+    → IsReport may b.program o (report_in o mode sum (Incomplete cause below))
+open_is_reported may o b mode tried sum cause below m t s stage keeps why is_below =
+    subst (λ (x : Mode). IsReport may b.program o (report_in o x sum verdict)) (sym m)
+    (subst (λ (x : SummaryView). IsReport may b.program o (report_in o b.mode x verdict)) (sym s)
+    (cut_is_reported may b.program o b.mode b.finished cause below stage (book_has_items b keeps)
+    (subst (λ (x : SummaryView). IsCause may o.limit x cause) t why)
+    (below_is_finished b.program o.search b.mode below stage
+    (subst (λ (x : Mode). IsBoundBelow x below) m is_below))))
+  where
+    verdict : Verdict
+    verdict = Incomplete cause below
+
+-- what comes next, from what the summary or the open items say
+
+pub whole_comes : (may : Bool) (p : Program) (o : Options) (mode : Mode) (b : BookView)
+    (sum : SummaryView) (n : Next) → sum ≡ b.finished → b.open_items ≡ []
+    → (sum.first_bad ≡ None → b.dropped ≡ false) → ComesWhole may p o mode sum n
+    → Comes may p o mode b n
+whole_comes may p o mode b sum (Answer r) same none all h = h
+whole_comes may p o mode b sum Raise same none all h =
+    (none, all h.0, subst (λ (x : SummaryView). IsReached o.limit x → ⊥) same h.1, h.2)
+whole_comes may p o mode b sum Again same none all h = absurd h
+
+pub open_comes : (may : Bool) (p : Program) (o : Options) (mode : Mode) (b : BookView) (n : Next)
+    → b.program ≡ p → (b.open_items ≡ [] → ⊥) → ComesOpen may b.program o b.finished n
+    → Comes may p o mode b n
+open_comes may p o mode b (Answer r) same some h = subst (λ q. IsReport may q o r) same h
+open_comes may p o mode b Raise same some h = absurd h
+open_comes may p o mode b Again same some h = (some, h)

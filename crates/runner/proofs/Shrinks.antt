@@ -1,5 +1,5 @@
 -- A settled walk leaves less to walk.
-use Rattle.std.proofs.Common.{◌≡◌, ℕ, suc, Bool, true, false, cond, not, ◌||◌, ◌+◌, ◌-◌, ◌<◌, ◌≤◌}
+use Rattle.std.proofs.Common.{◌≡◌, ℕ, suc, Bool, true, false, cond, not, ◌||◌, ◌+◌, ◌-◌, ◌*◌, ◌^◌, ◌<◌, ◌≤◌}
 use Rattle.std.proofs.Common.{◌⊎◌, inl, inr, ⊎_elim, List, [], ◌∷◌, ◌++◌, length, get_or, take, drop}
 use Rattle.std.proofs.Common.{refl, ap, sym, ◌∙◌, subst, arith, min, Ok, length-append, length-drop}
 use Rattle.std.specs.List.{All, remove, filter, list_any}
@@ -18,7 +18,8 @@ use Rattle.walk.proofs.ListParts.{all_left, all_right}
 use Rattle.book.specs.Books.{BookView, Keeps, KeepsWhere, Settles, drops, thinned}
 use Rattle.book.proofs.DroppedCounts.{nothing_dropped}
 use Rattle.book.proofs.Lists.{parted}
-use Rattle.runner.specs.inner.Shrinking.{IsSmaller, HasLess, IsPassedOver, Went}
+use Rattle.runner.specs.inner.Shrinking.{IsSmaller, HasLess, IsPassedOver, Went, Goes}
+use Rattle.runner.specs.inner.Judging.{IsOf}
 
 count-append : (mode : Mode) (l r : List ItemView)
     → schedule_count mode (l ++ r) ≡ schedule_count mode l + schedule_count mode r
@@ -63,7 +64,7 @@ walk_ends w quota some h ends = elim (cases_lt 0 w.part.tried) [
 pub settled_less : (old new : BookView) (w : WalkView) → Settles old w new → IsWalked w
     → (w.rest ≡ []) ⊎ (0 < length (tried_by w)) → HasLess old new
 settled_less old new w s walk ends =
-    let is = parted old.open_items s.place w.item s.open.0 s.open.1 in
+    let is = parted old.open_items s.place w.item s.is_open.0 s.is_open.1 in
     let before = take s.place old.open_items in
     let after = drop (suc s.place) old.open_items in
     let left = remove old.open_items s.place ++ w.rest in
@@ -224,3 +225,30 @@ thinned_went b item d = go (list_any (drops b) b.open_items) refl
           let c : true ≡ false = sym t ∙ f in cc) b.open_items
           (none_is (drops b) b.open_items e);
     })
+
+-- a round that leaves an item open lessens the measure of the rounds
+
+pub round_shrinks : (mode : Mode) (old new : BookView) → old.mode ≡ mode → Goes old new
+    → (new.open_items ≡ [] → ⊥) → length new.open_items < 2 ^ 64
+    → schedule_count mode new.open_items * 18446744073709551616 + length new.open_items
+    < schedule_count mode old.open_items * 18446744073709551616 + length old.open_items
+round_shrinks mode old new same (inl l) some fits =
+    go (subst (λ (m : Mode). IsSmaller m new.open_items old.open_items) same l.less)
+  where
+    go : IsSmaller mode new.open_items old.open_items
+        → schedule_count mode new.open_items * 18446744073709551616 + length new.open_items
+        < schedule_count mode old.open_items * 18446744073709551616 + length old.open_items
+    go (inl fewer) = omega (arith, fewer, fits)
+    go (inr both) = let e = both.0 in let f = both.1 in omega (arith, e, f)
+round_shrinks mode old new same (inr none) some fits =
+    absurd (some (ap (λ (b : BookView). b.open_items) none.0 ∙ none.1))
+
+pub round_keeps : (old new : BookView) (p : Program) (mode : Mode) (quick : Bool)
+    → IsOf old p mode quick → Goes old new → IsOf new p mode quick
+round_keeps old new p mode quick of (inl l) = record {
+  program = l.program ∙ of.program;
+  mode = l.mode ∙ of.mode;
+  quick = l.quick ∙ of.quick;
+}
+round_keeps old new p mode quick of (inr none) =
+    subst (λ (b : BookView). IsOf b p mode quick) (sym none.0) of

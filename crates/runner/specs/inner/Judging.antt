@@ -49,10 +49,10 @@ pub record IsStage (p : Program) (search : Search) (mode : Mode) : Type 0 where
   pub passed : HasPassed p mode
 
 -- the book is of this program and mode, a quick one or not
-pub record IsOf (b : BookView) (p : Program) (mode : Mode) (quick : Bool) : Type 0 where
+pub record IsOf (b : BookView) (p : Program) (m : Mode) (q : Bool) : Type 0 where
   pub program : b.program ≡ p
-  pub mode : b.mode ≡ mode
-  pub quick : b.quick ≡ quick
+  pub mode : b.mode ≡ m
+  pub quick : b.quick ≡ q
 
 -- the mode is the search's last one
 abbrev pub IsLast : Search → Mode → Type 0
@@ -86,9 +86,9 @@ IsFinishedIn p Reduced finished = finished ≡ None
 
 -- the summary is that of the whole program in a mode where it has no bad schedule, and else what a
 -- report says of the whole
-pub record IsFound (quick : Bool) (p : Program) (mode : Mode) (sum : SummaryView) : Type 0 where
-  pub sum : IsSummaryOf quick sum (whole p mode)
-  pub clean : sum.first_bad ≡ None → sum ≡ whole p mode
+pub record IsFound (quick : Bool) (p : Program) (mode : Mode) (s : SummaryView) : Type 0 where
+  pub sum : IsSummaryOf quick s (whole p mode)
+  pub clean : s.first_bad ≡ None → s ≡ whole p mode
 
 -- what comes next where nothing is open
 abbrev pub ComesWhole : Bool → Program → Options → Mode → SummaryView → Next → Type 0
