@@ -5,3 +5,4 @@ pub mod Keeping
 pub mod Thinned
 pub mod DroppedCounts
 pub mod BoundedSums
+pub mod PackedItems

@@ -11,6 +11,7 @@ ghost use Rattle.book.specs.Books.{Keeps, drops, thinned, opening, IsWalkOf, Set
 
 use crate::errors::{RaiseError, SettleError};
 use crate::limits::ROUND;
+use crate::packed::all_items;
 use guest_code::program::Program;
 use std::alloc::{AllocError, Global};
 use std::marker::Model;
@@ -20,7 +21,7 @@ use walk::item::Item;
 use walk::limits::BOUND;
 use walk::mode::Mode;
 use walk::summary::Summary;
-use walk::walked::Walked;
+use walk::walked::{Parts, Walked};
 
 /// What is finished of a program's search in a mode, which items are still open, and which wait for the
 /// next bound.
@@ -294,13 +295,16 @@ impl Book {
         let Ok(finished) = self.finished.join(alloc, walked.part()) else {
             return Err(SettleError::OutOfMemory);
         };
+        let Ok(mut deferred) = all_items(alloc, &self.program, walked.deferred()) else {
+            return Err(SettleError::OutOfMemory);
+        };
         let Ok(()) = self.open_items.reserve(walked.rest_length()) else {
             return Err(SettleError::OutOfMemory);
         };
-        let Ok(()) = self.deferred.reserve(walked.deferred_length()) else {
+        let Ok(()) = self.deferred.reserve(deferred.len()) else {
             return Err(SettleError::OutOfMemory);
         };
-        let mut rest = parts.rest;
+        let Parts { mut rest, .. } = walked.into_parts();
         drop(self.open_items.remove(k));
         let Ok(()) = self.open_items.append(&mut rest) else {
             unreachable!()

@@ -16,3 +16,6 @@ pub mod books;
 pub mod errors;
 pub mod laws;
 pub mod limits;
+mod packed;
+#[cfg(test)]
+mod tests;

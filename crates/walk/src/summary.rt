@@ -11,6 +11,7 @@ use semantics::view::{EndView, Kind};
 use std::alloc::{AllocError, Global};
 use std::cmp::Ordering;
 use std::marker::Model;
+use std::mem;
 
 /// What is known of a list of complete schedules. Counts stop at the greatest `u64`.
 #[derive(Drop)]
@@ -161,6 +162,30 @@ impl Summary {
             first_bad,
             ends,
         })
+    }
+
+    // Adds one more complete schedule, which ends so.
+    pub(crate) fn add(
+        &mut self,
+        alloc: Global,
+        schedule: &[u8],
+        kind: Kind,
+        values: &[i64],
+    ) -> Result<(), AllocError>
+        ensures { OnOk result (self.new ≡ added self.old schedule.now
+            (record { kind = kind; vars = values.now })) }
+    {
+        let values = values.to_vec(alloc)?;
+        let old = mem::replace(self, Summary::empty(alloc));
+        *self = old.with_schedule(alloc, schedule, EndView::new(kind, values))?;
+        Ok(())
+    }
+
+    // Some schedule is beyond the bound.
+    pub(crate) fn set_beyond(&mut self)
+        ensures { self.new ≡ with_beyond self.old true }
+    {
+        self.beyond = true;
     }
 
     // The summary where some schedule is beyond the bound.
