@@ -10,13 +10,11 @@
 
 mod alone;
 mod error;
-
+mod judge;
 pub mod limits;
 mod options;
 mod printing;
 mod report;
-
-
 mod text;
 
 pub use alone::explore_alone;

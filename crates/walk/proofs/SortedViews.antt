@@ -341,3 +341,10 @@ sorted_views-had first second i v h e f =
 pub sorted_views-alone : (first : List View) → IsStrictlySortedBy view_cmp first →
     sorted_views (first ++ []) ≡ first
 sorted_views-alone first h = ap sorted_views (append-nil first) ∙ sorted_already first h
+
+-- lists of which the same tests hold are sorted as one
+pub sorted_views-alike : (xs ys : List View)
+    → ((test : View → Bool) → list_any test xs ≡ list_any test ys)
+    → sorted_views xs ≡ sorted_views ys
+unfolding is_member
+sorted_views-alike xs ys h = same_members xs ys (λ q. h (eq_by_cmp view_cmp q))
