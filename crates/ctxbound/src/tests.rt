@@ -14,13 +14,14 @@ use crate::tests::devices::{FailingReader, FailingWriter};
 use crate::tests::reports::{ASKED_FOR_MORE, BOUNDED, CUT_SHORT, EIGHT_STORES, UNBOUNDED};
 use crate::tests::rows::{RACE, REFUSALS, TRACES};
 use crate::words::asked;
-use std::alloc::Global;
+use std::alloc::{Alloc, Global};
+use std::process::Abort;
 use std::test::*;
 
 const FILE_FAULT: &[u8] = b"ctxbound: file\n";
 
 /// These words after the program's name.
-fn words(alloc: Global, given: &[&str]) -> Result<Vec<String>, Fail> {
+fn words_of(alloc: Global, given: &[&str]) -> Result<Vec<String>, Fail> {
     let mut words = vec![in alloc; String::from_str(alloc, "ctxbound")?]?;
     for word in given {
         words.push(String::from_str(alloc, word)?)?;
@@ -40,13 +41,13 @@ fn request_by(alloc: Global, words: &[String]) -> Result<Asked, Fail> {
 fn request(alloc: Global, schedule: &str) -> Result<Asked, Fail> {
     request_by(
         alloc,
-        words(alloc, &["replay", "FILE", schedule])?.as_slice(),
+        words_of(alloc, &["replay", "FILE", schedule])?.as_slice(),
     )
 }
 
 /// What the words of a line ask for.
 fn search(alloc: Global, line: &str) -> Result<Asked, Fail> {
-    let mut given = words(alloc, &[])?;
+    let mut given = words_of(alloc, &[])?;
     for word in line.split(' ') {
         given.push(String::from_str(alloc, word)?)?;
     }
@@ -90,7 +91,10 @@ fn prints_refusals(rt: HostRuntime) -> Result<(), Fail> {
 }
 
 /// Compares the reports of searches.
-fn prints_reports(rt: &HostRuntime, rows: &[(&str, &str, &str, u8)]) -> Result<(), Fail> {
+fn prints_reports(
+    rt: &(impl Abort + Alloc<A = Global>),
+    rows: &[(&str, &str, &str, u8)],
+) -> Result<(), Fail> {
     let alloc = rt.alloc();
     for (text, line, report, want) in rows {
         let (out, err, status) = answered(alloc, text.as_bytes(), &search(alloc, line)?)?;
@@ -171,7 +175,11 @@ fn writer_fails(
 }
 
 /// Each call of a device fails in turn: the program says so, and doesn't try it again.
-fn devices_fail(rt: &HostRuntime, request: &Asked, text: &str) -> Result<(), Fail> {
+fn devices_fail(
+    rt: &(impl Abort + Alloc<A = Global>),
+    request: &Asked,
+    text: &str,
+) -> Result<(), Fail> {
     let alloc = rt.alloc();
     for fails_at in 0..=text.len() {
         let (status, written, calls, err) = reader_fails(alloc, request, text, fails_at)?;
@@ -212,7 +220,10 @@ fn after<'a>(text: &'a [u8], begins: &str) -> Result<&'a str, Fail> {
     let Ok(text) = str::from_utf8(text) else {
         return Err(Fail::new("no text"));
     };
-    text.strip_prefix(begins).ok_or(Fail::new("another text"))
+    match text.strip_prefix(begins) {
+        Some(rest) => Ok(rest),
+        None => Err(Fail::new("another text")),
+    }
 }
 
 #[test]

@@ -3,9 +3,11 @@
 use crate::asked::Asked;
 use crate::program::serve_words;
 use crate::tests::devices::Words;
-use crate::tests::{search, words};
+use crate::tests::{search, words_of};
 use crate::words::{HELP_END, VERSION, asked, command_words};
 use runner::{Options, Search};
+use std::alloc::{Alloc, Global};
+use std::process::Abort;
 use std::test::*;
 
 #[test]
@@ -16,7 +18,7 @@ fn takes_the_schedule_or_none(rt: HostRuntime) -> Result<(), Fail> {
         (&["replay", "race.guest", "0,1"][..], "0,1"),
         (&["replay", "race.guest", "-"][..], "-"),
     ] {
-        let words = words(alloc, given)?;
+        let words = words_of(alloc, given)?;
         let Ok((file, request)) = asked(alloc, words.as_slice()) else {
             return Err(Fail::new("the words are refused"));
         };
@@ -30,7 +32,12 @@ fn takes_the_schedule_or_none(rt: HostRuntime) -> Result<(), Fail> {
 }
 
 /// Compares the search that words ask for.
-fn asks_for(rt: &HostRuntime, line: &str, options: Options, workers: u32) -> Result<(), Fail> {
+fn asks_for(
+    rt: &(impl Abort + Alloc<A = Global>),
+    line: &str,
+    options: Options,
+    workers: u32,
+) -> Result<(), Fail> {
     let Asked::Explore(asked) = search(rt.alloc(), line)? else {
         return Err(Fail::new("no search is asked for"));
     };
@@ -91,7 +98,7 @@ fn tells_refused_words(rt: HostRuntime) -> Result<(), Fail> {
         &["unbounded", "a", "--limit", "9223372036854775808"][..],
         &["unbounded", "a", "--bound", "1"][..],
     ] {
-        let words = words(alloc, given)?;
+        let words = words_of(alloc, given)?;
         let mut out = Vec::new(alloc);
         let mut err = Vec::new(alloc);
         assert_eq!(rt; serve_words(&rt, words.as_slice(), &mut out, &mut err), 2);
@@ -111,7 +118,7 @@ fn shows_help_and_version(rt: HostRuntime) -> Result<(), Fail> {
         &["unbounded", "--help"][..],
         &["help", "replay"][..],
     ] {
-        let words = words(alloc, given)?;
+        let words = words_of(alloc, given)?;
         let mut out = Vec::new(alloc);
         let mut err = Vec::new(alloc);
         assert_eq!(rt; serve_words(&rt, words.as_slice(), &mut out, &mut err), 2);
@@ -119,7 +126,7 @@ fn shows_help_and_version(rt: HostRuntime) -> Result<(), Fail> {
         let end = format!(in alloc; "\n\n{HELP_END}\n")?;
         assert!(rt; err.as_slice().ends_with(end.as_bytes()), "{given:?}");
     }
-    let words = words(alloc, &["--version"])?;
+    let words = words_of(alloc, &["--version"])?;
     let mut out = Vec::new(alloc);
     let mut err = Vec::new(alloc);
     assert_eq!(rt; serve_words(&rt, words.as_slice(), &mut out, &mut err), 2);
@@ -159,7 +166,7 @@ fn refuses_words_that_are_not_utf8(rt: HostRuntime) -> Result<(), Fail> {
 #[test]
 fn tells_a_file_that_is_not_there(rt: HostRuntime) -> Result<(), Fail> {
     let alloc = rt.alloc();
-    let words = words(alloc, &["replay", "no/such/file.guest", "0"])?;
+    let words = words_of(alloc, &["replay", "no/such/file.guest", "0"])?;
     let mut out = Vec::new(alloc);
     let mut err = Vec::new(alloc);
     assert_eq!(rt; serve_words(&rt, words.as_slice(), &mut out, &mut err), 4);
