@@ -1,5 +1,7 @@
-# run      replays the first example without proofs, in under a minute from a fresh clone
-# try      replays a guest of yours without proofs: make try GUEST=file SCHEDULE=0,1,0
+# run      searches an example for a deadlock and replays the schedule found, without proofs,
+#          in some two minutes from a fresh clone
+# try      does the same with a guest of yours: make try GUEST=file; with SCHEDULE=0,1,0 it only
+#          replays that schedule
 # build    proves and builds the program, and leaves it at build/ctxbound
 # install  copies build/ctxbound to $(DESTDIR)$(PREFIX)/bin
 # check    proves one crate over what earlier checks kept: make check C=semantics
@@ -11,33 +13,42 @@
 
 PREFIX ?= /usr/local
 GUEST ?=
-SCHEDULE ?= -
-EXAMPLE = examples/first.guest
-EXAMPLE_SCHEDULE = 0,1,0
+SCHEDULE ?=
+EXAMPLE = examples/lock_order.guest
 export GUEST SCHEDULE
 
 # `rt try` runs the program without proofs, on a copy of the guest. Standard error, kept in
 # build/log, has what the program writes there and then, from `checked: ` on, what `rt try` says of
-# itself. The status is the program's own, which is 1 where the schedule fails.
+# itself. The status is the program's own, which is 1 where a schedule is bad.
 TRY = mkdir -p build && cd crates/ctxbound && rt try --data program.guest="$$guest" \
-		-- replay program.guest "$$schedule" 2> ../../build/log; status=$$?; \
+		-- $$words 2> ../../build/log; status=$$?; \
 	grep -q '^run=ended ' ../../build/log || { cat ../../build/log >&2; exit 2; }; \
 	sed '/^checked: /,$$d' ../../build/log; \
 	test $$status -eq 0 || echo "[status $$status]"
+
+# Searches, and replays the schedule that the report has, if any.
+SEARCH = words="explore program.guest"; mkdir -p build; ($(TRY)) | tee build/report; \
+	test -s build/report || exit 2; \
+	found=$$(sed -n 's/.*"schedule":"\([^"]*\)".*/\1/p' build/report); \
+	test -z "$$found" || { echo "Replaying $$found .."; \
+	words="replay program.guest $$found"; $(TRY); }
+
+COMPILING = echo "Compiling the program, without proofs, which takes under a minute .."
 
 NEEDS_PROGRAM = test -x build/ctxbound || \
 	{ echo "build/ctxbound isn't there: run \`make build\` first" >&2; exit 2; }
 
 run:
-	@echo "Compiling the program, without proofs, which takes under a minute .."
-	@guest=$$PWD/$(EXAMPLE) schedule=$(EXAMPLE_SCHEDULE); $(TRY)
-	@echo "(Not proved yet: \`make build\` proves and builds the program, in about 10 minutes.)"
+	@$(COMPILING)
+	@guest=$$PWD/$(EXAMPLE); $(SEARCH)
+	@echo "(Not proved yet: \`make build\` proves and builds the program.)"
 
 try:
-	@test -n "$$GUEST" || { echo 'Usage: make try GUEST=file SCHEDULE=0,1,0' >&2; exit 2; }
+	@test -n "$$GUEST" || { echo 'Usage: make try GUEST=file [SCHEDULE=0,1,0]' >&2; exit 2; }
 	@test -r "$$GUEST" || { echo "$$GUEST can't be read" >&2; exit 2; }
-	@echo "Compiling the program, without proofs, which takes under a minute .."
-	@guest=$$(realpath -- "$$GUEST") schedule=$$SCHEDULE; $(TRY)
+	@$(COMPILING)
+	@guest=$$(realpath -- "$$GUEST"); if test -z "$$SCHEDULE"; then $(SEARCH); \
+	else words="replay program.guest $$SCHEDULE"; $(TRY); fi
 
 build:
 	@mkdir -p build

@@ -22,15 +22,28 @@ PROGRAMS = {
     " thread B { lock n; lock m; unlock m; unlock n; }",
     "waits": "mutex m; cond c; thread A { lock m; wait c m; unlock m; }"
     " thread B { lock m; signal c; unlock m; }",
+    "updates": "var x; thread A { load r x; set r r + 1; store x r; }"
+    " thread B { load r x; set r r + 1; store x r; }",
+    "late": "var x; var y; thread A { store y 1; load r x; assert r == 0; }"
+    " thread B { store x 1; }",
     "loops": "var x; thread A { repeat 5 { set r r + 1; if r == 3 { leave; } } store x r; }",
     "cut": "thread A { assert 0;",
     "unknown": "thread A { lock m; }",
 }
-# A guest, a schedule, and the status with ample memory.
+# A command, a guest, further words, and the status with ample memory.
 RUNS = [
-    ("race", "0,1,0", 1), ("race", "0,0,1", 0), ("race", "1,1,1", 2), ("race", "0,", 2),
-    ("locks", "0,1", 1), ("waits", "0,0,1,1,1,0,0", 0), ("waits", "1,1,1,0,0", 1),
-    ("loops", "0", 0), ("cut", "0", 2), ("unknown", "0", 2),
+    ("replay", "race", "0,1,0", 1), ("replay", "race", "0,0,1", 0),
+    ("replay", "race", "1,1,1", 2), ("replay", "race", "0,", 2),
+    ("replay", "locks", "0,1", 1), ("replay", "waits", "0,0,1,1,1,0,0", 0),
+    ("replay", "waits", "1,1,1,0,0", 1), ("replay", "loops", "0", 0),
+    ("replay", "cut", "0", 2), ("replay", "unknown", "0", 2),
+    ("explore", "updates", "--workers 1", 0), ("explore", "updates", "--workers 2", 0),
+    ("explore", "locks", "--workers 1", 1), ("explore", "locks", "--workers 2", 1),
+    ("explore", "waits", "--workers 1", 1), ("explore", "waits", "--workers 2", 1),
+    ("explore", "late", "--workers 1", 1), ("explore", "late", "--workers 2", 1),
+    ("explore", "locks", "--quick", 1), ("explore", "cut", "", 2),
+    ("unbounded", "late", "--workers 1", 1), ("unbounded", "late", "--workers 2", 1),
+    ("unbounded", "updates", "--workers 1", 0), ("unbounded", "updates", "--workers 2", 0),
 ]
 # A guest and a bound: the walk ends with status 0.
 WALKS = [("race", "1"), ("locks", "1"), ("waits", "0")]
@@ -79,8 +92,8 @@ def main(binary, walker):
             with open(os.path.join(folder, name), "w") as file:
                 file.write(text)
         program, walk = os.path.abspath(binary), os.path.abspath(walker)
-        sweeps = [(program, ["replay", os.path.join(folder, name), schedule], library, status, says_memory)
-                  for name, schedule, status in RUNS]
+        sweeps = [(program, [command, os.path.join(folder, name)] + words.split(), library, status, says_memory)
+                  for command, name, words, status in RUNS]
         sweeps += [(walk, [os.path.join(folder, name), bound], library, 0, says_nothing)
                    for name, bound in WALKS]
         for arguments in sweeps:

@@ -6,8 +6,9 @@ use Rattle.std.specs.Io.KnownBytes.{Appends}
 use Rattle.guest_syntax.specs.declared.limits.TheConstants.{TEXT_BYTES}
 use Rattle.ctxbound.specs.declared.asked.Asked.{Asked}
 use Rattle.ctxbound.specs.declared.fault.Fault.{Fault}
-use Rattle.ctxbound.specs.Answer.{AnswerView, IsAnswerOf, IsAnswerTo, schedule_of}
-use Rattle.ctxbound.specs.Answer.{IsOfDevice, fault_status}
+use Rattle.ctxbound.specs.Answer.{AnswerView, IsAnswerOf, IsAnswerTo}
+use Rattle.ctxbound.specs.Answer.{IsOfDevice}
+use Rattle.ctxbound.specs.Status.{fault_status}
 use Rattle.ctxbound.specs.Serve.{IsPartRead, IsServed}
 
 -- what an empty buffer holds after it was filled up to the limit
@@ -39,7 +40,7 @@ served (Some file) (Err fault) request a before after status part device answer 
 served (Some file) (Ok text) request a before after status part device answer output ends =
     inr (record {
       answer = a;
-      means = subst (λ (t : List ℕ). IsAnswerOf t (schedule_of request) a) part answer;
+      means = subst (λ (t : List ℕ). IsAnswerOf request t a) part answer;
       output = output;
       ends = ends;
     })

@@ -1,5 +1,6 @@
--- What a replay answers for two byte strings, and what each fault says of them.
-use Rattle.std.specs.Prelude.{◌≡◌, ◌≢◌, ◌⊎◌, ℕ, List, [], true, Option, Some, None, Result, Ok, Err, MatchResult, Vec, string_bytes}
+-- What the program answers to a request, in terms of the bytes of its texts.
+use Rattle.std.specs.Prelude.{◌≡◌, ◌≢◌, ◌⊎◌, ℕ, List, [], ◌++◌, true, false, codes}
+use Rattle.std.specs.Prelude.{Result, Ok, Err, MatchResult, Vec, string_bytes}
 use Rattle.std.specs.declared.alloc.Global.{Global}
 use Rattle.std.specs.declared.io.ErrorKind.{ErrorKind}
 use Rattle.std.specs.declared.io.ErrorKind.TheVariants as io
@@ -9,14 +10,10 @@ use Rattle.guest_syntax.specs.Tree.{Tree}
 use Rattle.guest_syntax.specs.Grammar.{Spells}
 use Rattle.guest_code.specs.declared.error.CheckError.{CheckError}
 use Rattle.guest_code.specs.declared.error.CheckError.TheVariants as check
-use Rattle.guest_code.specs.Fault.{fault}
-use Rattle.guest_code.specs.Code.{code}
 use Rattle.guest_code.specs.Program.{Program}
 use Rattle.semantics.specs.Machine.{start}
 use Rattle.semantics.specs.Schedules.{state_after, runs}
 use Rattle.semantics.specs.Ends.{kind_of}
-use Rattle.semantics.specs.declared.view.Kind.{Kind}
-use Rattle.semantics.specs.declared.view.Kind.TheVariants.{Done, Failed, Stuck}
 use Rattle.replay.specs.declared.error.ReplayError.{ReplayError}
 use Rattle.replay.specs.declared.error.ReplayError.TheVariants as replay
 use Rattle.replay.specs.declared.schedule.ScheduleError.{ScheduleError}
@@ -24,37 +21,40 @@ use Rattle.replay.specs.declared.schedule.ScheduleError.TheVariants as schedule
 use Rattle.replay.specs.Run.{ReplayErrorMeans}
 use Rattle.replay.specs.Spelling as spelling
 use Rattle.replay.specs.Trace.{Trace}
-use Rattle.ctxbound.specs.declared.answer.Replayed.{Replayed}
+use Rattle.runner.specs.declared.error.ExploreError.{ExploreError}
+use Rattle.runner.specs.declared.error.ExploreError.TheVariants as explore
+use Rattle.runner.specs.declared.options.Options.{Options}
+use Rattle.runner.specs.declared.report.Report.{Report}
+use Rattle.runner.specs.ReportText.{report_text}
+use Rattle.runner.specs.Texts.{IsProgramOf, IsFaultOf, IsReportOfText}
+use Rattle.ctxbound.specs.declared.answer.Printed.{Printed}
 use Rattle.ctxbound.specs.declared.asked.Asked.{Asked}
 use Rattle.ctxbound.specs.declared.asked.Asked.TheVariants as asked
 use Rattle.ctxbound.specs.declared.fault.Fault.{Fault}
 use Rattle.ctxbound.specs.declared.fault.Fault.TheVariants.{File, Syntax, Check, Schedule}
 use Rattle.ctxbound.specs.declared.fault.Fault.TheVariants.{Replay, Memory}
 use Rattle.ctxbound.specs.Lines.{fault_line}
+use Rattle.ctxbound.specs.Status.{replay_status, verdict_status, fault_status}
 
--- the text spells a tree without a fault, and this is its program
-pub record IsProgramOf (text : List ℕ) (p : Program) : Type 0 where
-  pub tree : Tree
-  pub spelt : Spells text tree
-  pub sound : fault tree ≡ None
-  pub same : p ≡ code tree
-
--- the text spells a program, the schedule's text a schedule that runs in it, and this is its trace
--- and how it ends
-pub record IsReplayOf (text schedule : List ℕ) (a : Replayed) : Type 0 where
+-- the text spells a program, the schedule's text a schedule that runs in it; its trace is printed,
+-- and the status is that of how it ends
+pub record IsReplayOf (text schedule : List ℕ) (a : Printed) : Type 0 where
   pub program : Program
   pub is_program : IsProgramOf text program
   pub steps : List ℕ
   pub spelt : spelling.Spells schedule steps
   pub runs : runs program (start program) steps ≡ true
-  pub trace : a.trace.items ≡ Trace program steps
-  pub kind : a.kind ≡ kind_of program (state_after program (start program) steps)
+  pub output : a.output.items ≡ Trace program steps
+  pub status : a.status ≡ replay_status
+      (kind_of program (state_after program (start program) steps))
 
--- the text spells a tree, and this is its first fault
-pub record IsFaultOf (text : List ℕ) (e : CheckError) : Type 0 where
-  pub tree : Tree
-  pub spelt : Spells text tree
-  pub first : fault tree ≡ Some e
+-- the text spells a program, and this is the report of a search of it: its text is printed, with a
+-- line feed, and the status is that of its verdict
+pub record IsExplorationOf (text : List ℕ) (o : Options) (a : Printed) : Type 0 where
+  pub report : Report
+  pub of_text : IsReportOfText false text o report
+  pub output : a.output.items ≡ report_text report ++ codes "\n"
+  pub status : a.status ≡ verdict_status report.verdict
 
 -- the text spells a program, and this is what is wrong with the schedule's text
 pub record IsNoSchedule (text schedule : List ℕ) (e : ScheduleError) : Type 0 where
@@ -70,23 +70,31 @@ pub record IsNoRun (text schedule : List ℕ) (e : ReplayError) : Type 0 where
   pub spelt : spelling.Spells schedule steps
   pub refused : ReplayErrorMeans program steps e
 
--- what a fault says of the text and of the schedule's text; out of memory is told as such and
--- never as a refusal, and no file is touched
+-- what a fault says of the text; out of memory is told as such and never as a refusal, and no file
+-- is touched
+abbrev pub TextFaultMeans : List ℕ → Fault → Type 0
+TextFaultMeans text (Syntax syntax.OutOfMemory) = ⊥
+TextFaultMeans text (Syntax e) = (t : Tree) → Spells text t → ⊥
+TextFaultMeans text (Check check.OutOfMemory) = ⊥
+TextFaultMeans text (Check e) = IsFaultOf text e
+TextFaultMeans text Memory = Unit {0}
+TextFaultMeans text other = ⊥
+
+-- what a fault says of the text and of the schedule's text
 abbrev pub FaultMeans : List ℕ → List ℕ → Fault → Type 0
-FaultMeans text w File = ⊥
-FaultMeans text w (Syntax syntax.OutOfMemory) = ⊥
-FaultMeans text w (Syntax e) = (t : Tree) → Spells text t → ⊥
-FaultMeans text w (Check check.OutOfMemory) = ⊥
-FaultMeans text w (Check e) = IsFaultOf text e
 FaultMeans text w (Schedule schedule.OutOfMemory) = ⊥
 FaultMeans text w (Schedule e) = IsNoSchedule text w e
 FaultMeans text w (Replay replay.OutOfMemory) = ⊥
 FaultMeans text w (Replay e) = IsNoRun text w e
-FaultMeans text w Memory = Unit {0}
+FaultMeans text w other = TextFaultMeans text other
 
 -- what a replay answers for these two texts
-abbrev pub ReplayMeans : List ℕ → List ℕ → Result Replayed Fault → Type 0
+abbrev pub ReplayMeans : List ℕ → List ℕ → Result Printed Fault → Type 0
 ReplayMeans text w result = MatchResult result (IsReplayOf text w) (FaultMeans text w)
+
+-- what a search answers for this text
+abbrev pub ExplorationMeans : List ℕ → Options → Result Printed Fault → Type 0
+ExplorationMeans text o result = MatchResult result (IsExplorationOf text o) (TextFaultMeans text)
 
 -- the fault of a refusal: out of memory is one fault, whoever met it
 abbrev pub of_syntax : SyntaxError → Fault
@@ -105,6 +113,11 @@ abbrev pub of_replay : ReplayError → Fault
 of_replay replay.OutOfMemory = Memory
 of_replay e = Replay e
 
+abbrev pub of_explore : ExploreError → Fault
+of_explore (explore.Syntax e) = of_syntax e
+of_explore (explore.Check e) = of_check e
+of_explore explore.OutOfMemory = Memory
+
 -- the fault of a device's error, by its kind
 abbrev pub IsDeviceFault : ErrorKind → Fault → Type 0
 IsDeviceFault kind fault =
@@ -114,34 +127,18 @@ IsDeviceFault kind fault =
 abbrev pub IsOfDevice : Fault → Type 0
 IsOfDevice fault = (fault ≡ Memory) ⊎ (fault ≡ File)
 
--- the status after a replay
-abbrev pub status_of : Option Kind → ℕ
-status_of (Some Done) = 0
-status_of (Some Failed) = 1
-status_of (Some Stuck) = 1
-status_of None = 0
-
--- the status after a fault: 4 for devices and memory, 2 for what the user gave
-abbrev pub fault_status : Fault → ℕ
-fault_status File = 4
-fault_status Memory = 4
-fault_status (Syntax e) = 2
-fault_status (Check e) = 2
-fault_status (Schedule e) = 2
-fault_status (Replay e) = 2
-
 -- what the program writes on each stream, and the status that it ends with
 pub record AnswerView : Type 0 where
   pub output : List ℕ
   pub error : List ℕ
   pub status : ℕ
 
--- after a replay its trace and its status; after a fault its line and its status
-abbrev pub answer_of : Result Replayed Fault → AnswerView
-answer_of (Ok replayed) = record {
-  output = replayed.trace.items;
+-- what is printed, and its status; after a fault its line and its status
+abbrev pub answer_of : Result Printed Fault → AnswerView
+answer_of (Ok printed) = record {
+  output = printed.output.items;
   error = [];
-  status = status_of replayed.kind;
+  status = printed.status;
 }
 answer_of (Err fault) = record {
   output = [];
@@ -149,18 +146,18 @@ answer_of (Err fault) = record {
   status = fault_status fault;
 }
 
--- the answer after a replay of this schedule's text in the program of this text, or after what is
--- wrong with them
-pub record IsAnswerOf (text schedule : List ℕ) (a : AnswerView) : Type 0 where
-  pub result : Result Replayed Fault
-  pub means : ReplayMeans text schedule result
-  pub same : a ≡ answer_of result
+-- what is answered to a request for this text
+abbrev pub Means : Asked → List ℕ → Result Printed Fault → Type 0
+Means (asked.Replay schedule) text result = ReplayMeans text (string_bytes schedule) result
+Means (asked.Explore exploration) text result = ExplorationMeans text exploration.options result
 
--- the schedule's text in a request
-abbrev pub schedule_of : Asked → List ℕ
-schedule_of (asked.Replay schedule) = string_bytes schedule
+-- the answer to a request for this text: what was done, or what is wrong
+pub record IsAnswerOf (request : Asked) (text : List ℕ) (a : AnswerView) : Type 0 where
+  pub result : Result Printed Fault
+  pub means : Means request text result
+  pub same : a ≡ answer_of result
 
 -- the answer to a request, where the reader gave a text or failed
 abbrev pub IsAnswerTo : Asked → Result (Vec ℕ Global) Fault → AnswerView → Type 0
-IsAnswerTo request (Ok text) a = IsAnswerOf text.items (schedule_of request) a
+IsAnswerTo request (Ok text) a = IsAnswerOf request text.items a
 IsAnswerTo request (Err fault) a = a ≡ answer_of (Err fault)

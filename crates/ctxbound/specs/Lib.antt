@@ -1,4 +1,6 @@
 pub mod Answer
 pub mod Lines
 pub mod Serve
+pub mod Status
 pub mod Words
+pub mod inner

@@ -3,7 +3,7 @@ use Rattle.std.specs.Prelude.{◌≡◌, ℕ, ◌+◌, List, Option, Result, OnO
 use Rattle.std.specs.Io.KnownBytes.{Appends}
 use Rattle.guest_syntax.specs.declared.limits.TheConstants.{TEXT_BYTES}
 use Rattle.ctxbound.specs.declared.asked.Asked.{Asked}
-use Rattle.ctxbound.specs.Answer.{AnswerView, IsAnswerOf, schedule_of}
+use Rattle.ctxbound.specs.Answer.{AnswerView, IsAnswerOf}
 
 -- what is read of a file: at most one byte more than a program may have
 abbrev pub part_read : List ℕ → List ℕ
@@ -22,6 +22,6 @@ IsWritten result before after bytes = OnOk result (Appends before after bytes)
 pub record IsServed (request : Asked) (file : List ℕ) (before after : Option (List ℕ)) (status : ℕ)
     : Type 0 where
   pub answer : AnswerView
-  pub means : IsAnswerOf (part_read file) (schedule_of request) answer
+  pub means : IsAnswerOf request (part_read file) answer
   pub output : Appends before after answer.output
   pub ends : status ≡ answer.status

@@ -1,7 +1,9 @@
 //! What the program answers to a request, as a value: the bytes for each stream, and the status.
 
-ghost use Rattle.std.specs.Prelude.{◌≡◌};
-ghost use Rattle.ctxbound.specs.Answer.{ReplayMeans, status_of, IsAnswerTo};
+ghost use Rattle.std.specs.Prelude.{◌≡◌, ◌≤◌};
+ghost use Rattle.runner.specs.Promises.{IsSearch};
+ghost use Rattle.ctxbound.specs.Answer.{ReplayMeans, ExplorationMeans, IsAnswerTo};
+ghost use Rattle.ctxbound.specs.Status.{replay_status, verdict_status};
 ghost use Rattle.ctxbound.specs.Serve.{IsWritten};
 
 use crate::asked::Asked;
@@ -9,19 +11,20 @@ use crate::fault::Fault;
 use guest_code::lowering::lower;
 use guest_syntax::parse;
 use replay::{replay, schedule_from, trace_text};
+use runner::{Options, Verdict, explore_text_alone, report_text};
 use semantics::view::Kind;
 use std::alloc::Global;
 use std::io;
 use std::io::Write;
 use std::marker::Model;
 
-/// The trace of a schedule, and how the schedule ends: none where it isn't complete.
+/// What the program prints where it did what it was asked for, and the status that it ends with.
 #[derive(Debug, Drop)]
-pub struct Replayed {
-    /// The trace's text, each line ended by a line feed.
-    pub trace: Vec<u8>,
-    /// How the schedule ends.
-    pub kind: Option<Kind>,
+pub struct Printed {
+    /// The bytes for standard output.
+    pub output: Vec<u8>,
+    /// The status.
+    pub status: u8,
 }
 
 /// The trace of the schedule that `schedule` spells in the program that `text` spells.
@@ -30,24 +33,24 @@ pub struct Replayed {
 ///
 /// What is wrong first: with the text, with the program that it spells, with the schedule's text,
 /// or with a step of the schedule; `Memory` where memory runs out.
-pub fn replay_text(alloc: Global, text: &[u8], schedule: &[u8]) -> Result<Replayed, Fault>
+pub fn replay_text(alloc: Global, text: &[u8], schedule: &[u8]) -> Result<Printed, Fault>
     ensures { ReplayMeans text.now schedule.now result }
 {
     let tree = parse(alloc, text)?;
     let program = lower(alloc, &tree)?;
     let schedule = schedule_from(alloc, schedule)?;
     let run = replay(alloc, &program, schedule.as_slice())?;
-    let trace = trace_text(alloc, &program, &run)?;
-    Ok(Replayed {
-        trace,
-        kind: run.kind(),
+    let output = trace_text(alloc, &program, &run)?;
+    Ok(Printed {
+        output,
+        status: replay_status(run.kind()),
     })
 }
 
 /// The status that the program ends with after a replay: 1 where the schedule is complete and
 /// failed or stuck, else 0.
-pub fn status_of(kind: Option<Kind>) -> u8
-    ensures { result ≡ status_of kind }
+pub fn replay_status(kind: Option<Kind>) -> u8
+    ensures { result ≡ replay_status kind }
 {
     match kind {
         Some(Kind::Failed | Kind::Stuck) => 1,
@@ -55,11 +58,43 @@ pub fn status_of(kind: Option<Kind>) -> u8
     }
 }
 
-/// What the program answers: the trace of a replay, or a fault. It is seen as the bytes for
-/// standard output, those for standard error, and the status.
+/// The report of a search of the program that `text` spells, and a line feed.
+///
+/// # Errors
+///
+/// What is wrong first, with the text or with the program that it spells; `Memory` where memory
+/// runs out.
+pub fn explore_text(alloc: Global, text: &[u8], options: Options) -> Result<Printed, Fault>
+    requires search { IsSearch options.search }
+    requires quota { 1 ≤ options.quota }
+    ensures { ExplorationMeans text.now options result }
+{
+    let report = explore_text_alone(alloc, text, options)?;
+    let mut output = report_text(alloc, &report)?;
+    output.push(b'\n')?;
+    Ok(Printed {
+        output,
+        status: verdict_status(&report.verdict),
+    })
+}
+
+/// The status that the program ends with after a search: 0 where it found no bad schedule, 1 where
+/// it found one, 3 where it was cut short.
+pub fn verdict_status(verdict: &Verdict) -> u8
+    ensures { result ≡ verdict_status verdict.now }
+{
+    match verdict {
+        Verdict::Clean { .. } => 0,
+        Verdict::Bad { .. } => 1,
+        Verdict::Incomplete { .. } => 3,
+    }
+}
+
+/// What the program answers: what it prints, or a fault. It is seen as the bytes for standard
+/// output, those for standard error, and the status.
 #[derive(Debug, Drop)]
 pub struct Answer {
-    result: Result<Replayed, Fault>,
+    result: Result<Printed, Fault>,
 }
 
 impl Model for Answer {
@@ -79,6 +114,9 @@ impl Answer {
             (Ok(text), Asked::Replay { schedule }) => {
                 replay_text(alloc, text.as_slice(), schedule.as_bytes())
             }
+            (Ok(text), Asked::Explore(asked)) => {
+                explore_text(alloc, text.as_slice(), asked.options)
+            }
             (Err(fault), _) => Err(fault),
         };
         Answer { result }
@@ -89,7 +127,7 @@ impl Answer {
         ensures { result.now ≡ self.now.output }
     {
         match &self.result {
-            Ok(replayed) => replayed.trace.as_slice(),
+            Ok(printed) => printed.output.as_slice(),
             Err(_) => &[],
         }
     }
@@ -113,7 +151,7 @@ impl Answer {
         ensures { result ≡ self.now.status }
     {
         match &self.result {
-            Ok(replayed) => status_of(replayed.kind),
+            Ok(printed) => printed.status,
             Err(fault) => fault.status(),
         }
     }

@@ -1,8 +1,29 @@
 //! What the program can be asked for.
 
+ghost use Rattle.std.specs.Prelude.{◌≤◌};
+ghost use Rattle.runner.specs.Promises.{IsSearch};
+ghost use Rattle.runner.specs.declared.limits.TheConstants.{WORKERS};
+ghost use Rattle.ctxbound.specs.inner.Asked.{IsSearch-prop};
+
+use runner::Options;
+
 /// What the program is asked to do with a guest program.
 #[derive(Debug, Drop)]
 pub enum Asked {
     /// To replay one schedule, in schedule text, and print its trace.
     Replay { schedule: String },
+    /// To search for a bad schedule, and print the report.
+    Explore(Exploration),
+}
+
+/// A search, and by how many workers. Its report doesn't depend on them, unless it is incomplete.
+#[derive(Clone, Copy, Debug)]
+pub struct Exploration {
+    pub options: Options,
+    /// At least 1, at most [`WORKERS`](runner::WORKERS).
+    pub workers: u32,
+    ghost search: { IsSearch options.search } by { IsSearch-prop options.search },
+    ghost quota: { 1 ≤ options.quota },
+    ghost some_worker: { 1 ≤ workers },
+    ghost few_workers: { workers ≤ WORKERS },
 }

@@ -1,14 +1,15 @@
 //! Why a run of the program has no answer.
 
 ghost use Rattle.std.specs.Prelude.{◌≡◌};
-ghost use Rattle.ctxbound.specs.Answer.{fault_status};
+ghost use Rattle.ctxbound.specs.Status.{fault_status};
 ghost use Rattle.ctxbound.specs.Lines.{fault_line};
 ghost use Rattle.ctxbound.specs.Serve.{IsWritten};
 
 use guest_code::error::CheckError;
 use guest_syntax::SyntaxError;
 use replay::{ReplayError, ScheduleError};
-use std::alloc::AllocError;
+use runner::ExploreError;
+use std::alloc::{AllocError, AllocFailed};
 use std::io::{ErrorKind, Write};
 use std::{fmt, io};
 
@@ -138,6 +139,21 @@ impl From<ReplayError> for Fault {
     }
 }
 
+impl From<ExploreError> for Fault {
+    ghost use Rattle.std.specs.Prelude.{◌≡◌};
+    ghost use Rattle.ctxbound.specs.Answer.{of_explore};
+
+    ghost from_gives = { λ e fault. fault ≡ of_explore e };
+
+    fn from(error: ExploreError) -> Fault {
+        match error {
+            ExploreError::Syntax(error) => Fault::from(error),
+            ExploreError::Check(error) => Fault::from(error),
+            ExploreError::OutOfMemory => Fault::Memory,
+        }
+    }
+}
+
 impl From<AllocError> for Fault {
     ghost use Rattle.std.specs.Prelude.{◌≡◌};
     ghost use Rattle.ctxbound.specs.declared.fault.Fault.TheVariants.{Memory};
@@ -145,6 +161,17 @@ impl From<AllocError> for Fault {
     ghost from_gives = { λ _ fault. fault ≡ Memory };
 
     fn from(_error: AllocError) -> Fault {
+        Fault::Memory
+    }
+}
+
+impl<T: Drop> From<AllocFailed<T>> for Fault {
+    ghost use Rattle.std.specs.Prelude.{◌≡◌};
+    ghost use Rattle.ctxbound.specs.declared.fault.Fault.TheVariants.{Memory};
+
+    ghost from_gives = { λ _ fault. fault ≡ Memory };
+
+    fn from(_error: AllocFailed<T>) -> Fault {
         Fault::Memory
     }
 }

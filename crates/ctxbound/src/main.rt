@@ -1,8 +1,8 @@
 //! The program `ctxbound`: what the command words ask for, done on a guest program.
 //!
 //! `asked` reads the words, `serve` does the work over a reader and two writers, and `main` joins
-//! them to the system. What a replay answers for a text and a schedule is `replay_text`, whose
-//! contract speaks of nothing but the two byte strings.
+//! them to the system. What is answered for the bytes of a text is `explore_text`, and for those of
+//! a text and a schedule `replay_text`; their contracts speak of nothing else.
 #![tactic(auto)]
 
 mod answer;

@@ -1,12 +1,14 @@
 //! The command words, read by `clap`.
 
 ghost use Rattle.std.specs.Prelude.{◌≡◌};
+ghost use Rattle.runner.specs.Promises.{IsSearch};
 ghost use Rattle.ctxbound.specs.Words.{words_status};
 
-use crate::asked::Asked;
+use crate::asked::{Asked, Exploration};
 use crate::fault::Fault;
 use clap::error::ErrorKind;
-use clap::{Arg, Command, Error};
+use clap::{Arg, ArgAction, ArgMatches, Command, Error, value_parser};
+use runner::{BOUND, Options, QUOTA, Search, WORKERS};
 use std::alloc::{Alloc, AllocError, Global};
 use std::env::Env;
 use std::io;
@@ -15,14 +17,19 @@ use std::io::Write;
 /// The version that `--version` shows.
 pub const VERSION: &str = "0.1.0";
 
+/// The bound of a search that asks for none.
+pub const DEFAULT_BOUND: u32 = 2;
+
 /// What the help of each command ends with.
-pub const HELP_END: &str = "Example:
+pub const HELP_END: &str = "Examples:
+  ctxbound explore examples/first.guest
   ctxbound replay examples/first.guest 0,1,0
 
 Statuses:
-  0  the schedule is complete and done, or not complete
-  1  the schedule is complete and failed or stuck
+  0  no schedule is bad; a replay that is done, or not complete
+  1  a schedule is bad: it failed or got stuck; so did a replay
   2  words, text, program or schedule refused; help or version shown
+  3  the search was cut short
   4  out of memory, or the file can't be read or the output written";
 
 /// Why the command words ask for nothing.
@@ -111,27 +118,119 @@ pub fn command_words<R: Env + Alloc<A = Global>>(rt: &R) -> Result<Vec<String>, 
     Ok(std::env::args(rt)?.collect(rt.alloc())?)
 }
 
-fn replay_command<'a>(alloc: Global) -> Result<Command<'a>, AllocError> {
-    let file = Arg::new(alloc, "FILE")
+fn file_arg<'a>(alloc: Global) -> Arg<'a> {
+    Arg::new(alloc, "FILE")
         .required(true)
-        .help("The guest program");
+        .help("The guest program")
+}
+
+fn replay_command<'a>(alloc: Global) -> Result<Command<'a>, AllocError> {
     let schedule = Arg::new(alloc, "SCHEDULE").default_value("-").help(
         "Thread numbers from 0, joined by commas, `0x3` for three steps; `-` is the empty schedule",
     );
     Command::new(alloc, "replay")
         .about("Runs one schedule of a guest program and prints its trace")
         .after_help(HELP_END)
-        .arg(file)?
+        .arg(file_arg(alloc))?
         .arg(schedule)
+}
+
+/// A command with what both kinds of search can be asked for.
+fn search_command<'a>(
+    alloc: Global,
+    name: &'a str,
+    about: &'a str,
+) -> Result<Command<'a>, AllocError> {
+    let workers = Arg::new(alloc, "workers")
+        .long("workers")
+        .value_name("W")
+        .value_parser(value_parser!(u32).range(1..=i64::from(WORKERS)))
+        .help("How many threads work; the answer doesn't depend on it [default: 1]");
+    let limit = Arg::new(alloc, "limit")
+        .long("limit")
+        .value_name("L")
+        .value_parser(value_parser!(i64).range(1..))
+        .help("Cut the search short once so many schedules were tried");
+    let quick = Arg::new(alloc, "quick")
+        .long("quick")
+        .action(ArgAction::SetTrue)
+        .help("Once a bad schedule is found, leave out what comes after it");
+    Command::new(alloc, name)
+        .about(about)
+        .after_help(HELP_END)
+        .arg(file_arg(alloc))?
+        .arg(workers)?
+        .arg(limit)?
+        .arg(quick)
+}
+
+fn explore_command<'a>(alloc: Global) -> Result<Command<'a>, AllocError> {
+    let bound = Arg::new(alloc, "bound")
+        .long("bound")
+        .value_name("N")
+        .value_parser(value_parser!(u32).range(0..=i64::from(BOUND)))
+        .help("The most preemptions of a schedule [default: 2]");
+    search_command(
+        alloc,
+        "explore",
+        "Runs a guest program under all schedules, those with fewest preemptions first",
+    )?
+    .arg(bound)
+}
+
+fn unbounded_command<'a>(alloc: Global) -> Result<Command<'a>, AllocError> {
+    search_command(
+        alloc,
+        "unbounded",
+        "Runs a guest program under all schedules that sleep sets leave",
+    )
 }
 
 fn command<'a>(alloc: Global) -> Result<Command<'a>, AllocError> {
     Command::new(alloc, "ctxbound")
-        .about("Runs guest programs under schedules")
+        .about("Looks for schedules under which a guest program fails or gets stuck")
         .version(VERSION)
         .after_help(HELP_END)
         .subcommand_required(true)
+        .subcommand(explore_command(alloc)?)?
+        .subcommand(unbounded_command(alloc)?)?
         .subcommand(replay_command(alloc)?)
+}
+
+/// How far the search of a command goes.
+fn search_of(name: &str, given: &ArgMatches<'_>) -> Search
+    ensures { IsSearch result }
+{
+    if name == "unbounded" {
+        return Search::Unbounded;
+    }
+    // `clap` has refused a bound that there isn't
+    let bound: u32 = given.get_one("bound").unwrap_or(DEFAULT_BOUND);
+    Search::UpTo(bound.min(BOUND))
+}
+
+/// The search that the words of a command ask for.
+fn exploration_of(name: &str, given: &ArgMatches<'_>) -> Exploration {
+    // `clap` has refused other numbers of workers
+    let workers: u32 = given.get_one("workers").unwrap_or(1);
+    Exploration {
+        options: Options {
+            search: search_of(name, given),
+            limit: given.get_one("limit"),
+            quota: QUOTA,
+            quick: given.get_flag("quick"),
+        },
+        workers: workers.clamp(1, WORKERS),
+    }
+}
+
+/// What the words of a command ask for.
+fn request_of(alloc: Global, name: &str, given: &ArgMatches<'_>) -> Result<Asked, AllocError> {
+    if name != "replay" {
+        return Ok(Asked::Explore(exploration_of(name, given)));
+    }
+    let schedule = String::from_str(alloc, given.get_str("SCHEDULE").unwrap_or("-"))?;
+    Ok(Asked::Replay { schedule })
 }
 
 /// The name of the file and what to do with it. The first word is the program's own name.
@@ -142,13 +241,7 @@ fn command<'a>(alloc: Global) -> Result<Command<'a>, AllocError> {
 /// `OutOfMemory`.
 pub fn asked(alloc: Global, words: &[String]) -> Result<(String, Asked), WordsFault> {
     let matches = command(alloc)?.try_get_matches_from(words)?;
-    let (file, schedule) = match matches.subcommand() {
-        Some((_, replay)) => (
-            replay.get_str("FILE").unwrap_or(""),
-            replay.get_str("SCHEDULE").unwrap_or("-"),
-        ),
-        None => ("", "-"),
-    };
-    let schedule = String::from_str(alloc, schedule)?;
-    Ok((String::from_str(alloc, file)?, Asked::Replay { schedule }))
+    let (name, given) = matches.subcommand().unwrap_or(("replay", &matches));
+    let file = String::from_str(alloc, given.get_str("FILE").unwrap_or(""))?;
+    Ok((file, request_of(alloc, name, given)?))
 }

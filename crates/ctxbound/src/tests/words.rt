@@ -3,18 +3,12 @@
 use crate::asked::Asked;
 use crate::program::serve_words;
 use crate::tests::devices::Words;
+use crate::tests::{search, words_of};
 use crate::words::{HELP_END, VERSION, asked, command_words};
-use std::alloc::Global;
+use runner::{Options, Search};
+use std::alloc::{Alloc, Global};
+use std::process::Abort;
 use std::test::*;
-
-/// These words after the program's name.
-fn words(alloc: Global, given: &[&str]) -> Result<Vec<String>, Fail> {
-    let mut words = vec![in alloc; String::from_str(alloc, "ctxbound")?]?;
-    for word in given {
-        words.push(String::from_str(alloc, word)?)?;
-    }
-    Ok(words)
-}
 
 #[test]
 fn takes_the_schedule_or_none(rt: HostRuntime) -> Result<(), Fail> {
@@ -24,15 +18,66 @@ fn takes_the_schedule_or_none(rt: HostRuntime) -> Result<(), Fail> {
         (&["replay", "race.guest", "0,1"][..], "0,1"),
         (&["replay", "race.guest", "-"][..], "-"),
     ] {
-        let words = words(alloc, given)?;
+        let words = words_of(alloc, given)?;
         let Ok((file, request)) = asked(alloc, words.as_slice()) else {
             return Err(Fail::new("the words are refused"));
         };
-        let Asked::Replay { schedule } = &request;
+        let Asked::Replay { schedule } = &request else {
+            return Err(Fail::new("no replay is asked for"));
+        };
         assert_eq!(rt; file.as_str(), "race.guest");
         assert_eq!(rt; schedule.as_str(), want);
     }
     Ok(())
+}
+
+/// Compares the search that words ask for.
+fn asks_for(
+    rt: &(impl Abort + Alloc<A = Global>),
+    line: &str,
+    options: Options,
+    workers: u32,
+) -> Result<(), Fail> {
+    let Asked::Explore(asked) = search(rt.alloc(), line)? else {
+        return Err(Fail::new("no search is asked for"));
+    };
+    assert_eq!(rt; asked.options, options, "{line}");
+    assert_eq!(rt; asked.workers, workers, "{line}");
+    Ok(())
+}
+
+#[test]
+fn takes_the_words_of_a_search(rt: HostRuntime) -> Result<(), Fail> {
+    let usual = Options {
+        search: Search::UpTo(2),
+        limit: None,
+        quota: 256,
+        quick: false,
+    };
+    asks_for(&rt, "explore FILE", usual, 1)?;
+    let widest = Options {
+        search: Search::UpTo(64),
+        limit: Some(9_223_372_036_854_775_807),
+        ..usual
+    };
+    asks_for(
+        &rt,
+        "explore FILE --bound 64 --workers 16 --limit 9223372036854775807",
+        widest,
+        16,
+    )?;
+    let pruned = Options {
+        search: Search::Unbounded,
+        limit: Some(1),
+        quick: true,
+        ..usual
+    };
+    asks_for(
+        &rt,
+        "unbounded --quick --limit 1 --workers 2 FILE",
+        pruned,
+        2,
+    )
 }
 
 #[test]
@@ -44,8 +89,16 @@ fn tells_refused_words(rt: HostRuntime) -> Result<(), Fail> {
         &["replay", "a", "0", "1"][..],
         &["relay", "a"][..],
         &["replay", "--fast", "a"][..],
+        &["explore"][..],
+        &["explore", "a", "--bound", "65"][..],
+        &["explore", "a", "--bound", "x"][..],
+        &["explore", "a", "--workers", "0"][..],
+        &["explore", "a", "--workers", "17"][..],
+        &["unbounded", "a", "--limit", "0"][..],
+        &["unbounded", "a", "--limit", "9223372036854775808"][..],
+        &["unbounded", "a", "--bound", "1"][..],
     ] {
-        let words = words(alloc, given)?;
+        let words = words_of(alloc, given)?;
         let mut out = Vec::new(alloc);
         let mut err = Vec::new(alloc);
         assert_eq!(rt; serve_words(&rt, words.as_slice(), &mut out, &mut err), 2);
@@ -61,9 +114,11 @@ fn shows_help_and_version(rt: HostRuntime) -> Result<(), Fail> {
     for given in [
         &["--help"][..],
         &["replay", "--help"][..],
+        &["explore", "--help"][..],
+        &["unbounded", "--help"][..],
         &["help", "replay"][..],
     ] {
-        let words = words(alloc, given)?;
+        let words = words_of(alloc, given)?;
         let mut out = Vec::new(alloc);
         let mut err = Vec::new(alloc);
         assert_eq!(rt; serve_words(&rt, words.as_slice(), &mut out, &mut err), 2);
@@ -71,7 +126,7 @@ fn shows_help_and_version(rt: HostRuntime) -> Result<(), Fail> {
         let end = format!(in alloc; "\n\n{HELP_END}\n")?;
         assert!(rt; err.as_slice().ends_with(end.as_bytes()), "{given:?}");
     }
-    let words = words(alloc, &["--version"])?;
+    let words = words_of(alloc, &["--version"])?;
     let mut out = Vec::new(alloc);
     let mut err = Vec::new(alloc);
     assert_eq!(rt; serve_words(&rt, words.as_slice(), &mut out, &mut err), 2);
@@ -111,7 +166,7 @@ fn refuses_words_that_are_not_utf8(rt: HostRuntime) -> Result<(), Fail> {
 #[test]
 fn tells_a_file_that_is_not_there(rt: HostRuntime) -> Result<(), Fail> {
     let alloc = rt.alloc();
-    let words = words(alloc, &["replay", "no/such/file.guest", "0"])?;
+    let words = words_of(alloc, &["replay", "no/such/file.guest", "0"])?;
     let mut out = Vec::new(alloc);
     let mut err = Vec::new(alloc);
     assert_eq!(rt; serve_words(&rt, words.as_slice(), &mut out, &mut err), 4);

@@ -3,6 +3,7 @@ use Rattle.std.proofs.lemmas.Result.{err_from_is_err_and}
 use Rattle.guest_syntax.specs.Tree.{tree_view}
 use Rattle.replay.specs.Run.{Run, IsRunOf}
 use Rattle.replay.specs.Trace.{trace}
+use Rattle.ctxbound.specs.Status.{replay_status}
 use Rattle.ctxbound.proofs.Faults.{syntax_tells}
 use Rattle.ctxbound.proofs.answer.replay_text.Goals as goal
 
@@ -26,6 +27,7 @@ returns c =
       steps = c.in_ok-schedule.schedule.items;
       spelt = c.in_ok-schedule.ensures.value;
       runs = is_run.legal;
-      trace = c.in_ok-trace.ensures.run ∙ ap (trace c.in_ok-program.program) is_run.same;
-      kind = c.kind.ensures ∙ ap (λ (r : Run). r.kind) is_run.same;
+      output = c.in_ok-output.ensures.run ∙ ap (trace c.in_ok-program.program) is_run.same;
+      status = c.replay_status.ensures
+          ∙ ap replay_status (c.kind.ensures ∙ ap (λ (r : Run). r.kind) is_run.same);
     }
