@@ -170,18 +170,20 @@ in_range p s t (OnMutex m d) u of' l f b o few = record {
 in_range p s t (Waits c m) u of' l f b o few = record {
   thread = omega (arith, l, b.thread, length-set s.threads t (waiter_after c t (owner_of s m) (thread_at s t)));
   few = few;
-  range = subst (λ (ch : Change). IsInRange ch u (acts p s t (thread_at s t) (Some (Waits c m)))) (sym o.0)
-    ( omega (arith, o.1, f.0, of'.queues, length-set s.queues c (queue_joined t (owner_of s m) (queue_of s c)))
-    , omega (arith, o.2, f.1, of'.owners, length-set s.owners m (given_back t (owner_of s m)))
-    , o.4.1 );
+  range = subst (λ (ch : Change). IsInRange ch u (acts p s t (thread_at s t) (Some (Waits c m)))) (sym o.0) (
+    omega (arith, o.1, f.0, of'.queues, length-set s.queues c (queue_joined t (owner_of s m) (queue_of s c))),
+    omega (arith, o.2, f.1, of'.owners, length-set s.owners m (given_back t (owner_of s m))),
+    o.4.1,
+  );
 }
 in_range p s t (OnCondition c d) u of' l f b o few = record {
   thread = omega (arith, l, b.thread, same);
   few = few;
-  range = subst (λ (ch : Change). IsInRange ch u (acts p s t (thread_at s t) (Some (OnCondition c d)))) (sym o.0)
-    ( omega (arith, o.1, f, of'.queues, length-set s.queues c (queue_after d (queue_of s c)))
-    , o.2.1
-    , subst (λ (n : ℕ). All (λ x. x < n) (old_queue u)) (sym same) (subst (λ (q : List ℕ). All (λ x. x < length s.threads) q) (sym o.2.0) (queue_below s c of'.waiters)) );
+  range = subst (λ (ch : Change). IsInRange ch u (acts p s t (thread_at s t) (Some (OnCondition c d)))) (sym o.0) (
+    omega (arith, o.1, f, of'.queues, length-set s.queues c (queue_after d (queue_of s c))),
+    o.2.1,
+    subst (λ (n : ℕ). All (λ x. x < n) (old_queue u)) (sym same) (subst (λ (q : List ℕ). All (λ x. x < length s.threads) q) (sym o.2.0) (queue_below s c of'.waiters)),
+  );
 }
   where
     same : length (set (wake c (threads_to_wake d (queue_of s c)) s.threads) t (resumed (code_of p t) (thread_at s t))) ≡ length s.threads

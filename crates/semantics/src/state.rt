@@ -66,7 +66,10 @@ impl Status {
     fn has_no_step(self) -> bool
         ensures { IsTrue result → (o : Option Instruction) → action_at self o ≡ None }
     {
-        matches!(self, Status::Waiting(_) | Status::Ended | Status::Stopped(_))
+        matches!(
+            self,
+            Status::Waiting(_) | Status::Ended | Status::Stopped(_)
+        )
     }
 }
 
@@ -318,13 +321,7 @@ impl State {
 
     /// The same, with the record written over one that is there. Where the mask has the threads
     /// that are enabled before the step, the answer has those that are enabled after it.
-    pub fn step_into(
-        &mut self,
-        program: &Program,
-        thread: u8,
-        undo: &mut Undo,
-        mask: Mask,
-    ) -> Mask
+    pub fn step_into(&mut self, program: &Program, thread: u8, undo: &mut Undo, mask: Mask) -> Mask
         requires of { IsOf program.now self.old }
         requires enabled { IsTrue (is_enabled program.now self.old thread) }
         ensures value { self.new ≡ step program.now self.old thread }
@@ -349,9 +346,7 @@ impl State {
         match others {
             Others::Same => mask.with(thread, self.is_enabled(program, thread)),
             Others::Fewer => self.test_again(program, mask, mask.with(thread, true)),
-            Others::More => {
-                self.test_again(program, mask, mask.complement().with(thread, true))
-            }
+            Others::More => { self.test_again(program, mask, mask.complement().with(thread, true)) }
         }
     }
 
@@ -513,14 +508,7 @@ impl State {
     }
 
     // The first step of a `wait`.
-    fn begin_wait(
-        &mut self,
-        program: &Program,
-        thread: u8,
-        c: usize,
-        m: usize,
-        undo: &mut Undo,
-    )
+    fn begin_wait(&mut self, program: &Program, thread: u8, c: usize, m: usize, undo: &mut Undo)
         requires { IsReady program.now self.old thread (Waits c m) }
         ensures value { self.new ≡ performed program.now self.old thread (Waits c m) }
         ensures begun { HasBegun undo.new thread (thread_at self.old thread) }

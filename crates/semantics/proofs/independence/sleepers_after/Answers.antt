@@ -61,5 +61,5 @@ returns c =
     is_mask_of c.loop-other.sleepers (next_sleep_set c.args.program.now c.args.state.now (has c.args.asleep) c.args.thread) c.loop-other.invariant.fits (λ t l. elim (cases_lt t c.loop-other.other) [
       | inl a ↦ c.loop-other.invariant.below t a
       | inr b ↦ c.loop-other.invariant.above t b
-        ∙ sym (ap (λ e. e && ((has c.args.asleep t || nat_lt t c.args.thread) && independent c.args.program.now c.args.state.now c.args.thread t)) (disabled_past c.args.program.now c.args.state.now t (omega (arith, b, c.loop-other-test.false, c.threads-other-end.ensures.number, c.requires.of.threads))))
+          ∙ sym (ap (λ e. e && ((has c.args.asleep t || nat_lt t c.args.thread) && independent c.args.program.now c.args.state.now c.args.thread t)) (disabled_past c.args.program.now c.args.state.now t (omega (arith, b, c.loop-other-test.false, c.threads-other-end.ensures.number, c.requires.of.threads))))
     ])

@@ -17,6 +17,6 @@ loop-t-preserved c = record {
 
 pub returns : goal.returns
 returns c = λ t. elim (cases_lt t c.loop-t.t) [
-    | inl l ↦ c.loop-t.invariant.below t l
-    | inr g ↦ c.loop-t.invariant.above t g ∙ sym (disabled_past c.args.program.now c.args.self.now t (let e = c.requires.threads in omega (arith, e)))
-  ]
+  | inl l ↦ c.loop-t.invariant.below t l
+  | inr g ↦ c.loop-t.invariant.above t g ∙ sym (disabled_past c.args.program.now c.args.self.now t (let e = c.requires.threads in omega (arith, e)))
+]
