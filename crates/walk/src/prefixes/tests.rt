@@ -15,6 +15,7 @@ fn prefixes_go_on_and_come_off(rt: HostRuntime) -> io::Result<()> {
     let mut reader = list.last_first(rt.alloc())?;
     reader.advance();
     assert!(&rt; reader.prefix() == Some([0, 3].as_slice()) && reader.length() == 3);
+    drop(reader);
     let copy = list.try_clone(rt.alloc())?;
     list.truncate(2);
     assert!(&rt; list.last() == Some([0, 0, 2, 1].as_slice()));
