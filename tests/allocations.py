@@ -23,6 +23,7 @@ PROGRAMS = {
     "waits": "mutex m; cond c; thread A { lock m; wait c m; unlock m; }"
     " thread B { lock m; signal c; unlock m; }",
     "loops": "var x; thread A { repeat 5 { set r r + 1; if r == 3 { leave; } } store x r; }",
+    "two": "var x; thread A { load r x; store x 1; } thread B { load r x; store x 1; }",
     "cut": "thread A { assert 0;",
     "unknown": "thread A { lock m; }",
 }
@@ -32,8 +33,8 @@ RUNS = [
     ("locks", "0,1", 1), ("waits", "0,0,1,1,1,0,0", 0), ("waits", "1,1,1,0,0", 1),
     ("loops", "0", 0), ("cut", "0", 2), ("unknown", "0", 2),
 ]
-# A guest and a bound: the walk ends with status 0.
-WALKS = [("race", "1"), ("locks", "1"), ("waits", "0")]
+# A guest and a mode: the walk ends with status 0.
+WALKS = [("race", "1"), ("locks", "1"), ("waits", "0"), ("two", "1"), ("two", "reduced"), ("locks", "reduced")]
 
 
 def run(binary, words, library=None, fail_at=0):
@@ -81,8 +82,8 @@ def main(binary, walker):
         program, walk = os.path.abspath(binary), os.path.abspath(walker)
         sweeps = [(program, ["replay", os.path.join(folder, name), schedule], library, status, says_memory)
                   for name, schedule, status in RUNS]
-        sweeps += [(walk, [os.path.join(folder, name), bound], library, 0, says_nothing)
-                   for name, bound in WALKS]
+        sweeps += [(walk, [os.path.join(folder, name), mode], library, 0, says_nothing)
+                   for name, mode in WALKS]
         for arguments in sweeps:
             count, wrong = sweep(*arguments)
             refusals += count
