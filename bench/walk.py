@@ -1,30 +1,86 @@
 #!/usr/bin/env python3
-"""bench/walk.py: how many schedules and steps a second a walk of a whole subtree tries.
+"""bench/walk.py [OTHER [GUEST MODE ..]]: how fast a walk tries the schedules of a guest.
 
-It runs the built `walk_bench` on `bench/four_by_five.guest`, whose schedules have 20 steps each,
-at rising bounds, three times each, and prints the best time. Steps are those of the schedules
-tried; a step that two schedules begin with counts twice, though it is taken once.
+It runs the built `walk_bench` on a guest in a mode, a bound or `reduced`, and prints what the walk
+tried, the least user time of five runs, schedules a second, how many prefixes the bound put off, and
+how many bytes of memory the run held for each of them, where they are a million or more. OTHER is another explorer to measure beside it, a program that takes
+`explore GUEST --bound BOUND` or `unbounded GUEST`; its time is given with the ratio. Without guests
+it walks `bench/four_by_five.guest`, whose schedules have 20 steps each, at rising bounds.
 """
 import os
-import subprocess
+import sys
+import tempfile
 import time
 
 TOP = os.path.dirname(os.path.dirname(os.path.abspath(__file__)))
 BINARY = os.path.join(TOP, "crates", "walk_bench", "out", "walk_bench")
 GUEST = os.path.join(TOP, "bench", "four_by_five.guest")
-STEPS = 20
+RUNS = 5
+# From so many prefixes on, nearly all memory is theirs.
+MANY = 1000000
 
 
-def best_time(bound):
-    times, out = [], ""
-    for _ in range(3):
-        start = time.perf_counter()
-        out = subprocess.run([BINARY, GUEST, str(bound)], capture_output=True, text=True, check=True).stdout
-        times.append(time.perf_counter() - start)
-    return min(times), int(out.split()[1])
+def held(pid):
+    """The most memory that a process held so far, in bytes; none where the system doesn't say."""
+    try:
+        with open("/proc/%d/status" % pid) as status:
+            for row in status:
+                if row.startswith("VmHWM:"):
+                    return int(row.split()[1]) * 1024
+    except OSError:
+        pass
+    return 0
 
 
-print("bound   schedules   seconds   schedules/s       steps/s")
-for bound in range(5):
-    seconds, tried = best_time(bound)
-    print("%5d %11d %9.3f %13.0f %13.0f" % (bound, tried, seconds, tried / seconds, tried * STEPS / seconds))
+def run(words):
+    """What a run writes, its user time in seconds, and the most memory that it was seen to hold."""
+    with tempfile.TemporaryFile() as file:
+        child = os.posix_spawn(words[0], words, os.environ,
+                               file_actions=[(os.POSIX_SPAWN_DUP2, file.fileno(), 1)])
+        most, ended = 0, 0
+        while not ended:
+            most = max(most, held(child))
+            time.sleep(0.001)
+            ended, status, usage = os.wait4(child, os.WNOHANG)
+        file.seek(0)
+        out = file.read()
+    if status != 0:
+        sys.exit("%s ended with status %d" % (" ".join(words), os.waitstatus_to_exitcode(status)))
+    return out, usage.ru_utime, most
+
+
+def least(words):
+    runs = [run(words) for _ in range(RUNS)]
+    return runs[0][0], min(seconds for _, seconds, _ in runs), max(memory for _, _, memory in runs)
+
+
+def other_words(other, guest, mode):
+    return [other, "unbounded", guest] if mode == "reduced" else [other, "explore", guest, "--bound", mode]
+
+
+def line(guest, mode, other):
+    out, seconds, memory = least([BINARY, guest, mode])
+    counts = out.split()
+    tried, deferred = int(counts[1]), int(counts[7])
+    each = "%.2f" % (memory / deferred) if deferred >= MANY else "-"
+    name = os.path.basename(guest).removesuffix(".guest")
+    text = "%-18s %8s %11d %9.3f %13.0f %11d %9s" % (
+        name, mode, tried, seconds, tried / max(seconds, 1e-6), deferred, each)
+    if other:
+        beside = least(other_words(other, guest, mode))[1]
+        text += " %9.3f %6.2f" % (beside, seconds / max(beside, 1e-6))
+    return text
+
+
+def main(words):
+    other = words[0] if words else None
+    cases = list(zip(words[1::2], words[2::2])) or [(GUEST, str(bound)) for bound in range(5)]
+    head = "%-18s %8s %11s %9s %13s %11s %9s" % (
+        "guest", "mode", "schedules", "seconds", "schedules/s", "deferred", "bytes/def")
+    print(head + (" %9s %6s" % ("other", "ratio") if other else ""))
+    for guest, mode in cases:
+        print(line(guest, mode, other), flush=True)
+
+
+if __name__ == "__main__":
+    main(sys.argv[1:])

@@ -27,6 +27,7 @@ PROGRAMS = {
     "late": "var x; var y; thread A { store y 1; load r x; assert r == 0; }"
     " thread B { store x 1; }",
     "loops": "var x; thread A { repeat 5 { set r r + 1; if r == 3 { leave; } } store x r; }",
+    "two": "var x; thread A { load r x; store x 1; } thread B { load r x; store x 1; }",
     "cut": "thread A { assert 0;",
     "unknown": "thread A { lock m; }",
 }
@@ -45,8 +46,9 @@ RUNS = [
     ("unbounded", "late", "--workers 1", 1), ("unbounded", "late", "--workers 2", 1),
     ("unbounded", "updates", "--workers 1", 0), ("unbounded", "updates", "--workers 2", 0),
 ]
-# A guest and a bound: the walk ends with status 0.
-WALKS = [("race", "1"), ("locks", "1"), ("waits", "0")]
+# A guest and a mode: the walk ends with status 0.
+WALKS = [("race", "1"), ("locks", "1"), ("waits", "0"), ("two", "1"),
+         ("two", "reduced"), ("locks", "reduced")]
 
 
 def run(binary, words, library=None, fail_at=0):
@@ -94,8 +96,8 @@ def main(binary, walker):
         program, walk = os.path.abspath(binary), os.path.abspath(walker)
         sweeps = [(program, [command, os.path.join(folder, name)] + words.split(), library, status, says_memory)
                   for command, name, words, status in RUNS]
-        sweeps += [(walk, [os.path.join(folder, name), bound], library, 0, says_nothing)
-                   for name, bound in WALKS]
+        sweeps += [(walk, [os.path.join(folder, name), mode], library, 0, says_nothing)
+                   for name, mode in WALKS]
         for arguments in sweeps:
             count, wrong = sweep(*arguments)
             refusals += count
