@@ -1,7 +1,7 @@
-pub mod Quick
 pub mod Reports
 pub mod Unbounded
 pub mod Promises
 pub mod Texts
 pub mod ErrorTexts
 pub mod ReportText
+pub mod inner

@@ -12,7 +12,7 @@ use Rattle.walk.specs.declared.mode.Mode.TheVariants.{Bounded, Reduced}
 use Rattle.walk.specs.Summaries.{SummaryView, end_kind}
 use Rattle.walk.specs.Items.{ItemView, root_of, whole}
 use Rattle.walk.specs.Walks.{IsSplit}
-use Rattle.runner.specs.Quick.{IsBoundedBy}
+use Rattle.book.specs.Quick.{IsBoundedBy}
 use Rattle.runner.specs.declared.report.Cause.{Cause}
 use Rattle.runner.specs.declared.report.Cause.TheVariants.{Limit, Stopped}
 

@@ -10,7 +10,7 @@ use Rattle.semantics.specs.Ends.{end_of}
 use Rattle.walk.specs.declared.mode.Mode.TheVariants.{Reduced}
 use Rattle.walk.specs.Summaries.{SummaryView, end_kind, sorted_views}
 use Rattle.walk.specs.Items.{whole}
-use Rattle.runner.specs.Quick.{IsBoundedBy}
+use Rattle.book.specs.Quick.{IsBoundedBy}
 use Rattle.runner.specs.Reports.{IsBadSchedule}
 
 -- the end views are those of all complete schedules; the summary is of what sleep sets leave

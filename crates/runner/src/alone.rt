@@ -1,23 +1,142 @@
 //! The search of one thread.
 
-ghost use Rattle.std.specs.Prelude.{◌≡◌, ◌≤◌, false, IfOk, IfErr};
+ghost use Rattle.std.specs.Prelude.{◌≡◌, ◌≤◌, ◌+◌, false, IfOk, IfErr, OnOk};
 ghost use Rattle.std.specs.Arc.{arc_value};
+ghost use Rattle.book.specs.Books.{opening};
 ghost use Rattle.runner.specs.declared.error.ExploreError.TheVariants.{OutOfMemory};
 ghost use Rattle.runner.specs.Promises.{IsSearch, IsReport};
+ghost use Rattle.runner.specs.inner.Judging.{IsFirstMode, IsStage, IsOf, ComesAfter};
+ghost use Rattle.runner.specs.inner.Shrinking.{Went, Goes};
 
 use crate::error::ExploreError;
-use crate::options::Options;
+use crate::judge::{Next, judge};
+use crate::options::{Options, Search};
 use crate::report::Report;
+use book::books::Book;
+use book::errors::{RaiseError, SettleError};
 use guest_code::program::Program;
 use std::alloc::Global;
 use std::sync::Arc;
+use walk::item::Item;
+use walk::mode::Mode;
+use walk::walker::Walker;
+
+// The mode that a search begins with.
+pub(crate) fn first_mode(search: Search) -> Mode
+    ensures { IsFirstMode search result }
+{
+    match search {
+        Search::UpTo(_) => Mode::Bounded(0),
+        Search::Unbounded => Mode::Reduced,
+    }
+}
+
+// The book of a program of which nothing is known, a quick one or not.
+pub(crate) fn open_book(
+    alloc: Global,
+    program: &Arc<Program>,
+    mode: Mode,
+    quick: bool,
+) -> Result<Book, ExploreError>
+    ensures book { IfOk result (λ b. b ≡ opening (arc_value program.now) mode quick) }
+    ensures error { IfErr result (λ e. e ≡ OutOfMemory) }
+{
+    let program = Arc::try_clone(program)?;
+    if quick {
+        Ok(Book::open_quick(alloc, program, mode)?)
+    } else {
+        Ok(Book::open(alloc, program, mode)?)
+    }
+}
+
+// Walks an item of a round and settles the walk; then the book drops what can't hold the first bad
+// schedule any more. An item that it drops is passed over, and one that isn't open is given up.
+fn walk_item(
+    alloc: Global,
+    book: &mut Book,
+    walker: &mut Walker,
+    item: &Item,
+    quota: u32,
+) -> Result<(), ExploreError>
+    requires quota { 1 ≤ quota }
+    requires item { item.now.program ≡ walker.old }
+    requires book { book.old.program ≡ walker.old }
+    ensures walker { walker.new ≡ walker.old }
+    ensures book { Went book.old item.now result book.new }
+    ensures error { IfErr result (λ e. e ≡ OutOfMemory) }
+{
+    if book.drops(item) {
+        let _number = book.drop_later();
+        return Ok(());
+    }
+    let walked = walker.walk(alloc, item, book.mode(), quota)?;
+    match book.settle_own(alloc, walked) {
+        Ok(()) => {
+            let _number = book.drop_later();
+            Ok(())
+        }
+        Err(SettleError::OutOfMemory) => Err(ExploreError::OutOfMemory),
+        Err(SettleError::NotOpen) => Ok(()),
+        Err(SettleError::Stranger) => unreachable!(),
+    }
+}
+
+// Walks the items of a round in their order.
+fn walk_round(
+    alloc: Global,
+    book: &mut Book,
+    walker: &mut Walker,
+    quota: u32,
+) -> Result<(), ExploreError>
+    requires quota { 1 ≤ quota }
+    requires book { book.old.program ≡ walker.old }
+    ensures walker { walker.new ≡ walker.old }
+    ensures book { OnOk result (Goes book.old book.new) }
+    ensures error { IfErr result (λ e. e ≡ OutOfMemory) }
+{
+    let _open = book.open_length();
+    let items = book.round(alloc)?;
+    for item in &items {
+        walk_item(alloc, book, walker, item, quota)?;
+    }
+    Ok(())
+}
+
+// The rounds of a search in one mode.
+fn search_mode(
+    alloc: Global,
+    program: &Program,
+    options: Options,
+    mode: Mode,
+    book: &mut Book,
+    walker: &mut Walker,
+) -> Result<Next, ExploreError>
+    requires quota { 1 ≤ options.quota }
+    requires stage { IsStage program.now options.search mode }
+    requires of { IsOf book.old program.now mode options.quick }
+    requires walker { walker.old ≡ program.now }
+    ensures walker { walker.new ≡ walker.old }
+    ensures next { IfOk result (ComesAfter program.now options mode book.new) }
+    ensures error { IfErr result (λ e. e ≡ OutOfMemory) }
+{
+    loop {
+        walk_round(alloc, book, walker, options.quota)?;
+        let _open = book.open_length();
+        match judge(alloc, program, options, mode, book, false)? {
+            Next::Again => {}
+            Next::Raise => return Ok(Next::Raise),
+            Next::Answer(report) => return Ok(Next::Answer(report)),
+        }
+    }
+}
 
 /// The report of a search of a program by one thread.
 ///
-/// A search up to a bound tries all complete schedules with no preemption, then those with at most
-/// one, and so on; it ends at the first bound that a bad schedule is within, at the least bound that
-/// no schedule exceeds, or at the bound that was asked for. An unbounded one tries those that sleep
-/// sets leave. A quick one leaves out what can't hold the first bad schedule any more.
+/// A search up to a bound tries all complete schedules with no preemption, then those with at
+/// most one, and so on; it ends at the first bound that a bad schedule is within, at the least
+/// bound that no schedule exceeds, or at the bound that was asked for. An unbounded one tries those
+/// that sleep sets leave. A quick one leaves out what can't hold the first bad schedule any more.
+/// It is cut short, unless it has its answer, after a round in which the limit was reached.
 ///
 /// # Errors
 ///
@@ -32,5 +151,19 @@ pub fn explore_alone(
     ensures report { IfOk result (IsReport false (arc_value program.now) options) }
     ensures error { IfErr result (λ e. e ≡ OutOfMemory) }
 {
-    Err(ExploreError::OutOfMemory)
+    let mut mode = first_mode(options.search);
+    let mut book = open_book(alloc, program, mode, options.quick)?;
+    let mut walker = Walker::new(alloc, Arc::try_clone(program)?)?;
+    loop {
+        match search_mode(alloc, program, options, mode, &mut book, &mut walker)? {
+            Next::Answer(report) => return Ok(report),
+            Next::Raise => match book.raise() {
+                Ok(()) => mode = book.mode(),
+                Err(RaiseError::StillOpen) => unreachable!(),
+                Err(RaiseError::Dropped) => unreachable!(),
+                Err(RaiseError::LastBound) => unreachable!(),
+            },
+            Next::Again => unreachable!(),
+        }
+    }
 }

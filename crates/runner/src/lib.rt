@@ -10,13 +10,13 @@
 
 mod alone;
 mod error;
-
+mod judge;
 pub mod limits;
 mod options;
 mod printing;
 mod report;
-
-
+#[cfg(test)]
+mod tests;
 mod text;
 
 pub use alone::explore_alone;

@@ -1,5 +1,8 @@
 //! What a search is asked for.
 
+ghost use Rattle.std.specs.Prelude.{◌≡◌, None, false};
+ghost use Rattle.runner.specs.declared.limits.TheConstants.{QUOTA};
+
 use crate::limits::QUOTA;
 
 /// How far a search goes.
@@ -36,7 +39,10 @@ pub struct Options {
 
 impl Options {
     /// A search as far as this, with the usual quota, without a limit, and not a quick one.
-    pub fn new(search: Search) -> Options {
+    pub fn new(search: Search) -> Options
+        ensures { result ≡
+            record { search = search; limit = None; quota = QUOTA; quick = false } }
+    {
         Options {
             search,
             limit: None,

@@ -5,5 +5,17 @@ pub mod SortedViews
 pub mod SumsJoin
 pub mod ListParts
 pub mod WalkedItems
+pub mod WayBytes
+pub mod PackedPrefixes
+pub mod TrailSteps
 pub mod Splits
+pub mod Reduced
+pub mod Children
+pub mod ItemsWalked
+pub mod Turns
+pub mod PartsJoin
 pub mod WalkedFurther
+pub mod WalkTurns
+pub mod WalkSteps
+pub mod Arrivals
+pub mod Walks

@@ -292,3 +292,10 @@ sorted_views-more first second i v h =
     ∙ ap sorted_views
     (append_assoc first (take i second) (get_or second i v ∷ [])
     ∙ ap (λ vs. first ++ vs) (sym (take_more second i v h)))
+
+-- lists of which the same tests hold are sorted as one
+pub sorted_views-alike : (xs ys : List View)
+    → ((test : View → Bool) → list_any test xs ≡ list_any test ys)
+    → sorted_views xs ≡ sorted_views ys
+unfolding is_member
+sorted_views-alike xs ys h = same_members xs ys (λ q. h (eq_by_cmp view_cmp q))

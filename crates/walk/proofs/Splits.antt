@@ -74,7 +74,6 @@ split_opening (Bounded bound) p = record {
     all = λ le v c k. refl;
   };
 }
-
 split_opening Reduced p = record {
   sum = (λ i. with_beyond (sym (sum_of_none p) i) false) ∙ ap (λ L. with_beyond (sum_of p L) false) (sym (filter_none (schedules_of Reduced (root_of p))));
   beyond = refl;
@@ -256,8 +255,8 @@ settled_cut (Bounded bound) item i a b deferred rest more here below_ old walk =
   all = λ le v c k. under-append v ((a ++ b) ++ rest) (deferred ++ more)
       ∙ ((λ j. (under-append v (a ++ b) rest ∙ ap (λ x. x || is_under rest v) (under-append v a b)) j || under-append v deferred more j)
       ∙ go (is_under a v) (begins_with i.prefix v) (is_under b v) (is_under deferred v) (is_under rest v) (is_under more v)
-        (sym (under-append v (a ++ i ∷ b) deferred ∙ ap (λ x. x || is_under deferred v) (under-append v a (i ∷ b))) ∙ old.all le v c k)
-        (λ e. sym (under-append v rest more) ∙ walk.all (All-head (IsIn bound) i b (all_right (IsIn bound) a (i ∷ b) old.within)) v (inside v c e) (subst (λ z. bound < preemptions z v) (sym here.program) k)));
+      (sym (under-append v (a ++ i ∷ b) deferred ∙ ap (λ x. x || is_under deferred v) (under-append v a (i ∷ b))) ∙ old.all le v c k)
+      (λ e. sym (under-append v rest more) ∙ walk.all (All-head (IsIn bound) i b (all_right (IsIn bound) a (i ∷ b) old.within)) v (inside v c e) (subst (λ z. bound < preemptions z v) (sym here.program) k)));
 }
   where
     inside : (v : List ℕ) → Contains (schedules_under item.program item.prefix) v → begins_with i.prefix v ≡ true → Contains (schedules_under i.program i.prefix) v
@@ -273,7 +272,6 @@ settled_cut (Bounded bound) item i a b deferred rest more here below_ old walk =
     go false false false true true m h k = refl
     go false false false true false m h k = refl
     go false false false false r m h k = cc
-
 settled_cut Reduced item i a b deferred rest more here below_ old walk = record {
   none = (λ k. old.none k ++ walk.none k);
   schedules = All-append (HasItsOf Reduced item) (a ++ b) rest (All-append (HasItsOf Reduced item) a b (all_left (HasItsOf Reduced item) a (i ∷ b) old.schedules) (All-tail (HasItsOf Reduced item) i b (all_right (HasItsOf Reduced item) a (i ∷ b) old.schedules)))

@@ -3,26 +3,21 @@ use Rattle.std.proofs.Common.{◌≡◌, ℕ, ◌+◌, ◌≤◌, Bool, true, fa
 use Rattle.std.specs.List.{filter, flat_map, list_any, All, Contains}
 use Rattle.std.proofs.lemmas.Bool.{or_right}
 use Rattle.std.proofs.lemmas.List.{append-nil}
-use Rattle.std.proofs.lemmas.List.Elements.{All-nil, All-cons, All-append, All-head, All-tail, filter-append}
+use Rattle.std.proofs.lemmas.List.Elements.{All-append, All-head, All-tail, filter-append}
 use Rattle.std.proofs.lemmas.List.Folds.{list_any-append}
 use Rattle.std.proofs.Math.Bool.{or-false}
-use Rattle.semantics.specs.Machine.{start}
-use Rattle.semantics.specs.Mask.{has}
-use Rattle.semantics.specs.Schedules.{state_after, begins_with, one_if, preemptions, schedules_under, schedules_within}
-use Rattle.semantics.specs.Sleep.{reduced_schedules}
+use Rattle.semantics.specs.Schedules.{begins_with, one_if, preemptions}
 use Rattle.semantics.specs.Waiters.{In}
-use Rattle.semantics.proofs.ListMembers.{in_contains, from_filter, from_map}
-use Rattle.semantics.proofs.SchedulesUnderPrefix.{begins_itself, begins_longer, in_under, in_within}
+use Rattle.semantics.proofs.ListMembers.{from_filter}
 use Rattle.walk.specs.declared.mode.Mode.{Mode}
 use Rattle.walk.specs.declared.mode.Mode.TheVariants.{Bounded, Reduced}
-use Rattle.walk.specs.Summaries.{SummaryView, nothing, sum_of, join, with_beyond}
-use Rattle.walk.specs.Items.{ItemView, IsItem, schedules_of, goes_beyond, covers, is_under}
-use Rattle.walk.specs.Walks.{WalkView, IsWalked, IsBelow, IsDeferred, IsCut, IsSplit, clear_of}
+use Rattle.walk.specs.Summaries.{SummaryView, sum_of, join, with_beyond}
+use Rattle.walk.specs.Items.{ItemView, schedules_of, goes_beyond, covers, is_under}
+use Rattle.walk.specs.Walks.{WalkView, IsWalked, IsBelow, IsCut, IsSplit, clear_of}
 use Rattle.walk.proofs.Covers.{covers-append, under-append, under_counts, at_most_one}
 use Rattle.walk.proofs.Filters.{filter_same, filter_all, filter_none}
 use Rattle.walk.proofs.ListParts.{all_left, all_right}
 use Rattle.walk.proofs.Splits.{split_further}
-use Rattle.walk.proofs.SumsJoin.{sum_of_none}
 use Rattle.walk.proofs.WalkedItems.{HasItsOf, rest_has}
 
 or_swap : (a b : Bool) → (a || b) ≡ (b || a)
@@ -198,17 +193,17 @@ module _ (mode : Mode) (item c : ItemView) (a b : SummaryView) (rest deferred r 
       ap (filter clear) old.schedules
       ∙ (filter-append clear (clear_of (c ∷ rest) all) (its ++ left)
       ∙ (λ i. tried_before i ++ (filter-append clear its left
-        ∙ ((λ j. tried_now j ++ none_left rest (All-tail (HasItsOf mode item) c rest have) under_left j)
-        ∙ append-nil (clear_of r its))) i))
+      ∙ ((λ j. tried_now j ++ none_left rest (All-tail (HasItsOf mode item) c rest have) under_left j)
+      ∙ append-nil (clear_of r its))) i))
 
   in_order : all ≡ clear_of (r ++ rest) all ++ flat_map (schedules_of mode) (r ++ rest)
   in_order =
       old.schedules
       ∙ (ap (λ l. clear_of (c ∷ rest) all ++ l)
-        (ap (λ l. l ++ left) walk.schedules
-        ∙ append_assoc (clear_of r its) (flat_map (schedules_of mode) r) left)
+      (ap (λ l. l ++ left) walk.schedules
+      ∙ append_assoc (clear_of r its) (flat_map (schedules_of mode) r) left)
       ∙ (sym (append_assoc (clear_of (c ∷ rest) all) (clear_of r its)
-        (flat_map (schedules_of mode) r ++ left))
+      (flat_map (schedules_of mode) r ++ left))
       ∙ (λ i. sym tried_both i ++ sym (flat_map-both (schedules_of mode) r rest) i)))
 
 -- where the first of the rest of a walk is walked, what that left comes in its place
@@ -227,64 +222,4 @@ walked_further mode item c a b rest deferred r e old walk = record {
   split = split_swap mode item (join a b) rest r (deferred ++ e)
       (split_further mode item c a b [] rest deferred r e old.split walk.split);
   schedules = in_order mode item c a b rest deferred r e old walk;
-}
-
--- before a walk begins its item is all of the rest
-
-abbrev pub Fits : Mode → ItemView → Type 0
-Fits (Bounded bound) i = preemptions i.program i.prefix ≤ bound
-Fits Reduced i = Unit {0}
-
-begin_so : (mode : Mode) (i : ItemView) (v : List ℕ) → In (schedules_of mode i) v →
-    begins_with i.prefix v ≡ true
-begin_so (Bounded bound) i v m =
-    let member = (in_within i.program i.prefix bound v).1
-    (in_contains (schedules_within i.program i.prefix bound) v m) in
-    ((in_under i.program i.prefix v).1 member.0).1
-begin_so Reduced i v m =
-    let from = from_map (λ w. i.prefix ++ w)
-    (reduced_schedules i.program (state_after i.program (start i.program) i.prefix) (has i.mask))
-    v m in
-    subst (λ w. begins_with i.prefix w ≡ true) from.2 (begins_longer i.prefix from.0)
-
-all_begin : (mode : Mode) (i : ItemView) →
-    schedules_of mode i ≡ filter (begins_with i.prefix) (schedules_of mode i)
-all_begin mode i =
-    sym (filter_same (begins_with i.prefix) (λ v. true) (schedules_of mode i) (begin_so mode i)
-    ∙ filter_all (schedules_of mode i))
-
-opening_cut : (mode : Mode) (i : ItemView) → Fits mode i → IsCut mode i (i ∷ []) []
-opening_cut (Bounded bound) i fits = record {
-  within = All-cons (λ (r : ItemView). preemptions r.program r.prefix ≤ bound) i [] fits
-      (All-nil (λ (r : ItemView). preemptions r.program r.prefix ≤ bound));
-  past = All-nil (IsDeferred bound);
-  all = λ le v c k. ap (λ b. b || false) ((in_under i.program i.prefix v).1 c).1;
-}
-opening_cut Reduced i fits = record {
-  none = refl;
-  schedules = All-cons (HasItsOf Reduced i) i [] (all_begin Reduced i) (All-nil (HasItsOf Reduced i));
-}
-
-none_clear : (mode : Mode) (i : ItemView) → clear_of (i ∷ []) (schedules_of mode i) ≡ []
-none_clear mode i =
-    filter_same (λ v. not (is_under (i ∷ []) v)) (λ v. false) (schedules_of mode i)
-    (λ v m. ap (λ b. not (b || false)) (begin_so mode i v m))
-    ∙ filter_none (schedules_of mode i)
-
-pub walked_opening : (mode : Mode) (i : ItemView) → IsItem i → Fits mode i →
-    IsWalked (record { mode = mode; item = i; part = nothing; rest = i ∷ []; deferred = [] })
-walked_opening mode i runs fits = record {
-  split = record {
-    sum = (λ k. with_beyond (sym (sum_of_none i.program) k) false)
-        ∙ ap (λ L. with_beyond (sum_of i.program L) false) (sym (none_clear mode i));
-    beyond = sym (or-false (goes_beyond mode i));
-    below = All-cons (IsBelow i) i []
-        (record { program = refl; item = runs; prefix = begins_itself i.prefix })
-        (All-nil (IsBelow i));
-    apart = λ v. omega arith;
-    cut = opening_cut mode i fits;
-  };
-  schedules =
-      sym (append-nil (schedules_of mode i))
-      ∙ ap (λ L. L ++ (schedules_of mode i ++ [])) (sym (none_clear mode i));
 }

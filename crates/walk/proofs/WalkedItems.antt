@@ -9,10 +9,15 @@ use Rattle.std.proofs.lemmas.List.Folds.{list_any_none}
 use Rattle.std.proofs.lemmas.List.Kept.{AllPairs-filter}
 use Rattle.guest_code.specs.Program.{Program}
 use Rattle.semantics.specs.Machine.{Snapshot, start}
-use Rattle.semantics.specs.Mask.{has}
+use Rattle.semantics.specs.Mask.{has, no_threads}
 use Rattle.semantics.specs.Schedules.{state_after, begins_with, one_if, preemptions, complete_schedules, schedules_under, schedules_within, exceeds_bound}
 use Rattle.semantics.specs.Order.{precedes}
-use Rattle.semantics.specs.Sleep.{reduced_schedules, is_kept}
+use Rattle.semantics.specs.Sleep.{reduced_schedules, is_kept, none_asleep}
+use Rattle.semantics.specs.Waiters.{In}
+use Rattle.semantics.proofs.KeptSchedules.{reduced_members, kept_complete}
+use Rattle.semantics.proofs.Masks.{empty_has}
+use Rattle.semantics.proofs.ListMembers.{in_contains, contains_in, from_map}
+use Rattle.semantics.proofs.StatedLaws.{complete}
 use Rattle.semantics.specs.Rising.{IsRising}
 use Rattle.semantics.proofs.CompleteSchedulesRise.{all_rise}
 use Rattle.semantics.proofs.SchedulesUnderPrefix.{schedules_within-longer, in_under, in_within, beyond_is}
@@ -20,7 +25,7 @@ use Rattle.semantics.proofs.UnfoldingUnderPrefix.{schedules_within-past, exceeds
 use Rattle.walk.specs.declared.mode.Mode.{Mode}
 use Rattle.walk.specs.declared.mode.Mode.TheVariants.{Bounded, Reduced}
 use Rattle.walk.specs.Summaries.{SummaryView, cut, greatest_count, nothing, sum_of, join, with_beyond}
-use Rattle.walk.specs.Items.{ItemView, IsItem, IsScheduleOf, schedules_of, goes_beyond, item_sum, item_sums, schedule_count, covers, is_under}
+use Rattle.walk.specs.Items.{ItemView, IsItem, IsScheduleOf, state_of, root_of, schedules_of, goes_beyond, item_sum, item_sums, schedule_count, covers, is_under}
 use Rattle.walk.specs.Walks.{WalkView, IsWalked, IsBelow, IsCut, tried_by}
 use Rattle.walk.proofs.Covers.{at_most_one}
 use Rattle.walk.proofs.Filters.{filter_all}
@@ -44,6 +49,16 @@ root_beyond p bound =
     ap (list_any (λ w. nat_lt bound (preemptions p w)))
     (filter_all (complete_schedules p (start p)))
 
+pub root_pruned : (p : Program) →
+    schedules_of Reduced (root_of p) ≡ reduced_schedules p (start p) none_asleep
+root_pruned p =
+    itself (reduced_schedules p (start p) (has no_threads))
+    ∙ (λ i. reduced_schedules p (start p) (λ t. empty_has t i))
+  where
+    itself : (L : List (List ℕ)) → map (λ w. w) L ≡ L
+    itself [] = refl
+    itself (w ∷ L) = ap (λ K. w ∷ K) (itself L)
+
 -- each item's schedules
 
 pub item_members : (i : ItemView) (bound : ℕ) (w : List ℕ) →
@@ -53,6 +68,39 @@ item_members i bound w =
     let under = in_under i.program i.prefix w in
     let within = in_within i.program i.prefix bound w in
     (λ c. let r = within.1 c in (under.1 r.0, r.1), λ h. within.0 (under.0 h.0, h.1))
+
+in_map : (f : List ℕ → List ℕ) (L : List (List ℕ)) (v : List ℕ) → In L v → In (map f L) (f v)
+in_map f [] v h = absurd h
+in_map f (w ∷ L) v (inl e) = inl (ap f e)
+in_map f (w ∷ L) v (inr h) = inr (in_map f L v h)
+
+pub item_kept : (i : ItemView) (w : List ℕ) →
+    Contains (schedules_of Reduced i) w ↔
+    ((v : List ℕ) × (w ≡ i.prefix ++ v) × (is_kept i.program (state_of i) (has i.mask) v ≡ true))
+item_kept i w = (there, back)
+  where
+    left : List (List ℕ)
+    left = reduced_schedules i.program (state_of i) (has i.mask)
+
+    there : Contains (schedules_of Reduced i) w →
+        (v : List ℕ) × (w ≡ i.prefix ++ v) × (is_kept i.program (state_of i) (has i.mask) v ≡ true)
+    there c =
+        let from = from_map (λ v. i.prefix ++ v) left w (contains_in (schedules_of Reduced i) w c) in (
+          from.0,
+          sym from.2,
+          ((reduced_members i.program (state_of i) (has i.mask) from.0).0
+              (in_contains left from.0 from.1)).1,
+        )
+
+    back : (v : List ℕ) × (w ≡ i.prefix ++ v) × (is_kept i.program (state_of i) (has i.mask) v ≡ true) →
+        Contains (schedules_of Reduced i) w
+    back h =
+        let whole = kept_complete i.program (state_of i) (has i.mask) h.0 h.2 in
+        let member = (reduced_members i.program (state_of i) (has i.mask) h.0).1
+        ((complete i.program (state_of i) h.0).0 whole, h.2) in
+        in_contains (schedules_of Reduced i) w
+        (subst (In (schedules_of Reduced i)) (sym h.1)
+        (in_map (λ v. i.prefix ++ v) left h.0 (contains_in left h.0 member)))
 
 pub item_beyond : (i : ItemView) (bound : ℕ) →
     (goes_beyond (Bounded bound) i ≡ true) ↔

@@ -1,6 +1,6 @@
 //! Summaries of schedules: how many were tried, how they ended, and the first bad one.
 
-ghost use Rattle.std.specs.Prelude.{◌≡◌, OnOk, IfOk, MatchOption, Some, None, true, ◌++◌, ◌≤◌, length, insert};
+ghost use Rattle.std.specs.Prelude.{◌≡◌, OnOk, IfOk, MatchOption, Some, None, true, false, ◌++◌, ◌≤◌, length, insert};
 ghost use Rattle.std.specs.List.Sorted.{IsStrictlySortedBy};
 ghost use Rattle.semantics.specs.Order.{precedes, lesser, is_bad};
 ghost use Rattle.semantics.specs.View.{view_cmp};
@@ -11,6 +11,7 @@ use semantics::view::{EndView, Kind};
 use std::alloc::{AllocError, Global};
 use std::cmp::Ordering;
 use std::marker::Model;
+use std::mem;
 
 /// What is known of a list of complete schedules. Counts stop at the greatest `u64`.
 #[derive(Drop)]
@@ -163,6 +164,30 @@ impl Summary {
         })
     }
 
+    // Adds one more complete schedule, which ends so.
+    pub(crate) fn add(
+        &mut self,
+        alloc: Global,
+        schedule: &[u8],
+        kind: Kind,
+        values: &[i64],
+    ) -> Result<(), AllocError>
+        ensures { OnOk result (self.new ≡ added self.old schedule.now
+            (record { kind = kind; vars = values.now })) }
+    {
+        let values = values.to_vec(alloc)?;
+        let old = mem::replace(self, Summary::empty(alloc));
+        *self = old.with_schedule(alloc, schedule, EndView::new(kind, values))?;
+        Ok(())
+    }
+
+    // Some schedule is beyond the bound.
+    pub(crate) fn set_beyond(&mut self)
+        ensures { self.new ≡ with_beyond self.old true }
+    {
+        self.beyond = true;
+    }
+
     // The summary where some schedule is beyond the bound.
     pub(crate) fn with_beyond(self) -> Summary
         ensures { result ≡ with_beyond self true }
@@ -171,6 +196,14 @@ impl Summary {
             beyond: true,
             ..self
         }
+    }
+
+    /// Forgets whether some schedule is beyond the bound, where the bound is raised. It takes no memory.
+    pub fn forget_beyond(&mut self)
+        ensures { self.new ≡ with_beyond self.old false }
+    {
+        let Summary { beyond, .. } = self;
+        *beyond = false;
     }
 }
 

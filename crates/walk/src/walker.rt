@@ -6,6 +6,7 @@ ghost use Rattle.walk.specs.Walks.{IsWalked, IsPastBound, walk_past_bound};
 
 use crate::item::Item;
 use crate::mode::Mode;
+use crate::trail::Trail;
 use crate::walked::Walked;
 use guest_code::program::Program;
 use std::alloc::{AllocError, Global};
@@ -17,15 +18,20 @@ use std::sync::Arc;
 #[derive(Drop)]
 pub struct Walker {
     program: Arc<Program>,
+    trail: Trail,
 }
 
 impl Model for Walker {
     ghost use Rattle.guest_code.specs.Program.{Program};
     ghost use Rattle.std.specs.Arc.{arc_value};
 
+    ghost use Rattle.walk.specs.inner.Paths.{IsTrail};
+
     ghost Value = { Program };
 
     ghost view = { λ w. arc_value w.program };
+
+    ghost invariant = { λ w. IsTrail (arc_value w.program) w.trail };
 }
 
 impl Walker {
@@ -34,10 +40,11 @@ impl Walker {
     /// # Errors
     ///
     /// `AllocError` where memory runs out.
-    pub fn new(_alloc: Global, program: Arc<Program>) -> Result<Walker, AllocError>
+    pub fn new(alloc: Global, program: Arc<Program>) -> Result<Walker, AllocError>
         ensures { IfOk result (λ w. w ≡ arc_value program) }
     {
-        Ok(Walker { program })
+        let trail = Trail::start(alloc, &program)?;
+        Ok(Walker { program, trail })
     }
 
     /// Tries the first `quota` schedules of an item of the walker's program in a mode, or all where
@@ -64,7 +71,7 @@ impl Walker {
             IsPastBound mode item.now → w ≡ walk_past_bound mode item.now) }
         ensures walked { IfOk result IsWalked }
     {
-        Err(AllocError)
+        self.trail.walk(alloc, item, mode, quota)
     }
 }
 
@@ -79,7 +86,7 @@ impl Walker {
 /// # Errors
 ///
 /// `AllocError` where memory runs out.
-pub fn walk(_alloc: Global, item: &Item, mode: Mode, quota: u32) -> Result<Walked, AllocError>
+pub fn walk(alloc: Global, item: &Item, mode: Mode, quota: u32) -> Result<Walked, AllocError>
     requires { 1 ≤ quota }
     ensures item { IfOk result (λ w. w.item ≡ item.now) }
     ensures mode { IfOk result (λ w. w.mode ≡ mode) }
@@ -89,5 +96,6 @@ pub fn walk(_alloc: Global, item: &Item, mode: Mode, quota: u32) -> Result<Walke
         IsPastBound mode item.now → w ≡ walk_past_bound mode item.now) }
     ensures walked { IfOk result IsWalked }
 {
-    Err(AllocError)
+    let mut trail = Trail::start(alloc, item.program())?;
+    trail.walk(alloc, item, mode, quota)
 }

@@ -1,4 +1,4 @@
-use Rattle.walk.proofs.WalkedItems.{item_members, item_rises, item_beyond}
+use Rattle.walk.proofs.WalkedItems.{item_members, item_rises, item_beyond, item_kept}
 use Rattle.walk.proofs.laws.items_have_their_schedules.Goals as goal
 
 pub returns-clause-members : goal.returns-clause-members
@@ -9,3 +9,6 @@ returns-clause-order c = item_rises
 
 pub returns-clause-beyond : goal.returns-clause-beyond
 returns-clause-beyond c = item_beyond
+
+pub returns-clause-pruned : goal.returns-clause-pruned
+returns-clause-pruned c = item_kept

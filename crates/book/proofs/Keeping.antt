@@ -1,0 +1,44 @@
+-- What the calls of a book keep where no item was dropped.
+use Rattle.std.proofs.Common.{◌≡◌, ℕ, ◌+◌, ◌<◌, ◌≤◌, Bool, false, List, [], take, drop, suc, sym, ◌∙◌, subst, arith}
+use Rattle.guest_code.specs.Program.{Program}
+use Rattle.semantics.specs.Schedules.{preemptions}
+use Rattle.walk.specs.declared.mode.Mode.{Mode}
+use Rattle.walk.specs.declared.mode.Mode.TheVariants.{Bounded, Reduced}
+use Rattle.walk.specs.declared.limits.TheConstants.{BOUND}
+use Rattle.walk.specs.Summaries.{SummaryView, with_beyond}
+use Rattle.walk.specs.Items.{ItemView, root_of, whole}
+use Rattle.walk.specs.Walks.{WalkView, IsWalked, IsSplit}
+use Rattle.walk.proofs.Splits.{split_opening, split_further, split_next, split_closed}
+use Rattle.book.specs.Books.{BookView, IsBook, IsWalkOf, IsOpenAt, opening, settled, raised, bound_of}
+use Rattle.book.proofs.Lists.{parted}
+
+pub opens : (p : Program) (mode : Mode) (quick : Bool) → IsBook (opening p mode quick)
+opens p mode quick = split_opening mode p
+
+pub settles : (b : BookView) (w : WalkView) (place : ℕ) → IsBook b → IsWalked w → IsWalkOf b w →
+    IsOpenAt b w.item place → IsBook (settled b w place)
+settles b w place book walk of at =
+    split_further b.mode (root_of b.program) w.item b.finished w.part
+    (take place b.open_items) (drop (suc place) b.open_items) b.deferred w.rest w.deferred
+    (subst (λ (is : List ItemView). IsSplit b.mode (root_of b.program) b.finished is b.deferred)
+    (parted b.open_items place w.item at.0 at.1) book)
+    (subst (λ (m : Mode). IsSplit m w.item w.part w.rest w.deferred) (sym of.0) walk.split)
+
+pub raises : (b : BookView) → IsBook b → b.open_items ≡ [] → bound_of b.mode < BOUND →
+    IsBook (raised b)
+raises b book none low = go b.mode b.program b.finished b.open_items b.deferred book none low
+  where
+    go : (mode : Mode) (p : Program) (f : SummaryView) (open_items deferred : List ItemView) →
+        IsSplit mode (root_of p) f open_items deferred → open_items ≡ [] →
+        bound_of mode < BOUND →
+        IsSplit (Bounded (bound_of mode + 1)) (root_of p) (with_beyond f false) deferred []
+    go (Bounded bound) p f open_items deferred h e l =
+        split_next bound (root_of p) f open_items deferred
+        (let z : preemptions p [] ≤ bound = omega arith in z) e h
+    go Reduced p f open_items deferred h e l = absurd (omega arith)
+
+pub closes : (b : BookView) → IsBook b → (p : Program) (mode : Mode) → b.program ≡ p →
+    b.mode ≡ mode → b.open_items ≡ [] → b.finished ≡ whole p mode
+closes b book p mode e g none =
+    split_closed b.mode (root_of b.program) b.finished b.open_items b.deferred book none
+    ∙ (λ i. whole (e i) (g i))

@@ -1,0 +1,145 @@
+-- What comes after a schedule.
+use Rattle.std.proofs.Common.{◌≡◌, ℕ, zero, suc, ◌+◌, ◌<◌, ◌≤◌, Bool, true, false, cond, ◌&&◌, ◌||◌, nat_eq, nat_lt, List, [], ◌∷◌, length, drop, get_or, Option, Some, None, refl, ap, ◌∙◌, sym, subst, arith, inl, inr, ◌⊎◌}
+use Rattle.std.proofs.lemmas.Bool.Decides.{nat_tests}
+use Rattle.semantics.specs.Schedules.{begins_with}
+use Rattle.semantics.specs.Order.{precedes, lesser}
+use Rattle.semantics.proofs.LeastSchedule.{before_later, never_before_itself}
+use Rattle.book.specs.Quick.{is_later}
+
+pub later_precedes : (w p : List ℕ) → is_later w p ≡ true → precedes w p ≡ true
+later_precedes [] p h = cc
+later_precedes (u ∷ w) [] h = cc
+later_precedes (u ∷ w) (t ∷ p) h =
+    go (nat_lt u t) (nat_eq u t) h (λ k. later_precedes w p k)
+  where
+    go : (a b : Bool) → (a || (b && is_later w p)) ≡ true →
+        (is_later w p ≡ true → precedes w p ≡ true) → (a || (b && precedes w p)) ≡ true
+    go true b h f = refl
+    go false true h f = f h
+    go false false h f = h
+
+-- what begins with a prefix after the schedule is after it
+pub begins_later : (w p v : List ℕ) → precedes w p ≡ true → begins_with p v ≡ true →
+    precedes w v ≡ true
+begins_later w [] v h k = (let e : false ≡ true = h in cc)
+begins_later [] (t ∷ p) [] h k = cc
+begins_later [] (t ∷ p) (u ∷ v) h k = refl
+begins_later (a ∷ w) (t ∷ p) [] h k = cc
+begins_later (a ∷ w) (t ∷ p) (u ∷ v) h k = go (nat_eq t u) refl k h (λ x y. begins_later w p v x y)
+  where
+    same : (t u : ℕ) → nat_eq t u ≡ true → t ≡ u
+    same t u e = grind (arith, nat_tests, e)
+
+    then : (x y : Bool) → (x || (y && precedes w p)) ≡ true → begins_with p v ≡ true →
+        (precedes w p ≡ true → begins_with p v ≡ true → precedes w v ≡ true) →
+        (x || (y && precedes w v)) ≡ true
+    then true y h k f = refl
+    then false true h k f = f h k
+    then false false h k f = h
+
+    go : (b : Bool) → nat_eq t u ≡ b → (b && begins_with p v) ≡ true →
+        precedes (a ∷ w) (t ∷ p) ≡ true →
+        (precedes w p ≡ true → begins_with p v ≡ true → precedes w v ≡ true) →
+        precedes (a ∷ w) (u ∷ v) ≡ true
+    go true e k h f = subst (λ (z : ℕ). precedes (a ∷ w) (z ∷ v) ≡ true) (same t u e)
+        (then (nat_lt a t) (nat_eq a t) h k f)
+    go false e k h f = (let c : false ≡ true = k in cc)
+
+-- it is after the schedule, where it is there
+abbrev pub IsAfter : List ℕ → Option (List ℕ) → Type 0
+IsAfter w None = Unit {0}
+IsAfter w (Some v) = precedes w v ≡ true
+
+pub lesser_first : (w : List ℕ) (o : Option (List ℕ)) → IsAfter w o → lesser (Some w) o ≡ Some w
+lesser_first w None h = refl
+lesser_first w (Some v) h = go (precedes v w) refl
+  where
+    go : (b : Bool) → precedes v w ≡ b → cond b (Some v) (Some w) ≡ Some w
+    go true e = absurd (
+        let a : precedes w w ≡ true = before_later w v w h e in
+        let n : precedes w w ≡ false = never_before_itself w in
+        let c : true ≡ false = sym a ∙ n in
+        cc)
+    go false e = refl
+
+pub lesser_after : (w : List ℕ) (a b : Option (List ℕ)) → IsAfter w a → IsAfter w b →
+    IsAfter w (lesser a b)
+lesser_after w None b h k = k
+lesser_after w (Some u) None h k = h
+lesser_after w (Some u) (Some v) h k =
+    elim (precedes v u) as (λ c. IsAfter w (cond c (Some v) (Some u))) [ true ↦ k | false ↦ h ]
+
+-- the lesser of a schedule and another: what is after the one is after it
+pub lesser_some : (w : List ℕ) (o : Option (List ℕ)) →
+    (v : List ℕ) × (lesser (Some w) o ≡ Some v) ×
+    ((p : List ℕ) → precedes w p ≡ true → precedes v p ≡ true)
+lesser_some w None = (w, refl, λ p h. h)
+lesser_some w (Some u) = go (precedes u w) refl
+  where
+    go : (b : Bool) → precedes u w ≡ b →
+        (v : List ℕ) × (cond b (Some u) (Some w) ≡ Some v) ×
+        ((p : List ℕ) → precedes w p ≡ true → precedes v p ≡ true)
+    go true e = (u, refl, λ p h. before_later u w p e h)
+    go false e = (w, refl, λ p h. h)
+
+pub after_more : (w v : List ℕ) (o : Option (List ℕ)) →
+    ((p : List ℕ) → precedes w p ≡ true → precedes v p ≡ true) → IsAfter w o → IsAfter v o
+after_more w v None f h = h
+after_more w v (Some u) f h = f u h
+
+-- place by place
+
+later_at : (w p : List ℕ) (k : ℕ) (a b : ℕ) → k < length w → k < length p →
+    is_later (drop k w) (drop k p) ≡
+    (nat_lt (get_or w k a) (get_or p k b)
+    || (nat_eq (get_or w k a) (get_or p k b) && is_later (drop (suc k) w) (drop (suc k) p)))
+later_at [] p k a b h l = absurd (omega arith)
+later_at (u ∷ w) [] k a b h l = absurd (omega arith)
+later_at (u ∷ w) (t ∷ p) zero a b h l = refl
+later_at (u ∷ w) (t ∷ p) (suc k) a b h l = later_at w p k a b (omega arith) (omega arith)
+
+pub later_past : (w p : List ℕ) (k : ℕ) → (length w ≤ k) ⊎ (length p ≤ k) →
+    is_later (drop k w) (drop k p) ≡ false
+later_past [] p zero h = refl
+later_past [] p (suc k) h = refl
+later_past (u ∷ w) [] zero h = refl
+later_past (u ∷ w) [] (suc k) h = none (drop k w)
+  where
+    none : (w : List ℕ) → is_later w [] ≡ false
+    none [] = refl
+    none (u ∷ w) = refl
+later_past (u ∷ w) (t ∷ p) zero (inl h) = absurd (omega (arith, h))
+later_past (u ∷ w) (t ∷ p) zero (inr h) = absurd (omega (arith, h))
+later_past (u ∷ w) (t ∷ p) (suc k) (inl h) = later_past w p k (inl (omega (arith, h)))
+later_past (u ∷ w) (t ∷ p) (suc k) (inr h) = later_past w p k (inr (omega (arith, h)))
+
+-- where the schedule and the prefix are alike at a place, the next place decides
+pub later_next : (w p : List ℕ) (k : ℕ) (a b : ℕ) → k < length w → k < length p →
+    get_or w k a ≡ get_or p k b →
+    is_later (drop k w) (drop k p) ≡ is_later (drop (k + 1) w) (drop (k + 1) p)
+later_next w p k a b h l e =
+    let n : suc k ≡ k + 1 = omega arith in
+    later_at w p k a b h l
+    ∙ (alike (get_or w k a) (get_or p k b) e (is_later (drop (suc k) w) (drop (suc k) p))
+    ∙ ap (λ j. is_later (drop j w) (drop j p)) n)
+  where
+    alike : (x y : ℕ) → x ≡ y → (c : Bool) → (nat_lt x y || (nat_eq x y && c)) ≡ c
+    alike x y e c =
+        let m : nat_lt x y ≡ false = grind (arith, nat_tests, e) in
+        let n : nat_eq x y ≡ true = grind (arith, nat_tests, e) in
+        (λ j. m j || (n j && c))
+
+-- where they differ, the place decides
+pub later_here : (w p : List ℕ) (k : ℕ) (a b : ℕ) → k < length w → k < length p →
+    (get_or w k a ≡ get_or p k b → ⊥) →
+    is_later (drop k w) (drop k p) ≡ nat_lt (get_or w k a) (get_or p k b)
+later_here w p k a b h l d =
+    later_at w p k a b h l
+    ∙ differ (get_or w k a) (get_or p k b) d (is_later (drop (suc k) w) (drop (suc k) p))
+  where
+    differ : (x y : ℕ) → (x ≡ y → ⊥) → (c : Bool) → (nat_lt x y || (nat_eq x y && c)) ≡ nat_lt x y
+    differ x y d c = go (nat_lt x y) (let n : nat_eq x y ≡ false = grind (arith, nat_tests, d) in n)
+      where
+        go : (m : Bool) → nat_eq x y ≡ false → (m || (nat_eq x y && c)) ≡ m
+        go true n = refl
+        go false n = λ j. n j && c

@@ -1,0 +1,11 @@
+use Rattle.std.proofs.Common.{[], arith}
+use Rattle.semantics.specs.Schedules.{begins_with}
+use Rattle.walk.proofs.Covers.{at_most_one}
+use Rattle.walk.proofs.WalkedItems.{one_place}
+use Rattle.book.specs.Books.{items_left}
+use Rattle.book.proofs.laws.none_is_under_two.Goals as goal
+
+pub returns : goal.returns
+returns c = λ b v i j d h l k e.
+    one_place (items_left b) v i j d
+    (let a = h.apart v in let c = at_most_one (begins_with [] v) in omega (arith, a, c)) l k e

@@ -1,0 +1,28 @@
+use Rattle.std.proofs.Common.{subst, ◌≤◌, arith, [], refl}
+use Rattle.semantics.specs.Machine.{start}
+use Rattle.semantics.specs.Schedules.{preemptions}
+use Rattle.semantics.proofs.SchedulesUnderPrefix.{in_under}
+use Rattle.semantics.proofs.StatedLaws.{complete}
+use Rattle.walk.specs.declared.mode.Mode.{Mode}
+use Rattle.walk.specs.Items.{root_of}
+use Rattle.walk.specs.Walks.{IsBelow, IsCut}
+use Rattle.walk.proofs.ListParts.{all_right}
+use Rattle.book.proofs.laws.what_is_past_is_kept.Goals as goal
+
+pub returns-clause-all : goal.returns-clause-all
+returns-clause-all c = λ b bound v e h m k.
+    (subst (λ (n : Mode). IsCut n (root_of b.program) b.open_items b.deferred) e h.cut).all
+    (let z : preemptions b.program [] ≤ bound = omega arith in z) v
+    ((in_under b.program [] v).0 ((complete b.program (start b.program) v).1 m, refl)) k
+
+pub returns-clause-within : goal.returns-clause-within
+returns-clause-within c = λ b bound e h.
+    (subst (λ (n : Mode). IsCut n (root_of b.program) b.open_items b.deferred) e h.cut).within
+
+pub returns-clause-below : goal.returns-clause-below
+returns-clause-below c = λ b h.
+    all_right (IsBelow (root_of b.program)) b.open_items b.deferred h.below
+
+pub returns-clause-past : goal.returns-clause-past
+returns-clause-past c = λ b bound e h.
+    (subst (λ (n : Mode). IsCut n (root_of b.program) b.open_items b.deferred) e h.cut).past

@@ -1,0 +1,174 @@
+-- What a book keeps, and what its calls do.
+use Rattle.std.specs.Prelude.{◌≡◌, ℕ, ◌<◌, ◌≤◌, ◌+◌, Bool, true, false, not, ◌||◌, ◌&&◌, List, [], ◌∷◌, ◌++◌, length, filter, Option, Some, None, slice_get, All}
+use Rattle.std.specs.declared.alloc.Global.{Global}
+use Rattle.std.specs.declared.sync.Arc.{Arc}
+use Rattle.std.specs.declared.vec.Vec.{Vec}
+use Rattle.std.specs.Arc.{arc_value}
+use Rattle.std.specs.List.{remove, list_any}
+use Rattle.guest_code.specs.Program.{Program}
+use Rattle.semantics.specs.Order.{precedes}
+use Rattle.semantics.specs.Schedules.{begins_with}
+use Rattle.walk.specs.declared.limits.TheConstants.{BOUND}
+use Rattle.walk.specs.declared.mode.Mode.{Mode}
+use Rattle.walk.specs.declared.mode.Mode.TheVariants.{Bounded, Reduced}
+use Rattle.walk.specs.Summaries.{SummaryView, nothing, join, with_beyond}
+use Rattle.walk.specs.Items.{ItemView, root_of, schedules_of}
+use Rattle.walk.specs.Walks.{WalkView, IsSplit}
+use Rattle.book.specs.Quick.{is_later}
+use Rattle.book.specs.declared.errors.SettleError.{SettleError}
+use Rattle.book.specs.declared.errors.SettleError.TheVariants.{NotOpen, Stranger, OutOfMemory}
+use Rattle.book.specs.declared.errors.RaiseError.{RaiseError}
+use Rattle.book.specs.declared.errors.RaiseError.TheVariants.{StillOpen, Dropped, LastBound}
+
+-- what contracts see of a book: the summary of what is finished, the items that are still open, those
+-- that wait for the next bound, whether the search is a quick one, and whether it dropped an item
+pub record BookView : Type 0 where
+  pub program : Program
+  pub mode : Mode
+  pub finished : SummaryView
+  pub open_items : List ItemView
+  pub deferred : List ItemView
+  pub quick : Bool
+  pub dropped : Bool
+
+-- what contracts see of a book of these parts
+abbrev pub book_view : Arc Program Global → Mode → SummaryView → Vec ItemView Global →
+    Vec ItemView Global → Bool → Bool → BookView
+book_view program mode finished open_items deferred quick dropped = record {
+  program = arc_value program;
+  mode = mode;
+  finished = finished;
+  open_items = open_items.items;
+  deferred = deferred.items;
+  quick = quick;
+  dropped = dropped;
+}
+
+-- a book splits all schedules of its program: those that are finished, those of the open items, and
+-- what its bound defers
+abbrev pub IsBook : BookView → Type 0
+IsBook b = IsSplit b.mode (root_of b.program) b.finished b.open_items b.deferred
+
+-- the items come after a schedule
+abbrev pub ComeAfter : List ℕ → List ItemView → Type 0
+ComeAfter w items = All (λ i. precedes w i.prefix ≡ true) items
+
+-- a quick book from which items were dropped: with these items it would be a book, and they come
+-- after the first bad schedule that was found
+pub record IsThinned (b : BookView) : Type 0 where
+  pub quick : b.quick ≡ true
+  pub gone : List ItemView
+  pub split : IsBook (record b { open_items = gone ++ b.open_items })
+  pub first : List ℕ
+  pub found : b.finished.first_bad ≡ Some first
+  pub later : ComeAfter first gone
+
+-- what a book keeps, by whether an item was dropped from it
+abbrev pub KeepsWhere : Bool → BookView → Type 0
+KeepsWhere false b = IsBook b
+KeepsWhere true b = IsThinned b
+
+-- what the type of a book keeps
+abbrev pub Keeps : BookView → Type 0
+Keeps b = KeepsWhere b.dropped b
+
+-- the book of a program of which nothing is known
+abbrev pub opening : Program → Mode → Bool → BookView
+opening p mode quick = record {
+  program = p;
+  mode = mode;
+  finished = nothing;
+  open_items = root_of p ∷ [];
+  deferred = [];
+  quick = quick;
+  dropped = false;
+}
+
+-- no schedule of the item is the first bad one, where this is the first bad one so far
+abbrev pub cannot_hold : Option (List ℕ) → ItemView → Bool
+cannot_hold None i = false
+cannot_hold (Some w) i = is_later w i.prefix
+
+-- a quick book drops the item
+abbrev pub drops : BookView → ItemView → Bool
+drops b i = b.quick && cannot_hold b.finished.first_bad i
+
+-- the book without the open items that it drops
+abbrev pub thinned : BookView → BookView
+thinned b = record b {
+  open_items = filter (λ i. not (drops b i)) b.open_items;
+  dropped = b.dropped || list_any (drops b) b.open_items;
+}
+
+-- the walk is of the book's program and mode
+abbrev pub IsWalkOf : BookView → WalkView → Type 0
+IsWalkOf b w = (b.mode ≡ w.mode) × (b.program ≡ w.item.program)
+
+-- the item is at this place among the open ones
+abbrev pub IsOpenAt : BookView → ItemView → ℕ → Type 0
+IsOpenAt b i place = (place < length b.open_items) × (slice_get b.open_items place ≡ Some i)
+
+-- the book where a walk of the item at this place is settled
+abbrev pub settled : BookView → WalkView → ℕ → BookView
+settled b w place = record b {
+  finished = join b.finished w.part;
+  open_items = remove b.open_items place ++ w.rest;
+  deferred = b.deferred ++ w.deferred;
+}
+
+-- the walk's item leaves the open ones, its part is joined, its rest and what it deferred come last
+pub record Settles (old : BookView) (w : WalkView) (new : BookView) : Type 0 where
+  pub of : IsWalkOf old w
+  pub place : ℕ
+  pub is_open : IsOpenAt old w.item place
+  pub book : new ≡ settled old w place
+
+-- why a walk is refused
+abbrev pub IsRefused : BookView → WalkView → SettleError → Type 0
+IsRefused b w Stranger = IsWalkOf b w → ⊥
+IsRefused b w NotOpen = IsWalkOf b w × All (λ i. i ≡ w.item → ⊥) b.open_items
+IsRefused b w OutOfMemory = IsWalkOf b w × ((place : ℕ) × IsOpenAt b w.item place)
+
+-- the bound of a mode; the greatest, where it has none
+abbrev pub bound_of : Mode → ℕ
+bound_of (Bounded bound) = bound
+bound_of Reduced = BOUND
+
+-- the book at the next bound
+abbrev pub raised : BookView → BookView
+raised b = record b {
+  mode = Bounded (bound_of b.mode + 1);
+  finished = with_beyond b.finished false;
+  open_items = b.deferred;
+  deferred = [];
+}
+
+-- a book is raised where nothing is open, no item was dropped, and its bound is not the last
+pub record Raises (old new : BookView) : Type 0 where
+  pub closed : old.open_items ≡ []
+  pub all : old.dropped ≡ false
+  pub low : bound_of old.mode < BOUND
+  pub book : new ≡ raised old
+
+-- why a book is not raised
+abbrev pub IsNotRaised : BookView → RaiseError → Type 0
+IsNotRaised b StillOpen = b.open_items ≡ [] → ⊥
+IsNotRaised b Dropped = (b.open_items ≡ []) × (b.dropped ≡ true)
+IsNotRaised b LastBound =
+    (b.open_items ≡ []) × (b.dropped ≡ false) × (BOUND ≤ bound_of b.mode)
+
+-- the book is of this program and mode, and nothing is open
+abbrev pub IsClosed : BookView → Program → Mode → Type 0
+IsClosed b p mode = (b.open_items ≡ []) × (b.mode ≡ mode) × (b.program ≡ p)
+
+-- the schedules that a book's search tries in the end
+abbrev pub book_schedules : BookView → List (List ℕ)
+book_schedules b = schedules_of b.mode (root_of b.program)
+
+-- the items of a book that have not been walked yet, at this bound or at a later one
+abbrev pub items_left : BookView → List ItemView
+items_left b = b.open_items ++ b.deferred
+
+-- the item has those of the book's schedules that begin with its prefix
+abbrev pub HasItsSchedules : BookView → ItemView → Type 0
+HasItsSchedules b i = schedules_of b.mode i ≡ filter (begins_with i.prefix) (book_schedules b)

@@ -1,0 +1,407 @@
+//! Books.
+
+ghost use Rattle.std.specs.Prelude.{true, false, None, filter, count_by, not, ◌≡◌, ◌<◌, ◌≤◌, ◌+◌, ◌-◌, ◌↔◌, [], length, drop, IfOk, OnOk, IfErr, IfSome, IfNone, IsTrue, slice_get, slice_index_or, Some, All};
+ghost use Rattle.std.specs.Arc.{arc_value};
+ghost use Rattle.walk.specs.declared.limits.TheConstants.{BOUND};
+ghost use Rattle.walk.specs.declared.mode.Mode.TheVariants.{Bounded};
+ghost use Rattle.walk.specs.Items.{ItemView, whole};
+ghost use Rattle.book.specs.declared.limits.TheConstants.{ROUND};
+ghost use Rattle.book.specs.Quick.{IsBoundedBy, is_later};
+ghost use Rattle.book.specs.Books.{Keeps, drops, thinned, opening, IsWalkOf, Settles, IsRefused, Raises, IsNotRaised, IsClosed, bound_of};
+
+use crate::errors::{RaiseError, SettleError};
+use crate::limits::ROUND;
+use crate::packed::all_items;
+use guest_code::program::Program;
+use std::alloc::{AllocError, Global};
+use std::marker::Model;
+use std::mem;
+use std::sync::Arc;
+use walk::item::Item;
+use walk::limits::BOUND;
+use walk::mode::Mode;
+use walk::summary::Summary;
+use walk::walked::{Parts, Walked};
+
+/// What is finished of a program's search in a mode, which items are still open, and which wait for the
+/// next bound.
+///
+/// The type keeps that the program's summary is what is finished joined with the sums of the open
+/// items, that nothing is counted that was not tried, that every item is of the program, and that no
+/// schedule lies under two items. Where items were dropped from a quick book, they come after the first
+/// bad schedule that was found.
+#[derive(Drop)]
+pub struct Book {
+    program: Arc<Program>,
+    mode: Mode,
+    finished: Summary,
+    open_items: Vec<Item>,
+    deferred: Vec<Item>,
+    quick: bool,
+    dropped: bool,
+}
+
+impl Model for Book {
+    ghost use Rattle.book.specs.Books.{BookView, Keeps, book_view};
+
+    ghost Value = { BookView };
+
+    ghost view = { λ b. book_view b.program b.mode b.finished b.open_items b.deferred b.quick b.dropped };
+
+    ghost invariant = { λ b. Keeps (book_view b.program b.mode b.finished b.open_items b.deferred b.quick b.dropped) };
+}
+
+impl Book {
+    /// The book of a program of which nothing is known: all of it is open.
+    ///
+    /// # Errors
+    ///
+    /// `AllocError` where memory runs out.
+    pub fn open(alloc: Global, program: Arc<Program>, mode: Mode) -> Result<Book, AllocError>
+        ensures { IfOk result (λ b. b ≡ opening (arc_value program) mode false) }
+    {
+        Book::open_as(alloc, program, mode, false)
+    }
+
+    /// The same for a quick search, which may drop open items.
+    ///
+    /// # Errors
+    ///
+    /// `AllocError` where memory runs out.
+    pub fn open_quick(alloc: Global, program: Arc<Program>, mode: Mode) -> Result<Book, AllocError>
+        ensures { IfOk result (λ b. b ≡ opening (arc_value program) mode true) }
+    {
+        Book::open_as(alloc, program, mode, true)
+    }
+
+    // The book where all is open.
+    fn open_as(
+        alloc: Global,
+        program: Arc<Program>,
+        mode: Mode,
+        quick: bool,
+    ) -> Result<Book, AllocError>
+        ensures { IfOk result (λ b. b ≡ opening (arc_value program) mode quick) }
+    {
+        let root = Item::root(alloc, Arc::try_clone(&program)?)?;
+        let mut open_items = Vec::new(alloc);
+        open_items.push(root)?;
+        Ok(Book {
+            program,
+            mode,
+            finished: Summary::empty(alloc),
+            open_items,
+            deferred: Vec::new(alloc),
+            quick,
+            dropped: false,
+        })
+    }
+
+    /// The program.
+    pub fn program(&self) -> &Arc<Program>
+        ensures { arc_value result.now ≡ self.now.program }
+    {
+        &self.program
+    }
+
+    /// Which of its schedules are to be tried.
+    pub fn mode(&self) -> Mode
+        ensures { result ≡ self.now.mode }
+    {
+        self.mode
+    }
+
+    /// The summary of what is finished.
+    pub fn finished(&self) -> &Summary
+        ensures finished { result.now ≡ self.now.finished }
+        ensures kept { Keeps self.now }
+    {
+        &self.finished
+    }
+
+    /// How many items are open.
+    pub fn open_length(&self) -> usize
+        ensures length { result ≡ length self.now.open_items }
+        ensures kept { Keeps self.now }
+    {
+        self.open_items.len()
+    }
+
+    /// A copy of the open item at a place, counted from 0.
+    ///
+    /// # Errors
+    ///
+    /// `AllocError` where memory runs out.
+    pub fn open_item(&self, alloc: Global, place: usize) -> Result<Item, AllocError>
+        requires { place < length self.now.open_items }
+        ensures { IfOk result (λ i. slice_get self.now.open_items place ≡ Some i) }
+    {
+        self.open_items[place].try_clone(alloc)
+    }
+
+    /// How many items wait for the next bound.
+    pub fn deferred_length(&self) -> usize
+        ensures { result ≡ length self.now.deferred }
+    {
+        self.deferred.len()
+    }
+
+    /// A copy of the item at a place among those that wait for the next bound, counted from 0.
+    ///
+    /// # Errors
+    ///
+    /// `AllocError` where memory runs out.
+    pub fn deferred_item(&self, alloc: Global, place: usize) -> Result<Item, AllocError>
+        requires { place < length self.now.deferred }
+        ensures { IfOk result (λ i. slice_get self.now.deferred place ≡ Some i) }
+    {
+        self.deferred[place].try_clone(alloc)
+    }
+
+    /// Whether the search is a quick one.
+    pub fn is_quick(&self) -> bool
+        ensures { result ≡ self.now.quick }
+    {
+        self.quick
+    }
+
+    /// Whether an open item was dropped.
+    pub fn has_dropped(&self) -> bool
+        ensures { result ≡ self.now.dropped }
+    {
+        self.dropped
+    }
+
+    /// Copies of the last open items, in their order: at most `ROUND`.
+    ///
+    /// # Errors
+    ///
+    /// `AllocError` where memory runs out.
+    pub fn round(&self, alloc: Global) -> Result<Vec<Item>, AllocError>
+        ensures { IfOk result (λ v. v.items ≡ drop (length self.now.open_items - ROUND) self.now.open_items) }
+    {
+        let length = self.open_items.len();
+        let first = length.saturating_sub(ROUND);
+        let mut items = Vec::new(alloc);
+        for k in first..length {
+            items.push(self.open_items[k].try_clone(alloc)?)?;
+        }
+        Ok(items)
+    }
+
+    /// The summary of the whole program in its mode, where nothing is open and program and mode are
+    /// equal to these by value. None of a quick book.
+    pub fn closed(&self, program: &Program, mode: Mode) -> Option<&Summary>
+        ensures some { IfSome result (λ s. (s.now ≡ self.now.finished) × (self.now.quick ≡ false) ×
+            IsClosed self.now program.now mode) }
+        ensures none { IfNone result (self.now.quick ≡ false → IsClosed self.now program.now mode → ⊥) }
+        ensures whole { IfSome result (λ s. s.now ≡ whole program.now mode) }
+    {
+        if !self.quick && self.is_closed(program, mode) {
+            Some(&self.finished)
+        } else {
+            None
+        }
+    }
+
+    /// The summary of what a quick search tried, where nothing is open and program and mode are equal
+    /// to these by value. It is bounded by the summary of the whole program, and is that one where it
+    /// has no bad schedule.
+    pub fn closed_quick(&self, program: &Program, mode: Mode) -> Option<&Summary>
+        ensures some { IfSome result (λ s. (s.now ≡ self.now.finished) × (self.now.quick ≡ true) ×
+            IsClosed self.now program.now mode) }
+        ensures none { IfNone result (self.now.quick ≡ true → IsClosed self.now program.now mode → ⊥) }
+        ensures bounded { IfSome result (λ s. IsBoundedBy s.now (whole program.now mode)) }
+        ensures whole { IfSome result (λ s.
+            self.now.dropped ≡ false → s.now ≡ whole program.now mode) }
+        ensures clean { IfSome result (λ s. s.now.first_bad ≡ None → self.now.dropped ≡ false) }
+    {
+        if self.quick && self.is_closed(program, mode) {
+            Some(&self.finished)
+        } else {
+            None
+        }
+    }
+
+    // Whether nothing is open and the book is of this program and mode.
+    fn is_closed(&self, program: &Program, mode: Mode) -> bool
+        ensures { IsTrue result ↔ IsClosed self.now program.now mode }
+    {
+        self.open_items.is_empty() && same_modes(self.mode, mode) && self.program.is_same(program)
+    }
+
+    /// Whether the book drops an item that is open: it is quick, and each schedule of the item comes
+    /// after the first bad one so far.
+    pub fn drops(&self, item: &Item) -> bool
+        ensures { result ≡ drops self.now item.now }
+    {
+        if !self.quick {
+            return false;
+        }
+        match self.finished.first_bad() {
+            None => false,
+            Some(first) => is_later(first, item.prefix()),
+        }
+    }
+
+    /// Drops the open items of a quick book whose schedules all come after the first bad one so far,
+    /// and answers how many. It does nothing to any other book. It takes no memory.
+    pub fn drop_later(&mut self) -> u64
+        ensures book { self.new ≡ thinned self.old }
+        ensures number { result ≡ count_by (drops self.old) self.old.open_items }
+    {
+        if !self.quick {
+            return 0;
+        }
+        let Some(first) = self.finished.first_bad() else {
+            return 0;
+        };
+        let number = drop_later(&mut self.open_items, first);
+        self.dropped = self.dropped || number > 0;
+        number
+    }
+
+    /// Takes a walked item from the open ones, joins its part to what is finished, and puts what it
+    /// left at the end of the open items and what it deferred at the end of those that wait.
+    ///
+    /// # Errors
+    ///
+    /// `Stranger` where program or mode are others, else `NotOpen` where the item isn't open,
+    /// `OutOfMemory` where memory runs out. The book is as before then, and an item that is open can be
+    /// walked again.
+    pub fn settle(&mut self, alloc: Global, walked: Walked) -> Result<(), SettleError>
+        ensures ok { OnOk result (Settles self.old walked self.new) }
+        ensures err { IfErr result (λ e. (self.new ≡ self.old) × IsRefused self.old walked e) }
+    {
+        if !same_modes(self.mode, walked.mode()) || !self.program.is_same(walked.program()) {
+            return Err(SettleError::Stranger);
+        }
+        self.settle_own(alloc, walked)
+    }
+
+    /// The same where the walk is known to be of the book's program and mode: no program is compared.
+    ///
+    /// # Errors
+    ///
+    /// As those of `settle`, but for `Stranger`.
+    pub fn settle_own(&mut self, alloc: Global, walked: Walked) -> Result<(), SettleError>
+        requires { IsWalkOf self.old walked }
+        ensures ok { OnOk result (Settles self.old walked self.new) }
+        ensures err { IfErr result (λ e. (self.new ≡ self.old) × IsRefused self.old walked e) }
+    {
+        let Some(k) = place_of(self.open_items.as_slice(), walked.item()) else {
+            return Err(SettleError::NotOpen);
+        };
+        let Ok(finished) = self.finished.join(alloc, walked.part()) else {
+            return Err(SettleError::OutOfMemory);
+        };
+        let Ok(mut deferred) = all_items(alloc, &self.program, walked.deferred()) else {
+            return Err(SettleError::OutOfMemory);
+        };
+        let Ok(()) = self.open_items.reserve(walked.rest_length()) else {
+            return Err(SettleError::OutOfMemory);
+        };
+        let Ok(()) = self.deferred.reserve(deferred.len()) else {
+            return Err(SettleError::OutOfMemory);
+        };
+        let Parts { mut rest, .. } = walked.into_parts();
+        drop(self.open_items.remove(k));
+        let Ok(()) = self.open_items.append(&mut rest) else {
+            unreachable!()
+        };
+        let Ok(()) = self.deferred.append(&mut deferred) else {
+            unreachable!()
+        };
+        self.finished = finished;
+        Ok(())
+    }
+
+    /// Goes from a bound to the next: what is finished stays, `beyond` aside, and the items that waited
+    /// are open. It takes no memory.
+    ///
+    /// # Errors
+    ///
+    /// `StillOpen` where an item is open, else `Dropped` where one was dropped, else `LastBound` where
+    /// the bound is the greatest or the mode has none. The book is as before then.
+    pub fn raise(&mut self) -> Result<(), RaiseError>
+        ensures ok { OnOk result (Raises self.old self.new) }
+        ensures err { IfErr result (λ e. (self.new ≡ self.old) × IsNotRaised self.old e) }
+    {
+        if !self.open_items.is_empty() {
+            return Err(RaiseError::StillOpen);
+        }
+        if self.dropped {
+            return Err(RaiseError::Dropped);
+        }
+        let Some(mode) = next_mode(self.mode) else {
+            return Err(RaiseError::LastBound);
+        };
+        mem::swap(&mut self.open_items, &mut self.deferred);
+        self.mode = mode;
+        self.finished.forget_beyond();
+        Ok(())
+    }
+}
+
+// Whether the modes are equal.
+fn same_modes(first: Mode, second: Mode) -> bool
+    ensures { IsTrue result ↔ (first ≡ second) }
+{
+    first == second
+}
+
+// The mode at the next bound.
+fn next_mode(mode: Mode) -> Option<Mode>
+    ensures some { IfSome result (λ m.
+        (bound_of mode < BOUND) × (m ≡ Bounded (bound_of mode + 1))) }
+    ensures none { IfNone result (BOUND ≤ bound_of mode) }
+{
+    match mode {
+        Mode::Bounded(bound) => {
+            if bound < BOUND {
+                Some(Mode::Bounded(bound + 1))
+            } else {
+                None
+            }
+        }
+        Mode::Reduced => None,
+    }
+}
+
+// Where an item is among others.
+fn place_of(items: &[Item], item: &Item) -> Option<usize>
+    ensures some { IfSome result (λ k.
+        (k < length items.now) × (slice_get items.now k ≡ Some item.now)) }
+    ensures none { IfNone result (All (λ i. i ≡ item.now → ⊥) items.now) }
+{
+    for k in 0..items.len() {
+        if items[k].is_same(item) {
+            return Some(k);
+        }
+    }
+    None
+}
+
+// Whether a prefix differs from a schedule, and is greater at the first such place.
+fn is_later(schedule: &[u8], prefix: &[u8]) -> bool
+    ensures { result ≡ is_later schedule.now prefix.now }
+{
+    for k in 0..schedule.len().min(prefix.len()) {
+        if schedule[k] != prefix[k] {
+            return schedule[k] < prefix[k];
+        }
+    }
+    false
+}
+
+// Drops the items whose schedules all come after this one, and answers how many.
+fn drop_later(items: &mut Vec<Item>, schedule: &[u8]) -> u64
+    ensures items { items.new.items ≡
+        filter (λ i. not (is_later schedule.now i.prefix)) items.old.items }
+    ensures number { result ≡
+        count_by (λ i. is_later schedule.now i.prefix) items.old.items }
+{
+    let before = items.len();
+    items.retain(|item| !is_later(schedule, item.prefix()));
+    (before - items.len()) as u64
+}

@@ -1,0 +1,49 @@
+// Items of packed prefixes.
+
+ghost use Rattle.std.specs.Prelude.{◌≡◌, ◌<◌, length, IfOk, All};
+ghost use Rattle.std.specs.Arc.{arc_value};
+ghost use Rattle.walk.specs.Items.{IsItem, item_at};
+ghost use Rattle.walk.specs.PrefixLists.{last_of};
+ghost use Rattle.walk.specs.Walks.{items_at};
+
+use guest_code::program::Program;
+use std::alloc::{AllocError, Global};
+use std::sync::Arc;
+use walk::item::Item;
+use walk::prefixes::{LastFirst, Prefixes};
+
+// The items of prefixes that run, in their order.
+pub(crate) fn all_items(
+    alloc: Global,
+    program: &Arc<Program>,
+    prefixes: &Prefixes,
+) -> Result<Vec<Item>, AllocError>
+    requires { All IsItem (items_at (arc_value program.now) prefixes.now) }
+    ensures { IfOk result (λ v. v.items ≡ items_at (arc_value program.now) prefixes.now) }
+{
+    let length = prefixes.length();
+    let mut items = Vec::with_capacity(alloc, length)?;
+    let mut reading = prefixes.last_first(alloc)?;
+    for _ in 0..length {
+        items.push(last_item(alloc, program, &reading)?)?;
+        reading.advance();
+    }
+    items.reverse();
+    Ok(items)
+}
+
+// The item of the last of the prefixes that are still to be read.
+fn last_item(
+    alloc: Global,
+    program: &Arc<Program>,
+    reading: &LastFirst<'_>,
+) -> Result<Item, AllocError>
+    requires some { 0 < length reading.now }
+    requires run { All IsItem (items_at (arc_value program.now) reading.now) }
+    ensures { IfOk result (λ i. i ≡ item_at (arc_value program.now) (last_of reading.now)) }
+{
+    let Some(prefix) = reading.prefix() else {
+        unreachable!()
+    };
+    Item::running(alloc, Arc::try_clone(program)?, prefix)
+}

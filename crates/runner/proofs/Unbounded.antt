@@ -1,0 +1,93 @@
+-- From the sum of what sleep sets leave to what is known of all complete schedules.
+use Rattle.std.proofs.Common.{◌≡◌, ℕ, Bool, true, false, List, [], map, Some, None}
+use Rattle.std.proofs.Common.{refl, ap, ◌∙◌, sym, subst}
+use Rattle.std.specs.List.{filter}
+use Rattle.guest_code.specs.Program.{Program}
+use Rattle.semantics.specs.declared.view.Kind.{Kind}
+use Rattle.semantics.specs.Machine.{start}
+use Rattle.semantics.specs.Schedules.{complete_schedules, preemptions}
+use Rattle.semantics.specs.Sleep.{reduced_schedules, none_asleep}
+use Rattle.semantics.specs.Order.{least, ends_badly}
+use Rattle.semantics.specs.Ends.{end_of}
+use Rattle.semantics.specs.Waiters.{In}
+use Rattle.semantics.proofs.LeastSchedule.{least_none, least_some}
+use Rattle.semantics.proofs.ListMembers.{in_contains, contains_in, in_filter, from_filter}
+use Rattle.semantics.proofs.ReducedSchedules.{least_bad, ends_pass}
+use Rattle.walk.specs.declared.mode.Mode.TheVariants.{Reduced}
+use Rattle.walk.specs.Summaries.{SummaryView, sum_of, end_kind, sorted_views}
+use Rattle.walk.specs.Items.{whole, root_of, kept_schedules}
+use Rattle.walk.proofs.SortedViews.{sorted_views-alike}
+use Rattle.walk.proofs.WalkedItems.{root_pruned}
+use Rattle.runner.specs.Reports.{IsSummaryOf}
+use Rattle.runner.specs.Unbounded.{IsReducedSummary, IsReducedSummaryOf, IsFirstBad, HasNoBad}
+use Rattle.runner.proofs.Promises.{same_bad}
+
+bad_of : (p : Program) (L : List (List ℕ))
+    → (sum_of p L).first_bad ≡ least (filter (ends_badly p (start p)) L)
+unfolding sum_of
+bad_of p L = refl
+
+ends_of : (p : Program) (L : List (List ℕ)) → (sum_of p L).ends ≡ sorted_views (map (end_of p) L)
+unfolding sum_of
+ends_of p L = refl
+
+-- the bad schedules of all
+abbrev all_bad : Program → List (List ℕ)
+all_bad p = filter (ends_badly p (start p)) (complete_schedules p (start p))
+
+first_bad : (p : Program) → (whole p Reduced).first_bad ≡ least (all_bad p)
+first_bad p =
+    bad_of p (kept_schedules (root_of p))
+    ∙ ap (λ L. least (filter (ends_badly p (start p)) L)) (root_pruned p)
+    ∙ sym (least_bad p (start p))
+
+all_ends : (p : Program)
+    → (whole p Reduced).ends ≡ sorted_views (map (end_of p) (complete_schedules p (start p)))
+all_ends p =
+    ends_of p (kept_schedules (root_of p))
+    ∙ ap (λ L. sorted_views (map (end_of p) L)) (root_pruned p)
+    ∙ sorted_views-alike (map (end_of p) (reduced_schedules p (start p) none_asleep))
+        (map (end_of p) (complete_schedules p (start p))) (λ test. sym (ends_pass p (start p) test))
+
+reduced_summary : (p : Program) (sum : SummaryView) → sum ≡ whole p Reduced
+    → IsReducedSummary p sum
+reduced_summary p sum is =
+    record { ends = ap (λ (t : SummaryView). t.ends) is ∙ all_ends p; summary = is }
+
+reduced_summary_of : (quick : Bool) (p : Program) (sum : SummaryView)
+    → IsSummaryOf quick sum (whole p Reduced) → IsReducedSummaryOf quick p sum
+reduced_summary_of true p sum h = h
+reduced_summary_of false p sum h = reduced_summary p sum h
+
+pub found_first : (quick : Bool) (p : Program) (sum : SummaryView) (w : List ℕ) (kind : Kind)
+    → IsSummaryOf quick sum (whole p Reduced) → sum.first_bad ≡ Some w → kind ≡ end_kind p w
+    → IsFirstBad quick p sum (preemptions p w) w kind
+found_first quick p sum w kind is some ends =
+    let l =
+    least_some (all_bad p) w
+    (sym (first_bad p) ∙ (sym (same_bad quick sum (whole p Reduced) is) ∙ some)) in
+    let m : In (complete_schedules p (start p)) w × (ends_badly p (start p) w ≡ true) =
+    from_filter (ends_badly p (start p)) (complete_schedules p (start p)) w
+    (contains_in _ w l.0) in
+    record {
+      bad = (in_contains (complete_schedules p (start p)) w m.0, m.1);
+      first = λ v b. l.1 v (in_contains _ v
+          (in_filter (ends_badly p (start p)) (complete_schedules p (start p)) v
+          (contains_in (complete_schedules p (start p)) v b.0) b.1));
+      count = refl;
+      ends = ends;
+      summary = reduced_summary_of quick p sum is;
+    }
+
+pub found_no_bad : (p : Program) (sum : SummaryView) → sum ≡ whole p Reduced
+    → sum.first_bad ≡ None → HasNoBad p sum
+found_no_bad p sum is none = record {
+  none = λ w b.
+      let empty : all_bad p ≡ [] =
+      least_none _ (sym (first_bad p)
+      ∙ (ap (λ (t : SummaryView). t.first_bad) (sym is) ∙ none)) in
+      subst (λ L. In L w) empty
+      (in_filter (ends_badly p (start p)) (complete_schedules p (start p)) w
+      (contains_in (complete_schedules p (start p)) w b.0) b.1);
+  summary = reduced_summary p sum is;
+}

@@ -1,0 +1,49 @@
+use Rattle.std.proofs.Common.{◌≡◌, ◌<◌, ◌+◌, ◌∙◌, ap, subst, sym}
+use Rattle.std.specs.Arc.{arc_value}
+use Rattle.guest_code.specs.Program.{Program}
+use Rattle.walk.specs.declared.mode.Mode.{Mode}
+use Rattle.walk.specs.declared.mode.Mode.TheVariants.{Bounded}
+use Rattle.book.specs.Books.{BookView, bound_of}
+use Rattle.runner.specs.declared.judge.Next.{Next}
+use Rattle.runner.specs.inner.Judging.{IsStage, ComesAfter, bounds_left}
+use Rattle.runner.proofs.Judgments.{next_stage, fewer_left}
+use Rattle.runner.proofs.alone.explore_alone.Goals as goal
+
+pub loop-walker-smaller : goal.loop-walker-smaller
+loop-walker-smaller c =
+    let o = c.args.options in
+    let p = c.deref.result.now in
+    let mode = c.loop-walker.mode in
+    let b = c.search_mode.new.book in
+    let comes =
+    subst (λ (n : Next). ComesAfter p o mode b n) c.in-Raise.is c.in_ok-report.ensures.next in
+    let is : c.mode-mode.result ≡ Bounded (bound_of mode + 1) =
+    c.mode-mode.ensures ∙ ap (λ (x : BookView). x.mode) c.in-Ok.ensures.ok.book
+    ∙ ap (λ (m : Mode). Bounded (bound_of m + 1)) comes.0.mode in
+    subst (λ (m : Mode). bounds_left o.search m < bounds_left o.search mode) (sym is)
+    (fewer_left p o.search mode comes.1.3)
+
+pub loop-walker-preserved : goal.loop-walker-preserved
+loop-walker-preserved c =
+    let o = c.args.options in
+    let p = c.deref.result.now in
+    let mode = c.loop-walker.mode in
+    let b = c.search_mode.new.book in
+    let comes =
+    subst (λ (n : Next). ComesAfter p o mode b n) c.in-Raise.is c.in_ok-report.ensures.next in
+    let raise = c.in-Ok.ensures.ok.book in
+    let is : c.mode-mode.result ≡ Bounded (bound_of mode + 1) =
+    c.mode-mode.ensures ∙ ap (λ (x : BookView). x.mode) raise
+    ∙ ap (λ (m : Mode). Bounded (bound_of m + 1)) comes.0.mode in
+    record {
+      of = record {
+        program =
+            ap (λ (x : BookView). x.program) raise ∙ comes.0.program ∙ c.deref.ensures;
+        mode = sym c.mode-mode.ensures;
+        quick = ap (λ (x : BookView). x.quick) raise ∙ comes.0.quick;
+      };
+      stage = subst (λ (q : Program). IsStage q o.search c.mode-mode.result) c.deref.ensures
+          (subst (λ (m : Mode). IsStage p o.search m) (sym is)
+          (next_stage p o.search mode comes.1.3));
+      walker = c.search_mode.ensures.walker ∙ c.loop-walker.invariant.walker;
+    }

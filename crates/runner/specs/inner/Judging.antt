@@ -1,0 +1,140 @@
+-- What a round comes to.
+use Rattle.std.specs.Prelude.{◌≡◌, ◌≤◌, ◌<◌, ◌+◌, ◌-◌, ℕ, List, [], Bool, true, false}
+use Rattle.std.specs.Prelude.{Option, Some, None}
+use Rattle.guest_code.specs.Program.{Program}
+use Rattle.walk.specs.declared.mode.Mode.{Mode}
+use Rattle.walk.specs.declared.mode.Mode.TheVariants.{Bounded, Reduced}
+use Rattle.semantics.specs.Schedules.{preemptions}
+use Rattle.walk.specs.Summaries.{SummaryView, end_kind}
+use Rattle.walk.specs.Items.{whole}
+use Rattle.book.specs.Books.{BookView}
+use Rattle.runner.specs.declared.options.Options.{Options}
+use Rattle.runner.specs.declared.options.Search.{Search}
+use Rattle.runner.specs.declared.options.Search.TheVariants.{UpTo, Unbounded}
+use Rattle.runner.specs.declared.judge.Next.{Next}
+use Rattle.runner.specs.declared.judge.Next.TheVariants.{Answer, Raise, Again}
+use Rattle.runner.specs.declared.report.Report.{Report}
+use Rattle.runner.specs.declared.report.Verdict.{Verdict}
+use Rattle.runner.specs.declared.report.Verdict.TheVariants.{Clean, Bad, Incomplete}
+use Rattle.runner.specs.Reports.{NoBadBelow, SomeExceeds, IsSummaryOf, IsReached, IsFinished}
+use Rattle.runner.specs.Promises.{IsReport}
+
+-- the bounds below this one were finished without a bad schedule, and some schedule exceeds each
+pub record HasPassedBounds (p : Program) (bound : ℕ) : Type 0 where
+  pub none : NoBadBelow p bound
+  pub past : (b : ℕ) → b < bound → SomeExceeds p b
+
+-- what is known of a program where a search of it comes to a mode
+abbrev pub HasPassed : Program → Mode → Type 0
+HasPassed p (Bounded bound) = HasPassedBounds p bound
+HasPassed p Reduced = Unit {0}
+
+-- the search comes to the mode
+abbrev pub IsModeOf : Search → Mode → Type 0
+IsModeOf (UpTo last) (Bounded bound) = bound ≤ last
+IsModeOf (UpTo last) Reduced = ⊥
+IsModeOf Unbounded (Bounded bound) = ⊥
+IsModeOf Unbounded Reduced = Unit {0}
+
+-- the search begins with the mode
+abbrev pub IsFirstMode : Search → Mode → Type 0
+IsFirstMode (UpTo last) (Bounded bound) = bound ≡ 0
+IsFirstMode (UpTo last) Reduced = ⊥
+IsFirstMode Unbounded (Bounded bound) = ⊥
+IsFirstMode Unbounded Reduced = Unit {0}
+
+-- a search has come to this mode of the program
+pub record IsStage (p : Program) (search : Search) (mode : Mode) : Type 0 where
+  pub of : IsModeOf search mode
+  pub passed : HasPassed p mode
+
+-- the book is of this program and mode, a quick one or not
+pub record IsOf (b : BookView) (p : Program) (m : Mode) (q : Bool) : Type 0 where
+  pub program : b.program ≡ p
+  pub mode : b.mode ≡ m
+  pub quick : b.quick ≡ q
+
+-- the mode is the search's last one
+abbrev pub IsLast : Search → Mode → Type 0
+IsLast (UpTo last) (Bounded bound) = bound ≡ last
+IsLast (UpTo last) Reduced = ⊥
+IsLast Unbounded (Bounded bound) = ⊥
+IsLast Unbounded Reduced = Unit {0}
+
+-- the bound of a mode, if it has one
+abbrev pub mode_bound : Mode → Option ℕ
+mode_bound (Bounded bound) = Some bound
+mode_bound Reduced = None
+
+-- the bound below that of a mode, if there is one
+abbrev pub IsBoundBelow : Mode → Option ℕ → Type 0
+IsBoundBelow (Bounded bound) (Some below) = bound ≡ below + 1
+IsBoundBelow (Bounded bound) None = bound ≡ 0
+IsBoundBelow Reduced (Some below) = ⊥
+IsBoundBelow Reduced None = Unit {0}
+
+-- the search goes on to the next bound, with what is known there
+abbrev pub CanRaise : Program → Search → Mode → Type 0
+CanRaise p (UpTo last) (Bounded bound) = (bound < last) × HasPassedBounds p (bound + 1)
+CanRaise p (UpTo last) Reduced = ⊥
+CanRaise p Unbounded mode = ⊥
+
+-- the last bound that was finished, where a search is cut short in a mode
+abbrev pub IsFinishedIn : Program → Mode → Option ℕ → Type 0
+IsFinishedIn p (Bounded bound) finished = IsFinished p bound finished
+IsFinishedIn p Reduced finished = finished ≡ None
+
+-- the summary is that of the whole program in a mode where it has no bad schedule, and else what a
+-- report says of the whole
+pub record IsFound (quick : Bool) (p : Program) (mode : Mode) (s : SummaryView) : Type 0 where
+  pub sum : IsSummaryOf quick s (whole p mode)
+  pub clean : s.first_bad ≡ None → s ≡ whole p mode
+
+-- what comes next where nothing is open
+abbrev pub ComesWhole : Bool → Program → Options → Mode → SummaryView → Next → Type 0
+ComesWhole may p o mode sum (Answer r) = IsReport may p o r
+ComesWhole may p o mode sum Raise =
+    (sum.first_bad ≡ None) × (IsReached o.limit sum → ⊥) × CanRaise p o.search mode
+ComesWhole may p o mode sum Again = ⊥
+
+-- what comes next where items are open
+abbrev pub ComesOpen : Bool → Program → Options → SummaryView → Next → Type 0
+ComesOpen may p o sum (Answer r) = IsReport may p o r
+ComesOpen may p o sum Raise = ⊥
+ComesOpen may p o sum Again = IsReached o.limit sum → ⊥
+
+-- what comes next after a round: a report, or the search is not cut short and goes on
+abbrev pub Comes : Bool → Program → Options → Mode → BookView → Next → Type 0
+Comes may p o mode book (Answer r) = IsReport may p o r
+Comes may p o mode book Raise = (book.open_items ≡ []) × (book.dropped ≡ false)
+    × (IsReached o.limit book.finished → ⊥) × CanRaise p o.search mode
+Comes may p o mode book Again =
+    (book.open_items ≡ [] → ⊥) × (IsReached o.limit book.finished → ⊥)
+
+-- what comes next after all rounds of a mode
+abbrev pub ComesAfter : Program → Options → Mode → BookView → Next → Type 0
+ComesAfter p o mode book (Answer r) = IsReport false p o r
+ComesAfter p o mode book Raise = IsOf book p mode o.quick × Comes false p o mode book Raise
+ComesAfter p o mode book Again = ⊥
+
+-- how many bounds a search may still come to
+abbrev pub bounds_left : Search → Mode → ℕ
+bounds_left (UpTo last) (Bounded bound) = last - bound
+bounds_left (UpTo last) Reduced = 0
+bounds_left Unbounded mode = 0
+
+-- the verdict on a bad schedule: its preemptions, the schedule itself, and how it ends
+abbrev pub IsVerdictOn : Program → List ℕ → Verdict → Type 0
+IsVerdictOn p w (Bad k schedule kind) =
+    (k ≡ preemptions p w) × (schedule.items ≡ w) × (kind ≡ end_kind p w)
+IsVerdictOn p w (Clean all) = ⊥
+IsVerdictOn p w (Incomplete cause finished) = ⊥
+
+-- the report of a search in a mode
+abbrev pub report_in : Options → Mode → SummaryView → Verdict → Report
+report_in o mode sum verdict = record {
+  bound = mode_bound mode;
+  verdict = verdict;
+  summary = sum;
+  quick = o.quick;
+}

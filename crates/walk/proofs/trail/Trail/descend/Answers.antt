@@ -1,0 +1,41 @@
+use Rattle.std.proofs.Common.{rules, ◌≡◌, ◌∙◌, ◌+◌, ◌<◌, ◌∷◌, ℕ, List, arith, ap, refl, sym, subst}
+use Rattle.std.proofs.lemmas.Result.{on_ok_weaker}
+use Rattle.guest_code.specs.Program.{Program}
+use Rattle.semantics.specs.Machine.{is_enabled}
+use Rattle.walk.specs.inner.Paths.{IsTrail}
+use Rattle.walk.specs.inner.Children.{child_of, mask_after}
+use Rattle.walk.specs.inner.WalkerInvariant.{here, still_open}
+use Rattle.walk.proofs.WalkSteps.{first_open}
+use Rattle.walk.proofs.Arrivals.{child_enabled, entered_search, entered_cost}
+use Rattle.walk.proofs.trail.Trail.descend.Goals as goal
+
+pub sleepers-asleep-requires-clause-enabled : goal.sleepers-asleep-requires-clause-enabled
+sleepers-asleep-requires-clause-enabled c =
+    let p = c.args.item.now.program in
+    let t = c.args.self.now in
+    subst (λ (q : Program). is_enabled q t.state c.args.thread ≡ _) (sym c.program-program.ensures)
+      (child_enabled c.args.mode p t c.args.thread c.requires.search.place.trail
+      (first_open c.args.mode c.args.item.now (child_of c.args.mode (here p t) c.args.thread) c.args.found.now.part (still_open c.args.mode p t) _ c.requires.search.walked).item)
+
+pub enter-requires-clause-enabled : goal.enter-requires-clause-enabled
+enter-requires-clause-enabled c =
+    let p = c.args.item.now.program in
+    let t = c.args.self.now in
+    subst (λ (q : Program). is_enabled q t.state c.args.thread ≡ _) (sym c.program-program.ensures)
+      (child_enabled c.args.mode p t c.args.thread c.requires.search.place.trail
+      (first_open c.args.mode c.args.item.now (child_of c.args.mode (here p t) c.args.thread) c.args.found.now.part (still_open c.args.mode p t) _ c.requires.search.walked).item)
+
+pub arrive-requires : goal.arrive-requires
+arrive-requires c =
+    let trail = subst (λ (q : Program). IsTrail q c.enter.new.self) c.program-program.ensures c.enter.ensures.trail in
+    record { search = entered_search c.args.mode c.args.item.now c.args.self.now c.enter.new.self c.args.found.now c.args.thread c.sleepers-asleep.result
+      c.requires.search trail c.in_ok-enter.ensures.entered
+      (c.sleepers-asleep.ensures ∙ ap (λ (q : Program). mask_after c.args.mode (here q c.args.self.now) c.args.thread) c.program-program.ensures) }
+
+pub returns-clause-further : goal.returns-clause-further
+returns-clause-further c =
+    on_ok_weaker c.arrive.result
+      (λ l. entered_cost c.args.mode c.args.item.now.program c.args.self.now c.enter.new.self c.args.thread _ c.sleepers-asleep.result
+        c.requires.search.place c.in_ok-enter.ensures.entered
+        (c.sleepers-asleep.ensures ∙ ap (λ (q : Program). mask_after c.args.mode (here q c.args.self.now) c.args.thread) c.program-program.ensures) l)
+      c.arrive.ensures.falls

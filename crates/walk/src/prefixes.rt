@@ -1,0 +1,290 @@
+//! Packed lists of prefixes of schedules.
+//!
+//! [`Prefixes`] is a list of prefixes, each a list of thread numbers. It keeps the last in full, and
+//! of each earlier one the way back to it from its successor: how many steps to take away, and which
+//! to put back. Neighbours that begin alike cost a few bytes.
+
+mod bytes;
+#[cfg(test)]
+mod tests;
+
+ghost use Rattle.std.specs.Prelude.{◌≡◌, ℕ, ◌-◌, ◌<◌, ◌≤◌, ◌==◌, List, [], ◌∷◌, ◌++◌, length, take, is_ok, IfOk, if◌then◌else◌, option_copied, slice_get, vec_capacity};
+ghost use Rattle.walk.specs.PrefixLists.{last_of};
+
+use crate::prefixes::bytes::{put_way, shared_length, step_back, top};
+use std::alloc::{AllocError, Global};
+use std::marker::Model;
+use std::mem;
+
+/// A list of prefixes. Contracts see `List (List ℕ)`.
+#[derive(Drop)]
+pub struct Prefixes {
+    count: usize,
+    bytes: Vec<u8>,
+    last: Vec<u8>,
+    first: Vec<u8>,
+    longest: usize,
+}
+
+impl Model for Prefixes {
+    ghost use Rattle.std.specs.Prelude.{List, ℕ, ◌≤◌, vec_capacity};
+    ghost use Rattle.walk.specs.inner.Packed.{listed, IsPacked};
+
+    ghost Value = { List (List ℕ) };
+
+    ghost view = { λ p. listed p.count p.bytes.items p.last.items };
+
+    ghost invariant = { λ p. (p.longest ≤ vec_capacity p.last) × IsPacked p.count p.bytes.items p.last.items p.first.items p.longest };
+}
+
+impl Prefixes {
+    /// A list of none.
+    pub fn new(alloc: Global) -> Prefixes
+        ensures { result ≡ [] }
+    {
+        Prefixes {
+            count: 0,
+            bytes: Vec::new(alloc),
+            last: Vec::new(alloc),
+            first: Vec::new(alloc),
+            longest: 0,
+        }
+    }
+
+    /// How many prefixes there are.
+    pub fn length(&self) -> usize
+        ensures { result ≡ length self.now }
+    {
+        self.count
+    }
+
+    /// Whether there is none.
+    pub fn is_empty(&self) -> bool
+        ensures { result ≡ (length self.now == 0) }
+    {
+        self.count == 0
+    }
+
+    /// The last prefix.
+    pub fn last(&self) -> Option<&[u8]>
+        ensures { option_copied result ≡ slice_get self.now (length self.now - 1) }
+    {
+        if self.count == 0 {
+            None
+        } else {
+            Some(self.last.as_slice())
+        }
+    }
+
+    /// Takes the last prefix away. It takes no memory.
+    pub fn pop(&mut self)
+        requires { 0 < length self.old }
+        ensures { self.new ≡ take (length self.old - 1) self.old }
+    {
+        let top = top(self.bytes.as_slice());
+        let _ = step_back(self.bytes.as_slice(), top, &mut self.last);
+        self.bytes.truncate(top.start);
+        self.count -= 1;
+    }
+
+    /// Keeps so many prefixes at most, the first of them. It takes no memory.
+    pub fn truncate(&mut self, length: usize)
+        ensures { self.new ≡ take length self.old }
+    {
+        while length < self.length() {
+            self.pop();
+        }
+    }
+
+    /// Puts a prefix after the others.
+    ///
+    /// # Errors
+    ///
+    /// `AllocError` where memory runs out; the list is then as before.
+    pub fn push(&mut self, prefix: &[u8]) -> Result<(), AllocError>
+        ensures { self.new ≡ (if is_ok result then self.old ++ prefix.now ∷ [] else self.old) }
+    {
+        if self.count == 0 {
+            return self.start(prefix);
+        }
+        let shared = shared_length(self.last.as_slice(), prefix);
+        self.push_after(shared, &prefix[shared..])
+    }
+
+    /// Puts a prefix after the others that begins as the last one does, so many steps, and then goes on
+    /// with the rest. It compares nothing.
+    ///
+    /// # Errors
+    ///
+    /// `AllocError` where memory runs out; the list is then as before.
+    pub fn push_after(&mut self, shared: usize, rest: &[u8]) -> Result<(), AllocError>
+        ensures { self.new ≡ (if is_ok result
+            then self.old ++ (take shared (last_of self.old) ++ rest.now) ∷ [] else self.old) }
+    {
+        if self.count == 0 {
+            return self.start(rest);
+        }
+        let shared = shared.min(self.last.len());
+        self.last.reserve(rest.len())?;
+        put_way(&mut self.bytes, rest.len(), &self.last[shared..])?;
+        self.last.truncate(shared);
+        let _ = self.last.extend_from_slice(rest);
+        self.longest = self.longest.max(self.last.len());
+        self.count += 1;
+        Ok(())
+    }
+
+    // Puts the first prefix in.
+    fn start(&mut self, prefix: &[u8]) -> Result<(), AllocError>
+        requires { self.old ≡ [] }
+        ensures { self.new ≡ (if is_ok result then prefix.now ∷ [] else []) }
+    {
+        self.last.reserve(prefix.len())?;
+        self.first.clear();
+        self.first.extend_from_slice(prefix)?;
+        self.last.clear();
+        let _ = self.last.extend_from_slice(prefix);
+        self.bytes.clear();
+        self.longest = self.longest.max(prefix.len());
+        self.count = 1;
+        Ok(())
+    }
+
+    /// Moves the prefixes of another list after these.
+    ///
+    /// # Errors
+    ///
+    /// `AllocError` where memory runs out; both lists are then as before.
+    pub fn append(&mut self, other: &mut Prefixes) -> Result<(), AllocError>
+        ensures all { self.new ≡ (if is_ok result then self.old ++ other.old else self.old) }
+        ensures moved { other.new ≡ (if is_ok result then [] else other.old) }
+    {
+        if other.count == 0 {
+            return Ok(());
+        }
+        if self.count == 0 {
+            mem::swap(self, other);
+            return Ok(());
+        }
+        self.last
+            .reserve(other.longest.saturating_sub(self.last.len()))?;
+        let shared = shared_length(self.last.as_slice(), other.first.as_slice());
+        let len = self.bytes.len();
+        put_way(
+            &mut self.bytes,
+            other.first.len() - shared,
+            &self.last[shared..],
+        )?;
+        if let Err(error) = self.bytes.append(&mut other.bytes) {
+            self.bytes.truncate(len);
+            return Err(error);
+        }
+        self.last.clear();
+        let _ = self.last.extend_from_slice(other.last.as_slice());
+        self.longest = self.longest.max(other.longest);
+        self.count += other.count;
+        other.count = 0;
+        Ok(())
+    }
+
+    /// An equal list.
+    ///
+    /// # Errors
+    ///
+    /// `AllocError` where memory runs out.
+    pub fn try_clone(&self, alloc: Global) -> Result<Prefixes, AllocError>
+        ensures { IfOk result (λ p. p ≡ self.now) }
+    {
+        let bytes = self.bytes.as_slice().to_vec(alloc)?;
+        let last = copy_with_room(alloc, self.last.as_slice(), self.longest)?;
+        let first = self.first.as_slice().to_vec(alloc)?;
+        Ok(Prefixes {
+            count: self.count,
+            bytes,
+            last,
+            first,
+            longest: self.longest,
+        })
+    }
+
+    /// The prefixes, to be read from the last on.
+    ///
+    /// # Errors
+    ///
+    /// `AllocError` where memory runs out.
+    pub fn last_first(&self, alloc: Global) -> Result<LastFirst<'_>, AllocError>
+        ensures { IfOk result (λ r. r ≡ self.now) }
+    {
+        let last = copy_with_room(alloc, self.last.as_slice(), self.longest)?;
+        Ok(LastFirst {
+            count: self.count,
+            bytes: self.bytes.as_slice(),
+            last,
+            first: self.first.as_slice(),
+            longest: self.longest,
+        })
+    }
+}
+
+// A copy of a prefix, with room for one of so many steps.
+fn copy_with_room(alloc: Global, prefix: &[u8], longest: usize) -> Result<Vec<u8>, AllocError>
+    ensures prefix { IfOk result (λ v. v.items ≡ prefix.now) }
+    ensures room { IfOk result (λ v. longest ≤ vec_capacity v) }
+{
+    let mut copy = Vec::with_capacity(alloc, longest)?;
+    copy.extend_from_slice(prefix)?;
+    Ok(copy)
+}
+
+/// The prefixes of a list, read from the last on. Contracts see those that are still to be read, in
+/// the order of the list.
+#[derive(Drop)]
+pub struct LastFirst<'a> {
+    count: usize,
+    bytes: &'a [u8],
+    last: Vec<u8>,
+    first: &'a [u8],
+    longest: usize,
+}
+
+impl<'a> Model for LastFirst<'a> {
+    ghost use Rattle.std.specs.Prelude.{List, ℕ, ◌≤◌, vec_capacity};
+    ghost use Rattle.walk.specs.inner.Packed.{listed, IsPacked};
+
+    ghost Value = { List (List ℕ) };
+
+    ghost view = { λ p. listed p.count p.bytes.now p.last.items };
+
+    ghost invariant = { λ p. (p.longest ≤ vec_capacity p.last) × IsPacked p.count p.bytes.now p.last.items p.first.now p.longest };
+}
+
+impl<'a> LastFirst<'a> {
+    /// How many are still to be read.
+    pub fn length(&self) -> usize
+        ensures { result ≡ length self.now }
+    {
+        self.count
+    }
+
+    /// The last of those that are still to be read.
+    pub fn prefix(&self) -> Option<&[u8]>
+        ensures { option_copied result ≡ slice_get self.now (length self.now - 1) }
+    {
+        if self.count == 0 {
+            None
+        } else {
+            Some(self.last.as_slice())
+        }
+    }
+
+    /// Goes on to the one before. It takes no memory.
+    pub fn advance(&mut self)
+        requires { 0 < length self.old }
+        ensures { self.new ≡ take (length self.old - 1) self.old }
+    {
+        let top = top(self.bytes);
+        let _ = step_back(self.bytes, top, &mut self.last);
+        self.bytes = &self.bytes[..top.start];
+        self.count -= 1;
+    }
+}

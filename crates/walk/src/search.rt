@@ -1,0 +1,317 @@
+//! The turns of a walk: down into the next open child, or back to the node above.
+
+ghost use Rattle.std.specs.Prelude.{◌≡◌, ◌+◌, ◌-◌, ◌++◌, ◌∷◌, ◌<◌, ◌≤◌, ◌&&◌, ◌||◌, not, [], ℕ, true, map, IfOk, OnOk, IsTrue, IsFalse, length, All};
+ghost use Rattle.semantics.specs.Ends.{is_empty};
+ghost use Rattle.semantics.specs.Machine.{is_enabled};
+ghost use Rattle.semantics.specs.Mask.{has, members_from};
+ghost use Rattle.walk.specs.Items.{IsItem};
+ghost use Rattle.walk.specs.Summaries.{nothing, with_beyond};
+ghost use Rattle.walk.specs.inner.Children.{child_of, mask_after, cost_of, costs};
+ghost use Rattle.walk.specs.inner.Paths.{leaves, IsTrail};
+ghost use Rattle.walk.specs.Walks.{IsWalked, IsPastBound, walk_past_bound};
+ghost use Rattle.walk.specs.inner.WalkerInvariant.{IsPlace, IsSearch, here, left_above, still_open, turns_left, is_kept_at, is_past_at, is_past_here, IsWithinAt};
+
+use crate::item::Item;
+use crate::mode::Mode;
+use crate::prefixes::Prefixes;
+use crate::summary::Summary;
+use crate::trail::{Node, Trail};
+use crate::walked::Walked;
+use guest_code::program::Program;
+use semantics::mask::Mask;
+use semantics::independence::sleepers_after;
+use std::alloc::{AllocError, Global};
+
+/// What a walk has found so far: the sum of what it tried, and the prefixes that its bound put off.
+#[derive(Drop)]
+pub struct Found {
+    pub part: Summary,
+    pub deferred: Prefixes,
+}
+
+impl Found {
+    /// Nothing was found yet.
+    pub fn new(alloc: Global) -> Found
+        ensures part { result.part ≡ nothing }
+        ensures deferred { result.deferred ≡ [] }
+    {
+        Found {
+            part: Summary::empty(alloc),
+            deferred: Prefixes::new(alloc),
+        }
+    }
+
+    // Puts off the steps of these threads after the others.
+    fn defer(&mut self, steps: &mut Vec<u8>, past: Mask) -> Result<(), AllocError>
+        ensures steps { steps.new.items ≡ steps.old.items }
+        ensures part { OnOk result (self.new.part ≡ with_beyond self.old.part
+            (self.old.part.beyond || not (is_empty (members_from past 0)))) }
+        ensures deferred { OnOk result (self.new.deferred ≡ self.old.deferred
+            ++ map (λ t. steps.old.items ++ t ∷ []) (members_from past 0)) }
+    {
+        let mut next = 0;
+        while let Some(thread) = past.first_from(next) {
+            self.part.set_beyond();
+            steps.push(thread)?;
+            let pushed = self.deferred.push(steps.as_slice());
+            steps.pop();
+            pushed?;
+            next = thread + 1;
+        }
+        Ok(())
+    }
+}
+
+impl Node {
+    // The threads whose step from here passes the bound.
+    #[inline(always)]
+    fn past(self, bound: u32) -> Mask
+        requires { self.used ≤ bound }
+        ensures { (t : ℕ) → has result t ≡ (has self.enabled t && is_past_at (Mode.Bounded bound) self t) }
+    {
+        if self.used < bound as usize {
+            return Mask::empty();
+        }
+        match self.last {
+            Some(last) => {
+                if self.enabled.has(last) {
+                    self.enabled.with(last, false)
+                } else {
+                    Mask::empty()
+                }
+            }
+            None => Mask::empty(),
+        }
+    }
+
+    // The steps that are kept from here on are to be tried; those that pass the bound.
+    fn open(&mut self, mode: Mode) -> Mask
+        requires { IsWithinAt mode self.old }
+        ensures kept { (t : ℕ) → has self.new.todo t ≡ (has self.old.enabled t && is_kept_at mode self.old t) }
+        ensures past { (t : ℕ) → has result t ≡ (has self.old.enabled t && is_past_at mode self.old t) }
+        ensures same { self.new ≡ record self.old { todo = self.new.todo; next = 0 } }
+    {
+        self.next = 0;
+        match mode {
+            Mode::Bounded(bound) => {
+                let past = self.past(bound);
+                self.todo = self.enabled.minus(past);
+                past
+            }
+            Mode::Reduced => {
+                self.todo = self.enabled.minus(self.asleep);
+                Mask::empty()
+            }
+        }
+    }
+}
+
+impl Trail {
+    // The threads that sleep after a step.
+    #[inline(always)]
+    fn sleepers(&self, program: &Program, mode: Mode, thread: u8) -> Mask
+        requires place { IsPlace program.now self.now }
+        requires enabled { IsTrue (is_enabled program.now self.now.state thread) }
+        ensures { result ≡ mask_after mode (here program.now self.now) thread }
+    {
+        match mode {
+            Mode::Bounded(_) => Mask::empty(),
+            Mode::Reduced => sleepers_after(program, &self.state, self.node.enabled, self.node.asleep, thread),
+        }
+    }
+
+    // The node where it stands gives way to its children; where it has none it is tried.
+    #[inline(always)]
+    fn arrive(&mut self, alloc: Global, found: &mut Found, item: &Item, mode: Mode) -> Result<(), AllocError>
+        requires search { IsSearch mode item.now self.old found.old
+            (here item.now.program self.old ∷ left_above mode item.now.program self.old) }
+        ensures place { IsPlace item.now.program self.new }
+        ensures search { OnOk result (IsSearch mode item.now self.new found.new
+            (still_open mode item.now.program self.new)) }
+        ensures falls { OnOk result (turns_left mode item.now.program self.new + 2
+            ≤ cost_of (here item.now.program self.old)
+            + costs (left_above mode item.now.program self.old) + length self.old.steps.items) }
+        ensures tried { OnOk result (found.new.part.tried ≤ found.old.part.tried + 1) }
+    {
+        let past = self.node.open(mode);
+        match self.node.enabled.first_from(0) {
+            Some(_) => found.defer(&mut self.steps, past)?,
+            None => {
+                let kind = self.state.final_kind();
+                found.part.add(alloc, self.steps.as_slice(), kind, self.state.variables())?;
+            }
+        }
+        Ok(())
+    }
+
+    // Goes into the next open child.
+    #[inline(always)]
+    fn descend(&mut self, alloc: Global, found: &mut Found, item: &Item, mode: Mode, thread: u8) -> Result<(), AllocError>
+        requires search { IsSearch mode item.now self.old found.old
+            (child_of mode (here item.now.program self.old) thread
+            ∷ still_open mode item.now.program self.old) }
+        ensures trail { IsTrail item.now.program self.new }
+        ensures search { OnOk result (IsSearch mode item.now self.new found.new
+            (still_open mode item.now.program self.new)) }
+        ensures further { OnOk result (turns_left mode item.now.program self.new
+            < cost_of (child_of mode (here item.now.program self.old) thread)
+            + turns_left mode item.now.program self.old) }
+        ensures tried { OnOk result (found.new.part.tried ≤ found.old.part.tried + 1) }
+    {
+        let program = item.program();
+        let asleep = self.sleepers(program, mode, thread);
+        self.enter(program, thread, asleep)?;
+        self.arrive(alloc, found, item, mode)
+    }
+
+    // Goes back to the node above, where the walk was there. False where it wasn't.
+    #[inline(always)]
+    fn retreat(&mut self, program: &Program, _mode: Mode) -> bool
+        requires place { IsPlace program.now self.old }
+        requires done { members_from self.old.node.todo self.old.node.next ≡ [] }
+        ensures place { IsPlace program.now self.new }
+        ensures same { still_open _mode program.now self.new ≡ still_open _mode program.now self.old }
+        ensures further { IsTrue result →
+            turns_left _mode program.now self.new < turns_left _mode program.now self.old }
+        ensures over { IsFalse result → still_open _mode program.now self.new ≡ [] }
+        ensures there { IsFalse result → 
+            turns_left _mode program.now self.new ≡ turns_left _mode program.now self.old }
+    {
+        if self.steps.len() == self.base {
+            return false;
+        }
+        self.leave(program);
+        true
+    }
+
+    // One turn. False where nothing is open.
+    #[inline(always)]
+    fn turn(&mut self, alloc: Global, found: &mut Found, item: &Item, mode: Mode) -> Result<bool, AllocError>
+        requires search { IsSearch mode item.now self.old found.old (still_open mode item.now.program self.old) }
+        ensures trail { IsTrail item.now.program self.new }
+        ensures search { OnOk result (IsSearch mode item.now self.new found.new
+            (still_open mode item.now.program self.new)) }
+        ensures further { IfOk result (λ more. IsTrue more →
+            turns_left mode item.now.program self.new < turns_left mode item.now.program self.old) }
+        ensures over { IfOk result (λ more. IsFalse more → still_open mode item.now.program self.new ≡ []) }
+        ensures there { IfOk result (λ more. IsFalse more →
+            turns_left mode item.now.program self.new ≡ turns_left mode item.now.program self.old) }
+        ensures tried { OnOk result (found.new.part.tried ≤ found.old.part.tried + 1) }
+    {
+        match self.node.todo.first_from(self.node.next) {
+            None => Ok(self.retreat(item.program(), mode)),
+            Some(thread) => {
+                self.node.next = thread + 1;
+                self.descend(alloc, found, item, mode, thread)?;
+                Ok(true)
+            }
+        }
+    }
+
+    // Turns until so many are tried or nothing is open.
+    fn search(&mut self, alloc: Global, found: &mut Found, item: &Item, mode: Mode, quota: u32) -> Result<(), AllocError>
+        requires search { IsSearch mode item.now self.old found.old (still_open mode item.now.program self.old) }
+        requires few { found.old.part.tried ≤ quota }
+        ensures trail { IsTrail item.now.program self.new }
+        ensures search { OnOk result (IsSearch mode item.now self.new found.new
+            (still_open mode item.now.program self.new)) }
+        ensures few { OnOk result (found.new.part.tried ≤ quota) }
+        ensures all { OnOk result (found.new.part.tried < quota → still_open mode item.now.program self.new ≡ []) }
+    {
+        let mut going = true;
+        while going && found.part.tried() < quota as u64 {
+            going = self.turn(alloc, found, item, mode)?;
+        }
+        Ok(())
+    }
+
+    // Makes an item of the next open child, or goes back. False where nothing is open.
+    fn give_back(&mut self, alloc: Global, item: &Item, mode: Mode, rest: &mut Vec<Item>) -> Result<bool, AllocError>
+        requires place { IsPlace item.now.program self.old }
+        requires items { All IsItem (still_open mode item.now.program self.old) }
+        ensures place { IsPlace item.now.program self.new }
+        ensures items { OnOk result (All IsItem (still_open mode item.now.program self.new)) }
+        ensures rest { OnOk result (rest.new.items ++ still_open mode item.now.program self.new
+            ≡ rest.old.items ++ still_open mode item.now.program self.old) }
+        ensures further { IfOk result (λ more. IsTrue more →
+            turns_left mode item.now.program self.new < turns_left mode item.now.program self.old) }
+        ensures over { IfOk result (λ more. IsFalse more → still_open mode item.now.program self.new ≡ []) }
+        ensures there { IfOk result (λ more. IsFalse more →
+            turns_left mode item.now.program self.new ≡ turns_left mode item.now.program self.old) }
+    {
+        match self.node.todo.first_from(self.node.next) {
+            None => Ok(self.retreat(item.program(), mode)),
+            Some(thread) => {
+                self.node.next = thread + 1;
+                let asleep = self.sleepers(item.program(), mode, thread);
+                let child = item.further(alloc, self.steps.as_slice(), thread, asleep)?;
+                rest.push(child)?;
+                Ok(true)
+            }
+        }
+    }
+
+    // Makes items of all that is open.
+    fn give_all_back(&mut self, alloc: Global, item: &Item, mode: Mode) -> Result<Vec<Item>, AllocError>
+        requires place { IsPlace item.now.program self.old }
+        requires items { All IsItem (still_open mode item.now.program self.old) }
+        ensures place { IsPlace item.now.program self.new }
+        ensures rest { IfOk result (λ rest. rest.items ≡ still_open mode item.now.program self.old) }
+    {
+        let mut rest = Vec::new(alloc);
+        let mut going = true;
+        while going {
+            going = self.give_back(alloc, item, mode, &mut rest)?;
+        }
+        Ok(rest)
+    }
+
+    // Goes to an item's prefix.
+    fn stand_at(&mut self, item: &Item) -> Result<(), AllocError>
+        requires { IsTrail item.now.program self.old }
+        ensures trail { IsTrail item.now.program self.new }
+        ensures place { OnOk result (IsPlace item.now.program self.new) }
+        ensures item { OnOk result (here item.now.program self.new ≡ item.now) }
+        ensures base { OnOk result (self.new.base ≡ length self.new.steps.items) }
+    {
+        self.go_to(item.program(), item.prefix())?;
+        self.node.asleep = item.mask();
+        self.base = self.steps.len();
+        Ok(())
+    }
+
+    // Whether the node has more preemptions than the bound.
+    fn is_past(&self, mode: Mode) -> bool
+        ensures { result ≡ is_past_here mode self.now.node }
+    {
+        match mode {
+            Mode::Bounded(bound) => self.node.used > bound as usize,
+            Mode::Reduced => false,
+        }
+    }
+
+    /// Tries the first schedules of an item, up to a quota.
+    pub fn walk(&mut self, alloc: Global, item: &Item, mode: Mode, quota: u32) -> Result<Walked, AllocError>
+        requires trail { IsTrail item.now.program self.old }
+        requires quota { 1 ≤ quota }
+        ensures trail { IsTrail item.now.program self.new }
+        ensures item { IfOk result (λ w. w.item ≡ item.now) }
+        ensures mode { IfOk result (λ w. w.mode ≡ mode) }
+        ensures tried { IfOk result (λ w. w.part.tried ≤ quota) }
+        ensures rest { IfOk result (λ w. w.part.tried < quota → w.rest ≡ []) }
+        ensures past { IfOk result (λ w.
+            IsPastBound mode item.now → w ≡ walk_past_bound mode item.now) }
+        ensures walked { IfOk result IsWalked }
+    {
+        self.stand_at(item)?;
+        let mut found = Found::new(alloc);
+        if self.is_past(mode) {
+            found.part.set_beyond();
+            return Ok(Walked::new(mode, item.try_clone(alloc)?, found.part, Vec::new(alloc), found.deferred));
+        }
+        self.arrive(alloc, &mut found, item, mode)?;
+        self.search(alloc, &mut found, item, mode, quota)?;
+        let rest = self.give_all_back(alloc, item, mode)?;
+        Ok(Walked::new(mode, item.try_clone(alloc)?, found.part, rest, found.deferred))
+    }
+}

@@ -1,0 +1,220 @@
+//! The way from the start of a program to where a walk stands, with what takes each step back.
+
+ghost use Rattle.std.specs.Prelude.{◌≡◌, ◌+◌, ◌-◌, ◌++◌, ◌∷◌, ◌<◌, ◌≤◌, ◌^◌, [], ℕ, true, IfOk, OnOk, IsTrue, length, take};
+ghost use Rattle.semantics.specs.Machine.{start, is_enabled};
+ghost use Rattle.semantics.specs.Schedules.{runs};
+ghost use Rattle.walk.specs.inner.Paths.{IsTrail, IsEntered, IsLeft, leaves, after};
+
+use guest_code::program::Program;
+use semantics::mask::Mask;
+use semantics::state::State;
+use semantics::undo::Undo;
+use std::alloc::{AllocError, Global};
+
+/// A node of the tree of schedules: who can go on there, who sleeps, whose step is still to be
+/// tried, and how it was come to.
+#[derive(Clone, Copy, Debug)]
+pub struct Node {
+    pub enabled: Mask,
+    pub asleep: Mask,
+    /// The threads whose steps are tried; those below `next` were.
+    pub todo: Mask,
+    pub next: u8,
+    /// The thread of the last step.
+    pub last: Option<u8>,
+    /// The preemptions so far.
+    pub used: usize,
+}
+
+/// A node above the one where a walk stands, the thread whose step was taken there, and how to take
+/// it back.
+#[derive(Clone, Copy, Debug)]
+pub struct Frame {
+    pub node: Node,
+    pub thread: u8,
+    pub undo: Undo,
+}
+
+/// The way from the start of a program: its steps, the state that they lead to, the node there, and
+/// a frame for each node above; frames after those are there to be written over.
+#[derive(Drop)]
+pub struct Trail {
+    pub state: State,
+    pub steps: Vec<u8>,
+    pub frames: Vec<Frame>,
+    pub node: Node,
+    /// How many of the steps are the prefix of the item that is walked.
+    pub base: usize,
+}
+
+impl Node {
+    // Whether a step of a thread is a preempting switch.
+    #[inline(always)]
+    fn leaves(&self, thread: u8) -> bool
+        ensures { result ≡ leaves self.now thread }
+    {
+        match self.last {
+            Some(last) => self.enabled.has(last) && last != thread,
+            None => false,
+        }
+    }
+
+    // The node after a step of a thread, where these are enabled and these sleep.
+    #[inline(always)]
+    fn after(&self, thread: u8, enabled: Mask, asleep: Mask) -> Node
+        requires { self.now.used + 1 < 2 ^ 64 }
+        ensures { result ≡ after self.now thread enabled asleep }
+    {
+        Node {
+            enabled,
+            asleep,
+            todo: Mask::empty(),
+            next: 0,
+            last: Some(thread),
+            used: self.used + usize::from(self.leaves(thread)),
+        }
+    }
+}
+
+impl Frame {
+    // A frame to be written over.
+    fn new() -> Frame {
+        Frame {
+            node: Node {
+                enabled: Mask::empty(),
+                asleep: Mask::empty(),
+                todo: Mask::empty(),
+                next: 0,
+                last: None,
+                used: 0,
+            },
+            thread: 0,
+            undo: Undo::new(),
+        }
+    }
+}
+
+// Sees to it that there is a frame after so many.
+#[inline(always)]
+fn make_frame(frames: &mut Vec<Frame>, depth: usize) -> Result<(), AllocError>
+    requires { depth ≤ length frames.old.items }
+    ensures there { OnOk result (depth < length frames.new.items) }
+    ensures room { depth ≤ length frames.new.items }
+    ensures same { take depth frames.new.items ≡ take depth frames.old.items }
+{
+    if depth == frames.len() {
+        frames.push(Frame::new())?;
+    }
+    Ok(())
+}
+
+// How many steps two schedules have in common before they differ.
+fn shared_length(first: &[u8], second: &[u8]) -> usize
+    ensures first { result ≤ length first.now }
+    ensures second { result ≤ length second.now }
+    ensures same { take result first.now ≡ take result second.now }
+{
+    let mut shared = 0;
+    while shared < first.len() && shared < second.len() && first[shared] == second[shared] {
+        shared += 1;
+    }
+    shared
+}
+
+impl Trail {
+    /// The way of no step.
+    ///
+    /// # Errors
+    ///
+    /// `AllocError` where memory runs out.
+    pub fn start(alloc: Global, program: &Program) -> Result<Trail, AllocError>
+        ensures { IfOk result (IsTrail program.now) }
+    {
+        let state = State::start(alloc, program)?;
+        let enabled = state.enabled(program);
+        let node = Node {
+            enabled,
+            asleep: Mask::empty(),
+            todo: Mask::empty(),
+            next: 0,
+            last: None,
+            used: 0,
+        };
+        Ok(Trail {
+            state,
+            steps: Vec::new(alloc),
+            frames: Vec::new(alloc),
+            node,
+            base: 0,
+        })
+    }
+
+    /// Takes a step of a thread that is enabled, after which these threads sleep.
+    ///
+    /// # Errors
+    ///
+    /// `AllocError` where memory runs out; no step is taken then.
+    #[inline(always)]
+    pub fn enter(&mut self, program: &Program, thread: u8, asleep: Mask) -> Result<(), AllocError>
+        requires trail { IsTrail program.now self.old }
+        requires enabled { IsTrue (is_enabled program.now self.old.state thread) }
+        ensures trail { IsTrail program.now self.new }
+        ensures entered { OnOk result (IsEntered self.old self.new thread asleep) }
+    {
+        let depth = self.steps.len();
+        make_frame(&mut self.frames, depth)?;
+        self.steps.push(thread)?;
+        let frame = &mut self.frames[depth];
+        frame.node = self.node;
+        frame.thread = thread;
+        let enabled = self.state.step_into(program, thread, &mut frame.undo, self.node.enabled);
+        self.node = self.node.after(thread, enabled, asleep);
+        Ok(())
+    }
+
+    /// Takes the last step back.
+    #[inline(always)]
+    pub fn leave(&mut self, _program: &Program)
+        requires trail { IsTrail _program.now self.old }
+        requires step { 0 < length self.old.steps.items }
+        ensures trail { IsTrail _program.now self.new }
+        ensures left { IsLeft self.old self.new }
+    {
+        let depth = self.steps.len() - 1;
+        let frame = &self.frames[depth];
+        self.state.undo(&frame.undo);
+        self.node = frame.node;
+        self.steps.pop();
+    }
+
+    /// Goes to where a schedule leads: back to what it shares with the steps so far, and then on.
+    ///
+    /// # Errors
+    ///
+    /// `AllocError` where memory runs out.
+    pub fn go_to(&mut self, program: &Program, schedule: &[u8]) -> Result<(), AllocError>
+        requires trail { IsTrail program.now self.old }
+        requires runs { runs program.now (start program.now) schedule.now ≡ true }
+        ensures trail { IsTrail program.now self.new }
+        ensures steps { OnOk result (self.new.steps.items ≡ schedule.now) }
+    {
+        let shared = shared_length(self.steps.as_slice(), schedule);
+        self.go_back(program, shared);
+        for place in shared..schedule.len() {
+            self.enter(program, schedule[place], Mask::empty())?;
+        }
+        Ok(())
+    }
+
+    // Takes steps back until so many are left.
+    fn go_back(&mut self, program: &Program, count: usize)
+        requires trail { IsTrail program.now self.old }
+        requires fewer { count ≤ length self.old.steps.items }
+        ensures trail { IsTrail program.now self.new }
+        ensures steps { self.new.steps.items ≡ take count self.old.steps.items }
+    {
+        while self.steps.len() > count {
+            self.leave(program);
+        }
+    }
+}
