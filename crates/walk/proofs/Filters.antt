@@ -108,12 +108,12 @@ sum_parts p L [] apart =
 sum_parts p L (i ∷ is) apart =
     sum_parts p L is (λ v. let a = apart v in omega (arith, a))
     ∙ (ap (λ t. join t (sums_in p L is))
-        (sum_either p (λ v. not (begins_with i.prefix v || is_under is v)) (begins_with i.prefix)
-        (λ v. not (is_under is v)) (λ v. never (begins_with i.prefix v) (is_under is v))
-        (λ v. either (begins_with i.prefix v) (is_under is v) (λ u. let a = apart v in let n =
-        under_counts v is u in omega (arith, a, n))) L)
+    (sum_either p (λ v. not (begins_with i.prefix v || is_under is v)) (begins_with i.prefix)
+    (λ v. not (is_under is v)) (λ v. never (begins_with i.prefix v) (is_under is v))
+    (λ v. either (begins_with i.prefix v) (is_under is v) (λ u. let a = apart v in let n =
+    under_counts v is u in omega (arith, a, n))) L)
     ∙ join_assoc (sum_of p (clear_of (i ∷ is) L)) (sum_of p (filter (begins_with i.prefix) L))
-        (sums_in p L is))
+    (sums_in p L is))
   where
     never : (b u : Bool) → (not (b || u) && b) ≡ false
     never true u = refl

@@ -47,11 +47,11 @@ sums_are mode item (i ∷ is) h k =
     let b : IsBelow item i = All-head (IsBelow item) i is h in
     let e : HasItsOf mode item i = All-head (HasItsOf mode item) i is k in
     beyond_apart (sum_of item.program (filter (begins_with i.prefix) (schedules_of mode item)))
-        (sums_in item.program (schedules_of mode item) is) (goes_beyond mode i)
-        (list_any (goes_beyond mode) is)
+    (sums_in item.program (schedules_of mode item) is) (goes_beyond mode i)
+    (list_any (goes_beyond mode) is)
     ∙ (λ j. join (with_beyond (sum_of (sym b.program j) (sym e j)) (goes_beyond mode i))
-        (sums_are mode item is (All-tail (IsBelow item) i is h) (All-tail (HasItsOf mode item) i is
-        k) j))
+    (sums_are mode item is (All-tail (IsBelow item) i is h) (All-tail (HasItsOf mode item) i is
+    k) j))
 
 pub split_sum : (mode : Mode) (item : ItemView) (part : SummaryView)
     (rest deferred : List ItemView) → IsSplit mode item part rest deferred →
@@ -59,14 +59,14 @@ pub split_sum : (mode : Mode) (item : ItemView) (part : SummaryView)
 split_sum mode item part rest deferred h =
     let below : All (IsBelow item) rest = all_left (IsBelow item) rest deferred h.below in
     let apart : (v : List ℕ) → covers v rest ≤ 1 = λ v. (let a = h.apart v in let b =
-        covers-append v rest deferred in let c = at_most_one (begins_with item.prefix v) in
-        omega (arith, a, b, c)) in
+    covers-append v rest deferred in let c = at_most_one (begins_with item.prefix v) in
+    omega (arith, a, b, c)) in
     (λ i. with_beyond (sum_parts item.program (schedules_of mode item) rest apart i) (h.beyond i))
     ∙ (beyond_apart (sum_of item.program (clear_of rest (schedules_of mode item)))
-        (sums_in item.program (schedules_of mode item) rest) part.beyond
-        (list_any (goes_beyond mode) rest)
+    (sums_in item.program (schedules_of mode item) rest) part.beyond
+    (list_any (goes_beyond mode) rest)
     ∙ (λ i. join (sym h.sum i) (sums_are mode item rest below (rest_has mode item rest deferred
-        h.below h.cut) i)))
+    h.below h.cut) i)))
 
 pub split_kept : (mode : Mode) (item : ItemView) (part : SummaryView)
     (rest deferred : List ItemView) → IsSplit mode item part rest deferred → IsSummary part
@@ -90,8 +90,12 @@ split_opening (Bounded bound) p = record {
   sum = (λ i. with_beyond (sym (sum_of_none p) i) false) ∙ ap (λ L. with_beyond (sum_of p L) false)
       (sym (filter_none (schedules_of (Bounded bound) (root_of p))));
   beyond = sym (or-false (goes_beyond (Bounded bound) (root_of p)));
-  below = All-cons (IsBelow (root_of p)) (root_of p) [] (record { program = refl; item =
-      refl; prefix = refl }) (All-nil (IsBelow (root_of p)));
+  below = All-cons (IsBelow (root_of p)) (root_of p) [] (record {
+    program = refl;
+    item =
+        refl;
+    prefix = refl;
+  }) (All-nil (IsBelow (root_of p)));
   apart = λ v. omega arith;
   cut = record {
     within = All-cons (λ (r : ItemView). preemptions r.program r.prefix ≤ bound) (root_of p) []
@@ -105,8 +109,12 @@ split_opening Reduced p = record {
   sum = (λ i. with_beyond (sym (sum_of_none p) i) false) ∙ ap (λ L. with_beyond (sum_of p L) false)
       (sym (filter_none (schedules_of Reduced (root_of p))));
   beyond = refl;
-  below = All-cons (IsBelow (root_of p)) (root_of p) [] (record { program = refl; item =
-      refl; prefix = refl }) (All-nil (IsBelow (root_of p)));
+  below = All-cons (IsBelow (root_of p)) (root_of p) [] (record {
+    program = refl;
+    item =
+        refl;
+    prefix = refl;
+  }) (All-nil (IsBelow (root_of p)));
   apart = λ v. omega arith;
   cut = record {
     none = refl;
@@ -120,8 +128,12 @@ split_opening Reduced p = record {
 -- a walk of one of the rest is settled
 
 below_further : (item i d : ItemView) → IsBelow item i → IsBelow i d → IsBelow item d
-below_further item i d h k = record { program = k.program ∙ h.program; item = k.item; prefix =
-    begins_further item.prefix i.prefix d.prefix h.prefix k.prefix }
+below_further item i d h k = record {
+  program = k.program ∙ h.program;
+  item = k.item;
+  prefix =
+      begins_further item.prefix i.prefix d.prefix h.prefix k.prefix;
+}
 
 module _ (mode : Mode) (item i : ItemView) (f part : SummaryView)
     (a b deferred rest more : List ItemView) (old : IsSplit mode item f (a ++ i ∷ b) deferred)
@@ -144,11 +156,11 @@ module _ (mode : Mode) (item i : ItemView) (f part : SummaryView)
   below : All (IsBelow item) (((a ++ b) ++ rest) ++ (deferred ++ more))
   below = All-append (IsBelow item) ((a ++ b) ++ rest) (deferred ++ more)
       (All-append (IsBelow item) (a ++ b) rest
-          (All-append (IsBelow item) a b (all_left (IsBelow item) a (i ∷ b) old_below)
-          (All-tail (IsBelow item) i b (all_right (IsBelow item) a (i ∷ b) old_below)))
-          (all_left (IsBelow item) rest more new_below))
+      (All-append (IsBelow item) a b (all_left (IsBelow item) a (i ∷ b) old_below)
+      (All-tail (IsBelow item) i b (all_right (IsBelow item) a (i ∷ b) old_below)))
+      (all_left (IsBelow item) rest more new_below))
       (All-append (IsBelow item) deferred more (all_right (IsBelow item) (a ++ i ∷ b) deferred
-          old.below) (all_right (IsBelow item) rest more new_below))
+      old.below) (all_right (IsBelow item) rest more new_below))
 
   apart : (v : List ℕ) → covers v (((a ++ b) ++ rest) ++ (deferred ++ more)) ≤ one_if
       (begins_with item.prefix v)
@@ -156,8 +168,8 @@ module _ (mode : Mode) (item i : ItemView) (f part : SummaryView)
       let o = old.apart v in let w = walk.apart v in
       let c1 = covers-append v (a ++ i ∷ b) deferred in let c2 = covers-append v a (i ∷ b) in
       let d1 = covers-append v ((a ++ b) ++ rest) (deferred ++ more) in let d2 =
-          covers-append v (a ++ b) rest in let d3 = covers-append v a b in let d4 =
-          covers-append v deferred more in
+      covers-append v (a ++ b) rest in let d3 = covers-append v a b in let d4 =
+      covers-append v deferred more in
       let e = covers-append v rest more in
       omega (arith, o, w, c1, c2, d1, d2, d3, d4, e)
 
@@ -168,14 +180,14 @@ module _ (mode : Mode) (item i : ItemView) (f part : SummaryView)
       none : (x y : Bool) → is_under a v ≡ x → is_under b v ≡ y → (x || y) ≡ false
       none true y e g =
           let n = under_counts v a e in let o = old.apart v in let c1 =
-              covers-append v (a ++ i ∷ b) deferred in let c2 = covers-append v a (i ∷ b) in
-              let k = at_most_one (begins_with item.prefix v) in
+          covers-append v (a ++ i ∷ b) deferred in let c2 = covers-append v a (i ∷ b) in
+          let k = at_most_one (begins_with item.prefix v) in
           let one : one_if (begins_with i.prefix v) ≡ 1 = ap one_if h in
           absurd (omega (arith, n, o, c1, c2, k, one))
       none false true e g =
           let n = under_counts v b g in let o = old.apart v in let c1 =
-              covers-append v (a ++ i ∷ b) deferred in let c2 = covers-append v a (i ∷ b) in
-              let k = at_most_one (begins_with item.prefix v) in
+          covers-append v (a ++ i ∷ b) deferred in let c2 = covers-append v a (i ∷ b) in
+          let k = at_most_one (begins_with item.prefix v) in
           let one : one_if (begins_with i.prefix v) ≡ 1 = ap one_if h in
           absurd (omega (arith, n, o, c1, c2, k, one))
       none false false e g = refl
@@ -186,8 +198,8 @@ module _ (mode : Mode) (item i : ItemView) (f part : SummaryView)
       none : (x : Bool) → is_under rest v ≡ x → x ≡ false
       none true e =
           let n = under_counts v rest e in let w = walk.apart v in let c =
-              covers-append v rest more in let zero_ : one_if (begins_with i.prefix v) ≡ 0 =
-              ap one_if h in
+          covers-append v rest more in let zero_ : one_if (begins_with i.prefix v) ≡ 0 =
+          ap one_if h in
           absurd (omega (arith, n, w, c, zero_))
       none false e = refl
 
@@ -211,7 +223,7 @@ module _ (mode : Mode) (item i : ItemView) (f part : SummaryView)
   either v =
       ap not (under-append v (a ++ b) rest ∙ ap (λ x. x || is_under rest v) (under-append v a b))
       ∙ (go (is_under a v) (begins_with i.prefix v) (is_under b v) (is_under rest v) (alone v)
-          (outside v)
+      (outside v)
       ∙ ap (λ x. not x || tried v) (sym (under-append v a (i ∷ b))))
     where
       go : (x c y r : Bool) → (c ≡ true → (x || y) ≡ false) → (c ≡ false → r ≡ false) →
@@ -230,10 +242,10 @@ module _ (mode : Mode) (item i : ItemView) (f part : SummaryView)
   sum =
       (λ k. join (old.sum k) (walked k))
       ∙ (sym (beyond_apart (sum_of item.program (filter was (schedules_of mode item)))
-          (sum_of item.program (filter tried (schedules_of mode item))) f.beyond part.beyond)
+      (sum_of item.program (filter tried (schedules_of mode item))) f.beyond part.beyond)
       ∙ (λ k. with_beyond
-          (sym (sum_either item.program was tried (λ v. not (is_under ((a ++ b) ++ rest) v)) never
-          either (schedules_of mode item)) k) (sym (beyond_of_join f part) k)))
+      (sym (sum_either item.program was tried (λ v. not (is_under ((a ++ b) ++ rest) v)) never
+      either (schedules_of mode item)) k) (sym (beyond_of_join f part) k)))
     where
       walked : part ≡ with_beyond (sum_of item.program (filter tried (schedules_of mode item)))
           part.beyond
@@ -248,13 +260,13 @@ module _ (mode : Mode) (item i : ItemView) (f part : SummaryView)
   beyond =
       old.beyond
       ∙ (ap (λ x. f.beyond || x) (list_any-append (goes_beyond mode) a (i ∷ b)
-          ∙ ap (λ x. list_any (goes_beyond mode) a || (x || list_any (goes_beyond mode) b))
-          walk.beyond)
+      ∙ ap (λ x. list_any (goes_beyond mode) a || (x || list_any (goes_beyond mode) b))
+      walk.beyond)
       ∙ (shuffle f.beyond (list_any (goes_beyond mode) a) part.beyond
-          (list_any (goes_beyond mode) rest) (list_any (goes_beyond mode) b)
+      (list_any (goes_beyond mode) rest) (list_any (goes_beyond mode) b)
       ∙ (λ k. sym (beyond_of_join f part) k || sym (list_any-append (goes_beyond mode) (a ++ b)
-          rest ∙ ap (λ x. x || list_any (goes_beyond mode) rest)
-          (list_any-append (goes_beyond mode) a b)) k)))
+      rest ∙ ap (λ x. x || list_any (goes_beyond mode) rest)
+      (list_any-append (goes_beyond mode) a b)) k)))
     where
       shuffle : (f x p r y : Bool) → (f || (x || ((p || r) || y))) ≡ ((f || p) || ((x || y) || r))
       shuffle true x p r y = refl
@@ -296,9 +308,9 @@ module _ (p : Program) (bound : ℕ) where
           let y : IsDeferred bound d = All-head (IsDeferred bound) d D past in
           let q : d.program ≡ p = x.program ∙ same in
           let n : preemptions p d.prefix ≡ bound + 1 = ap (λ z. preemptions z d.prefix) (sym q)
-              ∙ y.past in
+          ∙ y.past in
           past_after d.prefix v (subst (λ z. runs z (start z) d.prefix ≡ true) q x.item)
-              (omega (arith, n)) c e
+          (omega (arith, n)) c e
       go false e k f = f k
 
   beyond_under : (above : ItemView) (D : List ItemView) → above.program ≡ p →
@@ -317,9 +329,9 @@ module _ (p : Program) (bound : ℕ) where
       go true e k f =
           let x : IsBelow above d = All-head (IsBelow above) d D below in
           let one : exceeds_bound p d.prefix bound ≡ true =
-              (beyond_is p d.prefix bound).1 (v, (in_under p d.prefix v).0 (c, e), l) in
+          (beyond_is p d.prefix bound).1 (v, (in_under p d.prefix v).0 (c, e), l) in
           ap (λ b. b || list_any (goes_beyond (Bounded bound)) D)
-              (ap (λ z. exceeds_bound z d.prefix bound) (x.program ∙ same) ∙ one)
+          (ap (λ z. exceeds_bound z d.prefix bound) (x.program ∙ same) ∙ one)
       go false e k f = ap (λ b. exceeds_bound d.program d.prefix bound || b) (f k)
           ∙ or_right (exceeds_bound d.program d.prefix bound) true refl
 
@@ -337,9 +349,15 @@ module _ (p : Program) (bound : ℕ) where
       wider : (w : List ℕ) × Contains (schedules_under p d.prefix) w × (bound < preemptions p w) →
           (w : List ℕ) × Contains (schedules_under p above.prefix) w × (bound < preemptions p w)
       wider r = let m : (is_complete p (start p) r.0 ≡ true) × (begins_with d.prefix r.0 ≡ true) =
-          (in_under p d.prefix r.0).1 r.1 in
-          (r.0, (in_under p above.prefix r.0).0 (m.0, begins_further above.prefix d.prefix r.0
-          x.prefix m.1), r.2)
+          (in_under p d.prefix r.0).1 r.1 in (
+            r.0,
+            (in_under p above.prefix r.0).0 (
+              m.0,
+              begins_further above.prefix d.prefix r.0
+                  x.prefix m.1,
+            ),
+            r.2,
+          )
 
       go : (b : Bool) → exceeds_bound d.program d.prefix bound ≡ b →
           (b || list_any (goes_beyond (Bounded bound)) D) ≡ true →
@@ -365,21 +383,24 @@ settled_cut (Bounded bound) item i a b deferred rest more here below_ old walk =
   past = All-append (IsDeferred bound) deferred more old.past walk.past;
   all = λ le v c k. under-append v ((a ++ b) ++ rest) (deferred ++ more)
       ∙ ((λ j. (under-append v (a ++ b) rest ∙ ap (λ x. x || is_under rest v) (under-append v a b))
-          j || under-append v deferred more j)
+      j || under-append v deferred more j)
       ∙ go (is_under a v) (begins_with i.prefix v) (is_under b v) (is_under deferred v)
-          (is_under rest v) (is_under more v)
+      (is_under rest v) (is_under more v)
       (sym (under-append v (a ++ i ∷ b) deferred ∙ ap (λ x. x || is_under deferred v)
-          (under-append v a (i ∷ b))) ∙ old.all le v c k)
+      (under-append v a (i ∷ b))) ∙ old.all le v c k)
       (λ e. sym (under-append v rest more)
-          ∙ walk.all (All-head (IsIn bound) i b (all_right (IsIn bound) a (i ∷ b) old.within)) v
-          (inside v c e) (subst (λ z. bound < preemptions z v) (sym here.program) k)));
+      ∙ walk.all (All-head (IsIn bound) i b (all_right (IsIn bound) a (i ∷ b) old.within)) v
+      (inside v c e) (subst (λ z. bound < preemptions z v) (sym here.program) k)));
 }
   where
     inside : (v : List ℕ) → Contains (schedules_under item.program item.prefix) v →
         begins_with i.prefix v ≡ true → Contains (schedules_under i.program i.prefix) v
     inside v c e =
-        (in_under i.program i.prefix v).0 (subst (λ z. is_complete z (start z) v ≡ true)
-        (sym here.program) ((in_under item.program item.prefix v).1 c).0, e)
+        (in_under i.program i.prefix v).0 (
+          subst (λ z. is_complete z (start z) v ≡ true)
+              (sym here.program) ((in_under item.program item.prefix v).1 c).0,
+          e,
+        )
 
     go : (x c y d r m : Bool) → ((x || (c || y)) || d) ≡ true → (c ≡ true → (r || m) ≡ true) →
         (((x || y) || r) || (d || m)) ≡ true
@@ -451,9 +472,9 @@ module _ (bound : ℕ) (item : ItemView) (part : SummaryView) (rest deferred : L
           is_under deferred v ≡ false
       none true e le =
           let l : bound < preemptions item.program v =
-              past_under item.program bound item deferred refl
-              (all_right (IsBelow item) rest deferred h.below) h.cut.past v
-              ((in_under item.program item.prefix v).1 c).0 e in
+          past_under item.program bound item deferred refl
+          (all_right (IsBelow item) rest deferred h.below) h.cut.past v
+          ((in_under item.program item.prefix v).1 c).0 e in
           absurd (omega (arith, l, le))
       none false e le = e
 
@@ -462,15 +483,15 @@ module _ (bound : ℕ) (item : ItemView) (part : SummaryView) (rest deferred : L
           (is_under rest v || is_under deferred v)
       go (inl l) =
           let e : nat_le (preemptions item.program v) bound ≡ false =
-              grind (arith, nat_tests, l) in
+          grind (arith, nat_tests, l) in
           (λ j. e j && not (is_under rest v))
-              ∙ ap not (sym (sym (under-append v rest deferred) ∙ h.cut.all fits v c l))
+          ∙ ap not (sym (sym (under-append v rest deferred) ∙ h.cut.all fits v c l))
       go (inr le) =
           let e : nat_le (preemptions item.program v) bound ≡ true =
-              grind (arith, nat_tests, le) in
+          grind (arith, nat_tests, le) in
           (λ j. e j && not (is_under rest v))
-              ∙ ap not (sym (ap (λ b. is_under rest v || b) (none (is_under deferred v) refl le)
-              ∙ or-false (is_under rest v)))
+          ∙ ap not (sym (ap (λ b. is_under rest v || b) (none (is_under deferred v) refl le)
+          ∙ or-false (is_under rest v)))
 
   full_clear : clear_of rest (schedules_within item.program item.prefix bound) ≡ clear_of
       (rest ++ deferred) (schedules_under item.program item.prefix)
@@ -488,22 +509,22 @@ module _ (bound : ℕ) (item : ItemView) (part : SummaryView) (rest deferred : L
   fulls_are (i ∷ is) b =
       let x : IsBelow item i = All-head (IsBelow item) i is b in
       λ k. join
-          (sum_of (sym x.program k)
-          ((sym (schedules_under-longer item.program item.prefix i.prefix x.prefix)
-          ∙ ap (λ z. schedules_under z i.prefix) (sym x.program)) k))
-          (fulls_are is (All-tail (IsBelow item) i is b) k)
+      (sum_of (sym x.program k)
+      ((sym (schedules_under-longer item.program item.prefix i.prefix x.prefix)
+      ∙ ap (λ z. schedules_under z i.prefix) (sym x.program)) k))
+      (fulls_are is (All-tail (IsBelow item) i is b) k)
 
   split_full_in : full_sum item ≡ join (with_beyond part false) (full_sums (rest ++ deferred))
   split_full_in =
       sum_parts item.program (schedules_under item.program item.prefix) (rest ++ deferred)
-          (λ v. let a = h.apart v in let b = at_most_one (begins_with item.prefix v) in
-          omega (arith, a, b))
+      (λ v. let a = h.apart v in let b = at_most_one (begins_with item.prefix v) in
+      omega (arith, a, b))
       ∙ (λ k. join
-          ((sum_of-beyond item.program
-          (clear_of (rest ++ deferred) (schedules_under item.program item.prefix))
-          ∙ (ap (λ L. with_beyond (sum_of item.program L) false) (sym full_clear)
-          ∙ ap (λ (t : SummaryView). with_beyond t false) (sym h.sum))) k)
-          (fulls_are (rest ++ deferred) h.below k))
+      ((sum_of-beyond item.program
+      (clear_of (rest ++ deferred) (schedules_under item.program item.prefix))
+      ∙ (ap (λ L. with_beyond (sum_of item.program L) false) (sym full_clear)
+      ∙ ap (λ (t : SummaryView). with_beyond t false) (sym h.sum))) k)
+      (fulls_are (rest ++ deferred) h.below k))
 
 -- all schedules of an item, whatever their preemptions
 pub split_full : (bound : ℕ) (item : ItemView) (part : SummaryView)
@@ -539,18 +560,18 @@ module _ (bound : ℕ) (item : ItemView) (part : SummaryView) (deferred : List I
           (bound + 1) && not (is_under deferred v))
       go (inl l) =
           let e : nat_le (preemptions item.program v) bound ≡ false =
-              grind (arith, nat_tests, l) in
+          grind (arith, nat_tests, l) in
           e ∙ sym (ap (λ b. nat_le (preemptions item.program v) (bound + 1) && b) (sym t
-              ∙ ap (λ b. b && true) e) ∙ none (nat_le (preemptions item.program v) (bound + 1)))
+          ∙ ap (λ b. b && true) e) ∙ none (nat_le (preemptions item.program v) (bound + 1)))
         where
           none : (b : Bool) → (b && false) ≡ false
           none true = refl
           none false = refl
       go (inr le) =
           let e : nat_le (preemptions item.program v) bound ≡ true =
-              grind (arith, nat_tests, le) in
+          grind (arith, nat_tests, le) in
           let g : nat_le (preemptions item.program v) (bound + 1) ≡ true =
-              grind (arith, nat_tests, le) in
+          grind (arith, nat_tests, le) in
           e ∙ (λ j. sym g j && (sym (ap (λ b. b && true) e) ∙ t) j)
 
   next_clear : schedules_within item.program item.prefix bound ≡ clear_of deferred
@@ -561,8 +582,8 @@ module _ (bound : ℕ) (item : ItemView) (part : SummaryView) (deferred : List I
       (λ v. nat_le (preemptions item.program v) (bound + 1) && not (is_under deferred v))
       (schedules_under item.program item.prefix) next_test
       ∙ sym (filter_twice (λ v. not (is_under deferred v))
-          (λ v. nat_le (preemptions item.program v) (bound + 1))
-          (schedules_under item.program item.prefix))
+      (λ v. nat_le (preemptions item.program v) (bound + 1))
+      (schedules_under item.program item.prefix))
 
   next_beyond : exceeds_bound item.program item.prefix (bound + 1) ≡ list_any
       (goes_beyond (Bounded (bound + 1))) deferred

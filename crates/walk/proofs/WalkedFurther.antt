@@ -89,8 +89,14 @@ flat_map-both f (x ∷ xs) ys =
 
 -- what is in order: the schedules that were tried, of both walks, and then those that are left
 module _ (mode : Mode) (item c : ItemView) (a b : SummaryView) (rest deferred r e : List ItemView)
-    (old : IsWalked (record { mode = mode; item = item; part = a; rest = c ∷ rest; deferred =
-        deferred }))
+    (old : IsWalked (record {
+      mode = mode;
+      item = item;
+      part = a;
+      rest = c ∷ rest;
+      deferred =
+          deferred;
+    }))
     (walk : IsWalked (record { mode = mode; item = c; part = b; rest = r; deferred = e })) where
   abbrev all : List (List ℕ)
   all = schedules_of mode item
@@ -148,7 +154,7 @@ module _ (mode : Mode) (item c : ItemView) (a b : SummaryView) (rest deferred r 
   tried_before : filter clear (clear_of (c ∷ rest) all) ≡ clear_of (c ∷ rest) all
   tried_before =
       filter_same clear (λ v. true) (clear_of (c ∷ rest) all)
-          (λ v m. stays v (from_filter (λ u. not (is_under (c ∷ rest) u)) all v m).1)
+      (λ v m. stays v (from_filter (λ u. not (is_under (c ∷ rest) u)) all v m).1)
       ∙ filter_all (clear_of (c ∷ rest) all)
     where
       go : (x y z : Bool) → (x ≡ false → z ≡ false) → not (x || y) ≡ true → not (z || y) ≡ true
@@ -178,7 +184,7 @@ module _ (mode : Mode) (item c : ItemView) (a b : SummaryView) (rest deferred r 
   none_left (x ∷ xs) h k =
       filter-append clear (schedules_of mode x) (flat_map (schedules_of mode) xs)
       ∙ (λ i. one i ++ none_left xs (All-tail (HasItsOf mode item) x xs h)
-          (λ v u. k v (or_more v u)) i)
+      (λ v u. k v (or_more v u)) i)
     where
       or_more : (v : List ℕ) → is_under xs v ≡ true → is_under (x ∷ xs) v ≡ true
       or_more v u = ap (λ b. begins_with x.prefix v || b) u ∙ or_right (begins_with x.prefix v)
@@ -190,7 +196,7 @@ module _ (mode : Mode) (item c : ItemView) (a b : SummaryView) (rest deferred r 
       one : filter clear (schedules_of mode x) ≡ []
       one = filter_same clear (λ v. false) (schedules_of mode x)
           (λ v m. k v (ap (λ b. b || is_under xs v) (from_filter (begins_with x.prefix) all v
-              (subst (λ L. In L v) its_x m)).1))
+          (subst (λ L. In L v) its_x m)).1))
           ∙ filter_none (schedules_of mode x)
 
   under_left : (v : List ℕ) → is_under rest v ≡ true → clear v ≡ false
@@ -206,7 +212,7 @@ module _ (mode : Mode) (item c : ItemView) (a b : SummaryView) (rest deferred r 
       ∙ (filter-append clear (clear_of (c ∷ rest) all) (its ++ left)
       ∙ (λ i. tried_before i ++ (filter-append clear its left
       ∙ ((λ j. tried_now j ++ none_left rest (All-tail (HasItsOf mode item) c rest have) under_left
-          j)
+      j)
       ∙ append-nil (clear_of r its))) i))
 
   in_order : all ≡ clear_of (r ++ rest) all ++ flat_map (schedules_of mode) (r ++ rest)
@@ -223,7 +229,7 @@ module _ (mode : Mode) (item c : ItemView) (a b : SummaryView) (rest deferred r 
 pub walked_further : (mode : Mode) (item c : ItemView) (a b : SummaryView)
     (rest deferred r e : List ItemView) →
     IsWalked (record { mode = mode; item = item; part = a; rest = c ∷ rest; deferred = deferred })
-        →
+    →
     IsWalked (record { mode = mode; item = c; part = b; rest = r; deferred = e }) →
     IsWalked (record {
       mode = mode;

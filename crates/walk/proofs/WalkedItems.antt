@@ -87,7 +87,7 @@ item_kept i w = (there, back)
         (v : List ℕ) × (w ≡ i.prefix ++ v) × (is_kept i.program (state_of i) (has i.mask) v ≡ true)
     there c =
         let from =
-            from_map (λ v. i.prefix ++ v) left w (contains_in (schedules_of Reduced i) w c) in (
+        from_map (λ v. i.prefix ++ v) left w (contains_in (schedules_of Reduced i) w c) in (
           from.0,
           sym from.2,
           ((reduced_members i.program (state_of i) (has i.mask) from.0).0
@@ -152,7 +152,7 @@ after_in_order x L h i j d less within =
     let late : j < length L = omega (arith, within, count) in
     let early : i < length L = omega (arith, less, late) in
     (λ k. precedes (get_or-map (λ w. x ++ w) L i d d early k) (get_or-map (λ w. x ++ w) L j d d
-        late k))
+    late k))
     ∙ precedes_after x (get_or L i d) (get_or L j d) (h i j d less late)
 
 kept_in_order : (p : Program) (prefix : List ℕ) (Z : ℕ → Bool) →
@@ -218,7 +218,7 @@ walked_sum w h =
     (λ r b. b.program) w.rest (rest_below w h) in
     (λ i. with_beyond (sum_of w.item.program (h.schedules i)) (h.split.beyond i))
     ∙ (join-beyond w.item.program (tried_by w) (flat_map (schedules_of w.mode) w.rest)
-        w.part.beyond
+    w.part.beyond
     (list_any (goes_beyond w.mode) w.rest)
     ∙ (λ i. join (sym h.split.sum i) (joined_is w.item.program w.mode w.rest same i)))
 
@@ -296,7 +296,7 @@ none_under v [] h = All-nil (λ (i : ItemView). begins_with i.prefix v ≡ false
 none_under v (x ∷ xs) h =
     let both = or_parts (begins_with x.prefix v) (is_under xs v) h in
     All-cons (λ (i : ItemView). begins_with i.prefix v ≡ false) x xs both.0
-        (none_under v xs both.1)
+    (none_under v xs both.1)
 
 filter_member : (test : List ℕ → Bool) (L : List (List ℕ)) (v : List ℕ) → Contains L v →
     test v ≡ true → Contains (filter test L) v
