@@ -63,9 +63,9 @@ open_opened mode p old new h o kept =
     let mask : new.node.asleep ≡ old.node.asleep = ap (λ (n : Node). n.asleep) o.node in
     let next : new.node.next ≡ 0 = ap (λ (n : Node). n.next) o.node in
     let members : members_from new.node.todo 0 ≡ kept_steps mode (here p old) =
-      kept_members mode p old.steps.items old.state old.node new.node.todo h.trail.node h.trail.state kept in
+    kept_members mode p old.steps.items old.state old.node new.node.todo h.trail.node h.trail.state kept in
     (λ i. children_of mode (record { program = p; prefix = o.steps i; mask = mask i }) (members_from new.node.todo (next i))
-      ++ open_above mode p (length (o.steps i) - o.base i) (reverse (take (length (o.steps i)) (o.frames i))))
+    ++ open_above mode p (length (o.steps i) - o.base i) (reverse (take (length (o.steps i)) (o.frames i))))
     ∙ ap (λ (ts : List ℕ). children_of mode (here p old) ts ++ left_above mode p old) members
 
 state_here : (p : Program) (t : Trail) → IsTrail p t → t.state ≡ state_of (here p t)
@@ -87,7 +87,7 @@ none_kept : (mode : Mode) (p : Program) (t : Trail) → IsTrail p t → members_
     children mode (here p t) ≡ []
 none_kept mode p t h e =
     ap (λ (ts : List ℕ). children_of mode (here p t) (filter (is_kept_step mode (here p t)) ts))
-      (sym (node_enabled p t.steps.items t.state t.node h.node h.state) ∙ e)
+    (sym (node_enabled p t.steps.items t.state t.node h.node h.state) ∙ e)
 
 -- a node where something is enabled
 pub arrived_node : (mode : Mode) (i : ItemView) (old new : Trail) (f g : Found) (past : Mask) (u : ℕ) (us : List ℕ) →
@@ -102,20 +102,20 @@ arrived_node mode i old new f g past u us h o kept passed e part deferred =
     let p : Program = i.program in
     let c : ItemView = here p old in
     let members : members_from past 0 ≡ past_steps mode c =
-      past_members mode p old.steps.items old.state old.node past h.place.trail.node h.place.trail.state passed in
+    past_members mode p old.steps.items old.state old.node past h.place.trail.node h.place.trail.state passed in
     let walked = walked_node mode i c f.part (left_above mode p old) (map (item_at p) f.deferred)
-      (here_of p old h.place.trail) (here_goes_on p old u us h.place.trail e) h.walked in
+    (here_of p old h.place.trail) (here_goes_on p old u us h.place.trail e) h.walked in
     let part_is : g.part ≡ with_beyond f.part (f.part.beyond || passes_bound mode c) =
-      part ∙ ap (λ (ts : List ℕ). with_beyond f.part (f.part.beyond || not (is_empty ts))) members in
+    part ∙ ap (λ (ts : List ℕ). with_beyond f.part (f.part.beyond || not (is_empty ts))) members in
     let deferred_is : map (item_at p) g.deferred ≡ map (item_at p) f.deferred ++ past_children mode c =
-      ap (map (item_at p)) (deferred ∙ ap (λ (ts : List ℕ). f.deferred ++ map (λ t. old.steps.items ++ t ∷ []) ts) members)
-      ∙ deferred_are mode c f.deferred in
+    ap (map (item_at p)) (deferred ∙ ap (λ (ts : List ℕ). f.deferred ++ map (λ t. old.steps.items ++ t ∷ []) ts) members)
+    ∙ deferred_are mode c f.deferred in
     record {
       place = place_opened p old new h.place o;
       walked = subst (λ (s : SummaryView). IsWalked (walk_of mode i s (still_open mode p new) (map (item_at p) g.deferred))) (sym part_is)
-        (subst (λ (rs : List ItemView). IsWalked (walk_of mode i (with_beyond f.part (f.part.beyond || passes_bound mode c)) rs (map (item_at p) g.deferred)))
+          (subst (λ (rs : List ItemView). IsWalked (walk_of mode i (with_beyond f.part (f.part.beyond || passes_bound mode c)) rs (map (item_at p) g.deferred)))
           (sym (open_opened mode p old new h.place o kept))
-        (subst (λ (ds : List ItemView). IsWalked (walk_of mode i (with_beyond f.part (f.part.beyond || passes_bound mode c)) (children mode c ++ left_above mode p old) ds))
+          (subst (λ (ds : List ItemView). IsWalked (walk_of mode i (with_beyond f.part (f.part.beyond || passes_bound mode c)) (children mode c ++ left_above mode p old) ds))
           (sym deferred_is) walked));
     }
 
@@ -130,14 +130,14 @@ arrived_leaf mode i old new f g w v h o kept e schedule view part deferred =
     let c : ItemView = here p old in
     let walked = walked_leaf mode i c f.part (left_above mode p old) (map (item_at p) f.deferred) (here_is_over p old h.place.trail e) h.walked in
     let part_is : g.part ≡ added f.part old.steps.items (end_of p old.steps.items) =
-      part ∙ (λ k. added f.part (schedule k) ((view ∙ ap view_at (state_here p old h.place.trail)) k)) in
+    part ∙ (λ k. added f.part (schedule k) ((view ∙ ap view_at (state_here p old h.place.trail)) k)) in
     let open_is : still_open mode p new ≡ left_above mode p old =
-      open_opened mode p old new h.place o kept ∙ ap (λ (cs : List ItemView). cs ++ left_above mode p old) (none_kept mode p old h.place.trail e) in
+    open_opened mode p old new h.place o kept ∙ ap (λ (cs : List ItemView). cs ++ left_above mode p old) (none_kept mode p old h.place.trail e) in
     record {
       place = place_opened p old new h.place o;
       walked = subst (λ (s : SummaryView). IsWalked (walk_of mode i s (still_open mode p new) (map (item_at p) g.deferred))) (sym part_is)
-        (subst (λ (rs : List ItemView). IsWalked (walk_of mode i (added f.part old.steps.items (end_of p old.steps.items)) rs (map (item_at p) g.deferred))) (sym open_is)
-        (subst (λ (ds : List ItemView). IsWalked (walk_of mode i (added f.part old.steps.items (end_of p old.steps.items)) (left_above mode p old) ds)) (ap (map (item_at p)) (sym deferred)) walked));
+          (subst (λ (rs : List ItemView). IsWalked (walk_of mode i (added f.part old.steps.items (end_of p old.steps.items)) rs (map (item_at p) g.deferred))) (sym open_is)
+          (subst (λ (ds : List ItemView). IsWalked (walk_of mode i (added f.part old.steps.items (end_of p old.steps.items)) (left_above mode p old) ds)) (ap (map (item_at p)) (sym deferred)) walked));
     }
 
 -- how far there is to go then
@@ -182,11 +182,11 @@ pub entered_search : (mode : Mode) (i : ItemView) (old new : Trail) (f : Found) 
 entered_search mode i old new f u asleep h trail e mask =
     let p : Program = i.program in
     let same : here p new ≡ child_of mode (here p old) u =
-      λ k. record { program = p; prefix = e.steps k; mask = (e.sleepers ∙ mask) k } in
+    λ k. record { program = p; prefix = e.steps k; mask = (e.sleepers ∙ mask) k } in
     record {
       place = record { trail = trail; base = let b = h.place.base in let d = e.base in let l = ap length e.steps in let k = length_push old.steps.items u in omega (arith, b, d, l, k) };
       walked = subst (λ (c : ItemView). IsWalked (walk_of mode i f.part (c ∷ left_above mode p new) (map (item_at p) f.deferred))) (sym same)
-        (subst (λ (rs : List ItemView). IsWalked (walk_of mode i f.part (child_of mode (here p old) u ∷ rs) (map (item_at p) f.deferred)))
+          (subst (λ (rs : List ItemView). IsWalked (walk_of mode i f.part (child_of mode (here p old) u ∷ rs) (map (item_at p) f.deferred)))
           (sym (open_entered mode p old new u asleep h.place e)) h.walked);
     }
 
@@ -198,7 +198,7 @@ pub entered_cost : (mode : Mode) (p : Program) (old new : Trail) (u n : ℕ) (as
 unfolding turns_left
 entered_cost mode p old new u n asleep h e mask l =
     let same : here p new ≡ child_of mode (here p old) u =
-      λ k. record { program = p; prefix = e.steps k; mask = (e.sleepers ∙ mask) k } in
+    λ k. record { program = p; prefix = e.steps k; mask = (e.sleepers ∙ mask) k } in
     let a = ap cost_of same in
     let b = ap costs (open_entered mode p old new u asleep h e) in
     let k = ap length e.steps ∙ length_push old.steps.items u in

@@ -31,7 +31,7 @@ pub above_entered : (S old : List Frame) (f : Frame) (w : List ℕ) (t : ℕ) �
 above_entered S old f w t there same =
     ap (λ n. reverse (take n (set S (length w) f))) (length_push w t)
     ∙ reversed (take (length w + 1) (set S (length w) f)) (take (length w) old) f
-      (take_more_set S (length w) f there ∙ ap (λ (L : List Frame). L ++ f ∷ []) same)
+    (take_more_set S (length w) f there ∙ ap (λ (L : List Frame). L ++ f ∷ []) same)
 
 -- a preempting switch, by the mask of who is enabled
 pub leaves_is : (p : Program) (s : Snapshot) (m : Mask) (last : Option ℕ) (t : ℕ) → HasEnabled m p s →
@@ -51,7 +51,7 @@ pub node_entered : (p : Program) (w v : List ℕ) (s z : Snapshot) (n : Node) (t
 node_entered p w v s z n t enabled asleep h on stepped items masked = record {
   reaches = subst (λ (x : List ℕ). Reaches p x (record { state = z; last = Some t; preemptions = n.used + one_if (leaves n t) })) (sym items)
       (reaches_parts p w (record { state = s; last = n.last; preemptions = n.used }) t z (n.used + one_if (leaves n t)) h.reaches on stepped
-        (ap (λ b. n.used + one_if b) (leaves_is p s n.enabled n.last t h.enabled)));
+      (ap (λ b. n.used + one_if b) (leaves_is p s n.enabled n.last t h.enabled)));
   enabled = masked;
 }
 
@@ -95,10 +95,10 @@ pub lowest : (p : Program) (t : Trail) (n : ℕ) (f : Frame) → IsTrail p t →
 lowest p t n f h one read =
     let there : n < length t.frames.items = let r = h.room in omega (arith, r, one) in
     let items : take (length t.steps.items) t.frames.items ≡ take n t.frames.items ++ f ∷ [] =
-      ap (λ k. take k t.frames.items) one
-      ∙ (take_more t.frames.items n f there ∙ ap (λ (g : Frame). take n t.frames.items ++ g ∷ []) (sym read)) in
+    ap (λ k. take k t.frames.items) one
+    ∙ (take_more t.frames.items n f there ∙ ap (λ (g : Frame). take n t.frames.items ++ g ∷ []) (sym read)) in
     let rev : above t ≡ f ∷ reverse (take n t.frames.items) =
-      reversed (take (length t.steps.items) t.frames.items) (take n t.frames.items) f items in
+    reversed (take (length t.steps.items) t.frames.items) (take n t.frames.items) f items in
     let frames = subst (AreFrames p) rev h.frames in
     record { above = rev; frame = frames.0; frames = frames.1; steps = h.steps ∙ ap path rev }
 
@@ -119,25 +119,27 @@ trail_left p old new n f h one read items frames back node base =
     let v : List ℕ = path (reverse (take n old.frames.items)) in
     let steps : new.steps.items ≡ v = popped old.steps.items v new.steps.items f.thread n L.steps one items in
     let count : length new.steps.items ≡ n =
-      let m : length old.steps.items ≡ length v + 1 = ap length L.steps ∙ length_push v f.thread in
-      let k : length new.steps.items ≡ length v = ap length steps in omega (arith, one, m, k) in
+    let m : length old.steps.items ≡ length v + 1 = ap length L.steps ∙ length_push v f.thread in
+    let k : length new.steps.items ≡ length v = ap length steps in omega (arith, one, m, k) in
     let up : above new ≡ reverse (take n old.frames.items) = λ i. reverse (take (count i) (frames i)) in
     let at : new.state ≡ state_at p v =
-      state_left p old.steps.items v old.state new.state f L.frame h.node.reaches.state L.steps back in
-    (record {
-      node = node_same p new.steps.items v new.state (state_at p v) new.node f.node L.frame.node steps at node;
-      state = subst (IsOf p) (sym at) L.frame.state;
-      frames = subst (AreFrames p) (sym up) L.frames;
-      steps = steps ∙ ap path (sym up);
-      room = let r = h.room in let k : length new.frames.items ≡ length old.frames.items = ap length frames in
-        omega (arith, r, k, one, count);
-    }, record {
-      frame = f;
-      steps = L.steps ∙ ap (λ (x : List ℕ). x ++ f.thread ∷ []) (sym steps);
-      above = L.above ∙ ap (λ (fs : List Frame). f ∷ fs) (sym up);
-      node = node;
-      base = base;
-    })
+    state_left p old.steps.items v old.state new.state f L.frame h.node.reaches.state L.steps back in (
+      record {
+        node = node_same p new.steps.items v new.state (state_at p v) new.node f.node L.frame.node steps at node;
+        state = subst (IsOf p) (sym at) L.frame.state;
+        frames = subst (AreFrames p) (sym up) L.frames;
+        steps = steps ∙ ap path (sym up);
+        room = let r = h.room in let k : length new.frames.items ≡ length old.frames.items = ap length frames in
+            omega (arith, r, k, one, count);
+      },
+      record {
+        frame = f;
+        steps = L.steps ∙ ap (λ (x : List ℕ). x ++ f.thread ∷ []) (sym steps);
+        above = L.above ∙ ap (λ (fs : List Frame). f ∷ fs) (sym up);
+        node = node;
+        base = base;
+      },
+    )
 
 -- one step down
 pub trail_entered : (p : Program) (old new : Trail) (S : List Frame) (t : ℕ) (u : Undo) (enabled asleep : Mask) →
@@ -151,19 +153,21 @@ pub trail_entered : (p : Program) (old new : Trail) (S : List Frame) (t : ℕ) (
 trail_entered p old new S t u enabled asleep h on there same items frames stepped of' r back masked node base =
     let f : Frame = record { node = old.node; thread = t; undo = u } in
     let up : above new ≡ f ∷ above old =
-      (λ i. reverse (take (length (items i)) (frames i)))
-      ∙ above_entered S old.frames.items f old.steps.items t there same in
-    let frame = frame_entered p old.steps.items (path (above old)) old.state new.state old.node t u h.node h.steps stepped back h.state r in
-    (record {
-      node = subst (IsNode p new.steps.items new.state) (sym node)
-        (node_entered p old.steps.items new.steps.items old.state new.state old.node t enabled asleep h.node on stepped items masked);
-      state = of';
-      frames = subst (AreFrames p) (sym up) (frame, h.frames);
-      steps = items ∙ (ap (λ (x : List ℕ). x ++ t ∷ []) h.steps ∙ ap path (sym up));
-      room = let k : length new.frames.items ≡ length S = ap length frames ∙ length-set S (length old.steps.items) f in
-        let m : length new.steps.items ≡ length old.steps.items + 1 = ap length items ∙ length_push old.steps.items t in
-        omega (arith, k, m, there);
-    }, record { steps = items; frame = f; above = up; node = refl; sleepers = ap (λ (n : Node). n.asleep) node; base = base })
+    (λ i. reverse (take (length (items i)) (frames i)))
+    ∙ above_entered S old.frames.items f old.steps.items t there same in
+    let frame = frame_entered p old.steps.items (path (above old)) old.state new.state old.node t u h.node h.steps stepped back h.state r in (
+      record {
+        node = subst (IsNode p new.steps.items new.state) (sym node)
+            (node_entered p old.steps.items new.steps.items old.state new.state old.node t enabled asleep h.node on stepped items masked);
+        state = of';
+        frames = subst (AreFrames p) (sym up) (frame, h.frames);
+        steps = items ∙ (ap (λ (x : List ℕ). x ++ t ∷ []) h.steps ∙ ap path (sym up));
+        room = let k : length new.frames.items ≡ length S = ap length frames ∙ length-set S (length old.steps.items) f in
+            let m : length new.steps.items ≡ length old.steps.items + 1 = ap length items ∙ length_push old.steps.items t in
+            omega (arith, k, m, there);
+      },
+      record { steps = items; frame = f; above = up; node = refl; sleepers = ap (λ (n : Node). n.asleep) node; base = base },
+    )
 
 -- frames after the steps don't matter, nor what is still to be tried
 pub trail_same : (p : Program) (old new : Trail) → IsTrail p old → new.steps.items ≡ old.steps.items →
@@ -182,6 +186,7 @@ trail_same p old new h items frames room state node =
 
 -- an enabled thread is one of the program
 pub enabled_within : (p : Program) (s : Snapshot) (t : ℕ) → IsOf p s → is_enabled p s t ≡ true → t < length p.threads
-enabled_within p s t of' on = elim (cases_lt t (length s.threads))
-    [ inl l ↦ (let e = of'.threads in omega (arith, l, e))
-    | inr g ↦ absurd (false≢true (sym (disabled_past p s t g) ∙ on)) ]
+enabled_within p s t of' on = elim (cases_lt t (length s.threads)) [
+  | inl l ↦ (let e = of'.threads in omega (arith, l, e))
+  | inr g ↦ absurd (false≢true (sym (disabled_past p s t g) ∙ on))
+]

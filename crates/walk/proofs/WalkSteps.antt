@@ -49,21 +49,21 @@ walked_leaf mode i c part rest deferred over h =
     let f = first_open mode i c part rest deferred h in
     let kept : IsSummary part = split_kept mode i part (c ∷ rest) deferred h.split in
     subst (λ (s : SummaryView). IsWalked (walk_of mode i s rest deferred)) (join_leaf c.program part c.prefix kept)
-      (subst (λ (ds : List ItemView). IsWalked (walk_of mode i (join part (sum_of c.program (c.prefix ∷ []))) rest ds)) (append-nil deferred)
-        (walked_further mode i c part (sum_of c.program (c.prefix ∷ [])) rest deferred [] [] h (leaf_walked mode c f.item over f.within)))
+    (subst (λ (ds : List ItemView). IsWalked (walk_of mode i (join part (sum_of c.program (c.prefix ∷ []))) rest ds)) (append-nil deferred)
+    (walked_further mode i c part (sum_of c.program (c.prefix ∷ [])) rest deferred [] [] h (leaf_walked mode c f.item over f.within)))
 
 -- it goes on, and gives way to its children
 pub walked_node : (mode : Mode) (i c : ItemView) (part : SummaryView) (rest deferred : List ItemView) →
     IsOf c.program (state_of c) → is_terminal c.program (state_of c) ≡ false →
     IsWalked (walk_of mode i part (c ∷ rest) deferred) →
     IsWalked (walk_of mode i (with_beyond part (part.beyond || passes_bound mode c)) (children mode c ++ rest)
-      (deferred ++ past_children mode c))
+    (deferred ++ past_children mode c))
 walked_node mode i c part rest deferred of' more h =
     let f = first_open mode i c part rest deferred h in
     let kept : IsSummary part = split_kept mode i part (c ∷ rest) deferred h.split in
     subst (λ (s : SummaryView). IsWalked (walk_of mode i s (children mode c ++ rest) (deferred ++ past_children mode c)))
-      (join_past part (passes_bound mode c) kept)
-      (walked_further mode i c part (with_beyond nothing (passes_bound mode c)) rest deferred (children mode c) (past_children mode c) h (node_walked mode c f.item of' more f.within))
+    (join_past part (passes_bound mode c) kept)
+    (walked_further mode i c part (with_beyond nothing (passes_bound mode c)) rest deferred (children mode c) (past_children mode c) h (node_walked mode c f.item of' more f.within))
 
 -- nothing is enabled, or something is
 pub over_none : (p : Program) (s : Snapshot) → enabled p s ≡ [] → is_terminal p s ≡ true

@@ -33,17 +33,17 @@ step_enabled p w s t h at =
     let n : length w < length (w ++ t ∷ []) = let e = length_push w t in omega (arith, e) in
     let on = runs_at p (start p) (w ++ t ∷ []) (length w) h n in
     subst (λ (z : Snapshot). is_enabled p z t ≡ true) (sym at)
-      (subst (λ (v : List ℕ). is_enabled p (state_at p v) t ≡ true) (take_at w (t ∷ []) (length w) refl)
-      (subst (λ (u : ℕ). is_enabled p (state_at p (take (length w) (w ++ t ∷ []))) u ≡ true)
-        (get_or_at w t [] 0 (length w) refl) on))
+    (subst (λ (v : List ℕ). is_enabled p (state_at p v) t ≡ true) (take_at w (t ∷ []) (length w) refl)
+    (subst (λ (u : ℕ). is_enabled p (state_at p (take (length w) (w ++ t ∷ []))) u ≡ true)
+    (get_or_at w t [] 0 (length w) refl) on))
 
 -- what was open is open above, once a step is taken
 pub open_entered : (mode : Mode) (p : Program) (old new : Trail) (t : ℕ) (asleep : Mask) → IsPlace p old →
     IsEntered old new t asleep → left_above mode p new ≡ still_open mode p old
 open_entered mode p old new t asleep h e =
     let count : length new.steps.items - new.base ≡ suc (length old.steps.items - old.base) =
-      let k : length new.steps.items ≡ length old.steps.items + 1 = ap length e.steps ∙ length_push old.steps.items t in
-      let b = e.base in let l = h.base in omega (arith, k, b, l) in
+    let k : length new.steps.items ≡ length old.steps.items + 1 = ap length e.steps ∙ length_push old.steps.items t in
+    let b = e.base in let l = h.base in omega (arith, k, b, l) in
     (λ i. open_above mode p (count i) (e.above i))
     ∙ (λ i. open_at mode p (sym h.trail.steps i) (e.node i) ++ left_above mode p old)
 
@@ -52,8 +52,8 @@ pub open_left : (mode : Mode) (p : Program) (old new : Trail) → old.base < len
     IsLeft old new → left_above mode p old ≡ still_open mode p new
 open_left mode p old new l h e =
     let count : length old.steps.items - old.base ≡ suc (length new.steps.items - new.base) =
-      let k : length old.steps.items ≡ length new.steps.items + 1 = ap length e.steps ∙ length_push new.steps.items e.frame.thread in
-      let b = e.base in omega (arith, k, b, l) in
+    let k : length old.steps.items ≡ length new.steps.items + 1 = ap length e.steps ∙ length_push new.steps.items e.frame.thread in
+    let b = e.base in omega (arith, k, b, l) in
     (λ i. open_above mode p (count i) (e.above i))
     ∙ (λ i. open_at mode p (sym h.steps i) (sym e.node i) ++ left_above mode p new)
 

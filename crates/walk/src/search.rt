@@ -18,8 +18,8 @@ use crate::summary::Summary;
 use crate::trail::{Node, Trail};
 use crate::walked::Walked;
 use guest_code::program::Program;
-use semantics::mask::Mask;
 use semantics::independence::sleepers_after;
+use semantics::mask::Mask;
 use std::alloc::{AllocError, Global};
 
 /// What a walk has found so far: the sum of what it tried, and the prefixes that its bound put off.
@@ -116,13 +116,25 @@ impl Trail {
     {
         match mode {
             Mode::Bounded(_) => Mask::empty(),
-            Mode::Reduced => sleepers_after(program, &self.state, self.node.enabled, self.node.asleep, thread),
+            Mode::Reduced => sleepers_after(
+                program,
+                &self.state,
+                self.node.enabled,
+                self.node.asleep,
+                thread,
+            ),
         }
     }
 
     // The node where it stands gives way to its children; where it has none it is tried.
     #[inline(always)]
-    fn arrive(&mut self, alloc: Global, found: &mut Found, item: &Item, mode: Mode) -> Result<(), AllocError>
+    fn arrive(
+        &mut self,
+        alloc: Global,
+        found: &mut Found,
+        item: &Item,
+        mode: Mode,
+    ) -> Result<(), AllocError>
         requires search { IsSearch mode item.now self.old found.old
             (here item.now.program self.old ∷ left_above mode item.now.program self.old) }
         ensures place { IsPlace item.now.program self.new }
@@ -138,7 +150,13 @@ impl Trail {
             Some(_) => found.defer(&mut self.steps, past)?,
             None => {
                 let kind = self.state.final_kind();
-                found.part.add(alloc, &mut self.hints, self.steps.as_slice(), kind, self.state.variables())?;
+                found.part.add(
+                    alloc,
+                    &mut self.hints,
+                    self.steps.as_slice(),
+                    kind,
+                    self.state.variables(),
+                )?;
             }
         }
         Ok(())
@@ -146,7 +164,14 @@ impl Trail {
 
     // Goes into the next open child.
     #[inline(always)]
-    fn descend(&mut self, alloc: Global, found: &mut Found, item: &Item, mode: Mode, thread: u8) -> Result<(), AllocError>
+    fn descend(
+        &mut self,
+        alloc: Global,
+        found: &mut Found,
+        item: &Item,
+        mode: Mode,
+        thread: u8,
+    ) -> Result<(), AllocError>
         requires search { IsSearch mode item.now self.old found.old
             (child_of mode (here item.now.program self.old) thread
             ∷ still_open mode item.now.program self.old) }
@@ -174,7 +199,7 @@ impl Trail {
         ensures further { IsTrue result →
             turns_left _mode program.now self.new < turns_left _mode program.now self.old }
         ensures over { IsFalse result → still_open _mode program.now self.new ≡ [] }
-        ensures there { IsFalse result → 
+        ensures there { IsFalse result →
             turns_left _mode program.now self.new ≡ turns_left _mode program.now self.old }
     {
         if self.steps.len() == self.base {
@@ -186,7 +211,13 @@ impl Trail {
 
     // One turn. False where nothing is open.
     #[inline(always)]
-    fn turn(&mut self, alloc: Global, found: &mut Found, item: &Item, mode: Mode) -> Result<bool, AllocError>
+    fn turn(
+        &mut self,
+        alloc: Global,
+        found: &mut Found,
+        item: &Item,
+        mode: Mode,
+    ) -> Result<bool, AllocError>
         requires search { IsSearch mode item.now self.old found.old (still_open mode item.now.program self.old) }
         ensures trail { IsTrail item.now.program self.new }
         ensures search { OnOk result (IsSearch mode item.now self.new found.new
@@ -209,7 +240,14 @@ impl Trail {
     }
 
     // Turns until so many are tried or nothing is open.
-    fn search(&mut self, alloc: Global, found: &mut Found, item: &Item, mode: Mode, quota: u32) -> Result<(), AllocError>
+    fn search(
+        &mut self,
+        alloc: Global,
+        found: &mut Found,
+        item: &Item,
+        mode: Mode,
+        quota: u32,
+    ) -> Result<(), AllocError>
         requires search { IsSearch mode item.now self.old found.old (still_open mode item.now.program self.old) }
         requires few { found.old.part.tried ≤ quota }
         ensures trail { IsTrail item.now.program self.new }
@@ -226,7 +264,13 @@ impl Trail {
     }
 
     // Makes an item of the next open child, or goes back. False where nothing is open.
-    fn give_back(&mut self, alloc: Global, item: &Item, mode: Mode, rest: &mut Vec<Item>) -> Result<bool, AllocError>
+    fn give_back(
+        &mut self,
+        alloc: Global,
+        item: &Item,
+        mode: Mode,
+        rest: &mut Vec<Item>,
+    ) -> Result<bool, AllocError>
         requires place { IsPlace item.now.program self.old }
         requires items { All IsItem (still_open mode item.now.program self.old) }
         ensures place { IsPlace item.now.program self.new }
@@ -252,7 +296,12 @@ impl Trail {
     }
 
     // Makes items of all that is open.
-    fn give_all_back(&mut self, alloc: Global, item: &Item, mode: Mode) -> Result<Vec<Item>, AllocError>
+    fn give_all_back(
+        &mut self,
+        alloc: Global,
+        item: &Item,
+        mode: Mode,
+    ) -> Result<Vec<Item>, AllocError>
         requires place { IsPlace item.now.program self.old }
         requires items { All IsItem (still_open mode item.now.program self.old) }
         ensures place { IsPlace item.now.program self.new }
@@ -291,7 +340,13 @@ impl Trail {
     }
 
     /// Tries the first schedules of an item, up to a quota.
-    pub fn walk(&mut self, alloc: Global, item: &Item, mode: Mode, quota: u32) -> Result<Walked, AllocError>
+    pub fn walk(
+        &mut self,
+        alloc: Global,
+        item: &Item,
+        mode: Mode,
+        quota: u32,
+    ) -> Result<Walked, AllocError>
         requires trail { IsTrail item.now.program self.old }
         requires quota { 1 ≤ quota }
         ensures trail { IsTrail item.now.program self.new }
@@ -307,11 +362,23 @@ impl Trail {
         let mut found = Found::new(alloc);
         if self.is_past(mode) {
             found.part.set_beyond();
-            return Ok(Walked::new(mode, item.try_clone(alloc)?, found.part, Vec::new(alloc), found.deferred));
+            return Ok(Walked::new(
+                mode,
+                item.try_clone(alloc)?,
+                found.part,
+                Vec::new(alloc),
+                found.deferred,
+            ));
         }
         self.arrive(alloc, &mut found, item, mode)?;
         self.search(alloc, &mut found, item, mode, quota)?;
         let rest = self.give_all_back(alloc, item, mode)?;
-        Ok(Walked::new(mode, item.try_clone(alloc)?, found.part, rest, found.deferred))
+        Ok(Walked::new(
+            mode,
+            item.try_clone(alloc)?,
+            found.part,
+            rest,
+            found.deferred,
+        ))
     }
 }

@@ -171,7 +171,9 @@ impl Trail {
         let frame = &mut self.frames[depth];
         frame.node = self.node;
         frame.thread = thread;
-        let enabled = self.state.step_into(program, thread, &mut frame.undo, self.node.enabled);
+        let enabled = self
+            .state
+            .step_into(program, thread, &mut frame.undo, self.node.enabled);
         self.node = self.node.after(thread, enabled, asleep);
         Ok(())
     }

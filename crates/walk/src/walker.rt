@@ -24,7 +24,6 @@ pub struct Walker {
 impl Model for Walker {
     ghost use Rattle.guest_code.specs.Program.{Program};
     ghost use Rattle.std.specs.Arc.{arc_value};
-
     ghost use Rattle.walk.specs.inner.Paths.{IsTrail};
 
     ghost Value = { Program };

@@ -6,6 +6,7 @@ use Rattle.walk.proofs.trail.Node.past.Goals as goal
 pub with-requires : goal.with-requires
 with-requires c =
     let fits : c.args.self.enabled.bits < 2 ^ 16 = search rules in
-    elim (cases_lt c.in-Some.last 16)
-    [ inl l ↦ l
-    | inr g ↦ absurd (false≢true (sym (has-above c.args.self.enabled c.in-Some.last fits g) ∙ (sym c.has.ensures ∙ c.if-has.true))) ]
+    elim (cases_lt c.in-Some.last 16) [
+      | inl l ↦ l
+      | inr g ↦ absurd (false≢true (sym (has-above c.args.self.enabled c.in-Some.last fits g) ∙ (sym c.has.ensures ∙ c.if-has.true)))
+    ]

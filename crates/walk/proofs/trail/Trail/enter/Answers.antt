@@ -17,11 +17,11 @@ returns-clause-trail c =
     let f : Frame = record { node = t.node; thread = c.args.thread; undo = c.step_into-enabled.new.undo } in
     let count : c.len-depth.result ≡ length t.steps.items = c.len-depth.ensures ∙ t.steps.ok.0 in
     (trail_entered c.args.program.now t _ S c.args.thread c.step_into-enabled.new.undo c.step_into-enabled.result c.args.asleep
-      c.requires.trail c.requires.enabled (subst (λ (n : ℕ). n < length S) count c.in_ok-make_frame.ensures.there)
-      (subst (λ (n : ℕ). take n S ≡ take n t.frames.items) count c.in_ok-make_frame.ensures.same)
-      c.in_ok-push.ensures.items (ap (λ (n : ℕ). set S n f) count) c.step_into-enabled.ensures.value c.step_into-enabled.ensures.of
-      c.step_into-enabled.ensures.record c.step_into-enabled.ensures.back (c.step_into-enabled.ensures.mask c.requires.trail.node.enabled)
-      c.after-self.ensures refl).0
+    c.requires.trail c.requires.enabled (subst (λ (n : ℕ). n < length S) count c.in_ok-make_frame.ensures.there)
+    (subst (λ (n : ℕ). take n S ≡ take n t.frames.items) count c.in_ok-make_frame.ensures.same)
+    c.in_ok-push.ensures.items (ap (λ (n : ℕ). set S n f) count) c.step_into-enabled.ensures.value c.step_into-enabled.ensures.of
+    c.step_into-enabled.ensures.record c.step_into-enabled.ensures.back (c.step_into-enabled.ensures.mask c.requires.trail.node.enabled)
+    c.after-self.ensures refl).0
 
 pub returns-clause-entered : goal.returns-clause-entered
 returns-clause-entered c =
@@ -30,8 +30,8 @@ returns-clause-entered c =
     let f : Frame = record { node = t.node; thread = c.args.thread; undo = c.step_into-enabled.new.undo } in
     let count : c.len-depth.result ≡ length t.steps.items = c.len-depth.ensures ∙ t.steps.ok.0 in
     (trail_entered c.args.program.now t _ S c.args.thread c.step_into-enabled.new.undo c.step_into-enabled.result c.args.asleep
-      c.requires.trail c.requires.enabled (subst (λ (n : ℕ). n < length S) count c.in_ok-make_frame.ensures.there)
-      (subst (λ (n : ℕ). take n S ≡ take n t.frames.items) count c.in_ok-make_frame.ensures.same)
-      c.in_ok-push.ensures.items (ap (λ (n : ℕ). set S n f) count) c.step_into-enabled.ensures.value c.step_into-enabled.ensures.of
-      c.step_into-enabled.ensures.record c.step_into-enabled.ensures.back (c.step_into-enabled.ensures.mask c.requires.trail.node.enabled)
-      c.after-self.ensures refl).1
+    c.requires.trail c.requires.enabled (subst (λ (n : ℕ). n < length S) count c.in_ok-make_frame.ensures.there)
+    (subst (λ (n : ℕ). take n S ≡ take n t.frames.items) count c.in_ok-make_frame.ensures.same)
+    c.in_ok-push.ensures.items (ap (λ (n : ℕ). set S n f) count) c.step_into-enabled.ensures.value c.step_into-enabled.ensures.of
+    c.step_into-enabled.ensures.record c.step_into-enabled.ensures.back (c.step_into-enabled.ensures.mask c.requires.trail.node.enabled)
+    c.after-self.ensures refl).1

@@ -30,12 +30,12 @@ sleepers-asleep-requires-clause-enabled c =
     let p = c.args.item.now.program in
     let t = c.args.self.now in
     subst (λ (q : Program). is_enabled q t.state c.in-Some.thread ≡ _) (sym c.program-in-Some.ensures)
-      (child_enabled c.args.mode p t c.in-Some.thread c.requires.place.trail
-      (All-head IsItem _ _ (subst (λ (ts : List ℕ). All IsItem (children_of c.args.mode (here p t) ts ++ left_above c.args.mode p t)) c.in-Some.ensures.list c.requires.items)))
+    (child_enabled c.args.mode p t c.in-Some.thread c.requires.place.trail
+    (All-head IsItem _ _ (subst (λ (ts : List ℕ). All IsItem (children_of c.args.mode (here p t) ts ++ left_above c.args.mode p t)) c.in-Some.ensures.list c.requires.items)))
 
 pub further-requires : goal.further-requires
 further-requires c =
     let p = c.args.item.now.program in
     let t = c.args.self.now in
     subst (λ (w : List ℕ). runs p (start p) (w ++ c.in-Some.thread ∷ []) ≡ _) (sym c.as_slice.ensures.value)
-      (All-head IsItem _ _ (subst (λ (ts : List ℕ). All IsItem (children_of c.args.mode (here p t) ts ++ left_above c.args.mode p t)) c.in-Some.ensures.list c.requires.items))
+    (All-head IsItem _ _ (subst (λ (ts : List ℕ). All IsItem (children_of c.args.mode (here p t) ts ++ left_above c.args.mode p t)) c.in-Some.ensures.list c.requires.items))

@@ -17,7 +17,7 @@ returns-clause-trail c =
     let n : ℕ = c.len-depth.result - 1 in
     let one : length t.steps.items ≡ n + 1 = omega (arith, c.len-depth.ensures, c.requires.step, t.steps.ok.0) in
     (trail_left c.args._program.now t _ n c.index-frame.result.now c.requires.trail one c.index-frame.ensures
-      (c.pop.ensures.rest ∙ ap (λ (k : ℕ). take (k - 1) t.steps.items) (sym c.len-depth.ensures)) refl c.undo.ensures refl refl).0
+    (c.pop.ensures.rest ∙ ap (λ (k : ℕ). take (k - 1) t.steps.items) (sym c.len-depth.ensures)) refl c.undo.ensures refl refl).0
 
 pub returns-clause-left : goal.returns-clause-left
 returns-clause-left c =
@@ -25,4 +25,4 @@ returns-clause-left c =
     let n : ℕ = c.len-depth.result - 1 in
     let one : length t.steps.items ≡ n + 1 = omega (arith, c.len-depth.ensures, c.requires.step, t.steps.ok.0) in
     (trail_left c.args._program.now t _ n c.index-frame.result.now c.requires.trail one c.index-frame.ensures
-      (c.pop.ensures.rest ∙ ap (λ (k : ℕ). take (k - 1) t.steps.items) (sym c.len-depth.ensures)) refl c.undo.ensures refl refl).1
+    (c.pop.ensures.rest ∙ ap (λ (k : ℕ). take (k - 1) t.steps.items) (sym c.len-depth.ensures)) refl c.undo.ensures refl refl).1

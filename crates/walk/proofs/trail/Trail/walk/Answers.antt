@@ -22,8 +22,10 @@ pub arrive-requires : goal.arrive-requires
 arrive-requires c =
     let i = c.args.item.now in
     let t = c.stand_at.new.self in
-    record { search = search_begun c.args.mode i t c.new-found.result c.in_ok-stand_at.ensures.place c.in_ok-stand_at.ensures.item c.in_ok-stand_at.ensures.base
-      (sym c.is_past.ensures ∙ c.if-is_past.false) c.new-found.ensures.part c.new-found.ensures.deferred }
+    record {
+      search = search_begun c.args.mode i t c.new-found.result c.in_ok-stand_at.ensures.place c.in_ok-stand_at.ensures.item c.in_ok-stand_at.ensures.base
+          (sym c.is_past.ensures ∙ c.if-is_past.false) c.new-found.ensures.part c.new-found.ensures.deferred;
+    }
 
 pub give_all_back-requires-clause-items : goal.give_all_back-requires-clause-items
 give_all_back-requires-clause-items c = items_run c.args.mode c.args.item.now _ _ _ c.in_ok-search.ensures.search.walked
