@@ -39,14 +39,19 @@ bad_is_reported may p o mode sum w v stage found some on =
     go : (search : Search) (m : Mode) (v : Verdict) → IsModeOf search m → HasPassed p m
         → IsFound o.quick p m sum → IsVerdictOn p w v
         → IsReportFor may p o search (report_in o m sum v)
-    go (UpTo last) (Bounded bound) (Bad k schedule kind) of passed found on =
-        (bound, refl, subst (λ n. IsBad o.quick p last bound sum n schedule.items kind) (sym on.0)
-        (subst (λ s. IsBad o.quick p last bound sum (preemptions p w) s kind) (sym on.1)
-        (found_bad o.quick p last bound sum w kind of passed found.sum some on.2)))
-    go Unbounded Reduced (Bad k schedule kind) of passed found on =
-        (refl, subst (λ n. IsFirstBad o.quick p sum n schedule.items kind) (sym on.0)
-        (subst (λ s. IsFirstBad o.quick p sum (preemptions p w) s kind) (sym on.1)
-        (found_first o.quick p sum w kind found.sum some on.2)))
+    go (UpTo last) (Bounded bound) (Bad k schedule kind) of passed found on = (
+      bound,
+      refl,
+      subst (λ n. IsBad o.quick p last bound sum n schedule.items kind) (sym on.0)
+          (subst (λ s. IsBad o.quick p last bound sum (preemptions p w) s kind) (sym on.1)
+          (found_bad o.quick p last bound sum w kind of passed found.sum some on.2)),
+    )
+    go Unbounded Reduced (Bad k schedule kind) of passed found on = (
+      refl,
+      subst (λ n. IsFirstBad o.quick p sum n schedule.items kind) (sym on.0)
+          (subst (λ s. IsFirstBad o.quick p sum (preemptions p w) s kind) (sym on.1)
+          (found_first o.quick p sum w kind found.sum some on.2)),
+    )
     go (UpTo last) Reduced v of passed found on = absurd of
     go Unbounded (Bounded bound) v of passed found on = absurd of
     go search m (Clean all) of passed found on = absurd on
@@ -64,9 +69,13 @@ clean_is_reported may p o mode sum all stage found none is last =
         → IsReportFor may p o search (report_in o m sum (Clean all))
     go (UpTo last) (Bounded bound) of passed found end =
         (bound, refl, found_none p last bound sum all of passed (found.clean none) none is end)
-    go Unbounded Reduced of passed found end =
-        (refl, (is ∙ ap (λ (t : SummaryView). not t.beyond) (found.clean none),
-        found_no_bad p sum (found.clean none) none))
+    go Unbounded Reduced of passed found end = (
+      refl,
+      (
+        is ∙ ap (λ (t : SummaryView). not t.beyond) (found.clean none),
+        found_no_bad p sum (found.clean none) none,
+      ),
+    )
     go (UpTo last) Reduced of passed found end = absurd of
     go Unbounded (Bounded bound) of passed found end = absurd of
 
@@ -94,9 +103,10 @@ can_raise p o mode sum stage found none beyond more =
   where
     go : (search : Search) (m : Mode) → IsModeOf search m → HasPassed p m
         → IsFound o.quick p m sum → (IsLast search m → ⊥) → CanRaise p search m
-    go (UpTo last) (Bounded bound) of passed found more =
-        (not_last bound last of more,
-        passed_next p bound sum passed (found.clean none) none beyond)
+    go (UpTo last) (Bounded bound) of passed found more = (
+      not_last bound last of more,
+      passed_next p bound sum passed (found.clean none) none beyond,
+    )
       where
         not_last : (b l : ℕ) → b ≤ l → (b ≡ l → ⊥) → b < l
         not_last b l le ne = omega (arith, le, ne)

@@ -34,7 +34,7 @@ put_whole k d (member l x ms) e f =
     go : (o : Ordering) (b : Bool) → has_float x ≡ b → (b || members_have_float ms) ≡ false
         → (members_have_float ms ≡ false → members_have_float (put k d ms) ≡ false)
         → members_have_float (match_ordering o (member k d (member l x ms)) (member l d ms)
-            (member l x (put k d ms))) ≡ false
+        (member l x (put k d ms))) ≡ false
     go o true same h later = absurd cc
     go Less false same h later = neither (has_float d) _ e (neither (has_float x) _ same h)
     go Equal false same h later = neither (has_float d) _ e h

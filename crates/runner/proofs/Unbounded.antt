@@ -47,7 +47,7 @@ all_ends p =
     ends_of p (kept_schedules (root_of p))
     ∙ ap (λ L. sorted_views (map (end_of p) L)) (root_pruned p)
     ∙ sorted_views-alike (map (end_of p) (reduced_schedules p (start p) none_asleep))
-        (map (end_of p) (complete_schedules p (start p))) (λ test. sym (ends_pass p (start p) test))
+    (map (end_of p) (complete_schedules p (start p))) (λ test. sym (ends_pass p (start p) test))
 
 reduced_summary : (p : Program) (sum : SummaryView) → sum ≡ whole p Reduced
     → IsReducedSummary p sum

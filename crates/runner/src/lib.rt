@@ -15,6 +15,8 @@ pub mod limits;
 mod options;
 mod printing;
 mod report;
+#[cfg(test)]
+mod tests;
 mod text;
 
 pub use alone::explore_alone;

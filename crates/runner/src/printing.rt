@@ -71,7 +71,7 @@ fn put_verdict(
 ) -> Result<(), AllocError>
     ensures { OnOk result (members_view members.new.entries
         ≡ with_members (verdict_members report.now.summary.first_bad report.now.verdict)
-            (members_view members.old.entries)) }
+        (members_view members.old.entries)) }
 {
     match &report.verdict {
         Verdict::Clean { all } => put_clean(members, alloc, *all),
@@ -87,15 +87,16 @@ fn put_verdict(
 }
 
 // The members of a clean report.
-fn put_clean(
-    members: &mut Map<String, Value>,
-    alloc: Global,
-    all: bool,
-) -> Result<(), AllocError>
+fn put_clean(members: &mut Map<String, Value>, alloc: Global, all: bool) -> Result<(), AllocError>
     ensures { OnOk result (members_view members.new.entries
         ≡ with_members (clean_members all) (members_view members.old.entries)) }
 {
-    put(members, alloc, "verdict", Value::try_from_str(alloc, "clean")?)?;
+    put(
+        members,
+        alloc,
+        "verdict",
+        Value::try_from_str(alloc, "clean")?,
+    )?;
     put(members, alloc, "all", Value::Bool(all))?;
     Ok(())
 }
@@ -111,7 +112,12 @@ fn put_bad(
     ensures { OnOk result (members_view members.new.entries ≡ with_members
         (bad_members preemptions schedule.now kind) (members_view members.old.entries)) }
 {
-    put(members, alloc, "verdict", Value::try_from_str(alloc, "bad")?)?;
+    put(
+        members,
+        alloc,
+        "verdict",
+        Value::try_from_str(alloc, "bad")?,
+    )?;
     put(members, alloc, "kind", kind_value(alloc, kind)?)?;
     put(members, alloc, "preemptions", Value::from(preemptions))?;
     put(members, alloc, "schedule", schedule_value(alloc, schedule)?)?;
@@ -130,7 +136,12 @@ fn put_incomplete(
         (incomplete_members cause finished summary.now.first_bad)
         (members_view members.old.entries)) }
 {
-    put(members, alloc, "verdict", Value::try_from_str(alloc, "incomplete")?)?;
+    put(
+        members,
+        alloc,
+        "verdict",
+        Value::try_from_str(alloc, "incomplete")?,
+    )?;
     put(members, alloc, "cause", cause_value(alloc, cause)?)?;
     put(members, alloc, "finished", bound_value(finished))?;
     put(members, alloc, "schedule", first_bad_value(alloc, summary)?)?;
@@ -204,7 +215,12 @@ fn end_value(alloc: Global, end: &EndView) -> Result<Value, AllocError>
 {
     let mut members = Map::new(alloc);
     put(&mut members, alloc, "kind", kind_value(alloc, end.kind())?)?;
-    put(&mut members, alloc, "vars", values_value(alloc, end.vars())?)?;
+    put(
+        &mut members,
+        alloc,
+        "vars",
+        values_value(alloc, end.vars())?,
+    )?;
     Ok(Value::Object(members))
 }
 

@@ -20,11 +20,12 @@ loop-book-smaller c =
 pub returns-in-Raise-clause-next : goal.returns-in-Raise-clause-next
 returns-in-Raise-clause-next c =
     let b = c.walk_round.new.book in
-    let next = c.in_ok-judge.ensures.next false (λ e. absurd cc) in
-    (round_keeps c.loop-book.book b c.args.program.now c.args.mode c.args.options.quick
-    c.loop-book.invariant.of c.in_ok-walk_round.ensures.book,
-    subst (λ (n : Next). Comes false c.args.program.now c.args.options c.args.mode b n)
-    c.in-Raise.is next)
+    let next = c.in_ok-judge.ensures.next false (λ e. absurd cc) in (
+      round_keeps c.loop-book.book b c.args.program.now c.args.mode c.args.options.quick
+          c.loop-book.invariant.of c.in_ok-walk_round.ensures.book,
+      subst (λ (n : Next). Comes false c.args.program.now c.args.options c.args.mode b n)
+          c.in-Raise.is next,
+    )
 
 pub returns-in-Answer-clause-next : goal.returns-in-Answer-clause-next
 returns-in-Answer-clause-next c =

@@ -64,9 +64,11 @@ returns-in-None-clause-next c may h =
     let o = c.args.options in
     let sum = c.args.summary.now in
     let none : c.args.summary.now.first_bad ≡ None = search rules in
-    let beyond : c.args.summary.now.beyond ≡ true = search rules in
-    (none, c.in-None.ensures.none,
-    can_raise p o c.args.mode sum c.requires.stage c.requires.found none beyond (λ last.
-    let t : c.is_last.result ≡ true = c.is_last.ensures.1 last in
-    let f : c.is_last.result ≡ false = search rules in
-    cc))
+    let beyond : c.args.summary.now.beyond ≡ true = search rules in (
+      none,
+      c.in-None.ensures.none,
+      can_raise p o c.args.mode sum c.requires.stage c.requires.found none beyond (λ last.
+          let t : c.is_last.result ≡ true = c.is_last.ensures.1 last in
+          let f : c.is_last.result ≡ false = search rules in
+          cc),
+    )
