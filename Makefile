@@ -52,7 +52,7 @@ try:
 
 build:
 	@mkdir -p build
-	@echo "Proving and building the program and what it is built from: about 10 minutes at first,"
+	@echo "Proving and building the program and what it is built from: about half an hour at first,"
 	@echo "under a minute after a small edit. To look at its progress: tail -f build/log"
 	@cd crates/ctxbound && rt run -- replay data/race.guest 0 > ../../build/log 2>&1 \
 		|| { cat ../../build/log; exit 1; }

@@ -368,15 +368,17 @@ fn next_mode(mode: Mode) -> Option<Mode>
     }
 }
 
-// Where an item is among others.
+// Where an item is among others, looked for from the last one on: that of a round is among the last.
 fn place_of(items: &[Item], item: &Item) -> Option<usize>
     ensures some { IfSome result (λ k.
         (k < length items.now) × (slice_get items.now k ≡ Some item.now)) }
     ensures none { IfNone result (All (λ i. i ≡ item.now → ⊥) items.now) }
 {
-    for k in 0..items.len() {
-        if items[k].is_same(item) {
-            return Some(k);
+    let mut place = items.len();
+    while 0 < place {
+        place -= 1;
+        if items[place].is_same(item) {
+            return Some(place);
         }
     }
     None

@@ -1,3 +1,5 @@
+ghost use Rattle.std.specs.Prelude.{◌≤◌};
+
 use crate::books::Book;
 use crate::errors::{RaiseError, SettleError};
 use guest_code::lowering::lower;
@@ -43,9 +45,14 @@ fn walk_of(alloc: Global, text: &str, prefix: &[u8], mode: Mode) -> Result<Walke
     Ok(walk(alloc, &item, mode, 256)?)
 }
 
+/// More rounds than a program of these tests takes.
+const ROUNDS: u32 = 100;
+
 /// Walks the open items of a book until there are none.
-fn finish(alloc: Global, book: &mut Book, quota: u32) -> Result<(), Fail> {
-    while book.open_length() > 0 {
+fn finish(alloc: Global, book: &mut Book, quota: u32) -> Result<(), Fail>
+    requires { 1 ≤ quota }
+{
+    for _ in 0..ROUNDS {
         for item in &book.round(alloc)? {
             let walked = walk(alloc, item, book.mode(), quota)?;
             book.settle(alloc, walked)?;
