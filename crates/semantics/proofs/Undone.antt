@@ -155,7 +155,7 @@ back p s t (OnSemaphore k d) u w n b o h =
     let V : set N.counts u.object u.count ≡ s.counts = (λ i. set N.counts (o.1 i) (o.2 i)) ∙ set_back s.counts k _ 0 in
     ap (λ (ch : Change). with_change ch u M) o.0 ∙ (λ i. record { vars = s.vars; owners = s.owners; queues = s.queues; counts = V i; threads = T i })
 
--- and it can be put back into the state behind the step
+-- and it can be put back into the state after the step
 pub in_range : (p : Program) (s : Snapshot) (t : ℕ) (a : Action) (u : Undo) → IsOf p s → t < length s.threads → IsValidAction p a → HasBegun u t (thread_at s t) → HasObject u s a → u.saved.count ≤ LOCALS → IsRecordOf u (acts p s t (thread_at s t) (Some a))
 in_range p s t (OnVariable x d) u of' l f b o few = record {
   thread = omega (arith, l, b.thread, length-set s.threads t (resumed (code_of p t) (reader_after d (thread_at s t) (value_of s x))));
