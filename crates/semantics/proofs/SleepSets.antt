@@ -18,7 +18,7 @@ use Rattle.semantics.proofs.UnfoldingUnderPrefix.{and_true, complete_schedules-m
 pub data Before : List ℕ → List ℕ → Type 0 where
   ends : {u : ℕ} {w : List ℕ} → Before [] (u ∷ w)
   lower : {t u : ℕ} {v w : List ℕ} → t < u → Before (t ∷ v) (u ∷ w)
-  behind : {t : ℕ} {v w : List ℕ} → Before v w → Before (t ∷ v) (t ∷ w)
+  after_same : {t : ℕ} {v w : List ℕ} → Before v w → Before (t ∷ v) (t ∷ w)
 
 pub lt_of : (t u : ℕ) → nat_lt t u ≡ true → t < u
 lt_of t u h = grind (arith, nat_tests, h)
@@ -38,7 +38,7 @@ sleep_law p s Z (t ∷ w) h = at_thread (λ c. sleep_law p (step p s t) (next_sl
 
     goes : Z t ≡ false → Kept p (step p s t) (next_sleep_set p s Z t) w → Kept p s Z (t ∷ w)
     goes z (left l) = left (and_from (is_enabled p s t) _ on.0 (and_from (not (Z t)) _ (ap not z) l))
-    goes z (earlier v c b e) = earlier (t ∷ v) (and_from (is_enabled p s t) _ on.0 c) (behind b) e
+    goes z (earlier v c b e) = earlier (t ∷ v) (and_from (is_enabled p s t) _ on.0 c) (after_same b) e
     goes z (asleep_first v u c zv e) =
         let q = and_true (is_enabled p s v) ((Z v || nat_lt v t) && independent p s t v) zv in
         let r = and_true (Z v || nat_lt v t) (independent p s t v) q.1 in
