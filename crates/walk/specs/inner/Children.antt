@@ -11,10 +11,7 @@ use Rattle.semantics.specs.Ends.{is_empty}
 use Rattle.walk.specs.declared.mode.Mode.{Mode}
 use Rattle.walk.specs.declared.mode.Mode.TheVariants.{Bounded, Reduced}
 use Rattle.walk.specs.Items.{ItemView}
-
--- the state after an item's prefix
-abbrev pub state_of : ItemView → Snapshot
-state_of i = state_after i.program (start i.program) i.prefix
+pub use Rattle.walk.specs.Items.{state_of}
 
 -- the item's prefix stays within the bound
 abbrev pub IsWithin : Mode → ItemView → Type 0
