@@ -23,33 +23,41 @@ pub ascii_parts : (a b : List ℕ) → Ascii (a ++ b) → Ascii a × Ascii b
 ascii_parts [] b h = (tt, h)
 ascii_parts (x ∷ a) b h = let r = ascii_parts a b h.1 in ((h.0, r.0), r.1)
 
-blank_cond : (c : Bool) (b : ℕ) (g : List ℕ) → blank c (b ∷ g) ≡ cond c (blank (not (b == 10)) g) (cond (b == 35) (blank true g) (cond (is_space b) (blank false g) None))
+blank_cond : (c : Bool) (b : ℕ) (g : List ℕ)
+    → blank c (b ∷ g) ≡ cond c (blank (not (b == 10)) g)
+    (cond (b == 35) (blank true g) (cond (is_space b) (blank false g) None))
 blank_cond true b g = refl
 blank_cond false b g = refl
 
 abbrev choice : {X : Type 0} → Bool → Bool → Bool → Bool → (Bool → X) → X → X
 choice c hash space nl P N = cond c (P nl) (cond hash (P true) (cond space (P false) N))
 
-step_passed : (big c hash space nl d : Bool) → cond big NotAscii (choice c hash space nl Passed Stops) ≡ Passed d → (big ≡ false) × ((P : Bool → Option Bool) → choice c hash space nl P None ≡ P d)
+step_passed : (big c hash space nl d : Bool)
+    → cond big NotAscii (choice c hash space nl Passed Stops) ≡ Passed d → (big ≡ false)
+    × ((P : Bool → Option Bool) → choice c hash space nl P None ≡ P d)
 step_passed true c hash space nl d e = absurd cc
 step_passed false true hash space nl d e = (refl, λ P. let is : nl ≡ d = cc in ap P is)
 step_passed false false true space nl d e = (refl, λ P. let is : true ≡ d = cc in ap P is)
 step_passed false false false true nl d e = (refl, λ P. let is : false ≡ d = cc in ap P is)
 step_passed false false false false nl d e = absurd cc
 
-step_stops : (big c hash space nl : Bool) → cond big NotAscii (choice c hash space nl Passed Stops) ≡ Stops → c ≡ false
+step_stops : (big c hash space nl : Bool)
+    → cond big NotAscii (choice c hash space nl Passed Stops) ≡ Stops → c ≡ false
 step_stops true c hash space nl e = absurd cc
 step_stops false true hash space nl e = absurd cc
 step_stops false false hash space nl e = refl
 
-stops_small : (big c hash space nl : Bool) → cond big NotAscii (choice c hash space nl Passed Stops) ≡ Stops → big ≡ false
+stops_small : (big c hash space nl : Bool)
+    → cond big NotAscii (choice c hash space nl Passed Stops) ≡ Stops → big ≡ false
 stops_small true c hash space nl e = absurd cc
 stops_small false c hash space nl e = refl
 
 pub stops_ascii : (b : ℕ) → gap_step false b ≡ Stops → b < 128
-stops_ascii b e = leb-false 128 b (stops_small (nat_le 128 b) false (b == 35) (is_space b) (not (b == 10)) e)
+stops_ascii b e = leb-false 128 b (stops_small (nat_le 128 b) false (b == 35) (is_space b)
+    (not (b == 10)) e)
 
-not_ascii_big : (big c hash space nl : Bool) → cond big NotAscii (choice c hash space nl Passed Stops) ≡ NotAscii → big ≡ true
+not_ascii_big : (big c hash space nl : Bool)
+    → cond big NotAscii (choice c hash space nl Passed Stops) ≡ NotAscii → big ≡ true
 not_ascii_big true c hash space nl e = refl
 not_ascii_big false true hash space nl e = absurd cc
 not_ascii_big false false true space nl e = absurd cc
@@ -57,9 +65,12 @@ not_ascii_big false false false true nl e = absurd cc
 not_ascii_big false false false false nl e = absurd cc
 
 pub not_ascii_above : (c : Bool) (b : ℕ) → gap_step c b ≡ NotAscii → 127 < b
-not_ascii_above c b e = leb-true 128 b (not_ascii_big (nat_le 128 b) c (b == 35) (is_space b) (not (b == 10)) e)
+not_ascii_above c b e = leb-true 128 b (not_ascii_big (nat_le 128 b) c (b == 35) (is_space b)
+    (not (b == 10)) e)
 
-passes : (big c hash space nl : Bool) (P : Bool → Option Bool) (r : Bool) → big ≡ false → choice c hash space nl P None ≡ Some r → (d : Bool) × (cond big NotAscii (choice c hash space nl Passed Stops) ≡ Passed d) × (P d ≡ Some r)
+passes : (big c hash space nl : Bool) (P : Bool → Option Bool) (r : Bool) → big ≡ false
+    → choice c hash space nl P None ≡ Some r → (d : Bool)
+    × (cond big NotAscii (choice c hash space nl Passed Stops) ≡ Passed d) × (P d ≡ Some r)
 passes true c hash space nl P r b e = absurd cc
 passes false true hash space nl P r b e = (nl, refl, e)
 passes false false true space nl P r b e = (true, refl, e)
@@ -80,8 +91,10 @@ pub record Gap (c : Bool) (at : Pos) (bytes : List ℕ) (x : Pos × List ℕ) : 
   pub ascii : Ascii gap
   pub stop : IsStop x.1 state
 
-skip_by_takes : (b : ℕ) (bs : List ℕ) (c : Bool) (at : Pos) (x : Pos × List ℕ) (s : Step) (more : Bool → Option (Pos × List ℕ)) → gap_step c b ≡ s
-    → ((d : Bool) → more d ≡ Some x → Gap d (past at b) bs x) → skip_by s more at (b ∷ bs) ≡ Some x → Gap c at (b ∷ bs) x
+skip_by_takes : (b : ℕ) (bs : List ℕ) (c : Bool) (at : Pos) (x : Pos × List ℕ) (s : Step)
+    (more : Bool → Option (Pos × List ℕ)) → gap_step c b ≡ s
+    → ((d : Bool) → more d ≡ Some x → Gap d (past at b) bs x) → skip_by s more at (b ∷ bs) ≡ Some x
+    → Gap c at (b ∷ bs) x
 unfolding after
 skip_by_takes b bs c at x (Passed d) more is ih e =
     let g = ih d e in
@@ -98,13 +111,32 @@ skip_by_takes b bs c at x (Passed d) more is ih e =
 skip_by_takes b bs c at x Stops more is ih e =
     let none = step_stops (nat_le 128 b) c (b == 35) (is_space b) (not (b == 10)) is in
     subst (λ y. Gap c at (b ∷ bs) y) (some_is (at, b ∷ bs) x e)
-    (record { gap = []; state = c; parts = refl; is_gap = refl; place = refl; ascii = tt; stop = (none, subst (λ c. gap_step c b ≡ Stops) none is) })
+    (record {
+      gap = [];
+      state = c;
+      parts = refl;
+      is_gap = refl;
+      place = refl;
+      ascii = tt;
+      stop = (none, subst (λ c. gap_step c b ≡ Stops) none is);
+    })
 skip_by_takes b bs c at x NotAscii more is ih e = absurd cc
 
-pub skip_takes : (bytes : List ℕ) (c : Bool) (at : Pos) (x : Pos × List ℕ) → skipped c at bytes ≡ Some x → Gap c at bytes x
+pub skip_takes : (bytes : List ℕ) (c : Bool) (at : Pos) (x : Pos × List ℕ)
+    → skipped c at bytes ≡ Some x → Gap c at bytes x
 unfolding skipped after
-skip_takes [] c at x e = subst (λ y. Gap c at [] y) (some_is (at, []) x e) (record { gap = []; state = c; parts = refl; is_gap = refl; place = refl; ascii = tt; stop = tt })
-skip_takes (b ∷ bs) c at x e = skip_by_takes b bs c at x (gap_step c b) (λ d. skipped d (past at b) bs) refl (λ d h. skip_takes bs d (past at b) x h) e
+skip_takes [] c at x e = subst (λ y. Gap c at [] y) (some_is (at, []) x e)
+    (record {
+      gap = [];
+      state = c;
+      parts = refl;
+      is_gap = refl;
+      place = refl;
+      ascii = tt;
+      stop = tt;
+    })
+skip_takes (b ∷ bs) c at x e = skip_by_takes b bs c at x (gap_step c b)
+    (λ d. skipped d (past at b) bs) refl (λ d h. skip_takes bs d (past at b) x h) e
 
 pub skipped_follows : (at : Pos) (bytes : List ℕ) (later : Pos) (rest : List ℕ)
     → skipped false at bytes ≡ Some (later, rest) → Follows at bytes later rest
@@ -112,14 +144,19 @@ skipped_follows at bytes later rest e =
     let g = skip_takes bytes false at (later, rest) e in
     record { front = g.gap; parts = g.parts; place = g.place }
 
-pub skip_again : (gap : List ℕ) (c : Bool) (at : Pos) (rest : List ℕ) (state : Bool) → blank c gap ≡ Some state → Ascii gap → skipped c at (gap ++ rest) ≡ skipped state (after at gap) rest
+pub skip_again : (gap : List ℕ) (c : Bool) (at : Pos) (rest : List ℕ) (state : Bool)
+    → blank c gap ≡ Some state → Ascii gap → skipped c at (gap ++ rest)
+    ≡ skipped state (after at gap) rest
 unfolding skipped after
 skip_again [] c at rest state e a = ap (λ s. skipped s at rest) (some_is c state e)
 skip_again (b ∷ gap) c at rest state e a =
-    let p = passes (nat_le 128 b) c (b == 35) (is_space b) (not (b == 10)) (λ d. blank d gap) state (lt-leb 128 b a.0) (sym (blank_cond c b gap) ∙ e) in
+    let p = passes (nat_le 128 b) c (b == 35) (is_space b) (not (b == 10)) (λ d. blank d gap) state
+    (lt-leb 128 b a.0) (sym (blank_cond c b gap) ∙ e) in
     let step : gap_step c b ≡ Passed p.0 = p.1 in
-    ap (λ s. skip_by s (λ d. skipped d (past at b) (gap ++ rest)) at (b ∷ (gap ++ rest))) step ∙ skip_again gap p.0 (past at b) rest state p.2 a.1
+    ap (λ s. skip_by s (λ d. skipped d (past at b) (gap ++ rest)) at (b ∷ (gap ++ rest))) step ∙
+    skip_again gap p.0 (past at b) rest state p.2 a.1
 
-pub stop_again : (b : ℕ) (bs : List ℕ) (at : Pos) → gap_step false b ≡ Stops → skipped false at (b ∷ bs) ≡ Some (at, b ∷ bs)
+pub stop_again : (b : ℕ) (bs : List ℕ) (at : Pos) → gap_step false b ≡ Stops
+    → skipped false at (b ∷ bs) ≡ Some (at, b ∷ bs)
 unfolding skipped
 stop_again b bs at e = rw e refl

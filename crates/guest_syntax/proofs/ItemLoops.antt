@@ -14,7 +14,8 @@ abbrev pub with_front : {A : Type 0} → List A → Read (List A) → Read (List
 with_front front read = read >>= λ x. Some (front ++ x.0, x.1)
 
 -- from here on the turns give the whole
-pub record Goes {A : Type 0} (turn : Turn A) (front : List A) (ts : List Token) (total : Read (List A)) : Type 0 where
+pub record Goes {A : Type 0} (turn : Turn A) (front : List A) (ts : List Token)
+    (total : Read (List A)) : Type 0 where
   pub room : ℕ
   pub enough : length ts < room
   pub same : with_front front (many turn room ts) ≡ total
@@ -25,40 +26,63 @@ nothing_before None = refl
 
 pub begins : {A : Type 0} (turn : Turn A) (ts : List Token) → Goes turn [] ts (all_from turn ts)
 unfolding all_from
-begins turn ts = record { room = suc (length ts); enough = omega arith; same = nothing_before (many turn (suc (length ts)) ts) }
+begins turn ts = record {
+  room = suc (length ts);
+  enough = omega arith;
+  same = nothing_before (many turn (suc (length ts)) ts);
+}
 
-regroup : {A : Type 0} (front : List A) (a : A) (r : Read (List A)) → with_front front (r >>= λ x. Some (a ∷ x.0, x.1)) ≡ with_front (front ++ a ∷ []) r
+regroup : {A : Type 0} (front : List A) (a : A) (r : Read (List A))
+    → with_front front (r >>= λ x. Some (a ∷ x.0, x.1)) ≡ with_front (front ++ a ∷ []) r
 regroup {A = A} front a (Some x) = ap (λ (ns : List A). Some (ns, x.1)) (simp append_assoc)
 regroup front a None = refl
 
-pub goes_on_by : {A : Type 0} (turn : Turn A) (front : List A) (ts rest : List Token) (a : A) (total : Read (List A)) (room : ℕ)
-    → turn ts ≡ Some (Some a, rest) → length rest < length ts → length ts < room → with_front front (many turn room ts) ≡ total → Goes turn (front ++ a ∷ []) rest total
+pub goes_on_by : {A : Type 0} (turn : Turn A) (front : List A) (ts rest : List Token) (a : A)
+    (total : Read (List A)) (room : ℕ)
+    → turn ts ≡ Some (Some a, rest) → length rest < length ts → length ts < room
+    → with_front front (many turn room ts) ≡ total → Goes turn (front ++ a ∷ []) rest total
 unfolding many
 goes_on_by turn front ts rest a total zero e shorter enough same = absurd (omega arith)
 goes_on_by turn front ts rest a total (suc n) e shorter enough same =
-    record { room = n; enough = omega arith; same = sym (regroup front a (many turn n rest)) ∙ (ap (λ o. with_front front (o >>= λ x. many_by (many turn n) x.0 x.1)) (sym e) ∙ same) }
+    record {
+      room = n;
+      enough = omega arith;
+      same = sym (regroup front a (many turn n rest)) ∙
+          (ap (λ o. with_front front (o >>= λ x. many_by (many turn n) x.0 x.1)) (sym e) ∙ same);
+    }
 
-pub goes_on : {A : Type 0} (turn : Turn A) (front : List A) (ts rest : List Token) (a : A) (total : Read (List A))
-    → turn ts ≡ Some (Some a, rest) → length rest < length ts → Goes turn front ts total → Goes turn (front ++ a ∷ []) rest total
-goes_on turn front ts rest a total e shorter g = goes_on_by turn front ts rest a total g.room e shorter g.enough g.same
+pub goes_on : {A : Type 0} (turn : Turn A) (front : List A) (ts rest : List Token) (a : A)
+    (total : Read (List A))
+    → turn ts ≡ Some (Some a, rest) → length rest < length ts → Goes turn front ts total
+    → Goes turn (front ++ a ∷ []) rest total
+goes_on turn front ts rest a total e shorter g =
+    goes_on_by turn front ts rest a total g.room e shorter g.enough g.same
 
-is_done_by : {A : Type 0} (turn : Turn A) (front : List A) (ts rest : List Token) (total : Read (List A)) (room : ℕ)
-    → turn ts ≡ Some (None, rest) → length ts < room → with_front front (many turn room ts) ≡ total → total ≡ Some (front, rest)
+is_done_by : {A : Type 0} (turn : Turn A) (front : List A) (ts rest : List Token)
+    (total : Read (List A)) (room : ℕ)
+    → turn ts ≡ Some (None, rest) → length ts < room → with_front front (many turn room ts) ≡ total
+    → total ≡ Some (front, rest)
 unfolding many
 is_done_by turn front ts rest total zero e enough same = absurd (omega arith)
 is_done_by {A = A} turn front ts rest total (suc n) e enough same =
-    sym same ∙ (ap (λ o. with_front front (o >>= λ x. many_by (many turn n) x.0 x.1)) e ∙ ap (λ (ns : List A). Some (ns, rest)) (append-nil front))
+    sym same ∙ (ap (λ o. with_front front (o >>= λ x. many_by (many turn n) x.0 x.1)) e ∙
+    ap (λ (ns : List A). Some (ns, rest)) (append-nil front))
 
-pub is_done : {A : Type 0} (turn : Turn A) (front : List A) (ts rest : List Token) (total : Read (List A))
+pub is_done : {A : Type 0} (turn : Turn A) (front : List A) (ts rest : List Token)
+    (total : Read (List A))
     → turn ts ≡ Some (None, rest) → Goes turn front ts total → total ≡ Some (front, rest)
 is_done turn front ts rest total e g = is_done_by turn front ts rest total g.room e g.enough g.same
 
-stops_by : {A : Type 0} (turn : Turn A) (front : List A) (ts : List Token) (total : Read (List A)) (room : ℕ)
+stops_by : {A : Type 0} (turn : Turn A) (front : List A) (ts : List Token) (total : Read (List A))
+    (room : ℕ)
     → with_front front (many turn room ts) ≡ total → turn ts ≡ None → total ≡ None
 unfolding many
 stops_by turn front ts total zero same e = sym same
-stops_by turn front ts total (suc n) same e = sym same ∙ ap (λ o. with_front front (o >>= λ x. many_by (many turn n) x.0 x.1)) e
+stops_by turn front ts total (suc n) same e =
+    sym same ∙ ap (λ o. with_front front (o >>= λ x. many_by (many turn n) x.0 x.1)) e
 
-pub stops : {A : Type 0} (turn : Turn A) (front : List A) (ts : List Token) (total : Read (List A)) (e : SyntaxError)
+pub stops : {A : Type 0} (turn : Turn A) (front : List A) (ts : List Token) (total : Read (List A))
+    (e : SyntaxError)
     → Goes turn front ts total → Fails e (turn ts) → Fails e total
-stops turn front ts total e g h = fails_then e (turn ts) total (stops_by turn front ts total g.room g.same) h
+stops turn front ts total e g h = fails_then e (turn ts) total
+    (stops_by turn front ts total g.room g.same) h

@@ -55,16 +55,20 @@ expr_c : (e : Expr) → Cleans (IsExpr e)
 expr_c (single a) = operand_c a
 expr_c (both a op b) = then_c _ _ (operand_c a) (then_c _ _ (op_c op) (operand_c b))
 
-braces_c : (inner : ℕ → Form) (room : ℕ) → ((less : ℕ) → Cleans (inner less)) → Cleans (in_braces inner room)
-braces_c inner room h ts rest (less, is, b) c = then_c _ _ (token_c _ refl) (then_c _ _ (h less) (token_c _ refl)) ts rest b c
+braces_c : (inner : ℕ → Form) (room : ℕ) → ((less : ℕ) → Cleans (inner less))
+    → Cleans (in_braces inner room)
+braces_c inner room h ts rest (less, is, b) c =
+    then_c _ _ (token_c _ refl) (then_c _ _ (h less) (token_c _ refl)) ts rest b c
 
 times_c : (n : ℕ) → Cleans (IsTimes n)
 times_c n ts rest h c = number_c _ n ts rest h.1 c
 
 mutual
   statement_c : (s : Stmt) (room : ℕ) → Cleans (IsStatement s room)
-  statement_c (load r x) room = then_c _ _ (token_c _ refl) (then_c _ _ (name_c r) (then_c _ _ (name_c x) (token_c _ refl)))
-  statement_c (store x a) room = then_c _ _ (token_c _ refl) (then_c _ _ (name_c x) (then_c _ _ (operand_c a) (token_c _ refl)))
+  statement_c (load r x) room = then_c _ _ (token_c _ refl)
+      (then_c _ _ (name_c r) (then_c _ _ (name_c x) (token_c _ refl)))
+  statement_c (store x a) room = then_c _ _ (token_c _ refl)
+      (then_c _ _ (name_c x) (then_c _ _ (operand_c a) (token_c _ refl)))
   statement_c (add r x a) room =
       then_c _ _ (token_c _ refl) (then_c _ _ (name_c r) (then_c _ _ (name_c x) (operand_end_c a)))
   statement_c (cas r x a b) room =
@@ -72,38 +76,58 @@ mutual
       (then_c _ _ (name_c r) (then_c _ _ (name_c x) (then_c _ _ (operand_c a) (operand_end_c b))))
   statement_c (lock m) room = then_c _ _ (token_c _ refl) (then_c _ _ (name_c m) (token_c _ refl))
   statement_c (unlock m) room = then_c _ _ (token_c _ refl) (then_c _ _ (name_c m) (token_c _ refl))
-  statement_c (wait c m) room = then_c _ _ (token_c _ refl) (then_c _ _ (name_c c) (then_c _ _ (name_c m) (token_c _ refl)))
+  statement_c (wait c m) room = then_c _ _ (token_c _ refl)
+      (then_c _ _ (name_c c) (then_c _ _ (name_c m) (token_c _ refl)))
   statement_c (signal c) room = then_c _ _ (token_c _ refl) (then_c _ _ (name_c c) (token_c _ refl))
-  statement_c (broadcast c) room = then_c _ _ (token_c _ refl) (then_c _ _ (name_c c) (token_c _ refl))
-  statement_c (acquire s) room = then_c _ _ (token_c _ refl) (then_c _ _ (name_c s) (token_c _ refl))
-  statement_c (release s) room = then_c _ _ (token_c _ refl) (then_c _ _ (name_c s) (token_c _ refl))
-  statement_c (set r e) room = then_c _ _ (token_c _ refl) (then_c _ _ (name_c r) (then_c _ _ (expr_c e) (token_c _ refl)))
+  statement_c (broadcast c) room = then_c _ _ (token_c _ refl)
+      (then_c _ _ (name_c c) (token_c _ refl))
+  statement_c (acquire s) room = then_c _ _ (token_c _ refl)
+      (then_c _ _ (name_c s) (token_c _ refl))
+  statement_c (release s) room = then_c _ _ (token_c _ refl)
+      (then_c _ _ (name_c s) (token_c _ refl))
+  statement_c (set r e) room = then_c _ _ (token_c _ refl)
+      (then_c _ _ (name_c r) (then_c _ _ (expr_c e) (token_c _ refl)))
   statement_c (assert e) room = then_c _ _ (token_c _ refl) (then_c _ _ (expr_c e) (token_c _ refl))
-  statement_c (if_then e b) room = then_c _ _ (token_c _ refl) (then_c _ _ (expr_c e) (braces_c _ room (λ less. statements_c b less)))
-  statement_c (if_else e b c) room = then_c _ _ (token_c _ refl) (then_c _ _ (expr_c e) (then_c _ _ (braces_c _ room (λ less. statements_c b less)) (then_c _ _ (token_c _ refl) (braces_c _ room (λ less. statements_c c less)))))
-  statement_c (repeat n b) room = then_c _ _ (token_c _ refl) (then_c _ _ (times_c n) (braces_c _ room (λ less. statements_c b less)))
-  statement_c (leave at) room = λ ts rest h. then_c _ _ (token_c _ refl) (token_c _ refl) ts rest (h.0, (at, h.1), h.2)
+  statement_c (if_then e b) room = then_c _ _ (token_c _ refl)
+      (then_c _ _ (expr_c e) (braces_c _ room (λ less. statements_c b less)))
+  statement_c (if_else e b c) room = then_c _ _ (token_c _ refl)
+      (then_c _ _ (expr_c e) (then_c _ _ (braces_c _ room (λ less. statements_c b less))
+      (then_c _ _ (token_c _ refl) (braces_c _ room (λ less. statements_c c less)))))
+  statement_c (repeat n b) room = then_c _ _ (token_c _ refl)
+      (then_c _ _ (times_c n) (braces_c _ room (λ less. statements_c b less)))
+  statement_c (leave at) room = λ ts rest h. then_c _ _ (token_c _ refl) (token_c _ refl) ts rest
+      (h.0, (at, h.1), h.2)
 
   statements_c : (b : Block) (room : ℕ) → Cleans (AreStatements b room)
   statements_c nothing room ts rest h c = subst Clean (sym h) c
-  statements_c (next s b) room ts rest h c = statement_c s room ts h.0 h.1 (statements_c b room h.0 rest h.2 c)
+  statements_c (next s b) room ts rest h c =
+      statement_c s room ts h.0 h.1 (statements_c b room h.0 rest h.2 c)
 
 object_c : (n : Name) (o : Object) → Cleans (IsObject n o)
-object_c n (objects.Variable z) ts rest (inl h) c = then_c _ _ (token_c _ refl) (then_c _ _ (name_c n) (token_c _ refl)) ts rest h.1 c
-object_c n (objects.Variable z) ts rest (inr h) c = then_c _ _ (token_c _ refl) (then_c _ _ (name_c n) (then_c _ _ (token_c _ refl) (then_c _ _ (literal_c z) (token_c _ refl)))) ts rest h c
-object_c n objects.Mutex ts rest h c = then_c _ _ (token_c _ refl) (then_c _ _ (name_c n) (token_c _ refl)) ts rest h c
-object_c n objects.Condition ts rest h c = then_c _ _ (token_c _ refl) (then_c _ _ (name_c n) (token_c _ refl)) ts rest h c
-object_c n (objects.Semaphore k) ts rest h c = then_c _ _ (token_c _ refl) (then_c _ _ (name_c n) (then_c _ _ (token_c _ refl) (then_c _ _ (number_c _ k) (token_c _ refl)))) ts rest h c
+object_c n (objects.Variable z) ts rest (inl h) c =
+    then_c _ _ (token_c _ refl) (then_c _ _ (name_c n) (token_c _ refl)) ts rest h.1 c
+object_c n (objects.Variable z) ts rest (inr h) c =
+    then_c _ _ (token_c _ refl) (then_c _ _ (name_c n)
+    (then_c _ _ (token_c _ refl) (then_c _ _ (literal_c z) (token_c _ refl)))) ts rest h c
+object_c n objects.Mutex ts rest h c = then_c _ _ (token_c _ refl)
+    (then_c _ _ (name_c n) (token_c _ refl)) ts rest h c
+object_c n objects.Condition ts rest h c =
+    then_c _ _ (token_c _ refl) (then_c _ _ (name_c n) (token_c _ refl)) ts rest h c
+object_c n (objects.Semaphore k) ts rest h c =
+    then_c _ _ (token_c _ refl) (then_c _ _ (name_c n)
+    (then_c _ _ (token_c _ refl) (then_c _ _ (number_c _ k) (token_c _ refl)))) ts rest h c
 
 declaration_c : (d : Declaration) → Cleans (IsDeclaration d)
 declaration_c d = object_c d.name d.object
 
 thread_c : (t : Thread) → Cleans (IsThread t)
-thread_c t = then_c _ _ (token_c _ refl) (then_c _ _ (name_c t.name) (braces_c _ _ (λ less. statements_c t.body less)))
+thread_c t = then_c _ _ (token_c _ refl)
+    (then_c _ _ (name_c t.name) (braces_c _ _ (λ less. statements_c t.body less)))
 
 each_c : {A : Type 0} (F : A → Form) → ((a : A) → Cleans (F a)) → (xs : List A) → Cleans (each F xs)
 each_c F f [] ts rest h c = subst Clean (sym h) c
 each_c F f (x ∷ xs) ts rest h c = f x ts h.0 h.1 (each_c F f xs h.0 rest h.2 c)
 
 pub tree_clean : (t : Tree) (ts : List Token) → IsTree t ts → Clean ts
-tree_clean t ts h = then_c _ _ (each_c IsDeclaration declaration_c t.declarations) (each_c IsThread thread_c t.threads) ts [] h tt
+tree_clean t ts h = then_c _ _ (each_c IsDeclaration declaration_c t.declarations)
+    (each_c IsThread thread_c t.threads) ts [] h tt

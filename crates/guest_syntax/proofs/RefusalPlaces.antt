@@ -23,7 +23,8 @@ some_bytes (suc n) e = omega arith
 
 -- ---- a token
 
-pub kind_is_in : (at p : Pos) (bytes rest : List ℕ) (k : Kind) (n : ℕ) → Follows at bytes p rest → 0 < length rest
+pub kind_is_in : (at p : Pos) (bytes rest : List ℕ) (k : Kind) (n : ℕ) → Follows at bytes p rest
+    → 0 < length rest
     → kind_at rest ≡ Some (k, n) → IsTokenIn at bytes k p
 kind_is_in at p bytes [] k n f some e = absurd (omega (arith, some))
 kind_is_in at p bytes (b ∷ bs) k n f some e = record {
@@ -54,42 +55,59 @@ map_none : {A B : Type 0} (f : A → B) (o : Option A) → option_map f o ≡ No
 map_none f None e = refl
 map_none f (Some x) e = absurd cc
 
-none_parts : (l d : Bool) (bytes : List ℕ) → kind_by l d bytes ≡ None → (l ≡ false) × (d ≡ false) × (symbol_at bytes ≡ None)
+none_parts : (l d : Bool) (bytes : List ℕ) → kind_by l d bytes ≡ None → (l ≡ false) × (d ≡ false)
+    × (symbol_at bytes ≡ None)
 none_parts true d bytes e = absurd cc
 none_parts false true bytes e = absurd cc
 none_parts false false bytes e = (refl, refl, map_none _ (symbol_at bytes) e)
 
-no_identifier : (b : ℕ) (bs text rest : List ℕ) → is_letter b ≡ false → b ∷ bs ≡ text ++ rest → IsIdentifier text → ⊥
+no_identifier : (b : ℕ) (bs text rest : List ℕ) → is_letter b ≡ false → b ∷ bs ≡ text ++ rest
+    → IsIdentifier text → ⊥
 no_identifier b bs [] rest l e h = h
-no_identifier b bs (c ∷ t) rest l e h = let is : b ≡ c = cc in false_true (subst (λ c. is_letter c ≡ false) is l) h.0
+no_identifier b bs (c ∷ t) rest l e h = let is : b ≡ c =
+    cc in false_true (subst (λ c. is_letter c ≡ false) is l) h.0
 
-no_digits : (b : ℕ) (bs text rest : List ℕ) → is_digit b ≡ false → b ∷ bs ≡ text ++ rest → 0 < length text → list_all is_digit text ≡ true → ⊥
+no_digits : (b : ℕ) (bs text rest : List ℕ) → is_digit b ≡ false → b ∷ bs ≡ text ++ rest
+    → 0 < length text → list_all is_digit text ≡ true → ⊥
 no_digits b bs [] rest d e some h = absurd (omega (arith, some))
 no_digits b bs (c ∷ t) rest d e some h =
     let is : b ≡ c = cc in
-    false_true (subst (λ c. is_digit c ≡ false) is d) (and_parts (is_digit c) (list_all is_digit t) h).0
+    false_true (subst (λ c. is_digit c ≡ false) is d)
+    (and_parts (is_digit c) (list_all is_digit t) h).0
 
-no_symbol : (bytes rest : List ℕ) (s : Symbol) → symbol_at bytes ≡ None → bytes ≡ symbol_text s ++ rest → ⊥
+no_symbol : (bytes rest : List ℕ) (s : Symbol) → symbol_at bytes ≡ None
+    → bytes ≡ symbol_text s ++ rest → ⊥
 no_symbol bytes rest s none e =
-    let other = each_symbol (λ s. starts_with nat_eq bytes (symbol_text s) ≡ false) (find_none (λ s. starts_with nat_eq bytes (symbol_text s)) SYMBOLS none) s in
+    let other = each_symbol (λ s. starts_with nat_eq bytes (symbol_text s) ≡ false)
+    (find_none (λ s. starts_with nat_eq bytes (symbol_text s)) SYMBOLS none) s in
     let n = length (symbol_text s) in
-    let same : symbol_text s ≡ take n bytes = sym (ap (take n) e ∙ take_at (symbol_text s) rest n refl) in
+    let same : symbol_text s ≡ take n bytes =
+    sym (ap (take n) e ∙ take_at (symbol_text s) rest n refl) in
     false_true other ((slice_eq-Decides Decides-eqb (symbol_text s) (take n bytes) _ refl).1 same)
 
 begins_none : (b : ℕ) (bs : List ℕ) → kind_at (b ∷ bs) ≡ None → BeginsNone (b ∷ bs)
 unfolding kind_at
 begins_none b bs none (name s) text rest e h =
-    no_identifier b bs text rest (none_parts (is_letter b) (is_digit b) (b ∷ bs) none).0 e (subst IsIdentifier (sym h.0) h.1)
+    no_identifier b bs text rest (none_parts (is_letter b) (is_digit b) (b ∷ bs) none).0 e
+    (subst IsIdentifier (sym h.0) h.1)
 begins_none b bs none (keyword w) text rest e h =
-    no_identifier b bs text rest (none_parts (is_letter b) (is_digit b) (b ∷ bs) none).0 e (subst IsIdentifier (sym h) (keyword_is_identifier w))
+    no_identifier b bs text rest (none_parts (is_letter b) (is_digit b) (b ∷ bs) none).0 e
+    (subst IsIdentifier (sym h) (keyword_is_identifier w))
 begins_none b bs none (number n) text rest e h =
     no_digits b bs text rest (none_parts (is_letter b) (is_digit b) (b ∷ bs) none).1 e h.0 h.1
 begins_none b bs none (symbol s) text rest e h =
-    no_symbol (b ∷ bs) rest s (none_parts (is_letter b) (is_digit b) (b ∷ bs) none).2 (e ∙ ap (λ t. t ++ rest) h)
+    no_symbol (b ∷ bs) rest s (none_parts (is_letter b) (is_digit b) (b ∷ bs) none).2
+    (e ∙ ap (λ t. t ++ rest) h)
 begins_none b bs none bad text rest e h = h
 
-pub bad_char_is_in : (at before p : Pos) (bytes left rest : List ℕ) → skipped false before left ≡ Some (p, rest) → Follows at bytes p rest
+pub bad_char_is_in : (at before p : Pos) (bytes left rest : List ℕ)
+    → skipped false before left ≡ Some (p, rest) → Follows at bytes p rest
     → 0 < length rest → kind_at rest ≡ None → IsBadCharAt at bytes p
 bad_char_is_in at before p bytes left [] skip f some none = absurd (omega (arith, some))
-bad_char_is_in at before p bytes left (b ∷ bs) skip f some none =
-    (b, bs, stops_ascii b (skip_takes left false before (p, b ∷ bs) skip).stop.1, f, begins_none b bs none)
+bad_char_is_in at before p bytes left (b ∷ bs) skip f some none = (
+  b,
+  bs,
+  stops_ascii b (skip_takes left false before (p, b ∷ bs) skip).stop.1,
+  f,
+  begins_none b bs none,
+)

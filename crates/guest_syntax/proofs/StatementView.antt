@@ -4,5 +4,6 @@ use Rattle.guest_syntax.specs.declared.tree.Expr.{Expr}
 use Rattle.guest_syntax.specs.declared.tree.Statement.{Statement, If, the_lemmas}
 use Rattle.guest_syntax.specs.Tree.{if_else, expr_view, stmt_view, block_view}
 
-pub view-else : (e : Expr) (b c : Vec Statement Global) → stmt_view (If e b (Some c)) ≡ if_else (expr_view e) (block_view b.items) (block_view c.items)
+pub view-else : (e : Expr) (b c : Vec Statement Global)
+    → stmt_view (If e b (Some c)) ≡ if_else (expr_view e) (block_view b.items) (block_view c.items)
 view-else e b c = search (rules, the_lemmas)

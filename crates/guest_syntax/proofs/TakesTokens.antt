@@ -30,7 +30,8 @@ number_shrinks limit n ts rest h = token_shrinks _ ts rest h.1
 
 pub literal_shrinks : (z : ℤ) → Shrinks (IsLiteral z)
 literal_shrinks z ts rest (n, inl h) = number_shrinks _ n ts rest h.1
-literal_shrinks z ts rest (n, inr h) = then_shrinks (IsToken (symbol symbols.Minus)) (IsNumber _ n) (token_shrinks _) (number_shrinks _ n) ts rest h.1
+literal_shrinks z ts rest (n, inr h) = then_shrinks (IsToken (symbol symbols.Minus)) (IsNumber _ n)
+    (token_shrinks _) (number_shrinks _ n) ts rest h.1
 
 pub operand_shrinks : (a : Operand) → Shrinks (IsOperand a)
 operand_shrinks (local n) = name_shrinks n
@@ -52,56 +53,94 @@ op_shrinks ops.GreaterOrEqual = token_shrinks _
 
 pub expr_shrinks : (e : Expr) → Shrinks (IsExpr e)
 expr_shrinks (single a) = operand_shrinks a
-expr_shrinks (both a op b) = then_shrinks _ _ (operand_shrinks a) (then_shrinks _ _ (op_shrinks op) (operand_shrinks b))
+expr_shrinks (both a op b) = then_shrinks _ _ (operand_shrinks a)
+    (then_shrinks _ _ (op_shrinks op) (operand_shrinks b))
 
-braces_shrink : (inner : ℕ → Form) (room : ℕ) → ((less : ℕ) → Shrinks (inner less)) → Shrinks (in_braces inner room)
-braces_shrink inner room h ts rest (less, is, b) = then_shrinks _ _ (token_shrinks _) (then_shrinks _ _ (h less) (token_shrinks _)) ts rest b
+braces_shrink : (inner : ℕ → Form) (room : ℕ) → ((less : ℕ) → Shrinks (inner less))
+    → Shrinks (in_braces inner room)
+braces_shrink inner room h ts rest (less, is, b) =
+    then_shrinks _ _ (token_shrinks _) (then_shrinks _ _ (h less) (token_shrinks _)) ts rest b
 
 times_shrinks : (n : ℕ) → Shrinks (IsTimes n)
 times_shrinks n ts rest h = number_shrinks _ n ts rest h.1
 
 -- a token and something that shrinks
-pub after_token : (k : Kind) (F : Form) → Shrinks F → (ts rest : List Token) → (IsToken k then F) ts rest → length rest < length ts
+pub after_token : (k : Kind) (F : Form) → Shrinks F → (ts rest : List Token)
+    → (IsToken k then F) ts rest → length rest < length ts
 after_token k F f ts rest h = omega (arith, token_shorter k ts h.0 h.1, f h.0 rest h.2)
 
 mutual
-  pub statement_shorter : (s : Stmt) (room : ℕ) (ts rest : List Token) → IsStatement s room ts rest → length rest < length ts
-  statement_shorter (load r x) room = after_token _ _ (then_shrinks _ _ (name_shrinks r) (then_shrinks _ _ (name_shrinks x) (token_shrinks _)))
-  statement_shorter (store x a) room = after_token _ _ (then_shrinks _ _ (name_shrinks x) (then_shrinks _ _ (operand_shrinks a) (token_shrinks _)))
+  pub statement_shorter : (s : Stmt) (room : ℕ) (ts rest : List Token) → IsStatement s room ts rest
+      → length rest < length ts
+  statement_shorter (load r x) room = after_token _ _
+      (then_shrinks _ _ (name_shrinks r) (then_shrinks _ _ (name_shrinks x) (token_shrinks _)))
+  statement_shorter (store x a) room = after_token _ _
+      (then_shrinks _ _ (name_shrinks x) (then_shrinks _ _ (operand_shrinks a) (token_shrinks _)))
   statement_shorter (add r x a) room =
-      after_token _ _ (then_shrinks _ _ (name_shrinks r) (then_shrinks _ _ (name_shrinks x) (operand_end_shrinks a)))
+      after_token _ _ (then_shrinks _ _ (name_shrinks r)
+      (then_shrinks _ _ (name_shrinks x) (operand_end_shrinks a)))
   statement_shorter (cas r x a b) room =
       after_token _ _
       (then_shrinks _ _ (name_shrinks r)
-      (then_shrinks _ _ (name_shrinks x) (then_shrinks _ _ (operand_shrinks a) (operand_end_shrinks b))))
-  statement_shorter (lock m) room = after_token _ _ (then_shrinks _ _ (name_shrinks m) (token_shrinks _))
-  statement_shorter (unlock m) room = after_token _ _ (then_shrinks _ _ (name_shrinks m) (token_shrinks _))
-  statement_shorter (wait c m) room = after_token _ _ (then_shrinks _ _ (name_shrinks c) (then_shrinks _ _ (name_shrinks m) (token_shrinks _)))
-  statement_shorter (signal c) room = after_token _ _ (then_shrinks _ _ (name_shrinks c) (token_shrinks _))
-  statement_shorter (broadcast c) room = after_token _ _ (then_shrinks _ _ (name_shrinks c) (token_shrinks _))
-  statement_shorter (acquire s) room = after_token _ _ (then_shrinks _ _ (name_shrinks s) (token_shrinks _))
-  statement_shorter (release s) room = after_token _ _ (then_shrinks _ _ (name_shrinks s) (token_shrinks _))
-  statement_shorter (set r e) room = after_token _ _ (then_shrinks _ _ (name_shrinks r) (then_shrinks _ _ (expr_shrinks e) (token_shrinks _)))
-  statement_shorter (assert e) room = after_token _ _ (then_shrinks _ _ (expr_shrinks e) (token_shrinks _))
-  statement_shorter (if_then e b) room = after_token _ _ (then_shrinks _ _ (expr_shrinks e) (braces_shrink _ room (λ less. statements_shrink b less)))
-  statement_shorter (if_else e b c) room = after_token _ _ (then_shrinks _ _ (expr_shrinks e) (then_shrinks _ _ (braces_shrink _ room (λ less. statements_shrink b less)) (then_shrinks _ _ (token_shrinks _) (braces_shrink _ room (λ less. statements_shrink c less)))))
-  statement_shorter (repeat n b) room = after_token _ _ (then_shrinks _ _ (times_shrinks n) (braces_shrink _ room (λ less. statements_shrink b less)))
-  statement_shorter (leave at) room = λ ts rest h. after_token _ _ (token_shrinks _) ts rest (h.0, (at, h.1), h.2)
+      (then_shrinks _ _ (name_shrinks x) (then_shrinks _ _ (operand_shrinks a)
+      (operand_end_shrinks b))))
+  statement_shorter (lock m) room = after_token _ _
+      (then_shrinks _ _ (name_shrinks m) (token_shrinks _))
+  statement_shorter (unlock m) room = after_token _ _
+      (then_shrinks _ _ (name_shrinks m) (token_shrinks _))
+  statement_shorter (wait c m) room = after_token _ _
+      (then_shrinks _ _ (name_shrinks c) (then_shrinks _ _ (name_shrinks m) (token_shrinks _)))
+  statement_shorter (signal c) room = after_token _ _
+      (then_shrinks _ _ (name_shrinks c) (token_shrinks _))
+  statement_shorter (broadcast c) room = after_token _ _
+      (then_shrinks _ _ (name_shrinks c) (token_shrinks _))
+  statement_shorter (acquire s) room = after_token _ _
+      (then_shrinks _ _ (name_shrinks s) (token_shrinks _))
+  statement_shorter (release s) room = after_token _ _
+      (then_shrinks _ _ (name_shrinks s) (token_shrinks _))
+  statement_shorter (set r e) room = after_token _ _
+      (then_shrinks _ _ (name_shrinks r) (then_shrinks _ _ (expr_shrinks e) (token_shrinks _)))
+  statement_shorter (assert e) room = after_token _ _
+      (then_shrinks _ _ (expr_shrinks e) (token_shrinks _))
+  statement_shorter (if_then e b) room = after_token _ _
+      (then_shrinks _ _ (expr_shrinks e) (braces_shrink _ room (λ less. statements_shrink b less)))
+  statement_shorter (if_else e b c) room =
+      after_token _ _ (then_shrinks _ _ (expr_shrinks e)
+      (then_shrinks _ _ (braces_shrink _ room (λ less. statements_shrink b less))
+      (then_shrinks _ _ (token_shrinks _) (braces_shrink _ room
+      (λ less. statements_shrink c less)))))
+  statement_shorter (repeat n b) room = after_token _ _
+      (then_shrinks _ _ (times_shrinks n) (braces_shrink _ room (λ less. statements_shrink b less)))
+  statement_shorter (leave at) room = λ ts rest h. after_token _ _ (token_shrinks _) ts rest
+      (h.0, (at, h.1), h.2)
 
   pub statements_shrink : (b : Block) (room : ℕ) → Shrinks (AreStatements b room)
   statements_shrink nothing room ts rest h = omega (arith, ap length h)
-  statements_shrink (next s b) room ts rest h = omega (arith, statement_shorter s room ts h.0 h.1, statements_shrink b room h.0 rest h.2)
+  statements_shrink (next s b) room ts rest h =
+      omega (arith, statement_shorter s room ts h.0 h.1, statements_shrink b room h.0 rest h.2)
 
 pub block_shrinks : (b : Block) (room : ℕ) → Shrinks (IsBlock b room)
 block_shrinks b room = braces_shrink _ room (λ less. statements_shrink b less)
 
 -- a declaration takes tokens
-pub object_shorter : (n : Name) (o : Object) (ts rest : List Token) → IsObject n o ts rest → length rest < length ts
-object_shorter n (objects.Variable z) ts rest (inl (is, h)) = after_token _ _ (then_shrinks _ _ (name_shrinks n) (token_shrinks _)) ts rest h
-object_shorter n (objects.Variable z) ts rest (inr h) = after_token _ _ (then_shrinks _ _ (name_shrinks n) (then_shrinks _ _ (token_shrinks _) (then_shrinks _ _ (literal_shrinks z) (token_shrinks _)))) ts rest h
-object_shorter n objects.Mutex ts rest h = after_token _ _ (then_shrinks _ _ (name_shrinks n) (token_shrinks _)) ts rest h
-object_shorter n objects.Condition ts rest h = after_token _ _ (then_shrinks _ _ (name_shrinks n) (token_shrinks _)) ts rest h
-object_shorter n (objects.Semaphore k) ts rest h = after_token _ _ (then_shrinks _ _ (name_shrinks n) (then_shrinks _ _ (token_shrinks _) (then_shrinks _ _ (number_shrinks _ k) (token_shrinks _)))) ts rest h
+pub object_shorter : (n : Name) (o : Object) (ts rest : List Token) → IsObject n o ts rest
+    → length rest < length ts
+object_shorter n (objects.Variable z) ts rest (inl (is, h)) =
+    after_token _ _ (then_shrinks _ _ (name_shrinks n) (token_shrinks _)) ts rest h
+object_shorter n (objects.Variable z) ts rest (inr h) =
+    after_token _ _ (then_shrinks _ _ (name_shrinks n)
+    (then_shrinks _ _ (token_shrinks _) (then_shrinks _ _ (literal_shrinks z) (token_shrinks _))))
+    ts rest h
+object_shorter n objects.Mutex ts rest h =
+    after_token _ _ (then_shrinks _ _ (name_shrinks n) (token_shrinks _)) ts rest h
+object_shorter n objects.Condition ts rest h =
+    after_token _ _ (then_shrinks _ _ (name_shrinks n) (token_shrinks _)) ts rest h
+object_shorter n (objects.Semaphore k) ts rest h =
+    after_token _ _ (then_shrinks _ _ (name_shrinks n)
+    (then_shrinks _ _ (token_shrinks _) (then_shrinks _ _ (number_shrinks _ k) (token_shrinks _))))
+    ts rest h
 
-pub thread_shorter : (t : Thread) (ts rest : List Token) → IsThread t ts rest → length rest < length ts
-thread_shorter t ts rest h = after_token _ _ (then_shrinks _ _ (name_shrinks t.name) (block_shrinks t.body _)) ts rest h
+pub thread_shorter : (t : Thread) (ts rest : List Token) → IsThread t ts rest
+    → length rest < length ts
+thread_shorter t ts rest h = after_token _ _
+    (then_shrinks _ _ (name_shrinks t.name) (block_shrinks t.body _)) ts rest h

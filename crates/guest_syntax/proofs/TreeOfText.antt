@@ -20,19 +20,24 @@ use Rattle.guest_syntax.proofs.TokensOfText.{tokens_takes, tokens_again}
 abbrev pub start : Pos
 start = record { line = 1; col = 1 }
 
-pub text_takes : (text : List ℕ) (t : Tree) → length text ≤ TEXT_BYTES → tree_from (tokens_from start text) ≡ Some t → Spells text t
+pub text_takes : (text : List ℕ) (t : Tree) → length text ≤ TEXT_BYTES
+    → tree_from (tokens_from start text) ≡ Some t → Spells text t
 text_takes text t le e =
     let is = tree_takes (tokens_from start text) t e in
     let h = tokens_takes start text (tree_clean t (tokens_from start text) is) in
     record { tokens = tokens_from start text; spelt = h.0; ascii = h.1; short = le; tree = is }
 
-pub text_again : (text : List ℕ) (t : Tree) → Spells text t → tree_from (tokens_from start text) ≡ Some t
-text_again text t s = ap tree_from (tokens_again start text s.tokens s.spelt s.ascii) ∙ tree_again t s.tokens s.tree
+pub text_again : (text : List ℕ) (t : Tree) → Spells text t
+    → tree_from (tokens_from start text) ≡ Some t
+text_again text t s = ap tree_from (tokens_again start text s.tokens s.spelt s.ascii) ∙ tree_again
+    t s.tokens s.tree
 
 pub one_tree : (text : List ℕ) (t u : Tree) → Spells text t → Spells text u → t ≡ u
 one_tree text t u s r = some_is t u (sym (text_again text t s) ∙ text_again text u r)
 
-pub found : (text : List ℕ) (r : Result code.Tree SyntaxError) → length text ≤ TEXT_BYTES → Gives tree_view r (tree_from (tokens_from start text)) → IfOk r (λ t. Spells text (tree_view t))
+pub found : (text : List ℕ) (r : Result code.Tree SyntaxError) → length text ≤ TEXT_BYTES
+    → Gives tree_view r (tree_from (tokens_from start text))
+    → IfOk r (λ t. Spells text (tree_view t))
 found text (Ok t) le g = text_takes text (tree_view t) le g
 found text (Err e) le g = tt
 
@@ -47,10 +52,14 @@ answers (Err (errors.NumberTooBig p)) t g = absurd cc
 answers (Err (errors.TooLong p)) t g = absurd cc
 answers (Err (errors.TooDeep p)) t g = absurd cc
 
-pub only : (text : List ℕ) (r : Result code.Tree SyntaxError) → Gives tree_view r (tree_from (tokens_from start text)) → (t : Tree) → Spells text t → Answers r t
+pub only : (text : List ℕ) (r : Result code.Tree SyntaxError)
+    → Gives tree_view r (tree_from (tokens_from start text)) → (t : Tree) → Spells text t
+    → Answers r t
 only text r g t s = answers r t (subst (Gives tree_view r) (text_again text t s) g)
 
 -- what is refused spells nothing
-pub refused : (text : List ℕ) (r : Result code.Tree SyntaxError) → ((t : Tree) → Spells text t → Answers r t) → IfErr r (λ e. e ≢ errors.OutOfMemory → (t : Tree) → Spells text t → ⊥)
+pub refused : (text : List ℕ) (r : Result code.Tree SyntaxError)
+    → ((t : Tree) → Spells text t → Answers r t)
+    → IfErr r (λ e. e ≢ errors.OutOfMemory → (t : Tree) → Spells text t → ⊥)
 refused text (Ok x) h = tt
 refused text (Err e) h = λ other t s. other (h t s)

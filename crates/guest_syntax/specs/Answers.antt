@@ -47,6 +47,7 @@ RefusalIn at bytes errors.OutOfMemory = Unit {0}
 RefusalIn at bytes (errors.NotAscii p) = IsNotAsciiAt at bytes p
 RefusalIn at bytes (errors.BadChar p) = IsBadCharAt at bytes p
 RefusalIn at bytes (errors.Expected p) = IsTokenOrEnd at bytes p
-RefusalIn at bytes (errors.NumberTooBig p) = (n : ℕ) × (REPEATS < n) × IsTokenIn at bytes (number n) p
+RefusalIn at bytes (errors.NumberTooBig p) = (n : ℕ) × (REPEATS < n)
+    × IsTokenIn at bytes (number n) p
 RefusalIn at bytes (errors.TooLong p) = TEXT_BYTES < length bytes
 RefusalIn at bytes (errors.TooDeep p) = IsTokenIn at bytes (symbol Open) p

@@ -45,7 +45,8 @@ IsEnd = IsSymbol symbols.End
 -- a number, or a number after a minus
 abbrev pub IsLiteral : ℤ → Form
 IsLiteral z ts rest =
-    (n : ℕ) × (((z ≡ pos n) × IsNumber NUMBER n ts rest) ⊎ ((z ≡ pos 0 -ℤ pos n) × (IsSymbol symbols.Minus then IsNumber NUMBER n) ts rest))
+    (n : ℕ) × (((z ≡ pos n) × IsNumber NUMBER n ts rest) ⊎
+    ((z ≡ pos 0 -ℤ pos n) × (IsSymbol symbols.Minus then IsNumber NUMBER n) ts rest))
 
 -- one after the other
 abbrev pub each : {A : Type 0} → (A → Form) → List A → Form
@@ -54,4 +55,5 @@ each F (x ∷ xs) ts rest = (F x then each F xs) ts rest
 
 -- a block, where there is room for it: its statements, with less room, in braces
 abbrev pub in_braces : (ℕ → Form) → ℕ → Form
-in_braces inner room ts rest = (less : ℕ) × (room ≡ suc less) × (IsSymbol symbols.Open then inner less then IsSymbol symbols.Close) ts rest
+in_braces inner room ts rest = (less : ℕ) × (room ≡ suc less)
+    × (IsSymbol symbols.Open then inner less then IsSymbol symbols.Close) ts rest

@@ -43,7 +43,8 @@ abbrev mutual
   IsStatement (add r x a) room =
       IsKeyword keywords.Add then IsName r then IsName x then IsOperand a then IsEnd
   IsStatement (cas r x a b) room =
-      IsKeyword keywords.Cas then IsName r then IsName x then IsOperand a then IsOperand b then IsEnd
+      IsKeyword keywords.Cas then IsName r then IsName x then IsOperand a then IsOperand b then
+      IsEnd
   IsStatement (lock m) room = IsKeyword keywords.Lock then IsName m then IsEnd
   IsStatement (unlock m) room = IsKeyword keywords.Unlock then IsName m then IsEnd
   IsStatement (wait c m) room = IsKeyword keywords.Wait then IsName c then IsName m then IsEnd
@@ -53,9 +54,12 @@ abbrev mutual
   IsStatement (release s) room = IsKeyword keywords.Release then IsName s then IsEnd
   IsStatement (set r e) room = IsKeyword keywords.Set then IsName r then IsExpr e then IsEnd
   IsStatement (assert e) room = IsKeyword keywords.Assert then IsExpr e then IsEnd
-  IsStatement (if_then e b) room = IsKeyword keywords.If then IsExpr e then in_braces (AreStatements b) room
-  IsStatement (if_else e b c) room = IsKeyword keywords.If then IsExpr e then in_braces (AreStatements b) room then IsKeyword keywords.Else then in_braces (AreStatements c) room
-  IsStatement (repeat n b) room = IsKeyword keywords.Repeat then IsTimes n then in_braces (AreStatements b) room
+  IsStatement (if_then e b) room = IsKeyword keywords.If then IsExpr e then in_braces
+      (AreStatements b) room
+  IsStatement (if_else e b c) room = IsKeyword keywords.If then IsExpr e then in_braces
+      (AreStatements b) room then IsKeyword keywords.Else then in_braces (AreStatements c) room
+  IsStatement (repeat n b) room = IsKeyword keywords.Repeat then IsTimes n then in_braces
+      (AreStatements b) room
   IsStatement (leave at) room = IsTokenAt at (keyword keywords.Leave) then IsEnd
 
   pub AreStatements : Block → ℕ → Form
@@ -69,13 +73,15 @@ IsBlock b room = in_braces (AreStatements b) room
 abbrev pub IsVariable : Name → ℤ → Form
 IsVariable n z ts rest =
     ((z ≡ pos 0) × (IsKeyword keywords.Var then IsName n then IsEnd) ts rest)
-    ⊎ (IsKeyword keywords.Var then IsName n then IsSymbol symbols.Assign then IsLiteral z then IsEnd) ts rest
+    ⊎ (IsKeyword keywords.Var then IsName n then IsSymbol symbols.Assign then IsLiteral z then
+    IsEnd) ts rest
 
 abbrev pub IsObject : Name → Object → Form
 IsObject n (objects.Variable z) = IsVariable n z
 IsObject n objects.Mutex = IsKeyword keywords.Mutex then IsName n then IsEnd
 IsObject n objects.Condition = IsKeyword keywords.Cond then IsName n then IsEnd
-IsObject n (objects.Semaphore k) = IsKeyword keywords.Sem then IsName n then IsSymbol symbols.Assign then IsNumber COUNT k then IsEnd
+IsObject n (objects.Semaphore k) = IsKeyword keywords.Sem then IsName n then IsSymbol
+    symbols.Assign then IsNumber COUNT k then IsEnd
 
 abbrev pub IsDeclaration : Declaration → Form
 IsDeclaration d = IsObject d.name d.object

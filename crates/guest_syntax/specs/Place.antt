@@ -8,7 +8,8 @@ start = record { line = 1; col = 1 }
 
 -- the place after a byte
 unfoldable pub past : Pos → ℕ → Pos
-past p b = if b == 10 then record { line = p.line + 1; col = 1 } else record { line = p.line; col = p.col + 1 }
+past p b = if b == 10 then record { line = p.line + 1; col = 1 } else
+    record { line = p.line; col = p.col + 1 }
 
 -- the place after these bytes
 unfoldable pub after : Pos → List ℕ → Pos

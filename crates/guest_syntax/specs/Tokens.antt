@@ -85,7 +85,8 @@ value bs = fold (λ n b. 10 * n + (b - 48)) 0 bs
 abbrev pub Spelling : Kind → List ℕ → Type 0
 Spelling (name s) bs = (bs ≡ s) × IsIdentifier s × ((w : Keyword) → s ≢ keyword_text w)
 Spelling (keyword w) bs = bs ≡ keyword_text w
-Spelling (number n) bs = (0 < length bs) × IsTrue (list_all is_digit bs) × (n ≡ min (value bs) (2 ^ 64 - 1))
+Spelling (number n) bs = (0 < length bs) × IsTrue (list_all is_digit bs)
+    × (n ≡ min (value bs) (2 ^ 64 - 1))
 Spelling (symbol s) bs = bs ≡ symbol_text s
 Spelling bad bs = ⊥
 
@@ -93,11 +94,13 @@ Spelling bad bs = ⊥
 abbrev pub blank : Bool → List ℕ → Option Bool
 blank comment [] = Some comment
 blank true (b ∷ bs) = blank (not (b == 10)) bs
-blank false (b ∷ bs) = if b == 35 then blank true bs else (if is_space b then blank false bs else None)
+blank false (b ∷ bs) = if b == 35 then blank true bs else
+    (if is_space b then blank false bs else None)
 
 -- no token begins with these bytes and goes on with the first of the rest
 abbrev pub IsLongest : List ℕ → List ℕ → Type 0
-IsLongest text rest = (b : ℕ) (more : List ℕ) → rest ≡ b ∷ more → (k : Kind) → Spelling k (text ++ b ∷ []) → ⊥
+IsLongest text rest = (b : ℕ) (more : List ℕ) → rest ≡ b ∷ more → (k : Kind)
+    → Spelling k (text ++ b ∷ []) → ⊥
 
 -- one token, what comes before it and what comes after it
 pub record Begins (at : Pos) (bytes : List ℕ) (t : Token) (rest : List ℕ) : Type 0 where

@@ -86,7 +86,8 @@ abbrev pub view_step : Statement-F Stmt → Stmt
 view_step (Statement-F.Load r x) = load (name_view r) (name_view x)
 view_step (Statement-F.Store x a) = store (name_view x) (operand_view a)
 view_step (Statement-F.Add r x a) = add (name_view r) (name_view x) (operand_view a)
-view_step (Statement-F.Cas r x a b) = cas (name_view r) (name_view x) (operand_view a) (operand_view b)
+view_step (Statement-F.Cas r x a b) = cas (name_view r) (name_view x) (operand_view a)
+    (operand_view b)
 view_step (Statement-F.Lock m) = lock (name_view m)
 view_step (Statement-F.Unlock m) = unlock (name_view m)
 view_step (Statement-F.Wait c m) = wait (name_view c) (name_view m)
@@ -97,7 +98,8 @@ view_step (Statement-F.Release s) = release (name_view s)
 view_step (Statement-F.Set r e) = set (name_view r) (expr_view e)
 view_step (Statement-F.Assert e) = assert (expr_view e)
 view_step (Statement-F.If e b None) = if_then (expr_view e) (block_of b.items)
-view_step (Statement-F.If e b (Some c)) = if_else (expr_view e) (block_of b.items) (block_of c.items)
+view_step (Statement-F.If e b (Some c)) =
+    if_else (expr_view e) (block_of b.items) (block_of c.items)
 view_step (Statement-F.Repeat n b) = repeat n (block_of b.items)
 view_step (Statement-F.Leave at) = leave at
 
@@ -114,4 +116,7 @@ abbrev pub thread_view : code-thread.Thread → Thread
 thread_view t = record { name = name_view t.name; body = block_view t.body.items }
 
 abbrev pub tree_view : code-tree.Tree → Tree
-tree_view t = record { declarations = map declaration_view t.declarations.items; threads = map thread_view t.threads.items }
+tree_view t = record {
+  declarations = map declaration_view t.declarations.items;
+  threads = map thread_view t.threads.items;
+}

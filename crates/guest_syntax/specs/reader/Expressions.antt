@@ -52,7 +52,8 @@ op_of _ = None
 -- an expression, whose first operand was read, and what may be an operator
 abbrev pub expr_by : Operand → List Token → List Token → Option Op → Read Expr
 expr_by a before following None = Some (tree.single a, before)
-expr_by a before following (Some op) = operand_from following >>= λ b. Some (tree.both a op b.0, b.1)
+expr_by a before following (Some op) = operand_from following >>= λ b. Some
+    (tree.both a op b.0, b.1)
 
 unfoldable pub expr_from : List Token → Read Expr
 expr_from ts = do

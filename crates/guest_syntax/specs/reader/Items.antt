@@ -8,7 +8,8 @@ use Rattle.guest_syntax.specs.reader.Reads.{Read}
 abbrev pub Turn : Type 0 → Type 0
 Turn A = List Token → Read (Option A)
 
-abbrev pub many_by : {A : Type 0} → (List Token → Read (List A)) → Option A → List Token → Read (List A)
+abbrev pub many_by : {A : Type 0} → (List Token → Read (List A)) → Option A → List Token
+    → Read (List A)
 many_by more None ts = Some ([], ts)
 many_by more (Some a) ts = more ts >>= λ x. Some (a ∷ x.0, x.1)
 

@@ -18,14 +18,16 @@ rest_of c = tokens_from c.at c.rest.now
 -- the first token of the bytes, its end and the bytes after it, or none at the end
 abbrev pub Scans : Result (Option code.Token × Cursor) SyntaxError → Cursor → Type 0
 Scans result text =
-    Gives (λ x. option_map (λ t. (token_view t, x.1.at, x.1.rest.now)) x.0) result (first text.at text.rest.now)
+    Gives (λ x. option_map (λ t. (token_view t, x.1.at, x.1.rest.now)) x.0) result
+    (first text.at text.rest.now)
 
 -- what was read, and the tokens after it
 abbrev pub Read : Type 0 → Type 0
 Read A = Option (A × List Token)
 
 -- what was read, seen by view, and the tokens after it are what the reader gives
-abbrev pub Reads : {X Y : Type 0} → (X → Y) → Result (X × Cursor) SyntaxError → (List Token → Read Y) → Cursor → Type 0
+abbrev pub Reads : {X Y : Type 0} → (X → Y) → Result (X × Cursor) SyntaxError
+    → (List Token → Read Y) → Cursor → Type 0
 Reads view result reader text = Gives (λ x. (view x.0, rest_of x.1)) result (reader (rest_of text))
 
 -- at least one token was read
@@ -34,7 +36,8 @@ TakesToken result text = IfOk result (λ x. length (rest_of x.1) < length (rest_
 
 -- at least one token was read, where an item was
 abbrev pub ItemTakesToken : {X : Type 0} → Result (Option X × Cursor) SyntaxError → Cursor → Type 0
-ItemTakesToken result text = IfOk result (λ x. IsSome x.0 → length (rest_of x.1) < length (rest_of text))
+ItemTakesToken result text = IfOk result
+    (λ x. IsSome x.0 → length (rest_of x.1) < length (rest_of text))
 
 -- the place of a token of the cursor's text, or its end
 abbrev pub IsPlaceOf : Cursor → Pos → Type 0

@@ -24,10 +24,12 @@ skip_by NotAscii more at bytes = None
 -- what comes after spaces and comments, where no byte of them is above 127
 unfoldable pub skipped : Bool → Pos → List ℕ → Option (Pos × List ℕ)
 skipped comment at [] = Some (at, [])
-skipped comment at (b ∷ bs) = skip_by (gap_step comment b) (λ c. skipped c (past at b) bs) at (b ∷ bs)
+skipped comment at (b ∷ bs) = skip_by (gap_step comment b) (λ c. skipped c (past at b) bs) at
+    (b ∷ bs)
 
 abbrev pub name_or_keyword : List ℕ → Kind
-name_or_keyword text = option_map_or keyword (find (λ w. bytes_eq (keyword_text w) text) KEYWORDS) (name text)
+name_or_keyword text = option_map_or keyword (find (λ w. bytes_eq (keyword_text w) text) KEYWORDS)
+    (name text)
 
 -- the value of digits, cut at 2 ^ 64 - 1
 abbrev pub capped : List ℕ → ℕ
@@ -38,8 +40,14 @@ symbol_at text = find (λ s. starts_with nat_eq text (symbol_text s)) SYMBOLS
 
 -- the token that begins with the first byte, and its length
 abbrev pub kind_by : Bool → Bool → List ℕ → Option (Kind × ℕ)
-kind_by true digit bytes = Some (name_or_keyword (take (prefix_len is_name_byte bytes) bytes), prefix_len is_name_byte bytes)
-kind_by false true bytes = Some (number (capped (take (prefix_len is_digit bytes) bytes)), prefix_len is_digit bytes)
+kind_by true digit bytes = Some (
+  name_or_keyword (take (prefix_len is_name_byte bytes) bytes),
+  prefix_len is_name_byte bytes,
+)
+kind_by false true bytes = Some (
+  number (capped (take (prefix_len is_digit bytes) bytes)),
+  prefix_len is_digit bytes,
+)
 kind_by false false bytes = option_map (λ s. (symbol s, length (symbol_text s))) (symbol_at bytes)
 
 unfoldable pub kind_at : List ℕ → Option (Kind × ℕ)
@@ -57,7 +65,8 @@ first at bytes = do
   s ← skipped false at bytes
   first_from s.0 s.1
 
-abbrev pub scan_with : Pos → Option (Option (Token × Pos × List ℕ)) → (Pos → List ℕ → List Token) → List Token
+abbrev pub scan_with : Pos → Option (Option (Token × Pos × List ℕ)) → (Pos → List ℕ → List Token)
+    → List Token
 scan_with at None more = record { kind = bad; at = at } ∷ []
 scan_with at (Some None) more = []
 scan_with at (Some (Some x)) more = x.0 ∷ more x.1 x.2

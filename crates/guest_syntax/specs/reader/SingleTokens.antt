@@ -39,7 +39,13 @@ symbol_from wanted ts = do
   if is_symbol wanted t.0.kind then Some t.1 else None
 
 abbrev pub name_in : Token → Option Name
-name_in t = elim t.kind [ name s ↦ Some (record { text = s; at = t.at }) | keyword w ↦ None | number n ↦ None | symbol s ↦ None | bad ↦ None ]
+name_in t = elim t.kind [
+  | name s ↦ Some (record { text = s; at = t.at })
+  | keyword w ↦ None
+  | number n ↦ None
+  | symbol s ↦ None
+  | bad ↦ None
+]
 
 -- a name
 unfoldable pub name_from : List Token → Read Name

@@ -92,9 +92,11 @@ is_else (keyword keywords.Else) = true
 is_else _ = false
 
 -- a choice, whose first block was read, and what may be `else`
-abbrev pub choice_by : (List Token → Read Block) → Expr → Block → List Token → List Token → Bool → Read Stmt
+abbrev pub choice_by : (List Token → Read Block) → Expr → Block → List Token → List Token → Bool
+    → Read Stmt
 choice_by block e b before following false = Some (tree.if_then e b, before)
-choice_by block e b before following true = block following >>= λ c. Some (tree.if_else e b c.0, c.1)
+choice_by block e b before following true =
+    block following >>= λ c. Some (tree.if_else e b c.0, c.1)
 
 unfoldable pub choice_from : (List Token → Read Block) → List Token → Read Stmt
 choice_from block ts = do

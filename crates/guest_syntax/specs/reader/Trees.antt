@@ -15,7 +15,8 @@ use Rattle.guest_syntax.specs.reader.Items.{Turn, all_from}
 use Rattle.guest_syntax.specs.reader.Statements.{one_name_from, block_from}
 
 abbrev pub variable_by : Name → Kind → List Token → Read Declaration
-variable_by x (symbol symbols.End) ts = Some (record { name = x; object = objects.Variable (pos 0) }, ts)
+variable_by x (symbol symbols.End) ts = Some
+    (record { name = x; object = objects.Variable (pos 0) }, ts)
 variable_by x (symbol symbols.Assign) ts = do
   z ← literal_from ts
   e ← symbol_from symbols.End z.1
@@ -45,10 +46,14 @@ semaphore_from ts = do
   Some (record { name = x.0; object = objects.Semaphore n.0 }, e)
 
 abbrev pub declaration_by : Kind → List Token → List Token → Read (Option Declaration)
-declaration_by (keyword keywords.Var) before following = variable_from following >>= λ d. Some (Some d.0, d.1)
-declaration_by (keyword keywords.Mutex) before following = plain_from objects.Mutex following >>= λ d. Some (Some d.0, d.1)
-declaration_by (keyword keywords.Cond) before following = plain_from objects.Condition following >>= λ d. Some (Some d.0, d.1)
-declaration_by (keyword keywords.Sem) before following = semaphore_from following >>= λ d. Some (Some d.0, d.1)
+declaration_by (keyword keywords.Var) before following =
+    variable_from following >>= λ d. Some (Some d.0, d.1)
+declaration_by (keyword keywords.Mutex) before following =
+    plain_from objects.Mutex following >>= λ d. Some (Some d.0, d.1)
+declaration_by (keyword keywords.Cond) before following =
+    plain_from objects.Condition following >>= λ d. Some (Some d.0, d.1)
+declaration_by (keyword keywords.Sem) before following =
+    semaphore_from following >>= λ d. Some (Some d.0, d.1)
 declaration_by _ before following = Some (None, before)
 
 abbrev pub declaration_next : Option Token → List Token → List Token → Read (Option Declaration)

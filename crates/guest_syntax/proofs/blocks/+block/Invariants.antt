@@ -26,7 +26,8 @@ decreases-statements l = 5 * l.room + 4
 
 abbrev pub invariant-statements-items : goal.invariant-statements-items
 invariant-statements-items l = record {
-  goes : Goes (turn_from (block_from l.room)) (map stmt_view l.all.items) (rest_of l.rest) (all_from (turn_from (block_from l.room)) (rest_of l.fn.text));
+  goes : Goes (turn_from (block_from l.room)) (map stmt_view l.all.items) (rest_of l.rest)
+      (all_from (turn_from (block_from l.room)) (rest_of l.fn.text));
   same : l.rest.text.now ≡ l.fn.text.text.now;
   shorter : length (rest_of l.rest) ≤ length (rest_of l.fn.text);
 }

@@ -14,6 +14,18 @@ invariant_of-result c =
     record {
       left = follows_left text.text.now rest at f;
       place = follows_after text.text.now rest at f;
-      lines = omega (arith, c.after-at.ensures.line, c.split_at.ensures.front_len, c.split_at.ensures.back_len, text.lines);
-      cols = omega (arith, c.after-at.ensures.col, c.split_at.ensures.front_len, c.split_at.ensures.back_len, text.cols);
+      lines = omega (
+        arith,
+        c.after-at.ensures.line,
+        c.split_at.ensures.front_len,
+        c.split_at.ensures.back_len,
+        text.lines,
+      );
+      cols = omega (
+        arith,
+        c.after-at.ensures.col,
+        c.split_at.ensures.front_len,
+        c.split_at.ensures.back_len,
+        text.cols,
+      );
     }

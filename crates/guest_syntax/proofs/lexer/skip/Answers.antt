@@ -8,30 +8,50 @@ use Rattle.guest_syntax.proofs.lexer.skip.Goals as goal
 
 pub returns-in-Stops-clause-gives : goal.returns-in-Stops-clause-gives
 returns-in-Stops-clause-gives c =
-    sym c.loop-i.invariant.same ∙ skipped_step c.args.text.now c.loop-i.i c.loop-i.comment c.loop-i.at c.loop-i-test.true Stops (sym c.in-Stops.ensures) ∙ ap (λ (r : List ℕ). Some (c.loop-i.at, r)) (sym (from_at c.args.text.now c.loop-i.i))
+    sym c.loop-i.invariant.same ∙ skipped_step c.args.text.now c.loop-i.i c.loop-i.comment
+    c.loop-i.at c.loop-i-test.true Stops (sym c.in-Stops.ensures) ∙
+    ap (λ (r : List ℕ). Some (c.loop-i.at, r)) (sym (from_at c.args.text.now c.loop-i.i))
 
 pub returns-in-NotAscii-clause-gives : goal.returns-in-NotAscii-clause-gives
 returns-in-NotAscii-clause-gives c =
-    sym c.loop-i.invariant.same ∙ skipped_step c.args.text.now c.loop-i.i c.loop-i.comment c.loop-i.at c.loop-i-test.true NotAscii (sym c.in-NotAscii.ensures)
+    sym c.loop-i.invariant.same ∙ skipped_step c.args.text.now c.loop-i.i c.loop-i.comment
+    c.loop-i.at c.loop-i-test.true NotAscii (sym c.in-NotAscii.ensures)
 
 pub loop-i-preserved : goal.loop-i-preserved
 loop-i-preserved c =
     record {
-      same = rw c.past-at.ensures.place (sym (skipped_step c.args.text.now c.loop-i.i c.loop-i.comment c.loop-i.at c.loop-i-test.true (Passed c.in-Passed.goes_on) (sym c.in-Passed.ensures)) ∙ c.loop-i.invariant.same);
-      follows = rw c.past-at.ensures.place (follows_then c.loop-i.invariant.follows (byte_follows c.args.text.now c.loop-i.i c.loop-i.at c.loop-i-test.true));
+      same = rw c.past-at.ensures.place (sym
+          (skipped_step c.args.text.now c.loop-i.i c.loop-i.comment c.loop-i.at c.loop-i-test.true
+          (Passed c.in-Passed.goes_on) (sym c.in-Passed.ensures)) ∙ c.loop-i.invariant.same);
+      follows = rw c.past-at.ensures.place (follows_then c.loop-i.invariant.follows
+          (byte_follows c.args.text.now c.loop-i.i c.loop-i.at c.loop-i-test.true));
       line = omega arith;
       col = omega arith;
     }
 
 pub returns-clause-gives : goal.returns-clause-gives
-returns-clause-gives c = sym c.loop-i.invariant.same ∙ skipped_end c.args.text.now c.loop-i.i c.loop-i.comment c.loop-i.at c.loop-i-test.false ∙ ap (λ (r : List ℕ). Some (c.loop-i.at, r)) (sym (from_at c.args.text.now (length c.args.text.now)))
+returns-clause-gives c = sym c.loop-i.invariant.same ∙ skipped_end c.args.text.now c.loop-i.i
+    c.loop-i.comment c.loop-i.at c.loop-i-test.false ∙ ap (λ (r : List ℕ). Some (c.loop-i.at, r))
+    (sym (from_at c.args.text.now (length c.args.text.now)))
 
 pub loop-i-init : goal.loop-i-init
-loop-i-init c = record { same = refl; follows = nothing_follows c.args.text.now c.args.start; line = omega arith; col = omega arith }
+loop-i-init c = record {
+  same = refl;
+  follows = nothing_follows c.args.text.now c.args.start;
+  line = omega arith;
+  col = omega arith;
+}
 
 pub returns-in-NotAscii-clause-refused : goal.returns-in-NotAscii-clause-refused
 returns-in-NotAscii-clause-refused c =
     let text = c.args.text.now in
     let i = c.loop-i.i in
-    let more : drop i text ≡ get_or text i 0 ∷ drop (i + 1) text = rw add-one (drop-cons text i 0 c.loop-i-test.true) in
-    (get_or text i 0, drop (i + 1) text, not_ascii_above c.loop-i.comment (get_or text i 0) (sym c.in-NotAscii.ensures), subst (Follows c.args.start text c.loop-i.at) more c.loop-i.invariant.follows)
+    let more : drop i text ≡ get_or text i 0 ∷ drop (i + 1) text =
+    rw add-one (drop-cons text i 0 c.loop-i-test.true) in (
+      get_or text i 0,
+      drop (i + 1) text,
+      not_ascii_above c.loop-i.comment (get_or text i 0)
+          (sym c.in-NotAscii.ensures),
+      subst (Follows c.args.start text c.loop-i.at) more
+          c.loop-i.invariant.follows,
+    )

@@ -8,7 +8,8 @@ use Rattle.guest_syntax.proofs.lexer.skip_blanks.Goals as goal
 pub returns-in_err-at-clause-refused : goal.returns-in_err-at-clause-refused
 returns-in_err-at-clause-refused c =
     let p = err_from_is_err_and c.from_residual.result c.from_residual.ensures.1 in
-    rw (p.1, p.2) (refusal_then c.in_err-at.field-0.0 (cursor_follows c.args.text) c.in_err-at.ensures.refused)
+    rw (p.1, p.2) (refusal_then c.in_err-at.field-0.0 (cursor_follows c.args.text)
+    c.in_err-at.ensures.refused)
 
 pub invariant_of-result : goal.invariant_of-result
 invariant_of-result c =

@@ -8,7 +8,8 @@ use Rattle.guest_syntax.proofs.parser.declarations.Given as goal
 
 abbrev pub invariant-items : goal.invariant-items
 invariant-items l = record {
-  goes : Goes declaration_turn (map declaration_view l.all.items) (rest_of l.rest) (all_from declaration_turn (rest_of l.fn.text));
+  goes : Goes declaration_turn (map declaration_view l.all.items) (rest_of l.rest)
+      (all_from declaration_turn (rest_of l.fn.text));
   same : l.rest.text.now ≡ l.fn.text.text.now;
 }
 

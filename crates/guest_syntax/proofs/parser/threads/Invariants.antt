@@ -8,7 +8,8 @@ use Rattle.guest_syntax.proofs.parser.threads.Given as goal
 
 abbrev pub invariant-items : goal.invariant-items
 invariant-items l = record {
-  goes : Goes thread_turn (map thread_view l.all.items) (rest_of l.rest) (all_from thread_turn (rest_of l.fn.text));
+  goes : Goes thread_turn (map thread_view l.all.items) (rest_of l.rest)
+      (all_from thread_turn (rest_of l.fn.text));
   same : l.rest.text.now ≡ l.fn.text.text.now;
 }
 
