@@ -27,9 +27,11 @@ bad_once : (p : Program) (s : Snapshot) (w : List ℕ) (j k : ℕ) → j < lengt
 bad_once p s [] j k inside h bad inside2 h2 bad2 = absurd (omega (arith, inside))
 bad_once p s (t ∷ w) zero zero inside h bad inside2 h2 bad2 = refl
 bad_once p s (t ∷ w) zero (suc k) inside h bad inside2 h2 bad2 =
-    absurd (false≢true (sym bad ∙ (and_true (is_enabled p s t) (runs p (step p s t) (take k w)) h2).0))
+    absurd (false≢true (sym bad ∙ (and_true (is_enabled p s t) (runs p (step p s t) (take k w))
+    h2).0))
 bad_once p s (t ∷ w) (suc j) zero inside h bad inside2 h2 bad2 =
-    absurd (false≢true (sym bad2 ∙ (and_true (is_enabled p s t) (runs p (step p s t) (take j w)) h).0))
+    absurd (false≢true (sym bad2 ∙ (and_true (is_enabled p s t) (runs p (step p s t) (take j w))
+    h).0))
 bad_once p s (t ∷ w) (suc j) (suc k) inside h bad inside2 h2 bad2 =
     let on = and_true (is_enabled p s t) (runs p (step p s t) (take j w)) h in
     let on2 = and_true (is_enabled p s t) (runs p (step p s t) (take k w)) h2 in

@@ -134,10 +134,12 @@ same_place text a b v w x y r s rx sy =
         piece = same.1;
       }
       | inr (inl m) ↦
-          absurd (none_taken r.before x m.0 v w r.spelt rx (subst (λ ts. SpellEach ts w) m.1 s.spelt)
+          absurd (none_taken r.before x m.0 v w r.spelt rx
+          (subst (λ ts. SpellEach ts w) m.1 s.spelt)
           s.short)
       | inr (inr m) ↦
-          absurd (none_taken s.before y m.0 w v s.spelt sy (subst (λ ts. SpellEach ts v) m.1 r.spelt)
+          absurd (none_taken s.before y m.0 w v s.spelt sy
+          (subst (λ ts. SpellEach ts v) m.1 r.spelt)
           r.short)
     ]
 
