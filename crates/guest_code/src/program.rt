@@ -132,7 +132,8 @@ impl Model for Program {
 
     ghost view = { λ p. program_view p.variables p.mutexes p.conditions p.semaphores p.threads };
 
-    ghost invariant = { λ p. IsWellFormed (program_view p.variables p.mutexes p.conditions p.semaphores p.threads) };
+    ghost invariant = { λ p. IsWellFormed
+        (program_view p.variables p.mutexes p.conditions p.semaphores p.threads) };
 }
 
 impl PartialEq for Program {

@@ -128,7 +128,8 @@ fn statements<'a>(
     text: Cursor<'a>,
     room: u32,
 ) -> Result<(Vec<Statement>, Cursor<'a>), SyntaxError>
-    ensures gives { Reads (λ x. map stmt_view x.items) result (all_from (turn_from (block_from room))) text.entry }
+    ensures gives { Reads (λ x. map stmt_view x.items) result
+        (all_from (turn_from (block_from room))) text.entry }
     ensures within { StaysIn result text.entry }
     ensures shorter { TakesToken result text.entry }
 {

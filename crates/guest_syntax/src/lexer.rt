@@ -91,7 +91,8 @@ fn skip<'a>(text: &'a [u8], start: Pos) -> Result<(Pos, &'a [u8]), SyntaxError>
 
 /// The cursor after spaces and comments.
 fn skip_blanks<'a>(text: Cursor<'a>) -> Result<Cursor<'a>, SyntaxError>
-    ensures gives { Gives (λ x. (x.at, x.rest.now)) result (skipped false text.entry.at text.entry.rest.now) }
+    ensures gives { Gives (λ x. (x.at, x.rest.now)) result
+        (skipped false text.entry.at text.entry.rest.now) }
     ensures same { IfOk result (λ x. x.text.now ≡ text.entry.text.now) }
     ensures refused { IfErr result (RefusalIn place.start text.entry.text.now) }
 {

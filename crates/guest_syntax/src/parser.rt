@@ -103,7 +103,8 @@ fn declarations<'a>(
     alloc: Global,
     text: Cursor<'a>,
 ) -> Result<(Vec<Declaration>, Cursor<'a>), SyntaxError>
-    ensures gives { Reads (λ x. map declaration_view x.items) result (all_from declaration_turn) text.entry }
+    ensures gives { Reads (λ x. map declaration_view x.items) result (all_from declaration_turn)
+        text.entry }
     ensures within { StaysIn result text.entry }
 {
     let mut all = Vec::new(alloc);

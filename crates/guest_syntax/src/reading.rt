@@ -29,7 +29,8 @@ pub fn parse(alloc: Global, text: &[u8]) -> Result<Tree, SyntaxError>
     // What the text spells is answered, unless memory runs out; it is never refused.
     ensures only { (t : model.Tree) → Spells text.now t → Answers result t }
     // A text that is refused, other than because memory ran out, spells nothing.
-    ensures refused { IfErr result (λ e. e ≢ OutOfMemory → (t : model.Tree) → Spells text.now t → ⊥) }
+    ensures refused { IfErr result (λ e. e ≢ OutOfMemory → (t : model.Tree) → Spells text.now t
+        → ⊥) }
     // What a refusal says is so at its place in the text: a byte above 127, a byte that begins no
     // token, a number above the least limit, an opening brace, or some token or the end; that the
     // text is too long is said only where it is.

@@ -50,7 +50,8 @@ pub fn token<'a>(text: Cursor<'a>) -> Result<(Token<'a>, Cursor<'a>), SyntaxErro
 #[tactic(auto, unfolding(crate::specs::reader::SingleTokens::symbol_from))]
 pub fn symbol<'a>(text: Cursor<'a>, wanted: Symbol) -> Result<(Pos, Cursor<'a>), SyntaxError>
     ensures gives { Gives (λ x. rest_of x.1) result (symbol_from wanted (rest_of text.entry)) }
-    ensures place { IfOk result (λ x. IsTokenOf text.entry (record { kind = symbol wanted; at = x.0 })) }
+    ensures place { IfOk result (λ x.
+        IsTokenOf text.entry (record { kind = symbol wanted; at = x.0 })) }
     ensures within { StaysIn result text.entry }
     ensures shorter { TakesToken result text.entry }
 {
@@ -83,7 +84,8 @@ pub fn number_in(token: Token, limit: u64) -> Result<u64, SyntaxError>
     requires least { REPEATS ≤ limit }
     ensures gives { Gives (λ n. n) result (number_in limit (kind_view token.entry.kind)) }
     ensures limit { IfOk result (λ n. n ≤ limit) }
-    ensures place { (text : Cursor) → IsTokenOf text (token_view token.entry) → StaysAt result text }
+    ensures place { (text : Cursor) → IsTokenOf text (token_view token.entry)
+        → StaysAt result text }
 {
     match token.kind {
         Kind::Number(n) if n <= limit => Ok(n),

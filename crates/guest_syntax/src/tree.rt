@@ -183,7 +183,8 @@ pub struct Tree {
 impl Tree {
     /// A tree of these declarations and threads, each in text order.
     pub(crate) fn new(declarations: Vec<Declaration>, threads: Vec<Thread>) -> Tree
-        ensures declarations { (tree_view result).declarations ≡ map declaration_view declarations.items }
+        ensures declarations { (tree_view result).declarations
+            ≡ map declaration_view declarations.items }
         ensures threads { (tree_view result).threads ≡ map thread_view threads.items }
     {
         Tree {
