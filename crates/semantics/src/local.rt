@@ -108,20 +108,20 @@ fn of_both(op: Op, a: i64, b: i64) -> i64
 }
 
 // The value of an expression.
-fn expression_at(locals: &[i64; LOCALS], expression: Expression) -> i64
-    requires { IsValidExpression expression }
-    ensures { result ≡ value_of_expression locals.now expression }
+fn expression_at(locals: &[i64; LOCALS], expression: &Expression) -> i64
+    requires { IsValidExpression expression.now }
+    ensures { result ≡ value_of_expression locals.now expression.now }
 {
     match expression {
-        Expression::Single(a) => operand_at(locals, a),
-        Expression::Both(a, op, b) => of_both(op, operand_at(locals, a), operand_at(locals, b)),
+        Expression::Single(a) => operand_at(locals, *a),
+        Expression::Both(a, op, b) => of_both(*op, operand_at(locals, *a), operand_at(locals, *b)),
     }
 }
 
 // Whether an expression is 0.
-fn is_zero_at(locals: &[i64; LOCALS], expression: Expression) -> bool
-    requires { IsValidExpression expression }
-    ensures { result ≡ is_zero (value_of_expression locals.now expression) }
+fn is_zero_at(locals: &[i64; LOCALS], expression: &Expression) -> bool
+    requires { IsValidExpression expression.now }
+    ensures { result ≡ is_zero (value_of_expression locals.now expression.now) }
 {
     expression_at(locals, expression) == 0
 }
@@ -154,10 +154,10 @@ fn turn(code: &[Instruction], thread: &mut Thread, saved: &mut Saved) -> bool
         thread.status = Status::Ended;
         return false;
     }
-    match code[thread.pc] {
+    match &code[thread.pc] {
         Instruction::Set { local, value } => {
             let value = expression_at(&thread.locals, value);
-            put(thread, saved, local, value);
+            put(thread, saved, *local, value);
             thread.pc += 1;
             true
         }
@@ -170,12 +170,12 @@ fn turn(code: &[Instruction], thread: &mut Thread, saved: &mut Saved) -> bool
             true
         }
         Instruction::SkipIfZero(e, n) => {
-            let skip = if is_zero_at(&thread.locals, e) { n } else { 0 };
+            let skip = if is_zero_at(&thread.locals, e) { *n } else { 0 };
             pass(code, thread, skip);
             true
         }
         Instruction::Skip(n) => {
-            pass(code, thread, n);
+            pass(code, thread, *n);
             true
         }
         Instruction::Load { .. }
