@@ -68,6 +68,7 @@ pub fn compare_and_swap(
 
 /// What a thread does with a variable, whose value is in the cell. The locals that it writes are
 /// kept first.
+#[inline(always)]
 pub fn access(cell: &mut i64, thread: &mut Thread, saved: &mut Saved, action: VariableAction)
     requires action { IsValidAccess action }
     requires few { saved.old.count ≤ LOCALS }
@@ -139,6 +140,7 @@ fn pass(code: &[Instruction], thread: &mut Thread, skip: usize)
 }
 
 // One instruction of a local run. False where the run is over.
+#[inline(always)]
 fn turn(code: &[Instruction], thread: &mut Thread, saved: &mut Saved) -> bool
     requires fine { (p : Program) × IsValidCode p code.now }
     requires pc { thread.old.pc ≤ length code.now }
@@ -208,6 +210,7 @@ pub fn run_on(code: &[Instruction], thread: &mut Thread, saved: &mut Saved)
 }
 
 /// After its visible statement a thread runs on.
+#[inline(always)]
 pub fn resume(code: &[Instruction], thread: &mut Thread, saved: &mut Saved)
     requires fine { (p : Program) × IsValidCode p code.now }
     requires pc { thread.old.pc < length code.now }

@@ -255,6 +255,7 @@ impl State {
     }
 
     /// What a thread is about to do, if it doesn't wait and is not over.
+    #[inline(always)]
     pub fn next(&self, program: &Program, thread: u8) -> Option<Action>
         requires of { IsOf program.now self.now }
         requires thread { thread < length program.now.threads }
@@ -348,6 +349,7 @@ impl State {
     }
 
     // The threads that are enabled now, after a step of this one, where these were before it.
+    #[inline(always)]
     fn renew(&self, program: &Program, thread: u8, mask: Mask, others: Others) -> Mask
         requires of { IsOf program.now self.now }
         requires thread { thread < length program.now.threads }
@@ -382,6 +384,7 @@ impl State {
     }
 
     // A step, with its record, and what it does to which other threads are enabled.
+    #[inline(always)]
     fn step_recorded(&mut self, program: &Program, thread: u8, undo: &mut Undo) -> Others
         requires of { IsOf program.now self.old }
         requires enabled { IsTrue (is_enabled program.now self.old thread) }
@@ -400,6 +403,7 @@ impl State {
     }
 
     // What the step that a thread is about to take does to which other threads are enabled.
+    #[inline(always)]
     fn others_after(&self, program: &Program, thread: u8, action: Action) -> Others
         requires { IsReady program.now self.now thread action }
         ensures { result ≡ others_after self.now action }
@@ -443,6 +447,7 @@ impl State {
     }
 
     // What the thread is about to do.
+    #[inline(always)]
     fn execute(&mut self, program: &Program, thread: u8, action: Action, undo: &mut Undo)
         requires { IsReady program.now self.old thread action }
         ensures value { self.new ≡ performed program.now self.old thread action }
@@ -462,6 +467,7 @@ impl State {
     }
 
     // A step on a variable.
+    #[inline(always)]
     fn step_variable(
         &mut self,
         program: &Program,
@@ -488,6 +494,7 @@ impl State {
     }
 
     // A step on a mutex alone.
+    #[inline(always)]
     fn step_mutex(
         &mut self,
         program: &Program,
@@ -523,6 +530,7 @@ impl State {
     }
 
     // The first step of a `wait`.
+    #[inline(always)]
     fn begin_wait(&mut self, program: &Program, thread: u8, c: usize, m: usize, undo: &mut Undo)
         requires { IsReady program.now self.old thread (Waits c m) }
         ensures value { self.new ≡ performed program.now self.old thread (Waits c m) }
@@ -551,6 +559,7 @@ impl State {
     }
 
     // A step on a condition alone.
+    #[inline(always)]
     fn step_condition(
         &mut self,
         program: &Program,
@@ -579,6 +588,7 @@ impl State {
     }
 
     // A step on a semaphore.
+    #[inline(always)]
     fn step_semaphore(
         &mut self,
         program: &Program,
