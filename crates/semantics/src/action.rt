@@ -50,13 +50,13 @@ fn action_of(instruction: &Instruction) -> Option<Action>
 pub fn action_at(status: Status, instruction: &Instruction) -> Option<Action>
     ensures { result ≡ action_at status (Some instruction.now) }
 {
-    match (status, instruction) {
-        (Status::Running, i) => action_of(i),
-        (Status::Woken, Instruction::Wait { mutex, .. }) => Some(Action::OnMutex(
-            *mutex,
-            MutexAction::Retake,
-        )),
-        (Status::Woken | Status::Waiting(_) | Status::Ended | Status::Stopped(_), _) => None,
+    match status {
+        Status::Running => action_of(instruction),
+        Status::Woken => match instruction {
+            Instruction::Wait { mutex, .. } => Some(Action::OnMutex(*mutex, MutexAction::Retake)),
+            _ => None,
+        },
+        _ => None,
     }
 }
 

@@ -194,7 +194,25 @@ fn turn(code: &[Instruction], thread: &mut Thread, saved: &mut Saved) -> bool
     }
 }
 
+// Whether a thread is at a visible statement: its local run is over then.
+#[inline(always)]
+fn is_visible(code: &[Instruction], thread: &Thread) -> bool
+    ensures { IsTrue result → run_from code.now thread.now ≡ thread.now }
+{
+    match code.get(thread.pc) {
+        Some(
+            Instruction::Set { .. }
+            | Instruction::Assert(_)
+            | Instruction::SkipIfZero(_, _)
+            | Instruction::Skip(_),
+        )
+        | None => false,
+        Some(_) => true,
+    }
+}
+
 /// Runs a thread's own instructions, up to a visible statement, the end or a failed assertion.
+#[inline(never)]
 pub fn run_on(code: &[Instruction], thread: &mut Thread, saved: &mut Saved)
     requires fine { (p : Program) × IsValidCode p code.now }
     requires pc { thread.old.pc ≤ length code.now }
@@ -221,5 +239,7 @@ pub fn resume(code: &[Instruction], thread: &mut Thread, saved: &mut Saved)
 {
     thread.pc += 1;
     thread.status = Status::Running;
-    run_on(code, thread, saved);
+    if !is_visible(code, thread) {
+        run_on(code, thread, saved);
+    }
 }

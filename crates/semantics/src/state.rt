@@ -4,7 +4,7 @@ ghost use Rattle.std.specs.Prelude.{◌≡◌, ◌≢◌, ◌<◌, ◌≤◌, �
 ghost use Rattle.std.specs.List.{list_any, list_all};
 ghost use Rattle.guest_code.specs.declared.program.Instruction.{Instruction};
 ghost use Rattle.guest_code.specs.Program.{Program, code_of, IsValid, IsValidValue};
-ghost use Rattle.semantics.specs.Machine.{Snapshot, start, step, performed, action_at, can_do, is_enabled, next_of, thread_at, owner_of, queue_of, count_of, value_of_operand};
+ghost use Rattle.semantics.specs.Machine.{Snapshot, start, step, performed, action_of, action_at, can_do, is_enabled, next_of, thread_at, owner_of, queue_of, count_of, value_of_operand};
 ghost use Rattle.semantics.specs.Reachable.{IsOf, IsValidAction, StandsInCode, IsReady};
 ghost use Rattle.semantics.specs.Ends.{is_terminal, kind_of, view_of, final_kind, is_stopped, is_ended, stop_of};
 ghost use Rattle.semantics.specs.Mask.{has, HasEnabled};
@@ -290,19 +290,30 @@ impl State {
         requires { (p : Program) × IsOf p self.now × IsValid p instruction.now }
         ensures { result ≡ can_do self.now (action_at status (Some instruction.now)) }
     {
-        match (status, instruction) {
-            (Status::Running, Instruction::Lock(m))
-            | (Status::Woken, Instruction::Wait { mutex: m, .. }) => self.owners[*m].is_none(),
-            (Status::Running, Instruction::Acquire(k)) => self.counts[*k] > 0,
-            (
-                Status::Running,
-                Instruction::Set { .. }
-                | Instruction::Assert(_)
-                | Instruction::SkipIfZero(_, _)
-                | Instruction::Skip(_),
-            )
-            | (Status::Woken | Status::Waiting(_) | Status::Ended | Status::Stopped(_), _) => false,
-            (Status::Running, _) => true,
+        match status {
+            Status::Running => self.allows_visible(instruction),
+            Status::Woken => match instruction {
+                Instruction::Wait { mutex, .. } => self.owners[*mutex].is_none(),
+                _ => false,
+            },
+            _ => false,
+        }
+    }
+
+    // Whether the instruction is visible, and the objects allow its step.
+    #[inline(always)]
+    fn allows_visible(&self, instruction: &Instruction) -> bool
+        requires { (p : Program) × IsOf p self.now × IsValid p instruction.now }
+        ensures { result ≡ can_do self.now (action_of instruction.now) }
+    {
+        match instruction {
+            Instruction::Lock(m) => self.owners[*m].is_none(),
+            Instruction::Acquire(k) => self.counts[*k] > 0,
+            Instruction::Set { .. }
+            | Instruction::Assert(_)
+            | Instruction::SkipIfZero(_, _)
+            | Instruction::Skip(_) => false,
+            _ => true,
         }
     }
 
