@@ -245,3 +245,19 @@ opposite (suc (suc x)) h = absurd (omega arith)
 
 pub complement_bits : (a u : ℕ) → a < 2 ^ 16 → u < 16 → nat_eq (bit_at (bit_not w16 a) u) 1 ≡ not (nat_eq (bit_at a u) 1)
 complement_bits a u fits h = ap (λ n. nat_eq n 1) (bit_at_not w16 a u fits h) ∙ opposite (bit_at a u) (bit_at-lt a u)
+
+-- where no member is left from a number on
+none_in : (f : ℕ → Bool) (n k u : ℕ) → filter f (up_from n k) ≡ [] → n ≤ u → u < n + k → f u ≡ false
+none_in f n zero u e a b = absurd (omega (arith, a, b))
+none_in f n (suc k) u e a b = at (λ none l. none_in f (suc n) k u none (omega (arith, l)) (omega (arith, b))) (f n) refl e
+  where
+    at : (filter f (up_from (suc n) k) ≡ [] → n < u → f u ≡ false) → (b : Bool) → f n ≡ b → cond b (n ∷ filter f (up_from (suc n) k)) (filter f (up_from (suc n) k)) ≡ [] → f u ≡ false
+    at later true on none = cc
+    at later false off none = elim (cases_lt n u) [
+      | inl l ↦ later none l
+      | inr g ↦ (let same : u ≡ n = omega (arith, g, a) in ap f same ∙ off)
+    ]
+
+pub none_left : (m : Mask) (n u : ℕ) → members_from m n ≡ [] → n ≤ u → u < THREADS → has m u ≡ false
+unfolding members_from
+none_left m n u e a b = none_in (has m) n (16 - n) u e a (omega (arith, a, b))

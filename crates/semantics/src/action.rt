@@ -1,42 +1,43 @@
 //! What a thread does next, and whether the objects allow it.
 
-ghost use Rattle.std.specs.Prelude.{◌≡◌};
-ghost use Rattle.semantics.specs.Machine.{action_of, action_at, owns, is_free, mutex_allows, sem_allows};
+ghost use Rattle.std.specs.Prelude.{◌≡◌, Some};
+ghost use Rattle.semantics.specs.Machine.{action_of, action_at, owns};
 
 use crate::state::{Action, ConditionAction, MutexAction, SemaphoreAction, Status, VariableAction};
 use guest_code::program::Instruction;
 
 // The step of a visible statement.
-fn action_of(instruction: Instruction) -> Option<Action>
-    ensures { result ≡ action_of instruction }
+#[inline(always)]
+fn action_of(instruction: &Instruction) -> Option<Action>
+    ensures { result ≡ action_of instruction.now }
 {
     match instruction {
         Instruction::Load { local, variable } => Some(Action::OnVariable(
-            variable,
-            VariableAction::Load(local),
+            *variable,
+            VariableAction::Load(*local),
         )),
         Instruction::Store { variable, value } => Some(Action::OnVariable(
-            variable,
-            VariableAction::Store(value),
+            *variable,
+            VariableAction::Store(*value),
         )),
         Instruction::Add {
             local,
             variable,
             value,
-        } => Some(Action::OnVariable(variable, VariableAction::Add(local, value))),
+        } => Some(Action::OnVariable(*variable, VariableAction::Add(*local, *value))),
         Instruction::Cas {
             local,
             variable,
             expected,
             new,
-        } => Some(Action::OnVariable(variable, VariableAction::Cas(local, expected, new))),
-        Instruction::Lock(m) => Some(Action::OnMutex(m, MutexAction::Lock)),
-        Instruction::Unlock(m) => Some(Action::OnMutex(m, MutexAction::Unlock)),
-        Instruction::Wait { condition, mutex } => Some(Action::Wait(condition, mutex)),
-        Instruction::Signal(c) => Some(Action::OnCondition(c, ConditionAction::Signal)),
-        Instruction::Broadcast(c) => Some(Action::OnCondition(c, ConditionAction::Broadcast)),
-        Instruction::Acquire(k) => Some(Action::OnSemaphore(k, SemaphoreAction::Acquire)),
-        Instruction::Release(k) => Some(Action::OnSemaphore(k, SemaphoreAction::Release)),
+        } => Some(Action::OnVariable(*variable, VariableAction::Cas(*local, *expected, *new))),
+        Instruction::Lock(m) => Some(Action::OnMutex(*m, MutexAction::Lock)),
+        Instruction::Unlock(m) => Some(Action::OnMutex(*m, MutexAction::Unlock)),
+        Instruction::Wait { condition, mutex } => Some(Action::Wait(*condition, *mutex)),
+        Instruction::Signal(c) => Some(Action::OnCondition(*c, ConditionAction::Signal)),
+        Instruction::Broadcast(c) => Some(Action::OnCondition(*c, ConditionAction::Broadcast)),
+        Instruction::Acquire(k) => Some(Action::OnSemaphore(*k, SemaphoreAction::Acquire)),
+        Instruction::Release(k) => Some(Action::OnSemaphore(*k, SemaphoreAction::Release)),
         Instruction::Set { .. }
         | Instruction::Assert(_)
         | Instruction::SkipIfZero(_, _)
@@ -44,19 +45,18 @@ fn action_of(instruction: Instruction) -> Option<Action>
     }
 }
 
-/// What a thread of this status does next at this instruction, if it is at one.
-pub fn action_at(status: Status, instruction: Option<Instruction>) -> Option<Action>
-    ensures { result ≡ action_at status instruction }
+/// What a thread of this status does next at this instruction.
+#[inline(always)]
+pub fn action_at(status: Status, instruction: &Instruction) -> Option<Action>
+    ensures { result ≡ action_at status (Some instruction.now) }
 {
-    match (status, instruction) {
-        (Status::Running, Some(i)) => action_of(i),
-        (Status::Woken, Some(Instruction::Wait { mutex, .. })) => Some(Action::OnMutex(
-            mutex,
-            MutexAction::Retake,
-        )),
-        (Status::Running, None)
-        | (Status::Woken, _)
-        | (Status::Waiting(_) | Status::Ended | Status::Stopped(_), _) => None,
+    match status {
+        Status::Running => action_of(instruction),
+        Status::Woken => match instruction {
+            Instruction::Wait { mutex, .. } => Some(Action::OnMutex(*mutex, MutexAction::Retake)),
+            _ => None,
+        },
+        _ => None,
     }
 }
 
@@ -67,26 +67,6 @@ pub fn owns(thread: u8, owner: Option<u8>) -> bool
     match owner {
         Some(other) => thread == other,
         None => false,
-    }
-}
-
-/// Whether a mutex that has this owner allows a step.
-pub fn mutex_allows(action: MutexAction, owner: Option<u8>) -> bool
-    ensures { result ≡ mutex_allows action owner }
-{
-    match action {
-        MutexAction::Lock | MutexAction::Retake => owner.is_none(),
-        MutexAction::Unlock => true,
-    }
-}
-
-/// Whether a semaphore of this count allows a step.
-pub fn semaphore_allows(action: SemaphoreAction, count: u16) -> bool
-    ensures { result ≡ sem_allows action count }
-{
-    match action {
-        SemaphoreAction::Acquire => count > 0,
-        SemaphoreAction::Release => true,
     }
 }
 

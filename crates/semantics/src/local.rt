@@ -68,6 +68,7 @@ pub fn compare_and_swap(
 
 /// What a thread does with a variable, whose value is in the cell. The locals that it writes are
 /// kept first.
+#[inline(always)]
 pub fn access(cell: &mut i64, thread: &mut Thread, saved: &mut Saved, action: VariableAction)
     requires action { IsValidAccess action }
     requires few { saved.old.count ≤ LOCALS }
@@ -108,20 +109,20 @@ fn of_both(op: Op, a: i64, b: i64) -> i64
 }
 
 // The value of an expression.
-fn expression_at(locals: &[i64; LOCALS], expression: Expression) -> i64
-    requires { IsValidExpression expression }
-    ensures { result ≡ value_of_expression locals.now expression }
+fn expression_at(locals: &[i64; LOCALS], expression: &Expression) -> i64
+    requires { IsValidExpression expression.now }
+    ensures { result ≡ value_of_expression locals.now expression.now }
 {
     match expression {
-        Expression::Single(a) => operand_at(locals, a),
-        Expression::Both(a, op, b) => of_both(op, operand_at(locals, a), operand_at(locals, b)),
+        Expression::Single(a) => operand_at(locals, *a),
+        Expression::Both(a, op, b) => of_both(*op, operand_at(locals, *a), operand_at(locals, *b)),
     }
 }
 
 // Whether an expression is 0.
-fn is_zero_at(locals: &[i64; LOCALS], expression: Expression) -> bool
-    requires { IsValidExpression expression }
-    ensures { result ≡ is_zero (value_of_expression locals.now expression) }
+fn is_zero_at(locals: &[i64; LOCALS], expression: &Expression) -> bool
+    requires { IsValidExpression expression.now }
+    ensures { result ≡ is_zero (value_of_expression locals.now expression.now) }
 {
     expression_at(locals, expression) == 0
 }
@@ -139,6 +140,7 @@ fn pass(code: &[Instruction], thread: &mut Thread, skip: usize)
 }
 
 // One instruction of a local run. False where the run is over.
+#[inline(always)]
 fn turn(code: &[Instruction], thread: &mut Thread, saved: &mut Saved) -> bool
     requires fine { (p : Program) × IsValidCode p code.now }
     requires pc { thread.old.pc ≤ length code.now }
@@ -154,10 +156,10 @@ fn turn(code: &[Instruction], thread: &mut Thread, saved: &mut Saved) -> bool
         thread.status = Status::Ended;
         return false;
     }
-    match code[thread.pc] {
+    match &code[thread.pc] {
         Instruction::Set { local, value } => {
             let value = expression_at(&thread.locals, value);
-            put(thread, saved, local, value);
+            put(thread, saved, *local, value);
             thread.pc += 1;
             true
         }
@@ -170,12 +172,12 @@ fn turn(code: &[Instruction], thread: &mut Thread, saved: &mut Saved) -> bool
             true
         }
         Instruction::SkipIfZero(e, n) => {
-            let skip = if is_zero_at(&thread.locals, e) { n } else { 0 };
+            let skip = if is_zero_at(&thread.locals, e) { *n } else { 0 };
             pass(code, thread, skip);
             true
         }
         Instruction::Skip(n) => {
-            pass(code, thread, n);
+            pass(code, thread, *n);
             true
         }
         Instruction::Load { .. }
@@ -192,7 +194,25 @@ fn turn(code: &[Instruction], thread: &mut Thread, saved: &mut Saved) -> bool
     }
 }
 
+// Whether a thread is at a visible statement: its local run is over then.
+#[inline(always)]
+fn is_visible(code: &[Instruction], thread: &Thread) -> bool
+    ensures { IsTrue result → run_from code.now thread.now ≡ thread.now }
+{
+    match code.get(thread.pc) {
+        Some(
+            Instruction::Set { .. }
+            | Instruction::Assert(_)
+            | Instruction::SkipIfZero(_, _)
+            | Instruction::Skip(_),
+        )
+        | None => false,
+        Some(_) => true,
+    }
+}
+
 /// Runs a thread's own instructions, up to a visible statement, the end or a failed assertion.
+#[inline(never)]
 pub fn run_on(code: &[Instruction], thread: &mut Thread, saved: &mut Saved)
     requires fine { (p : Program) × IsValidCode p code.now }
     requires pc { thread.old.pc ≤ length code.now }
@@ -208,6 +228,7 @@ pub fn run_on(code: &[Instruction], thread: &mut Thread, saved: &mut Saved)
 }
 
 /// After its visible statement a thread runs on.
+#[inline(always)]
 pub fn resume(code: &[Instruction], thread: &mut Thread, saved: &mut Saved)
     requires fine { (p : Program) × IsValidCode p code.now }
     requires pc { thread.old.pc < length code.now }
@@ -218,5 +239,7 @@ pub fn resume(code: &[Instruction], thread: &mut Thread, saved: &mut Saved)
 {
     thread.pc += 1;
     thread.status = Status::Running;
-    run_on(code, thread, saved);
+    if !is_visible(code, thread) {
+        run_on(code, thread, saved);
+    }
 }

@@ -1,10 +1,10 @@
 //! States of a program, and their steps.
 
-ghost use Rattle.std.specs.Prelude.{◌≡◌, ◌≢◌, ◌<◌, ◌≤◌, ℕ, Option, None, length, slice_get, All, IfOk, IfSome, IsTrue, if◌then◌else◌};
+ghost use Rattle.std.specs.Prelude.{◌≡◌, ◌≢◌, ◌<◌, ◌≤◌, ℕ, Some, None, length, slice_get, All, IfOk, IfSome, IsTrue, if◌then◌else◌};
 ghost use Rattle.std.specs.List.{list_any, list_all};
 ghost use Rattle.guest_code.specs.declared.program.Instruction.{Instruction};
-ghost use Rattle.guest_code.specs.Program.{Program, code_of, IsValidValue};
-ghost use Rattle.semantics.specs.Machine.{Snapshot, start, step, performed, action_at, is_enabled, next_of, thread_at, owner_of, queue_of, count_of, value_of_operand};
+ghost use Rattle.guest_code.specs.Program.{Program, code_of, IsValid, IsValidValue};
+ghost use Rattle.semantics.specs.Machine.{Snapshot, start, step, performed, action_of, action_at, can_do, is_enabled, next_of, thread_at, owner_of, queue_of, count_of, value_of_operand};
 ghost use Rattle.semantics.specs.Reachable.{IsOf, IsValidAction, StandsInCode, IsReady};
 ghost use Rattle.semantics.specs.Ends.{is_terminal, kind_of, view_of, final_kind, is_stopped, is_ended, stop_of};
 ghost use Rattle.semantics.specs.Mask.{has, HasEnabled};
@@ -12,7 +12,7 @@ ghost use Rattle.semantics.specs.Undoing.{undone, restored, IsRecordOf};
 ghost use Rattle.semantics.specs.inner.Recording.{HasBegun, HasObject, Changes, others_after};
 ghost use Rattle.semantics.specs.declared.state.Action.TheVariants.{OnVariable, OnMutex, Wait as Waits, OnCondition, OnSemaphore};
 
-use crate::action::{Others, action_at, mutex_allows, owns, semaphore_allows};
+use crate::action::{Others, action_at, owns};
 use crate::local::{access, operand_at, resume};
 use crate::mask::Mask;
 use crate::opening::{opening_counts, opening_threads, opening_values};
@@ -21,7 +21,7 @@ use crate::signals::{call, wait_again};
 use crate::undo::{Change, Undo, restore};
 use crate::view::{EndView, Kind};
 use guest_code::limits::{COUNT, LOCALS, THREADS};
-use guest_code::program::{Program, Value};
+use guest_code::program::{Instruction, Program, Value};
 use std::alloc::{AllocError, Global};
 use std::marker::Model;
 
@@ -60,16 +60,6 @@ impl Status {
             Status::Stopped(why) => Some(why),
             Status::Running | Status::Waiting(_) | Status::Woken | Status::Ended => None,
         }
-    }
-
-    // Whether a thread of this status takes no step, wherever it is.
-    fn has_no_step(self) -> bool
-        ensures { IsTrue result → (o : Option Instruction) → action_at self o ≡ None }
-    {
-        matches!(
-            self,
-            Status::Waiting(_) | Status::Ended | Status::Stopped(_)
-        )
     }
 }
 
@@ -265,6 +255,7 @@ impl State {
     }
 
     /// What a thread is about to do, if it doesn't wait and is not over.
+    #[inline(always)]
     pub fn next(&self, program: &Program, thread: u8) -> Option<Action>
         requires of { IsOf program.now self.now }
         requires thread { thread < length program.now.threads }
@@ -273,23 +264,56 @@ impl State {
         ensures pc { IfSome result (λ _. StandsInCode program.now self.now thread) }
     {
         let runner = &self.threads[thread as usize];
-        action_at(runner.status, program.code(thread).get(runner.pc).copied())
+        match program.code(thread).get(runner.pc) {
+            Some(instruction) => action_at(runner.status, instruction),
+            None => None,
+        }
     }
 
     /// Whether a thread can take a step.
+    #[inline(always)]
     pub fn is_enabled(&self, program: &Program, thread: u8) -> bool
         requires of { IsOf program.now self.now }
         requires thread { thread < length program.now.threads }
         ensures { result ≡ is_enabled program.now self.now thread }
     {
-        if self.threads[thread as usize].status.has_no_step() {
-            return false;
-        }
-        match self.next(program, thread) {
-            Some(Action::OnMutex(m, action)) => mutex_allows(action, self.owners[m]),
-            Some(Action::OnSemaphore(k, action)) => semaphore_allows(action, self.counts[k]),
-            Some(Action::OnVariable(_, _) | Action::Wait(_, _) | Action::OnCondition(_, _)) => true,
+        let runner = &self.threads[thread as usize];
+        match program.code(thread).get(runner.pc) {
+            Some(instruction) => self.allows(runner.status, instruction),
             None => false,
+        }
+    }
+
+    // Whether the objects allow what a thread of this status does next at this instruction.
+    #[inline(always)]
+    fn allows(&self, status: Status, instruction: &Instruction) -> bool
+        requires { (p : Program) × IsOf p self.now × IsValid p instruction.now }
+        ensures { result ≡ can_do self.now (action_at status (Some instruction.now)) }
+    {
+        match status {
+            Status::Running => self.allows_visible(instruction),
+            Status::Woken => match instruction {
+                Instruction::Wait { mutex, .. } => self.owners[*mutex].is_none(),
+                _ => false,
+            },
+            _ => false,
+        }
+    }
+
+    // Whether the instruction is visible, and the objects allow its step.
+    #[inline(always)]
+    fn allows_visible(&self, instruction: &Instruction) -> bool
+        requires { (p : Program) × IsOf p self.now × IsValid p instruction.now }
+        ensures { result ≡ can_do self.now (action_of instruction.now) }
+    {
+        match instruction {
+            Instruction::Lock(m) => self.owners[*m].is_none(),
+            Instruction::Acquire(k) => self.counts[*k] > 0,
+            Instruction::Set { .. }
+            | Instruction::Assert(_)
+            | Instruction::SkipIfZero(_, _)
+            | Instruction::Skip(_) => false,
+            _ => true,
         }
     }
 
@@ -336,6 +360,7 @@ impl State {
     }
 
     // The threads that are enabled now, after a step of this one, where these were before it.
+    #[inline(always)]
     fn renew(&self, program: &Program, thread: u8, mask: Mask, others: Others) -> Mask
         requires of { IsOf program.now self.now }
         requires thread { thread < length program.now.threads }
@@ -358,15 +383,19 @@ impl State {
         ensures above { (u : ℕ) → length program.now.threads ≤ u → has result u ≡ has mask u }
     {
         let mut mask = mask;
-        for thread in 0..program.threads() {
-            if some.has(thread) {
-                mask = mask.with(thread, self.is_enabled(program, thread));
+        let mut next = 0;
+        while let Some(thread) = some.first_from(next) {
+            if thread >= program.threads() {
+                return mask;
             }
+            mask = mask.with(thread, self.is_enabled(program, thread));
+            next = thread + 1;
         }
         mask
     }
 
     // A step, with its record, and what it does to which other threads are enabled.
+    #[inline(always)]
     fn step_recorded(&mut self, program: &Program, thread: u8, undo: &mut Undo) -> Others
         requires of { IsOf program.now self.old }
         requires enabled { IsTrue (is_enabled program.now self.old thread) }
@@ -385,6 +414,7 @@ impl State {
     }
 
     // What the step that a thread is about to take does to which other threads are enabled.
+    #[inline(always)]
     fn others_after(&self, program: &Program, thread: u8, action: Action) -> Others
         requires { IsReady program.now self.now thread action }
         ensures { result ≡ others_after self.now action }
@@ -428,6 +458,7 @@ impl State {
     }
 
     // What the thread is about to do.
+    #[inline(always)]
     fn execute(&mut self, program: &Program, thread: u8, action: Action, undo: &mut Undo)
         requires { IsReady program.now self.old thread action }
         ensures value { self.new ≡ performed program.now self.old thread action }
@@ -447,6 +478,7 @@ impl State {
     }
 
     // A step on a variable.
+    #[inline(always)]
     fn step_variable(
         &mut self,
         program: &Program,
@@ -473,6 +505,7 @@ impl State {
     }
 
     // A step on a mutex alone.
+    #[inline(always)]
     fn step_mutex(
         &mut self,
         program: &Program,
@@ -508,6 +541,7 @@ impl State {
     }
 
     // The first step of a `wait`.
+    #[inline(always)]
     fn begin_wait(&mut self, program: &Program, thread: u8, c: usize, m: usize, undo: &mut Undo)
         requires { IsReady program.now self.old thread (Waits c m) }
         ensures value { self.new ≡ performed program.now self.old thread (Waits c m) }
@@ -536,6 +570,7 @@ impl State {
     }
 
     // A step on a condition alone.
+    #[inline(always)]
     fn step_condition(
         &mut self,
         program: &Program,
@@ -552,19 +587,19 @@ impl State {
         ensures locals { restored undo.new.saved (thread_at self.new thread).locals
             ≡ (thread_at self.old thread).locals }
     {
-        let mut runner = self.threads[thread as usize];
-        undo.begin(thread, &runner);
+        undo.begin(thread, &self.threads[thread as usize]);
         undo.change = Change::Call;
         undo.object = c;
         let (queue, length) = self.queues[c].parts();
         undo.queue = *queue;
         undo.length = length;
-        resume(program.code(thread), &mut runner, &mut undo.saved);
         call(&mut self.queues[c], self.threads.as_mut_slice(), c, action);
-        self.threads[thread as usize] = runner;
+        let runner = &mut self.threads[thread as usize];
+        resume(program.code(thread), runner, &mut undo.saved);
     }
 
     // A step on a semaphore.
+    #[inline(always)]
     fn step_semaphore(
         &mut self,
         program: &Program,
