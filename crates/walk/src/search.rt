@@ -1,6 +1,6 @@
 //! The turns of a walk: down into the next open child, or back to the node above.
 
-ghost use Rattle.std.specs.Prelude.{◌≡◌, ◌+◌, ◌-◌, ◌++◌, ◌∷◌, ◌<◌, ◌≤◌, ◌&&◌, ◌||◌, not, [], ℕ, true, map, IfOk, OnOk, IsTrue, IsFalse, length, All};
+ghost use Rattle.std.specs.Prelude.{◌≡◌, ◌+◌, ◌-◌, ◌++◌, ◌∷◌, ◌<◌, ◌≤◌, ◌&&◌, ◌||◌, not, [], ℕ, true, map, IfOk, OnOk, IsTrue, IsFalse, length, take, min, All};
 ghost use Rattle.semantics.specs.Ends.{is_empty};
 ghost use Rattle.semantics.specs.Machine.{is_enabled};
 ghost use Rattle.semantics.specs.Mask.{has, members_from};
@@ -9,7 +9,7 @@ ghost use Rattle.walk.specs.Summaries.{nothing, with_beyond};
 ghost use Rattle.walk.specs.inner.Children.{child_of, mask_after, cost_of, costs};
 ghost use Rattle.walk.specs.inner.Paths.{leaves, IsTrail};
 ghost use Rattle.walk.specs.Walks.{IsWalked, IsPastBound, walk_past_bound};
-ghost use Rattle.walk.specs.inner.WalkerInvariant.{IsPlace, IsSearch, here, left_above, still_open, turns_left, is_kept_at, is_past_at, is_past_here, IsWithinAt};
+ghost use Rattle.walk.specs.inner.WalkerInvariant.{IsPlace, IsSearch, here, left_above, still_open, turns_left, is_kept_at, is_past_at, is_past_here, IsWithinAt, IsShared};
 
 use crate::item::Item;
 use crate::mode::Mode;
@@ -27,6 +27,8 @@ use std::alloc::{AllocError, Global};
 pub struct Found {
     pub part: Summary,
     pub deferred: Prefixes,
+    /// So many of the walk's steps begin the prefix that was put off last, too.
+    pub shared: usize,
 }
 
 impl Found {
@@ -34,31 +36,57 @@ impl Found {
     pub fn new(alloc: Global) -> Found
         ensures part { result.part ≡ nothing }
         ensures deferred { result.deferred ≡ [] }
+        ensures shared { result.shared ≡ 0 }
     {
         Found {
             part: Summary::empty(alloc),
             deferred: Prefixes::new(alloc),
+            shared: 0,
         }
+    }
+
+    // Puts off the step of a thread after the others, by what they share with the last one put off.
+    fn put_off(&mut self, steps: &mut Vec<u8>, thread: u8) -> Result<(), AllocError>
+        requires { IsShared steps.old.items self.old }
+        ensures steps { steps.new.items ≡ steps.old.items }
+        ensures part { OnOk result (self.new.part ≡ with_beyond self.old.part true) }
+        ensures deferred { OnOk result (self.new.deferred
+            ≡ self.old.deferred ++ (steps.old.items ++ thread ∷ []) ∷ []) }
+        ensures shared { OnOk result (IsShared steps.old.items self.new) }
+    {
+        steps.push(thread)?;
+        let pushed = self.deferred.push_after(self.shared, &steps[self.shared..]);
+        steps.pop();
+        pushed?;
+        self.part.set_beyond();
+        self.shared = steps.len();
+        Ok(())
     }
 
     // Puts off the steps of these threads after the others.
     fn defer(&mut self, steps: &mut Vec<u8>, past: Mask) -> Result<(), AllocError>
+        requires { IsShared steps.old.items self.old }
         ensures steps { steps.new.items ≡ steps.old.items }
         ensures part { OnOk result (self.new.part ≡ with_beyond self.old.part
             (self.old.part.beyond || not (is_empty (members_from past 0)))) }
         ensures deferred { OnOk result (self.new.deferred ≡ self.old.deferred
             ++ map (λ t. steps.old.items ++ t ∷ []) (members_from past 0)) }
+        ensures shared { OnOk result (IsShared steps.old.items self.new) }
     {
         let mut next = 0;
         while let Some(thread) = past.first_from(next) {
-            self.part.set_beyond();
-            steps.push(thread)?;
-            let pushed = self.deferred.push(steps.as_slice());
-            steps.pop();
-            pushed?;
+            self.put_off(steps, thread)?;
             next = thread + 1;
         }
         Ok(())
+    }
+
+    // Goes back with the walk to a node above, so many steps from the start.
+    #[inline(always)]
+    fn go_back(&mut self, depth: usize)
+        ensures { self.new ≡ record self.old { shared = min self.old.shared depth } }
+    {
+        self.shared = self.shared.min(depth);
     }
 }
 
@@ -196,6 +224,7 @@ impl Trail {
         requires done { members_from self.old.node.todo self.old.node.next ≡ [] }
         ensures place { IsPlace program.now self.new }
         ensures same { still_open _mode program.now self.new ≡ still_open _mode program.now self.old }
+        ensures steps { self.new.steps.items ≡ take (length self.new.steps.items) self.old.steps.items }
         ensures further { IsTrue result →
             turns_left _mode program.now self.new < turns_left _mode program.now self.old }
         ensures over { IsFalse result → still_open _mode program.now self.new ≡ [] }
@@ -230,7 +259,11 @@ impl Trail {
         ensures tried { OnOk result (found.new.part.tried ≤ found.old.part.tried + 1) }
     {
         match self.node.todo.first_from(self.node.next) {
-            None => Ok(self.retreat(item.program(), mode)),
+            None => {
+                let more = self.retreat(item.program(), mode);
+                found.go_back(self.steps.len());
+                Ok(more)
+            }
             Some(thread) => {
                 self.node.next = thread + 1;
                 self.descend(alloc, found, item, mode, thread)?;
