@@ -42,17 +42,17 @@ pub record IsOpened (old new : Trail) : Type 0 where
   pub frames : new.frames.items ≡ old.frames.items
   pub state : new.state ≡ old.state
   pub base : new.base ≡ old.base
-  pub node : new.node ≡ record old.node { todo = new.node.todo; next = 0 }
+  pub node : new.node ≡ record old.node { todo = new.node.todo }
 
-node_opened : (p : Program) (w : List ℕ) (s : Snapshot) (n m : Node) (todo : Mask) (next : ℕ) → IsNode p w s n →
-    m ≡ record n { todo = todo; next = next } → IsNode p w s m
-node_opened p w s n m todo next h e = subst (IsNode p w s) (sym e) (record { reaches = h.reaches; enabled = h.enabled })
+node_opened : (p : Program) (w : List ℕ) (s : Snapshot) (n m : Node) (todo : Mask) → IsNode p w s n →
+    m ≡ record n { todo = todo } → IsNode p w s m
+node_opened p w s n m todo h e = subst (IsNode p w s) (sym e) (record { reaches = h.reaches; enabled = h.enabled })
 
 pub place_opened : (p : Program) (old new : Trail) → IsPlace p old → IsOpened old new → IsPlace p new
 place_opened p old new h o = record {
   trail = trail_same p old new h.trail o.steps (ap (take (length old.steps.items)) o.frames)
       (let r = h.trail.room in let e = ap length o.frames in omega (arith, r, e)) o.state
-      (node_opened p old.steps.items old.state old.node new.node new.node.todo 0 h.trail.node o.node);
+      (node_opened p old.steps.items old.state old.node new.node new.node.todo h.trail.node o.node);
   base = let b = h.base in let e = o.base in let k = ap length o.steps in omega (arith, b, e, k);
 }
 
@@ -62,10 +62,9 @@ open_opened : (mode : Mode) (p : Program) (old new : Trail) → IsPlace p old �
     still_open mode p new ≡ children mode (here p old) ++ left_above mode p old
 open_opened mode p old new h o kept =
     let mask : new.node.asleep ≡ old.node.asleep = ap (λ (n : Node). n.asleep) o.node in
-    let next : new.node.next ≡ 0 = ap (λ (n : Node). n.next) o.node in
     let members : members_from new.node.todo 0 ≡ kept_steps mode (here p old) =
     kept_members mode p old.steps.items old.state old.node new.node.todo h.trail.node h.trail.state kept in
-    (λ i. children_of mode (record { program = p; prefix = o.steps i; mask = mask i }) (members_from new.node.todo (next i))
+    (λ i. children_of mode (record { program = p; prefix = o.steps i; mask = mask i }) (members_from new.node.todo 0)
     ++ open_above mode p (length (o.steps i) - o.base i) (reverse (take (length (o.steps i)) (o.frames i))))
     ∙ ap (λ (ts : List ℕ). children_of mode (here p old) ts ++ left_above mode p old) members
 

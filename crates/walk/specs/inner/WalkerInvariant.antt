@@ -26,7 +26,7 @@ here p t = item_of p t.steps.items t.node
 
 -- the children of a node that are still to be tried
 abbrev pub open_at : Mode → Program → List ℕ → Node → List ItemView
-open_at mode p w n = children_of mode (item_of p w n) (members_from n.todo n.next)
+open_at mode p w n = children_of mode (item_of p w n) (members_from n.todo 0)
 
 -- what is open at so many nodes above, the lowest first
 abbrev pub open_above : Mode → Program → ℕ → List Frame → List ItemView
