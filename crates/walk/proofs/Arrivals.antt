@@ -23,7 +23,8 @@ use Rattle.walk.specs.Walks.{IsWalked}
 use Rattle.walk.specs.inner.SubtreeInvariant.{added}
 use Rattle.walk.specs.inner.Children.{state_of, IsWithin, is_kept_step, kept_steps, past_steps, passes_bound, child_of, children_of, children, past_children, mask_after, cost_of, costs}
 use Rattle.walk.specs.inner.Paths.{IsNode, IsTrail, IsEntered, above, path, state_at}
-use Rattle.walk.specs.inner.WalkerInvariant.{item_of, here, open_at, open_above, left_above, still_open, turns_left, is_kept_at, is_past_at, IsWithinAt, IsPlace, IsSearch}
+use Rattle.walk.specs.inner.WalkerInvariant.{item_of, here, open_at, open_above, left_above, still_open, turns_left, is_kept_at, is_past_at, IsWithinAt, IsPlace, IsSearch, IsShared}
+use Rattle.walk.proofs.SharedSteps.{shared_same, shared_kept, shared_entered}
 use Rattle.walk.proofs.TrailSteps.{trail_same}
 use Rattle.walk.proofs.WalkTurns.{step_enabled, open_entered, kept_members, past_members, node_enabled, deferred_are}
 use Rattle.walk.proofs.WalkSteps.{walk_of, first_open, walked_leaf, walked_node, over_none, over_some}
@@ -41,17 +42,17 @@ pub record IsOpened (old new : Trail) : Type 0 where
   pub frames : new.frames.items ≡ old.frames.items
   pub state : new.state ≡ old.state
   pub base : new.base ≡ old.base
-  pub node : new.node ≡ record old.node { todo = new.node.todo; next = 0 }
+  pub node : new.node ≡ record old.node { todo = new.node.todo }
 
-node_opened : (p : Program) (w : List ℕ) (s : Snapshot) (n m : Node) (todo : Mask) (next : ℕ) → IsNode p w s n →
-    m ≡ record n { todo = todo; next = next } → IsNode p w s m
-node_opened p w s n m todo next h e = subst (IsNode p w s) (sym e) (record { reaches = h.reaches; enabled = h.enabled })
+node_opened : (p : Program) (w : List ℕ) (s : Snapshot) (n m : Node) (todo : Mask) → IsNode p w s n →
+    m ≡ record n { todo = todo } → IsNode p w s m
+node_opened p w s n m todo h e = subst (IsNode p w s) (sym e) (record { reaches = h.reaches; enabled = h.enabled })
 
 pub place_opened : (p : Program) (old new : Trail) → IsPlace p old → IsOpened old new → IsPlace p new
 place_opened p old new h o = record {
   trail = trail_same p old new h.trail o.steps (ap (take (length old.steps.items)) o.frames)
       (let r = h.trail.room in let e = ap length o.frames in omega (arith, r, e)) o.state
-      (node_opened p old.steps.items old.state old.node new.node new.node.todo 0 h.trail.node o.node);
+      (node_opened p old.steps.items old.state old.node new.node new.node.todo h.trail.node o.node);
   base = let b = h.base in let e = o.base in let k = ap length o.steps in omega (arith, b, e, k);
 }
 
@@ -61,10 +62,9 @@ open_opened : (mode : Mode) (p : Program) (old new : Trail) → IsPlace p old �
     still_open mode p new ≡ children mode (here p old) ++ left_above mode p old
 open_opened mode p old new h o kept =
     let mask : new.node.asleep ≡ old.node.asleep = ap (λ (n : Node). n.asleep) o.node in
-    let next : new.node.next ≡ 0 = ap (λ (n : Node). n.next) o.node in
     let members : members_from new.node.todo 0 ≡ kept_steps mode (here p old) =
     kept_members mode p old.steps.items old.state old.node new.node.todo h.trail.node h.trail.state kept in
-    (λ i. children_of mode (record { program = p; prefix = o.steps i; mask = mask i }) (members_from new.node.todo (next i))
+    (λ i. children_of mode (record { program = p; prefix = o.steps i; mask = mask i }) (members_from new.node.todo 0)
     ++ open_above mode p (length (o.steps i) - o.base i) (reverse (take (length (o.steps i)) (o.frames i))))
     ∙ ap (λ (ts : List ℕ). children_of mode (here p old) ts ++ left_above mode p old) members
 
@@ -97,8 +97,8 @@ pub arrived_node : (mode : Mode) (i : ItemView) (old new : Trail) (f g : Found) 
     members_from old.node.enabled 0 ≡ u ∷ us →
     g.part ≡ with_beyond f.part (f.part.beyond || not (is_empty (members_from past 0))) →
     g.deferred ≡ f.deferred ++ map (λ t. old.steps.items ++ t ∷ []) (members_from past 0) →
-    IsSearch mode i new g (still_open mode i.program new)
-arrived_node mode i old new f g past u us h o kept passed e part deferred =
+    IsShared old.steps.items g → IsSearch mode i new g (still_open mode i.program new)
+arrived_node mode i old new f g past u us h o kept passed e part deferred shared =
     let p : Program = i.program in
     let c : ItemView = here p old in
     let members : members_from past 0 ≡ past_steps mode c =
@@ -117,6 +117,7 @@ arrived_node mode i old new f g past u us h o kept passed e part deferred =
           (sym (open_opened mode p old new h.place o kept))
           (subst (λ (ds : List ItemView). IsWalked (walk_of mode i (with_beyond f.part (f.part.beyond || passes_bound mode c)) (children mode c ++ left_above mode p old) ds))
           (sym deferred_is) walked));
+      shared = shared_same old.steps.items new.steps.items g shared o.steps;
     }
 
 -- a complete schedule
@@ -124,8 +125,9 @@ pub arrived_leaf : (mode : Mode) (i : ItemView) (old new : Trail) (f g : Found) 
     IsSearch mode i old f (here i.program old ∷ left_above mode i.program old) → IsOpened old new →
     ((t : ℕ) → has new.node.todo t ≡ (has old.node.enabled t && is_kept_at mode old.node t)) →
     members_from old.node.enabled 0 ≡ [] → w ≡ old.steps.items → v ≡ view_at old.state →
-    g.part ≡ added f.part w v → g.deferred ≡ f.deferred → IsSearch mode i new g (still_open mode i.program new)
-arrived_leaf mode i old new f g w v h o kept e schedule view part deferred =
+    g.part ≡ added f.part w v → g.deferred ≡ f.deferred → g.shared ≡ f.shared →
+    IsSearch mode i new g (still_open mode i.program new)
+arrived_leaf mode i old new f g w v h o kept e schedule view part deferred shared =
     let p : Program = i.program in
     let c : ItemView = here p old in
     let walked = walked_leaf mode i c f.part (left_above mode p old) (map (item_at p) f.deferred) (here_is_over p old h.place.trail e) h.walked in
@@ -138,6 +140,7 @@ arrived_leaf mode i old new f g w v h o kept e schedule view part deferred =
       walked = subst (λ (s : SummaryView). IsWalked (walk_of mode i s (still_open mode p new) (map (item_at p) g.deferred))) (sym part_is)
           (subst (λ (rs : List ItemView). IsWalked (walk_of mode i (added f.part old.steps.items (end_of p old.steps.items)) rs (map (item_at p) g.deferred))) (sym open_is)
           (subst (λ (ds : List ItemView). IsWalked (walk_of mode i (added f.part old.steps.items (end_of p old.steps.items)) (left_above mode p old) ds)) (ap (map (item_at p)) (sym deferred)) walked));
+      shared = shared_kept old.steps.items new.steps.items f g h.shared o.steps deferred shared;
     }
 
 -- how far there is to go then
@@ -188,6 +191,7 @@ entered_search mode i old new f u asleep h trail e mask =
       walked = subst (λ (c : ItemView). IsWalked (walk_of mode i f.part (c ∷ left_above mode p new) (map (item_at p) f.deferred))) (sym same)
           (subst (λ (rs : List ItemView). IsWalked (walk_of mode i f.part (child_of mode (here p old) u ∷ rs) (map (item_at p) f.deferred)))
           (sym (open_entered mode p old new u asleep h.place e)) h.walked);
+      shared = shared_entered old.steps.items new.steps.items u f h.shared e.steps;
     }
 
 -- how far there was to go

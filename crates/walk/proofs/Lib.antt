@@ -8,6 +8,7 @@ pub mod ListParts
 pub mod WalkedItems
 pub mod WayBytes
 pub mod PackedPrefixes
+pub mod SharedSteps
 pub mod TrailSteps
 pub mod Splits
 pub mod Reduced

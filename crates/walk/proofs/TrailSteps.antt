@@ -125,6 +125,7 @@ trail_left p old new n f h one read items frames back node base =
     let at : new.state ≡ state_at p v =
     state_left p old.steps.items v old.state new.state f L.frame h.node.reaches.state L.steps back in (
       record {
+        well_formed = h.well_formed;
         node = node_same p new.steps.items v new.state (state_at p v) new.node f.node L.frame.node steps at node;
         state = subst (IsOf p) (sym at) L.frame.state;
         frames = subst (AreFrames p) (sym up) L.frames;
@@ -157,6 +158,7 @@ trail_entered p old new S t u enabled asleep h on there same items frames steppe
     ∙ above_entered S old.frames.items f old.steps.items t there same in
     let frame = frame_entered p old.steps.items (path (above old)) old.state new.state old.node t u h.node h.steps stepped back h.state r in (
       record {
+        well_formed = h.well_formed;
         node = subst (IsNode p new.steps.items new.state) (sym node)
             (node_entered p old.steps.items new.steps.items old.state new.state old.node t enabled asleep h.node on stepped items masked);
         state = of';
@@ -177,6 +179,7 @@ pub trail_same : (p : Program) (old new : Trail) → IsTrail p old → new.steps
 trail_same p old new h items frames room state node =
     let up : above new ≡ above old = (λ i. reverse (take (length (items i)) new.frames.items)) ∙ ap reverse frames in
     record {
+      well_formed = h.well_formed;
       node = node_same p new.steps.items old.steps.items new.state old.state new.node new.node node items state refl;
       state = subst (IsOf p) (sym state) h.state;
       frames = subst (AreFrames p) (sym up) h.frames;

@@ -58,7 +58,7 @@ open_left mode p old new l h e =
     ∙ (λ i. open_at mode p (sym h.steps i) (sym e.node i) ++ left_above mode p new)
 
 -- a node with nothing left to try
-pub open_done : (mode : Mode) (p : Program) (t : Trail) → members_from t.node.todo t.node.next ≡ [] →
+pub open_done : (mode : Mode) (p : Program) (t : Trail) → members_from t.node.todo 0 ≡ [] →
     still_open mode p t ≡ left_above mode p t
 open_done mode p t e = ap (λ (ts : List ℕ). children_of mode (here p t) ts ++ left_above mode p t) e
 

@@ -1,6 +1,7 @@
 //! The turns of a walk: down into the next open child, or back to the node above.
 
-ghost use Rattle.std.specs.Prelude.{◌≡◌, ◌+◌, ◌-◌, ◌++◌, ◌∷◌, ◌<◌, ◌≤◌, ◌&&◌, ◌||◌, not, [], ℕ, true, map, IfOk, OnOk, IsTrue, IsFalse, length, All};
+ghost use Rattle.std.specs.Prelude.{◌≡◌, ◌+◌, ◌-◌, ◌++◌, ◌∷◌, ◌<◌, ◌≤◌, ◌&&◌, ◌||◌, not, [], ℕ, true, false, map, IfOk, OnOk, IsTrue, IsFalse, length, take, min, All};
+ghost use Rattle.guest_code.specs.declared.limits.TheConstants.{THREADS};
 ghost use Rattle.semantics.specs.Ends.{is_empty};
 ghost use Rattle.semantics.specs.Machine.{is_enabled};
 ghost use Rattle.semantics.specs.Mask.{has, members_from};
@@ -9,7 +10,7 @@ ghost use Rattle.walk.specs.Summaries.{nothing, with_beyond};
 ghost use Rattle.walk.specs.inner.Children.{child_of, mask_after, cost_of, costs};
 ghost use Rattle.walk.specs.inner.Paths.{leaves, IsTrail};
 ghost use Rattle.walk.specs.Walks.{IsWalked, IsPastBound, walk_past_bound};
-ghost use Rattle.walk.specs.inner.WalkerInvariant.{IsPlace, IsSearch, here, left_above, still_open, turns_left, is_kept_at, is_past_at, is_past_here, IsWithinAt};
+ghost use Rattle.walk.specs.inner.WalkerInvariant.{IsPlace, IsSearch, here, left_above, still_open, turns_left, is_kept_at, is_past_at, is_past_here, IsWithinAt, IsShared};
 
 use crate::item::Item;
 use crate::mode::Mode;
@@ -27,6 +28,8 @@ use std::alloc::{AllocError, Global};
 pub struct Found {
     pub part: Summary,
     pub deferred: Prefixes,
+    /// So many of the walk's steps begin the prefix that was put off last, too.
+    pub shared: usize,
 }
 
 impl Found {
@@ -34,32 +37,107 @@ impl Found {
     pub fn new(alloc: Global) -> Found
         ensures part { result.part ≡ nothing }
         ensures deferred { result.deferred ≡ [] }
+        ensures shared { result.shared ≡ 0 }
     {
         Found {
             part: Summary::empty(alloc),
             deferred: Prefixes::new(alloc),
+            shared: 0,
         }
     }
 
-    // Puts off the steps of these threads after the others.
+    // Puts off the step of a thread after the others, by what they share with the last one put off.
+    fn put_off(&mut self, steps: &mut Vec<u8>, thread: u8) -> Result<(), AllocError>
+        requires { IsShared steps.old.items self.old }
+        ensures steps { steps.new.items ≡ steps.old.items }
+        ensures part { OnOk result (self.new.part ≡ with_beyond self.old.part true) }
+        ensures deferred { OnOk result (self.new.deferred
+            ≡ self.old.deferred ++ (steps.old.items ++ thread ∷ []) ∷ []) }
+        ensures shared { OnOk result (IsShared steps.old.items self.new) }
+        ensures all { OnOk result (self.new.shared ≡ length steps.old.items) }
+    {
+        steps.push(thread)?;
+        let pushed = self.deferred.push_after(self.shared, &steps[self.shared..]);
+        steps.pop();
+        pushed?;
+        self.part.set_beyond();
+        self.shared = steps.len();
+        Ok(())
+    }
+
+    // The same after a step of another thread was put off there.
+    fn put_off_beside(&mut self, _steps: &[u8], thread: u8) -> Result<(), AllocError>
+        requires shared { IsShared _steps.now self.old }
+        requires all { self.old.shared ≡ length _steps.now }
+        ensures part { self.new.part ≡ self.old.part }
+        ensures deferred { OnOk result (self.new.deferred
+            ≡ self.old.deferred ++ (_steps.now ++ thread ∷ []) ∷ []) }
+        ensures shared { OnOk result (IsShared _steps.now self.new) }
+        ensures all { self.new.shared ≡ length _steps.now }
+    {
+        self.deferred.push_after(self.shared, &[thread])
+    }
+
+    // Puts off the steps of these threads, of which this is the first, after the others.
+    fn put_off_all(
+        &mut self,
+        steps: &mut Vec<u8>,
+        past: Mask,
+        first: u8,
+    ) -> Result<(), AllocError>
+        requires shared { IsShared steps.old.items self.old }
+        requires first { members_from past 0 ≡ first ∷ members_from past (first + 1) }
+        requires fits { first < THREADS }
+        ensures steps { steps.new.items ≡ steps.old.items }
+        ensures part { OnOk result (self.new.part ≡ with_beyond self.old.part true) }
+        ensures deferred { OnOk result (self.new.deferred ≡ self.old.deferred
+            ++ map (λ t. steps.old.items ++ t ∷ []) (members_from past 0)) }
+        ensures shared { OnOk result (IsShared steps.old.items self.new) }
+    {
+        self.put_off(steps, first)?;
+        let mut next = first + 1;
+        while let Some(thread) = past.first_from(next) {
+            self.put_off_beside(steps.as_slice(), thread)?;
+            next = thread + 1;
+        }
+        Ok(())
+    }
+
+    // Puts off the steps of these threads, if there are any, after the others.
+    #[inline(always)]
     fn defer(&mut self, steps: &mut Vec<u8>, past: Mask) -> Result<(), AllocError>
+        requires { IsShared steps.old.items self.old }
         ensures steps { steps.new.items ≡ steps.old.items }
         ensures part { OnOk result (self.new.part ≡ with_beyond self.old.part
             (self.old.part.beyond || not (is_empty (members_from past 0)))) }
         ensures deferred { OnOk result (self.new.deferred ≡ self.old.deferred
             ++ map (λ t. steps.old.items ++ t ∷ []) (members_from past 0)) }
+        ensures shared { OnOk result (IsShared steps.old.items self.new) }
     {
-        let mut next = 0;
-        while let Some(thread) = past.first_from(next) {
-            self.part.set_beyond();
-            steps.push(thread)?;
-            let pushed = self.deferred.push(steps.as_slice());
-            steps.pop();
-            pushed?;
-            next = thread + 1;
+        match past.first_from(0) {
+            None => Ok(()),
+            Some(first) => self.put_off_all(steps, past, first),
         }
-        Ok(())
     }
+
+    // Goes back with the walk to a node above, so many steps from the start.
+    #[inline(always)]
+    fn go_back(&mut self, depth: usize)
+        ensures { self.new ≡ record self.old { shared = min self.old.shared depth } }
+    {
+        self.shared = self.shared.min(depth);
+    }
+}
+
+// A set without its least member.
+#[inline(always)]
+fn without_first(set: Mask, first: u8) -> Mask
+    requires first { members_from set 0 ≡ first ∷ members_from set (first + 1) }
+    requires least { (u : ℕ) → u < first → has set u ≡ false }
+    requires fits { first < THREADS }
+    ensures { members_from set 0 ≡ first ∷ members_from result 0 }
+{
+    set.with(first, false)
 }
 
 impl Node {
@@ -69,7 +147,7 @@ impl Node {
         requires { self.used ≤ bound }
         ensures { (t : ℕ) → has result t ≡ (has self.enabled t && is_past_at (Mode.Bounded bound) self t) }
     {
-        if self.used < bound as usize {
+        if self.used < bound {
             return Mask::empty();
         }
         match self.last {
@@ -89,9 +167,8 @@ impl Node {
         requires { IsWithinAt mode self.old }
         ensures kept { (t : ℕ) → has self.new.todo t ≡ (has self.old.enabled t && is_kept_at mode self.old t) }
         ensures past { (t : ℕ) → has result t ≡ (has self.old.enabled t && is_past_at mode self.old t) }
-        ensures same { self.new ≡ record self.old { todo = self.new.todo; next = 0 } }
+        ensures same { self.new ≡ record self.old { todo = self.new.todo } }
     {
-        self.next = 0;
         match mode {
             Mode::Bounded(bound) => {
                 let past = self.past(bound);
@@ -193,9 +270,10 @@ impl Trail {
     #[inline(always)]
     fn retreat(&mut self, program: &Program, _mode: Mode) -> bool
         requires place { IsPlace program.now self.old }
-        requires done { members_from self.old.node.todo self.old.node.next ≡ [] }
+        requires done { members_from self.old.node.todo 0 ≡ [] }
         ensures place { IsPlace program.now self.new }
         ensures same { still_open _mode program.now self.new ≡ still_open _mode program.now self.old }
+        ensures steps { self.new.steps.items ≡ take (length self.new.steps.items) self.old.steps.items }
         ensures further { IsTrue result →
             turns_left _mode program.now self.new < turns_left _mode program.now self.old }
         ensures over { IsFalse result → still_open _mode program.now self.new ≡ [] }
@@ -229,10 +307,14 @@ impl Trail {
             turns_left mode item.now.program self.new ≡ turns_left mode item.now.program self.old) }
         ensures tried { OnOk result (found.new.part.tried ≤ found.old.part.tried + 1) }
     {
-        match self.node.todo.first_from(self.node.next) {
-            None => Ok(self.retreat(item.program(), mode)),
+        match self.node.todo.first_from(0) {
+            None => {
+                let more = self.retreat(item.program(), mode);
+                found.go_back(self.steps.len());
+                Ok(more)
+            }
             Some(thread) => {
-                self.node.next = thread + 1;
+                self.node.todo = without_first(self.node.todo, thread);
                 self.descend(alloc, found, item, mode, thread)?;
                 Ok(true)
             }
@@ -283,10 +365,10 @@ impl Trail {
         ensures there { IfOk result (λ more. IsFalse more →
             turns_left mode item.now.program self.new ≡ turns_left mode item.now.program self.old) }
     {
-        match self.node.todo.first_from(self.node.next) {
+        match self.node.todo.first_from(0) {
             None => Ok(self.retreat(item.program(), mode)),
             Some(thread) => {
-                self.node.next = thread + 1;
+                self.node.todo = without_first(self.node.todo, thread);
                 let asleep = self.sleepers(item.program(), mode, thread);
                 let child = item.further(alloc, self.steps.as_slice(), thread, asleep)?;
                 rest.push(child)?;
@@ -334,7 +416,7 @@ impl Trail {
         ensures { result ≡ is_past_here mode self.now.node }
     {
         match mode {
-            Mode::Bounded(bound) => self.node.used > bound as usize,
+            Mode::Bounded(bound) => self.node.used > bound,
             Mode::Reduced => false,
         }
     }

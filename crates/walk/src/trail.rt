@@ -6,6 +6,7 @@ ghost use Rattle.semantics.specs.Schedules.{runs};
 ghost use Rattle.walk.specs.inner.Paths.{IsTrail, IsEntered, IsLeft, leaves, after};
 
 use crate::hints::EndHints;
+use guest_code::laws::programs_are_well_formed;
 use guest_code::program::Program;
 use semantics::mask::Mask;
 use semantics::state::State;
@@ -18,13 +19,12 @@ use std::alloc::{AllocError, Global};
 pub struct Node {
     pub enabled: Mask,
     pub asleep: Mask,
-    /// The threads whose steps are tried; those below `next` were.
+    /// The threads whose steps are still to be tried.
     pub todo: Mask,
-    pub next: u8,
     /// The thread of the last step.
     pub last: Option<u8>,
     /// The preemptions so far.
-    pub used: usize,
+    pub used: u32,
 }
 
 /// A node above the one where a walk stands, the thread whose step was taken there, and how to take
@@ -65,16 +65,15 @@ impl Node {
     // The node after a step of a thread, where these are enabled and these sleep.
     #[inline(always)]
     fn after(&self, thread: u8, enabled: Mask, asleep: Mask) -> Node
-        requires { self.now.used + 1 < 2 ^ 64 }
+        requires { self.now.used + 1 < 2 ^ 32 }
         ensures { result ≡ after self.now thread enabled asleep }
     {
         Node {
             enabled,
             asleep,
             todo: Mask::empty(),
-            next: 0,
             last: Some(thread),
-            used: self.used + usize::from(self.leaves(thread)),
+            used: self.used + u32::from(self.leaves(thread)),
         }
     }
 }
@@ -87,8 +86,7 @@ impl Frame {
                 enabled: Mask::empty(),
                 asleep: Mask::empty(),
                 todo: Mask::empty(),
-                next: 0,
-                last: None,
+                    last: None,
                 used: 0,
             },
             thread: 0,
@@ -133,13 +131,13 @@ impl Trail {
     pub fn start(alloc: Global, program: &Program) -> Result<Trail, AllocError>
         ensures { IfOk result (IsTrail program.now) }
     {
+        programs_are_well_formed(program);
         let state = State::start(alloc, program)?;
         let enabled = state.enabled(program);
         let node = Node {
             enabled,
             asleep: Mask::empty(),
             todo: Mask::empty(),
-            next: 0,
             last: None,
             used: 0,
         };

@@ -1,7 +1,7 @@
 -- The way from the start of a program to where a walk stands.
 use Rattle.std.specs.Prelude.{◌≡◌, ℕ, ◌+◌, ◌≤◌, Bool, false, not, ◌&&◌, nat_eq, List, [], ◌∷◌, ◌++◌, length, take, reverse, Option, Some, None}
 use Rattle.std.specs.declared.vec.Vec.{Vec}
-use Rattle.guest_code.specs.Program.{Program}
+use Rattle.guest_code.specs.Program.{Program, IsWellFormed}
 use Rattle.semantics.specs.Machine.{Snapshot, start, step, is_enabled}
 use Rattle.semantics.specs.Reachable.{IsOf}
 use Rattle.semantics.specs.declared.mask.Mask.{Mask}
@@ -28,7 +28,6 @@ after n t enabled asleep = record {
   enabled = enabled;
   asleep = asleep;
   todo = no_threads;
-  next = 0;
   last = Some t;
   used = n.used + one_if (leaves n t);
 }
@@ -64,6 +63,7 @@ above t = reverse (take (length t.steps.items) t.frames.items)
 
 -- the steps lead to the state and the node, and each frame leads back to the node above
 pub record IsTrail (p : Program) (t : Trail) : Type 0 where
+  pub well_formed : IsWellFormed p
   pub node : IsNode p t.steps.items t.state t.node
   pub state : IsOf p t.state
   pub frames : AreFrames p (above t)

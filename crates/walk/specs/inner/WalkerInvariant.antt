@@ -1,5 +1,5 @@
 -- What holds while a walk goes over the schedules of an item.
-use Rattle.std.specs.Prelude.{◌≡◌, ℕ, zero, suc, ◌+◌, ◌-◌, ◌≤◌, Bool, false, not, ◌&&◌, nat_le, nat_lt, List, [], ◌∷◌, ◌++◌, length, map, All}
+use Rattle.std.specs.Prelude.{◌≡◌, ℕ, zero, suc, ◌+◌, ◌-◌, ◌≤◌, Bool, false, not, ◌&&◌, nat_le, nat_lt, List, [], ◌∷◌, ◌++◌, length, take, map, All}
 use Rattle.guest_code.specs.Program.{Program}
 use Rattle.semantics.specs.declared.mask.Mask.{Mask}
 use Rattle.semantics.specs.Mask.{has, members_from}
@@ -11,6 +11,7 @@ use Rattle.walk.specs.declared.trail.Frame.{Frame}
 use Rattle.walk.specs.declared.trail.Trail.{Trail}
 use Rattle.walk.specs.declared.search.Found.{Found}
 use Rattle.walk.specs.Items.{ItemView, IsItem, item_at}
+use Rattle.walk.specs.PrefixLists.{last_of}
 use Rattle.walk.specs.Walks.{WalkView, IsWalked}
 use Rattle.walk.specs.inner.Children.{children_of, child_of, cost_of, costs}
 use Rattle.walk.specs.inner.Paths.{leaves, path, above, IsTrail}
@@ -25,7 +26,7 @@ here p t = item_of p t.steps.items t.node
 
 -- the children of a node that are still to be tried
 abbrev pub open_at : Mode → Program → List ℕ → Node → List ItemView
-open_at mode p w n = children_of mode (item_of p w n) (members_from n.todo n.next)
+open_at mode p w n = children_of mode (item_of p w n) (members_from n.todo 0)
 
 -- what is open at so many nodes above, the lowest first
 abbrev pub open_above : Mode → Program → ℕ → List Frame → List ItemView
@@ -46,6 +47,11 @@ pub record IsPlace (p : Program) (t : Trail) : Type 0 where
   pub trail : IsTrail p t
   pub base : t.base ≤ length t.steps.items
 
+-- so many of the walk's steps begin the prefix that was put off last, too
+pub record IsShared (steps : List ℕ) (f : Found) : Type 0 where
+  pub fits : f.shared ≤ length steps
+  pub same : take f.shared (last_of f.deferred) ≡ take f.shared steps
+
 -- what was found, what these items have, and what was put off make a walk of the item
 pub record IsSearch (mode : Mode) (i : ItemView) (t : Trail) (f : Found) (open_items : List ItemView) :
     Type 0 where
@@ -57,6 +63,7 @@ pub record IsSearch (mode : Mode) (i : ItemView) (t : Trail) (f : Found) (open_i
     rest = open_items;
     deferred = map (item_at i.program) f.deferred;
   })
+  pub shared : IsShared t.steps.items f
 
 -- more turns than are still to be taken
 unfoldable pub turns_left : Mode → Program → Trail → ℕ

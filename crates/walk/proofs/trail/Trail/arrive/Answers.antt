@@ -18,7 +18,7 @@ pub returns-in_ok-defer-in-Some-clause-search : goal.returns-in_ok-defer-in-Some
 returns-in_ok-defer-in-Some-clause-search c =
     arrived_node c.args.mode c.args.item.now c.args.self.now _ c.args.found.now _ c.open-past.result _ _ c.requires.search
     (record { steps = c.defer.ensures.steps; frames = refl; state = refl; base = refl; node = c.open-past.ensures.same })
-    c.open-past.ensures.kept c.open-past.ensures.past (ap (λ (n : Node). members_from n.enabled 0) (sym c.open-past.ensures.same) ∙ c.in-Some.ensures.list) c.in_ok-defer-in-Some.ensures.part c.in_ok-defer-in-Some.ensures.deferred
+    c.open-past.ensures.kept c.open-past.ensures.past (ap (λ (n : Node). members_from n.enabled 0) (sym c.open-past.ensures.same) ∙ c.in-Some.ensures.list) c.in_ok-defer-in-Some.ensures.part c.in_ok-defer-in-Some.ensures.deferred c.in_ok-defer-in-Some.ensures.shared
 
 pub returns-in_ok-defer-in-Some-clause-falls : goal.returns-in_ok-defer-in-Some-clause-falls
 returns-in_ok-defer-in-Some-clause-falls c =
@@ -31,7 +31,7 @@ returns-in_ok-add-in-None-clause-search c =
     arrived_leaf c.args.mode c.args.item.now c.args.self.now _ c.args.found.now _ _ _ c.requires.search
     (record { steps = refl; frames = refl; state = refl; base = refl; node = c.open-past.ensures.same })
     c.open-past.ensures.kept (ap (λ (n : Node). members_from n.enabled 0) (sym c.open-past.ensures.same) ∙ c.in-None.ensures.list) c.as_slice.ensures.value
-    (λ i. record { kind = c.final_kind-kind.ensures i; vars = c.variables.ensures i }) c.in_ok-add-in-None.ensures refl
+    (λ i. record { kind = c.final_kind-kind.ensures i; vars = c.variables.ensures i }) c.in_ok-add-in-None.ensures refl refl
 
 pub returns-in_ok-add-in-None-clause-falls : goal.returns-in_ok-add-in-None-clause-falls
 returns-in_ok-add-in-None-clause-falls c =

@@ -1,5 +1,6 @@
 use Rattle.std.proofs.Common.{rules, ◌≡◌, ◌∙◌, ◌+◌, ◌<◌, ℕ, List, arith, ap, refl, sym, subst, length, take, set}
 use Rattle.semantics.proofs.Executions.{reaches_few}
+use Rattle.semantics.proofs.ScheduleLengths.{schedule_within}
 use Rattle.walk.specs.declared.trail.Frame.{Frame}
 use Rattle.walk.proofs.TrailSteps.{trail_entered}
 use Rattle.walk.proofs.trail.Trail.enter.Goals as goal
@@ -7,8 +8,10 @@ use Rattle.walk.proofs.trail.Trail.enter.Goals as goal
 pub after-self-requires : goal.after-self-requires
 after-self-requires c =
     let t = c.args.self.now in
-    let few = reaches_few c.args.program.now t.steps.items _ c.requires.trail.node.reaches in
-    omega (arith, few, t.steps.ok.0, t.steps.small)
+    let w = t.steps.items in
+    let few = reaches_few c.args.program.now w _ c.requires.trail.node.reaches in
+    let short = schedule_within c.args.program.now w c.requires.trail.well_formed c.requires.trail.node.reaches.runs in
+    omega (arith, few, short)
 
 pub returns-clause-trail : goal.returns-clause-trail
 returns-clause-trail c =

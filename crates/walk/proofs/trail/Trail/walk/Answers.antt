@@ -24,7 +24,7 @@ arrive-requires c =
     let t = c.stand_at.new.self in
     record {
       search = search_begun c.args.mode i t c.new-found.result c.in_ok-stand_at.ensures.place c.in_ok-stand_at.ensures.item c.in_ok-stand_at.ensures.base
-          (sym c.is_past.ensures ∙ c.if-is_past.false) c.new-found.ensures.part c.new-found.ensures.deferred;
+          (sym c.is_past.ensures ∙ c.if-is_past.false) c.new-found.ensures.part c.new-found.ensures.deferred c.new-found.ensures.shared;
     }
 
 pub give_all_back-requires-clause-items : goal.give_all_back-requires-clause-items

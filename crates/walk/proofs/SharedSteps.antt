@@ -1,0 +1,32 @@
+-- What the steps of a walk share with the prefix that was put off last.
+use Rattle.std.proofs.Common.{◌≡◌, ℕ, List, [], ◌∷◌, ◌++◌, length, take, ap, ◌∙◌, sym, arith, subst}
+use Rattle.std.proofs.lemmas.List.{length_push, take-append-le}
+use Rattle.walk.specs.declared.search.Found.{Found}
+use Rattle.walk.specs.PrefixLists.{last_of}
+use Rattle.walk.specs.inner.WalkerInvariant.{IsShared}
+
+-- nothing is put off yet
+pub shared_none : (w : List ℕ) (f : Found) → f.shared ≡ 0 → IsShared w f
+shared_none w f e = record {
+  fits = omega (arith, e);
+  same = (λ i. take (e i) (last_of f.deferred)) ∙ sym (λ i. take (e i) w);
+}
+
+-- the same of the same steps
+pub shared_same : (w v : List ℕ) (f : Found) → IsShared w f → v ≡ w → IsShared v f
+shared_same w v f h e = subst (λ (x : List ℕ). IsShared x f) (sym e) h
+
+-- and where nothing more was put off
+pub shared_kept : (w v : List ℕ) (f g : Found) → IsShared w f → v ≡ w → g.deferred ≡ f.deferred →
+    g.shared ≡ f.shared → IsShared v g
+shared_kept w v f g h e deferred shared = record {
+  fits = let k = ap length e in let l = h.fits in omega (arith, k, l, shared);
+  same = (λ i. take (shared i) (last_of (deferred i))) ∙ (h.same ∙ sym (λ i. take (shared i) (e i)));
+}
+
+-- after one more step
+pub shared_entered : (w v : List ℕ) (t : ℕ) (f : Found) → IsShared w f → v ≡ w ++ t ∷ [] → IsShared v f
+shared_entered w v t f h e = record {
+  fits = let k = ap length e ∙ length_push w t in let l = h.fits in omega (arith, k, l);
+  same = h.same ∙ sym (ap (take f.shared) e ∙ take-append-le f.shared w (t ∷ []) h.fits);
+}
