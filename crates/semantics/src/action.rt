@@ -50,12 +50,14 @@ fn action_of(instruction: &Instruction) -> Option<Action>
 pub fn action_at(status: Status, instruction: &Instruction) -> Option<Action>
     ensures { result ≡ action_at status (Some instruction.now) }
 {
-    match status {
-        Status::Running => action_of(instruction),
-        Status::Woken => match instruction {
-            Instruction::Wait { mutex, .. } => Some(Action::OnMutex(*mutex, MutexAction::Retake)),
-            _ => None,
-        },
+    if let Status::Running = status {
+        return action_of(instruction);
+    }
+    match (status, instruction) {
+        (Status::Woken, Instruction::Wait { mutex, .. }) => Some(Action::OnMutex(
+            *mutex,
+            MutexAction::Retake,
+        )),
         _ => None,
     }
 }

@@ -290,12 +290,11 @@ impl State {
         requires { (p : Program) × IsOf p self.now × IsValid p instruction.now }
         ensures { result ≡ can_do self.now (action_at status (Some instruction.now)) }
     {
-        match status {
-            Status::Running => self.allows_visible(instruction),
-            Status::Woken => match instruction {
-                Instruction::Wait { mutex, .. } => self.owners[*mutex].is_none(),
-                _ => false,
-            },
+        if let Status::Running = status {
+            return self.allows_visible(instruction);
+        }
+        match (status, instruction) {
+            (Status::Woken, Instruction::Wait { mutex, .. }) => self.owners[*mutex].is_none(),
             _ => false,
         }
     }
@@ -306,15 +305,19 @@ impl State {
         requires { (p : Program) × IsOf p self.now × IsValid p instruction.now }
         ensures { result ≡ can_do self.now (action_of instruction.now) }
     {
-        match instruction {
-            Instruction::Lock(m) => self.owners[*m].is_none(),
-            Instruction::Acquire(k) => self.counts[*k] > 0,
-            Instruction::Set { .. }
-            | Instruction::Assert(_)
-            | Instruction::SkipIfZero(_, _)
-            | Instruction::Skip(_) => false,
-            _ => true,
+        if let Instruction::Lock(m) = instruction {
+            return self.owners[*m].is_none();
         }
+        if let Instruction::Acquire(k) = instruction {
+            return self.counts[*k] > 0;
+        }
+        !matches!(
+            instruction,
+            Instruction::Set { .. }
+                | Instruction::Assert(_)
+                | Instruction::SkipIfZero(_, _)
+                | Instruction::Skip(_)
+        )
     }
 
     /// Which threads can take a step.
