@@ -1,7 +1,7 @@
 //! What a thread does next, and whether the objects allow it.
 
 ghost use Rattle.std.specs.Prelude.{◌≡◌, Some};
-ghost use Rattle.semantics.specs.Machine.{action_of, action_at, owns};
+ghost use Rattle.semantics.specs.Machine.{action_of, retake_of, action_at, owns};
 
 use crate::state::{Action, ConditionAction, MutexAction, SemaphoreAction, Status, VariableAction};
 use guest_code::program::Instruction;
@@ -45,19 +45,29 @@ fn action_of(instruction: &Instruction) -> Option<Action>
     }
 }
 
+// The step of a woken thread, which takes the mutex of its `wait` again.
+#[inline(always)]
+fn retake_of(instruction: &Instruction) -> Option<Action>
+    ensures { result ≡ retake_of instruction.now }
+{
+    match instruction {
+        Instruction::Wait { mutex, .. } => Some(Action::OnMutex(*mutex, MutexAction::Retake)),
+        _ => None,
+    }
+}
+
 /// What a thread of this status does next at this instruction.
 #[inline(always)]
 pub fn action_at(status: Status, instruction: &Instruction) -> Option<Action>
     ensures { result ≡ action_at status (Some instruction.now) }
 {
-    match status {
-        Status::Running => action_of(instruction),
-        Status::Woken => match instruction {
-            Instruction::Wait { mutex, .. } => Some(Action::OnMutex(*mutex, MutexAction::Retake)),
-            _ => None,
-        },
-        _ => None,
+    if let Status::Running = status {
+        return action_of(instruction);
     }
+    if let Status::Woken = status {
+        return retake_of(instruction);
+    }
+    None
 }
 
 /// Whether a thread owns a mutex.

@@ -4,7 +4,7 @@ ghost use Rattle.std.specs.Prelude.{◌≡◌, ◌≢◌, ◌<◌, ◌≤◌, �
 ghost use Rattle.std.specs.List.{list_any, list_all};
 ghost use Rattle.guest_code.specs.declared.program.Instruction.{Instruction};
 ghost use Rattle.guest_code.specs.Program.{Program, code_of, IsValid, IsValidValue};
-ghost use Rattle.semantics.specs.Machine.{Snapshot, start, step, performed, action_of, action_at, can_do, is_enabled, next_of, thread_at, owner_of, queue_of, count_of, value_of_operand};
+ghost use Rattle.semantics.specs.Machine.{Snapshot, start, step, performed, action_of, retake_of, action_at, can_do, is_enabled, next_of, thread_at, owner_of, queue_of, count_of, value_of_operand};
 ghost use Rattle.semantics.specs.Reachable.{IsOf, IsValidAction, StandsInCode, IsReady};
 ghost use Rattle.semantics.specs.Ends.{is_terminal, kind_of, view_of, final_kind, is_stopped, is_ended, stop_of};
 ghost use Rattle.semantics.specs.Mask.{has, HasEnabled};
@@ -290,12 +290,23 @@ impl State {
         requires { (p : Program) × IsOf p self.now × IsValid p instruction.now }
         ensures { result ≡ can_do self.now (action_at status (Some instruction.now)) }
     {
-        match status {
-            Status::Running => self.allows_visible(instruction),
-            Status::Woken => match instruction {
-                Instruction::Wait { mutex, .. } => self.owners[*mutex].is_none(),
-                _ => false,
-            },
+        if let Status::Running = status {
+            return self.allows_visible(instruction);
+        }
+        if let Status::Woken = status {
+            return self.allows_retaking(instruction);
+        }
+        false
+    }
+
+    // Whether the instruction is a `wait` whose mutex is free.
+    #[inline(always)]
+    fn allows_retaking(&self, instruction: &Instruction) -> bool
+        requires { (p : Program) × IsOf p self.now × IsValid p instruction.now }
+        ensures { result ≡ can_do self.now (retake_of instruction.now) }
+    {
+        match instruction {
+            Instruction::Wait { mutex, .. } => self.owners[*mutex].is_none(),
             _ => false,
         }
     }
@@ -306,15 +317,19 @@ impl State {
         requires { (p : Program) × IsOf p self.now × IsValid p instruction.now }
         ensures { result ≡ can_do self.now (action_of instruction.now) }
     {
-        match instruction {
-            Instruction::Lock(m) => self.owners[*m].is_none(),
-            Instruction::Acquire(k) => self.counts[*k] > 0,
-            Instruction::Set { .. }
-            | Instruction::Assert(_)
-            | Instruction::SkipIfZero(_, _)
-            | Instruction::Skip(_) => false,
-            _ => true,
+        if let Instruction::Lock(m) = instruction {
+            return self.owners[*m].is_none();
         }
+        if let Instruction::Acquire(k) = instruction {
+            return self.counts[*k] > 0;
+        }
+        !matches!(
+            instruction,
+            Instruction::Set { .. }
+                | Instruction::Assert(_)
+                | Instruction::SkipIfZero(_, _)
+                | Instruction::Skip(_)
+        )
     }
 
     /// Which threads can take a step.
@@ -345,6 +360,7 @@ impl State {
 
     /// The same, with the record written over one that is there. Where the mask has the threads
     /// that are enabled before the step, the answer has those that are enabled after it.
+    #[inline(always)]
     pub fn step_into(&mut self, program: &Program, thread: u8, undo: &mut Undo, mask: Mask) -> Mask
         requires of { IsOf program.now self.old }
         requires enabled { IsTrue (is_enabled program.now self.old thread) }
@@ -376,6 +392,7 @@ impl State {
     }
 
     // The mask, where it is tested again for some threads whether they are enabled.
+    #[inline(never)]
     fn test_again(&self, program: &Program, mask: Mask, some: Mask) -> Mask
         requires { IsOf program.now self.now }
         ensures below { (u : ℕ) → u < length program.now.threads →
@@ -433,6 +450,7 @@ impl State {
     }
 
     /// Takes back the step of which this is the record. It takes no memory.
+    #[inline(always)]
     pub fn undo(&mut self, undo: &Undo)
         requires { IsRecordOf undo.now self.old }
         ensures { self.new ≡ undone undo.now self.old }
