@@ -6,3 +6,6 @@ pub mod Thinned
 pub mod DroppedCounts
 pub mod BoundedSums
 pub mod PackedItems
+pub mod Swept
+pub mod TakenOver
+pub mod OpenItems

@@ -1,14 +1,17 @@
 -- Items of packed prefixes, read from the last on.
-use Rattle.std.proofs.Common.{◌≡◌, ℕ, zero, suc, Some, slice_get, ◌-◌, ◌<◌, List, [], ◌∷◌, ◌++◌, length, get_or, take, reverse, refl, ap, sym, ◌∙◌, subst, arith, append_assoc}
-use Rattle.std.specs.List.{All}
-use Rattle.std.proofs.lemmas.List.Elements.{All-head, All-weaker}
+use Rattle.std.proofs.Common.{◌≡◌, ℕ, zero, suc, Option, Some, None, Result, Ok, Err, IfSome, IfNone, IfOk, slice_get, ◌+◌, ◌-◌, ◌<◌, ◌≤◌, List, [], ◌∷◌, ◌++◌, length, get_or, take, drop, map, min, reverse, refl, ap, sym, ◌∙◌, subst, arith, append_assoc, length-append, length-take, ⊎_elim}
+use Rattle.std.specs.List.{All, remove}
+use Rattle.std.proofs.lemmas.List.Elements.{All-nil, All-cons, All-head, All-tail, All-weaker}
 use Rattle.std.proofs.Math.Seq.{take-suc}
-use Rattle.std.proofs.lemmas.List.{reverse-append, take_all}
+use Rattle.std.proofs.lemmas.Bool.{cases_lt}
+use Rattle.std.proofs.lemmas.List.{reverse-append, take_all, drop_at, drop_all, drop-drop, drop-append-le, length-map, take-map, take-append-drop, get_or-take}
 use Rattle.guest_code.specs.Program.{Program}
+use Rattle.semantics.specs.Mask.{no_threads}
 use Rattle.walk.specs.Items.{ItemView, IsItem, item_at}
 use Rattle.walk.specs.PrefixLists.{last_of}
 use Rattle.walk.specs.Walks.{IsBelow, items_at}
 use Rattle.walk.proofs.ListParts.{all_left, all_right}
+use Rattle.book.specs.ItemLists.{ListView, all_of}
 
 pub got : (r : List (List ℕ)) (k : ℕ) (w : List ℕ) → slice_get r k ≡ Some w → get_or r k [] ≡ w
 got [] k w e = cc
@@ -60,3 +63,191 @@ last_runs p r some h =
 pub below_run : (above : ItemView) (items : List ItemView) → All (IsBelow above) items →
     All IsItem items
 below_run above items h = All-weaker (IsBelow above) IsItem (λ i b. b.item) items h
+
+-- those that were read, turned round, are the last ones
+pub last_read : (p : Program) (r all : List (List ℕ)) (read : List ItemView) (count : ℕ) →
+    items_at p r ++ read ≡ items_at p all → length r + count ≡ length all →
+    read ≡ drop (length all - count) (items_at p all)
+last_read p r all read count e n =
+    sym (ap (λ is. drop (length all - count) is) (sym e)
+    ∙ drop_at (items_at p r) read (length all - count)
+    (omega (arith, n, length-map r (item_at p))))
+
+pub none_read : (p : Program) (all : List (List ℕ)) (count : ℕ) → count ≡ 0 →
+    [] ≡ drop (length all - count) (items_at p all)
+none_read p all count none =
+    sym (drop_all (length all - count) (items_at p all)
+    (omega (arith, none, length-map all (item_at p))))
+
+pub length-all : (p : Program) (l : ListView) →
+    length (all_of p l) ≡ length l.packed + length l.loose
+length-all p l =
+    omega (arith, length-append (items_at p l.packed) l.loose, length-map l.packed (item_at p))
+
+pub got-right : {X : Type 0} (xs ys : List X) (k : ℕ) → length xs ≤ k →
+    slice_get (xs ++ ys) k ≡ slice_get ys (k - length xs)
+got-right [] ys k h = let e : k ≡ k - 0 = omega arith in ap (slice_get ys) e
+got-right (x ∷ xs) ys zero h = absurd (omega arith)
+got-right (x ∷ xs) ys (suc k) h =
+    let e : k - length xs ≡ suc k - suc (length xs) = omega arith in
+    got-right xs ys k (omega arith) ∙ ap (slice_get ys) e
+
+pub got-left : {X : Type 0} (xs ys : List X) (k : ℕ) → k < length xs →
+    slice_get (xs ++ ys) k ≡ slice_get xs k
+got-left [] ys k h = absurd (omega arith)
+got-left (x ∷ xs) ys zero h = refl
+got-left (x ∷ xs) ys (suc k) h = got-left xs ys k (omega arith)
+
+pub got-map : {X Y : Type 0} (f : X → Y) (xs : List X) (k : ℕ) (x : X) →
+    slice_get xs k ≡ Some x → slice_get (map f xs) k ≡ Some (f x)
+got-map f [] k x e = cc
+got-map f (y ∷ ys) zero x e = let h : y ≡ x = cc in ap (λ z. Some (f z)) h
+got-map f (y ∷ ys) (suc k) x e = got-map f ys k x e
+
+-- an item that isn't packed
+pub got-loose : (p : Program) (l : ListView) (k : ℕ) (i : ItemView) → length l.packed ≤ k →
+    slice_get l.loose (k - length l.packed) ≡ Some i → slice_get (all_of p l) k ≡ Some i
+got-loose p l k i h e =
+    let n = length-map l.packed (item_at p) in
+    got-right (items_at p l.packed) l.loose k (omega (arith, n, h))
+    ∙ (ap (λ m. slice_get l.loose (k - m)) n ∙ e)
+
+-- an item that is packed
+pub got-packed : (p : Program) (l : ListView) (k : ℕ) (w : List ℕ) → k < length l.packed →
+    slice_get l.packed k ≡ Some w → slice_get (all_of p l) k ≡ Some (item_at p w)
+got-packed p l k w h e =
+    let n = length-map l.packed (item_at p) in
+    got-left (items_at p l.packed) l.loose k (omega (arith, n, h))
+    ∙ got-map (item_at p) l.packed k w e
+
+-- the last items, some of them packed
+pub last_of_both : {X : Type 0} (xs ys : List X) (n most count : ℕ) → n ≡ length xs →
+    count ≡ min (most - length ys) n →
+    drop (n - count) xs ++ drop (length ys - most) ys
+    ≡ drop (length (xs ++ ys) - most) (xs ++ ys)
+last_of_both xs ys n most count e f =
+    let l = length-append xs ys in
+    ⊎_elim
+    (λ (h : most < length ys).
+    let a : length xs ≤ n - count = omega (arith, e, f, h) in
+    let b : length (xs ++ ys) - most ≡ length xs + (length ys - most) = omega (arith, l, h) in
+    ap (λ zs. zs ++ drop (length ys - most) ys) (drop_all (n - count) xs a)
+    ∙ sym (ap (λ m. drop m (xs ++ ys)) b
+    ∙ (sym (drop-drop (length ys - most) (length xs) (xs ++ ys))
+    ∙ ap (drop (length ys - most)) (drop_at xs ys (length xs) refl))))
+    (λ (h : length ys ≤ most).
+    let a : length ys - most ≡ 0 = omega (arith, h) in
+    let b : length (xs ++ ys) - most ≡ n - count = omega (arith, l, e, f, h) in
+    ap (λ m. drop (n - count) xs ++ drop m ys) a
+    ∙ (sym (drop-append-le (n - count) xs ys (omega (arith, e)))
+    ∙ ap (λ m. drop m (xs ++ ys)) (sym b)))
+    (cases_lt most (length ys))
+
+-- what stays packed, and what is taken out
+pub unpacked : (p : Program) (packed : List (List ℕ)) (loose : List ItemView) (first : ℕ) →
+    items_at p (take first packed) ++ (drop first (items_at p packed) ++ loose)
+    ≡ items_at p packed ++ loose
+unpacked p packed loose first =
+    sym (append_assoc (items_at p (take first packed)) (drop first (items_at p packed)) loose)
+    ∙ ap (λ is. is ++ loose)
+    (ap (λ is. is ++ drop first (items_at p packed)) (sym (take-map (item_at p) first packed))
+    ∙ take-append-drop first (items_at p packed))
+
+pub removed-loose : {X : Type 0} (xs ys : List X) (k : ℕ) → length xs ≤ k →
+    xs ++ remove ys (k - length xs) ≡ remove (xs ++ ys) k
+removed-loose [] ys k h = let e : k - 0 ≡ k = omega arith in ap (remove ys) e
+removed-loose (x ∷ xs) ys zero h = absurd (omega arith)
+removed-loose (x ∷ xs) ys (suc k) h =
+    let e : suc k - suc (length xs) ≡ k - length xs = omega arith in
+    ap (λ zs. x ∷ zs) (ap (λ m. xs ++ remove ys m) e ∙ removed-loose xs ys k (omega arith))
+
+pub cut-both : (p : Program) (packed : List (List ℕ)) (loose : List ItemView) (n : ℕ) →
+    items_at p (take n packed) ++ take (n - length packed) loose
+    ≡ take n (items_at p packed ++ loose)
+cut-both p [] loose zero = let e : 0 - 0 ≡ 0 = omega arith in ap (λ m. take m loose) e
+cut-both p [] loose (suc n) = let e : suc n - 0 ≡ suc n = omega arith in ap (λ m. take m loose) e
+cut-both p (w ∷ ws) loose zero =
+    let e : 0 - suc (length ws) ≡ 0 = omega arith in ap (λ m. take m loose) e
+cut-both p (w ∷ ws) loose (suc n) =
+    let e : suc n - suc (length ws) ≡ n - length ws = omega arith in
+    ap (λ is. item_at p w ∷ is)
+    (ap (λ m. items_at p (take n ws) ++ take m loose) e ∙ cut-both p ws loose n)
+
+pub got-or : {X : Type 0} (xs : List X) (k : ℕ) (d : X) → k < length xs →
+    slice_get xs k ≡ Some (get_or xs k d)
+got-or [] k d h = absurd (omega arith)
+got-or (x ∷ xs) zero d h = refl
+got-or (x ∷ xs) (suc k) d h = got-or xs k d (omega arith)
+
+-- the last of the first prefixes
+pub got-last : (ws : List (List ℕ)) (k : ℕ) → k < length ws →
+    slice_get ws k ≡ Some (last_of (take (k + 1) ws))
+got-last ws k h =
+    let n : length (take (k + 1) ws) - 1 ≡ k = omega (arith, length-take (k + 1) ws, h) in
+    got-or ws k [] h
+    ∙ ap (λ w. Some w)
+    (sym (ap (λ j. get_or (take (k + 1) ws) j []) n ∙ get_or-take (k + 1) ws k [] (omega arith)))
+
+-- the first of prefixes that run
+pub first_run : (p : Program) (ws : List (List ℕ)) (n : ℕ) → All IsItem (items_at p ws) →
+    All IsItem (items_at p (take n ws))
+first_run p ws n h =
+    all_left IsItem (items_at p (take n ws)) (items_at p (drop n ws))
+    (subst (All IsItem)
+    (sym (sym (items_of_both p (take n ws) (drop n ws)) ∙ ap (items_at p) (take-append-drop n ws)))
+    h)
+
+-- an item is known by its prefix and its mask, where the program is known
+pub same_item : (items : List ItemView) (k : ℕ) (x item : ItemView) →
+    All (λ i. i.program ≡ item.program) items → k < length items → x ≡ get_or items k x →
+    x.prefix ≡ item.prefix → x.mask ≡ item.mask → slice_get items k ≡ Some item
+same_item items k x item own h is e f =
+    let g : x.program ≡ item.program = ap (λ i. i.program) is ∙ own k x h in
+    got-or items k x h ∙ (ap (λ i. Some i) (sym is)
+    ∙ (λ j. Some (record { program = g j; prefix = e j; mask = f j })))
+
+pub item_there : (items : List ItemView) (k : ℕ) (x item : ItemView) → k < length items →
+    x ≡ get_or items k x → slice_get items k ≡ Some item → x ≡ item
+item_there items k x item h is e =
+    let f : Some (get_or items k x) ≡ Some item = sym (got-or items k x h) ∙ e in
+    let g : get_or items k x ≡ item = cc in
+    is ∙ g
+
+-- the item is none of these
+
+pub none_packed : (p : Program) (ws : List (List ℕ)) (item : ItemView) →
+    All (λ w. w ≡ item.prefix → ⊥) ws → All (λ i. i ≡ item → ⊥) (items_at p ws)
+none_packed p [] item h = All-nil (λ (i : ItemView). i ≡ item → ⊥)
+none_packed p (w ∷ ws) item h =
+    All-cons (λ (i : ItemView). i ≡ item → ⊥) (item_at p w) (items_at p ws)
+    (λ e. All-head (λ (v : List ℕ). v ≡ item.prefix → ⊥) w ws h (ap (λ i. i.prefix) e))
+    (none_packed p ws item (All-tail (λ (v : List ℕ). v ≡ item.prefix → ⊥) w ws h))
+
+pub none_masked : (p : Program) (ws : List (List ℕ)) (item : ItemView) →
+    (item.mask ≡ no_threads → ⊥) → All (λ i. i ≡ item → ⊥) (items_at p ws)
+none_masked p [] item h = All-nil (λ (i : ItemView). i ≡ item → ⊥)
+none_masked p (w ∷ ws) item h =
+    All-cons (λ (i : ItemView). i ≡ item → ⊥) (item_at p w) (items_at p ws)
+    (λ e. h (sym (ap (λ i. i.mask) e))) (none_masked p ws item h)
+
+pub if_none : {X : Type 0} (o : Option X) (P Q : Type 0) → (P → Q) → IfNone o P → IfNone o Q
+if_none None P Q f h = f h
+if_none (Some x) P Q f h = tt
+
+pub if_some : {X : Type 0} (o : Option X) (P Q : X → Type 0) → ((x : X) → P x → Q x) →
+    IfSome o P → IfSome o Q
+if_some None P Q f h = tt
+if_some (Some x) P Q f h = f x h
+
+pub if_ok : {X Y : Type 0} (r : Result X Y) (P Q : X → Type 0) → ((x : X) → P x → Q x) →
+    IfOk r P → IfOk r Q
+if_ok (Ok x) P Q f h = f x h
+if_ok (Err e) P Q f h = tt
+
+-- a prefix that is packed is the item of the prefix
+pub packed_there : (item : ItemView) (ws : List (List ℕ)) (k : ℕ) (w : List ℕ) →
+    w ≡ item.prefix → item.mask ≡ no_threads → slice_get ws k ≡ Some w →
+    slice_get (items_at item.program ws) k ≡ Some item
+packed_there item ws k w e m h =
+    got-map (item_at item.program) ws k w h
+    ∙ (λ j. Some (record { program = item.program; prefix = e j; mask = sym m j }))

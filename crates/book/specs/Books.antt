@@ -2,7 +2,6 @@
 use Rattle.std.specs.Prelude.{◌≡◌, ℕ, ◌<◌, ◌≤◌, ◌+◌, Bool, true, false, not, ◌||◌, ◌&&◌, List, [], ◌∷◌, ◌++◌, length, filter, Option, Some, None, slice_get, All}
 use Rattle.std.specs.declared.alloc.Global.{Global}
 use Rattle.std.specs.declared.sync.Arc.{Arc}
-use Rattle.std.specs.declared.vec.Vec.{Vec}
 use Rattle.std.specs.Arc.{arc_value}
 use Rattle.std.specs.List.{remove, list_any}
 use Rattle.guest_code.specs.Program.{Program}
@@ -15,6 +14,7 @@ use Rattle.walk.specs.Summaries.{SummaryView, nothing, join, with_beyond}
 use Rattle.walk.specs.Items.{ItemView, root_of, schedules_of}
 use Rattle.walk.specs.Walks.{WalkView, IsSplit}
 use Rattle.book.specs.Quick.{is_later}
+use Rattle.book.specs.ItemLists.{ListView, all_of}
 use Rattle.book.specs.declared.errors.SettleError.{SettleError}
 use Rattle.book.specs.declared.errors.SettleError.TheVariants.{NotOpen, Stranger, OutOfMemory}
 use Rattle.book.specs.declared.errors.RaiseError.{RaiseError}
@@ -32,14 +32,14 @@ pub record BookView : Type 0 where
   pub dropped : Bool
 
 -- what contracts see of a book of these parts
-abbrev pub book_view : Arc Program Global → Mode → SummaryView → Vec ItemView Global →
-    Vec ItemView Global → Bool → Bool → BookView
+abbrev pub book_view : Arc Program Global → Mode → SummaryView → ListView → ListView → Bool →
+    Bool → BookView
 book_view program mode finished open_items deferred quick dropped = record {
   program = arc_value program;
   mode = mode;
   finished = finished;
-  open_items = open_items.items;
-  deferred = deferred.items;
+  open_items = all_of (arc_value program) open_items;
+  deferred = all_of (arc_value program) deferred;
   quick = quick;
   dropped = dropped;
 }
@@ -99,6 +99,11 @@ thinned b = record b {
   open_items = filter (λ i. not (drops b i)) b.open_items;
   dropped = b.dropped || list_any (drops b) b.open_items;
 }
+
+-- whether it is known that the book drops none of its open items
+abbrev pub IsSwept : Bool → BookView → Type 0
+IsSwept false b = Unit {0}
+IsSwept true b = list_any (drops b) b.open_items ≡ false
 
 -- the walk is of the book's program and mode
 abbrev pub IsWalkOf : BookView → WalkView → Type 0

@@ -1,3 +1,4 @@
+pub mod ItemLists
 pub mod Quick
 pub mod Books
 pub mod ErrorTexts

@@ -1,17 +1,17 @@
 //! Books.
 
-ghost use Rattle.std.specs.Prelude.{true, false, None, filter, count_by, not, ◌≡◌, ◌<◌, ◌≤◌, ◌+◌, ◌-◌, ◌↔◌, [], length, drop, IfOk, OnOk, IfErr, IfSome, IfNone, IsTrue, slice_get, slice_index_or, Some, All};
+ghost use Rattle.std.specs.Prelude.{true, false, None, count_by, ◌≡◌, ◌<◌, ◌≤◌, ◌+◌, ◌-◌, ◌&&◌, ◌↔◌, [], length, drop, is_ok, if◌then◌else◌, IfOk, OnOk, IfErr, IfSome, IfNone, IsTrue, slice_get, Some};
 ghost use Rattle.std.specs.Arc.{arc_value};
 ghost use Rattle.walk.specs.declared.limits.TheConstants.{BOUND};
 ghost use Rattle.walk.specs.declared.mode.Mode.TheVariants.{Bounded};
-ghost use Rattle.walk.specs.Items.{ItemView, whole};
+ghost use Rattle.walk.specs.Items.{whole};
 ghost use Rattle.book.specs.declared.limits.TheConstants.{ROUND};
-ghost use Rattle.book.specs.Quick.{IsBoundedBy, is_later};
-ghost use Rattle.book.specs.Books.{Keeps, drops, thinned, opening, IsWalkOf, Settles, IsRefused, Raises, IsNotRaised, IsClosed, bound_of};
+ghost use Rattle.book.specs.Quick.{IsBoundedBy};
+ghost use Rattle.book.specs.Books.{Keeps, drops, thinned, opening, IsWalkOf, IsOpenAt, settled, Settles, IsRefused, Raises, IsNotRaised, IsClosed, bound_of};
 
 use crate::errors::{RaiseError, SettleError};
+use crate::item_list::{ItemList, is_later};
 use crate::limits::ROUND;
-use crate::packed::all_items;
 use guest_code::program::Program;
 use std::alloc::{AllocError, Global};
 use std::marker::Model;
@@ -35,20 +35,23 @@ pub struct Book {
     program: Arc<Program>,
     mode: Mode,
     finished: Summary,
-    open_items: Vec<Item>,
-    deferred: Vec<Item>,
+    open_items: ItemList,
+    deferred: ItemList,
     quick: bool,
     dropped: bool,
+    // Nothing that is open is to be dropped.
+    swept: bool,
 }
 
 impl Model for Book {
-    ghost use Rattle.book.specs.Books.{BookView, Keeps, book_view};
+    ghost use Rattle.book.specs.Books.{BookView, Keeps, IsSwept, book_view};
+    ghost use Rattle.book.specs.ItemLists.{IsLoose};
 
     ghost Value = { BookView };
 
     ghost view = { λ b. book_view b.program b.mode b.finished b.open_items b.deferred b.quick b.dropped };
 
-    ghost invariant = { λ b. Keeps (book_view b.program b.mode b.finished b.open_items b.deferred b.quick b.dropped) };
+    ghost invariant = { λ b. Keeps (book_view b.program b.mode b.finished b.open_items b.deferred b.quick b.dropped) × IsSwept b.swept (book_view b.program b.mode b.finished b.open_items b.deferred b.quick b.dropped) × IsLoose b.quick b.open_items b.deferred };
 }
 
 impl Book {
@@ -84,16 +87,19 @@ impl Book {
         ensures { IfOk result (λ b. b ≡ opening (arc_value program) mode quick) }
     {
         let root = Item::root(alloc, Arc::try_clone(&program)?)?;
-        let mut open_items = Vec::new(alloc);
-        open_items.push(root)?;
+        let mut roots = Vec::new(alloc);
+        roots.push(root)?;
+        let mut open_items = ItemList::new(alloc);
+        open_items.append(roots)?;
         Ok(Book {
             program,
             mode,
             finished: Summary::empty(alloc),
             open_items,
-            deferred: Vec::new(alloc),
+            deferred: ItemList::new(alloc),
             quick,
             dropped: false,
+            swept: false,
         })
     }
 
@@ -124,7 +130,7 @@ impl Book {
         ensures length { result ≡ length self.now.open_items }
         ensures kept { Keeps self.now }
     {
-        self.open_items.len()
+        self.open_items.length()
     }
 
     /// A copy of the open item at a place, counted from 0.
@@ -136,14 +142,14 @@ impl Book {
         requires { place < length self.now.open_items }
         ensures { IfOk result (λ i. slice_get self.now.open_items place ≡ Some i) }
     {
-        self.open_items[place].try_clone(alloc)
+        self.open_items.item(alloc, &self.program, place)
     }
 
     /// How many items wait for the next bound.
     pub fn deferred_length(&self) -> usize
         ensures { result ≡ length self.now.deferred }
     {
-        self.deferred.len()
+        self.deferred.length()
     }
 
     /// A copy of the item at a place among those that wait for the next bound, counted from 0.
@@ -155,7 +161,7 @@ impl Book {
         requires { place < length self.now.deferred }
         ensures { IfOk result (λ i. slice_get self.now.deferred place ≡ Some i) }
     {
-        self.deferred[place].try_clone(alloc)
+        self.deferred.item(alloc, &self.program, place)
     }
 
     /// Whether the search is a quick one.
@@ -180,13 +186,7 @@ impl Book {
     pub fn round(&self, alloc: Global) -> Result<Vec<Item>, AllocError>
         ensures { IfOk result (λ v. v.items ≡ drop (length self.now.open_items - ROUND) self.now.open_items) }
     {
-        let length = self.open_items.len();
-        let first = length.saturating_sub(ROUND);
-        let mut items = Vec::new(alloc);
-        for k in first..length {
-            items.push(self.open_items[k].try_clone(alloc)?)?;
-        }
-        Ok(items)
+        self.open_items.last(alloc, &self.program, ROUND)
     }
 
     /// The summary of the whole program in its mode, where nothing is open and program and mode are
@@ -227,7 +227,9 @@ impl Book {
     fn is_closed(&self, program: &Program, mode: Mode) -> bool
         ensures { IsTrue result ↔ IsClosed self.now program.now mode }
     {
-        self.open_items.is_empty() && same_modes(self.mode, mode) && self.program.is_same(program)
+        self.open_items.length() == 0
+            && same_modes(self.mode, mode)
+            && self.program.is_same(program)
     }
 
     /// Whether the book drops an item that is open: it is quick, and each schedule of the item comes
@@ -253,11 +255,15 @@ impl Book {
         if !self.quick {
             return 0;
         }
+        if self.swept {
+            return 0;
+        }
         let Some(first) = self.finished.first_bad() else {
             return 0;
         };
-        let number = drop_later(&mut self.open_items, first);
+        let number = self.open_items.drop_later(first);
         self.dropped = self.dropped || number > 0;
+        self.swept = true;
         number
     }
 
@@ -289,30 +295,47 @@ impl Book {
         ensures ok { OnOk result (Settles self.old walked self.new) }
         ensures err { IfErr result (λ e. (self.new ≡ self.old) × IsRefused self.old walked e) }
     {
-        let Some(k) = place_of(self.open_items.as_slice(), walked.item()) else {
+        let Some(place) = self.open_items.place_of(walked.item()) else {
             return Err(SettleError::NotOpen);
         };
-        let Ok(finished) = self.finished.join(alloc, walked.part()) else {
-            return Err(SettleError::OutOfMemory);
-        };
-        let Ok(mut deferred) = all_items(alloc, &self.program, walked.deferred()) else {
-            return Err(SettleError::OutOfMemory);
-        };
-        let Ok(()) = self.open_items.reserve(walked.rest_length()) else {
-            return Err(SettleError::OutOfMemory);
-        };
-        let Ok(()) = self.deferred.reserve(deferred.len()) else {
-            return Err(SettleError::OutOfMemory);
-        };
-        let Parts { mut rest, .. } = walked.into_parts();
-        drop(self.open_items.remove(k));
-        let Ok(()) = self.open_items.append(&mut rest) else {
-            unreachable!()
-        };
-        let Ok(()) = self.deferred.append(&mut deferred) else {
-            unreachable!()
-        };
-        self.finished = finished;
+        match self.take_over(alloc, walked, place) {
+            Ok(()) => Ok(()),
+            Err(AllocError) => Err(SettleError::OutOfMemory),
+        }
+    }
+
+    // The same where the item is at a place among the open ones. The lists grow first; then the part is
+    // joined, which is the last that can be refused, and the item is taken out.
+    fn take_over(&mut self, alloc: Global, walked: Walked, place: usize) -> Result<(), AllocError>
+        requires of { IsWalkOf self.old walked }
+        requires is_open { IsOpenAt self.old walked.item place }
+        ensures { self.new ≡ (if is_ok result then settled self.old walked place else self.old) }
+    {
+        self.open_items.unpack_from(alloc, &self.program, place)?;
+        let quiet = is_quiet(&walked);
+        let Parts {
+            part,
+            rest,
+            deferred,
+        } = walked.into_parts();
+        let open_length = self.open_items.length();
+        self.open_items.append(rest)?;
+        let deferred_length = self.deferred.length();
+        let packs = !self.quick;
+        if let Err(error) = self
+            .deferred
+            .append_prefixes(alloc, &self.program, deferred, packs)
+        {
+            self.open_items.truncate(open_length);
+            return Err(error);
+        }
+        if let Err(error) = self.finished.join_in(part) {
+            self.open_items.truncate(open_length);
+            self.deferred.truncate(deferred_length);
+            return Err(error);
+        }
+        self.open_items.remove(place);
+        self.swept = both(self.swept, quiet);
         Ok(())
     }
 
@@ -327,7 +350,7 @@ impl Book {
         ensures ok { OnOk result (Raises self.old self.new) }
         ensures err { IfErr result (λ e. (self.new ≡ self.old) × IsNotRaised self.old e) }
     {
-        if !self.open_items.is_empty() {
+        if self.open_items.length() > 0 {
             return Err(RaiseError::StillOpen);
         }
         if self.dropped {
@@ -338,6 +361,7 @@ impl Book {
         };
         mem::swap(&mut self.open_items, &mut self.deferred);
         self.mode = mode;
+        self.swept = false;
         self.finished.forget_beyond();
         Ok(())
     }
@@ -368,42 +392,16 @@ fn next_mode(mode: Mode) -> Option<Mode>
     }
 }
 
-// Where an item is among others, looked for from the last one on: that of a round is among the last.
-fn place_of(items: &[Item], item: &Item) -> Option<usize>
-    ensures some { IfSome result (λ k.
-        (k < length items.now) × (slice_get items.now k ≡ Some item.now)) }
-    ensures none { IfNone result (All (λ i. i ≡ item.now → ⊥) items.now) }
+// Whether both hold.
+fn both(first: bool, second: bool) -> bool
+    ensures { result ≡ (first && second) }
 {
-    let mut place = items.len();
-    while 0 < place {
-        place -= 1;
-        if items[place].is_same(item) {
-            return Some(place);
-        }
-    }
-    None
+    first && second
 }
 
-// Whether a prefix differs from a schedule, and is greater at the first such place.
-fn is_later(schedule: &[u8], prefix: &[u8]) -> bool
-    ensures { result ≡ is_later schedule.now prefix.now }
+// Whether a walk found no bad schedule and left nothing.
+fn is_quiet(walked: &Walked) -> bool
+    ensures { IsTrue result → (walked.now.rest ≡ []) × (walked.now.part.first_bad ≡ None) }
 {
-    for k in 0..schedule.len().min(prefix.len()) {
-        if schedule[k] != prefix[k] {
-            return schedule[k] < prefix[k];
-        }
-    }
-    false
-}
-
-// Drops the items whose schedules all come after this one, and answers how many.
-fn drop_later(items: &mut Vec<Item>, schedule: &[u8]) -> u64
-    ensures items { items.new.items ≡
-        filter (λ i. not (is_later schedule.now i.prefix)) items.old.items }
-    ensures number { result ≡
-        count_by (λ i. is_later schedule.now i.prefix) items.old.items }
-{
-    let before = items.len();
-    items.retain(|item| !is_later(schedule, item.prefix()));
-    (before - items.len()) as u64
+    walked.rest_length() == 0 && walked.part().first_bad().is_none()
 }

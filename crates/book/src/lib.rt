@@ -14,6 +14,7 @@
 
 pub mod books;
 pub mod errors;
+mod item_list;
 pub mod laws;
 pub mod limits;
 mod packed;

@@ -1,6 +1,6 @@
 // Items of packed prefixes.
 
-ghost use Rattle.std.specs.Prelude.{◌≡◌, ◌<◌, length, IfOk, All};
+ghost use Rattle.std.specs.Prelude.{◌≡◌, ◌-◌, ◌<◌, ◌≤◌, length, drop, IfOk, All};
 ghost use Rattle.std.specs.Arc.{arc_value};
 ghost use Rattle.walk.specs.Items.{IsItem, item_at};
 ghost use Rattle.walk.specs.PrefixLists.{last_of};
@@ -12,19 +12,24 @@ use std::sync::Arc;
 use walk::item::Item;
 use walk::prefixes::{LastFirst, Prefixes};
 
-// The items of prefixes that run, in their order.
-pub(crate) fn all_items(
+// The items of the last prefixes of a list, so many, in their order. The prefixes run.
+pub(crate) fn last_items(
     alloc: Global,
     program: &Arc<Program>,
     prefixes: &Prefixes,
+    count: usize,
 ) -> Result<Vec<Item>, AllocError>
-    requires { All IsItem (items_at (arc_value program.now) prefixes.now) }
-    ensures { IfOk result (λ v. v.items ≡ items_at (arc_value program.now) prefixes.now) }
+    requires count { count ≤ length prefixes.now }
+    requires run { All IsItem (items_at (arc_value program.now) prefixes.now) }
+    ensures { IfOk result (λ v. v.items ≡
+        drop (length prefixes.now - count) (items_at (arc_value program.now) prefixes.now)) }
 {
-    let length = prefixes.length();
-    let mut items = Vec::with_capacity(alloc, length)?;
+    let mut items = Vec::with_capacity(alloc, count)?;
+    if count == 0 {
+        return Ok(items);
+    }
     let mut reading = prefixes.last_first(alloc)?;
-    for _ in 0..length {
+    for _ in 0..count {
         items.push(last_item(alloc, program, &reading)?)?;
         reading.advance();
     }
@@ -33,7 +38,7 @@ pub(crate) fn all_items(
 }
 
 // The item of the last of the prefixes that are still to be read.
-fn last_item(
+pub(crate) fn last_item(
     alloc: Global,
     program: &Arc<Program>,
     reading: &LastFirst<'_>,

@@ -6,6 +6,7 @@ pub mod SumsJoin
 pub mod EndSearch
 pub mod ListParts
 pub mod WalkedItems
+pub mod CommonSteps
 pub mod WayBytes
 pub mod PackedPrefixes
 pub mod SharedSteps

@@ -1,9 +1,10 @@
 -- How a stack of schedules grows, shrinks, and goes on top of another.
-use Rattle.std.proofs.Common.{◌≡◌, ℕ, suc, ◌+◌, ◌-◌, ◌^◌, ◌<◌, ◌≤◌, List, [], ◌∷◌, ◌++◌, length, take, drop, refl, sym, ◌∙◌, ap, arith, append_assoc, length-append, length-take, length-drop, zero, inl, inr, Result, Ok, Err, cond, is_ok, OnOk, IsOk, Some, slice_get, ⊎_elim, min}
-use Rattle.std.proofs.lemmas.List.{append-nil, take_at, drop_at, length_push, take-append-drop, get_or_push, take_rest}
+use Rattle.std.proofs.Common.{◌≡◌, ℕ, suc, ◌+◌, ◌-◌, ◌^◌, ◌<◌, ◌≤◌, List, [], ◌∷◌, ◌++◌, length, take, drop, refl, sym, ◌∙◌, ap, arith, append_assoc, length-append, length-take, length-drop, zero, inl, inr, Result, Ok, Err, cond, is_ok, OnOk, IsOk, Some, slice_get, slice_index_or, subst, ⊎_elim, min, true, false, nat_lt}
+use Rattle.std.proofs.lemmas.List.{append-nil, take_at, drop_at, length_push, take-append-drop, get_or_push, take_rest, take-take, take_all}
 use Rattle.std.proofs.lemmas.Bool.{cases_lt}
-use Rattle.walk.specs.inner.Packed.{Way, IsPacked, way_bytes, ways_bytes, first_by, AreWays, IsStack, back, listed, before, below_of, tail_of, start_of, end_of, dropped_of}
+use Rattle.walk.specs.inner.Packed.{Way, IsPacked, way_bytes, ways_bytes, first_by, AreWays, IsStack, back, listed, before, below_of, tail_of, start_of, end_of, dropped_of, head_of, common_length}
 use Rattle.walk.specs.PrefixLists.{last_of}
+use Rattle.walk.proofs.CommonSteps.{same_where, where_same}
 use Rattle.walk.proofs.WayBytes.{below_of-way, before-way, length-way}
 
 pub length-listed : (n : ℕ) (b last : List ℕ) → length (listed n b last) ≡ n
@@ -276,3 +277,156 @@ take_within (suc k) (x ∷ xs) =
 pub after_none : (p : List (List ℕ)) (rest : List ℕ) (k : ℕ) → p ≡ []
     → p ++ (take k (last_of p) ++ rest) ∷ [] ≡ rest ∷ []
 after_none p rest k none = rw (none, take_none {X = ℕ} k) refl
+
+-- A search from the last prefix on. It stands at one of the prefixes, of which it knows how many
+-- steps it has and how many it shares with the wanted one; those after it are not the wanted one.
+pub record Seeks (list : List (List ℕ)) (wanted : List ℕ) (place : ℕ) (bytes : List ℕ)
+    (steps shared : ℕ) : Type 0 where
+  pub last : List ℕ
+  pub first : List ℕ
+  pub longest : ℕ
+  pub small : longest < 2 ^ 63
+  pub long : steps ≡ length last
+  pub alike : shared ≡ common_length last wanted
+  pub few : shared ≤ length wanted
+  pub packed : IsPacked place bytes last first longest
+  pub left : listed place bytes last ≡ take place list
+  pub within : place ≤ length list
+  pub none : (j : ℕ) (d : List ℕ) → place ≤ j → j < length list →
+      slice_index_or list j d ≡ wanted → ⊥
+
+pub got_take : {X : Type 0} (n k : ℕ) (xs : List X) → k < n →
+    slice_get (take n xs) k ≡ slice_get xs k
+got_take zero k xs h = absurd (omega arith)
+got_take (suc n) k [] h = refl
+got_take (suc n) zero (x ∷ xs) h = refl
+got_take (suc n) (suc k) (x ∷ xs) h = got_take n k xs (omega arith)
+
+got_at : {X : Type 0} (xs : List X) (k : ℕ) (x d : X) → slice_get xs k ≡ Some x →
+    slice_index_or xs k d ≡ x
+got_at [] k x d e = cc
+got_at (y ∷ ys) zero x d e = cc
+got_at (y ∷ ys) (suc k) x d e = got_at ys k x d e
+
+-- the prefix at which the search stands
+pub stands_at : (list : List (List ℕ)) (wanted : List ℕ) (place : ℕ)
+    (bytes : List ℕ) (steps shared : ℕ) → 0 < place →
+    (s : Seeks list wanted place bytes steps shared) →
+    slice_get list (place - 1) ≡ Some s.last
+stands_at list wanted place bytes steps shared some s =
+    let n = length-listed place bytes s.last in
+    let k : length (listed place bytes s.last) - 1 ≡ place - 1 = omega (arith, n) in
+    sym (got_take place (place - 1) list (omega (arith, some)))
+    ∙ (ap (λ l. slice_get l (place - 1)) (sym s.left)
+    ∙ (ap (λ j. slice_get (listed place bytes s.last) j) (sym k)
+    ∙ sym (listed_last place bytes s.last some)))
+
+-- it is found
+pub seek_found : (list : List (List ℕ)) (wanted : List ℕ) (place : ℕ)
+    (bytes : List ℕ) (steps shared : ℕ) → 0 < place →
+    Seeks list wanted place bytes steps shared →
+    shared ≡ steps → steps ≡ length wanted → slice_get list (place - 1) ≡ Some wanted
+seek_found list wanted place bytes steps shared some s e f =
+    let is : s.last ≡ wanted =
+        same_where s.last wanted (sym s.alike ∙ (e ∙ s.long)) (sym s.long ∙ f) in
+    stands_at list wanted place bytes steps shared some s ∙ ap (λ w. Some w) is
+
+-- the search goes on, where the prefix isn't the wanted one
+pub seek_before : (list : List (List ℕ)) (wanted : List ℕ) (place : ℕ)
+    (bytes rest : List ℕ) (steps shared steps' shared' : ℕ) → 0 < place →
+    (s : Seeks list wanted place bytes steps shared) →
+    ((shared ≡ steps) × (steps ≡ length wanted) → ⊥) →
+    rest ≡ below_of bytes → steps' ≡ length (before bytes s.last) →
+    shared' ≡ common_length (before bytes s.last) wanted → shared' ≤ length wanted →
+    Seeks list wanted (place - 1) rest steps' shared'
+seek_before list wanted place bytes rest steps shared steps' shared' some s other e f g h =
+    record {
+      last = before bytes s.last;
+      first = s.first;
+      longest = s.longest;
+      small = s.small;
+      long = f;
+      alike = g;
+      few = h;
+      packed = subst (λ (b : List ℕ). IsPacked (place - 1) b (before bytes s.last) s.first s.longest)
+          (sym e) (packed_pop place bytes s.last s.first s.longest s.packed some);
+      left = ap (λ b. listed (place - 1) b (before bytes s.last)) e
+          ∙ (view_pop place bytes s.last some
+          ∙ ((λ i. take (length (s.left i) - 1) (s.left i)) ∙ shorter));
+      within = omega (arith, s.within);
+      none = λ j d lo hi is. none-at j d lo hi is;
+    }
+  where
+    shorter : take (length (take place list) - 1) (take place list) ≡ take (place - 1) list
+    shorter =
+        let n : length (take place list) - 1 ≡ place - 1
+            = omega (arith, length-take place list, s.within) in
+        ap (λ n. take n (take place list)) n
+        ∙ take-take (place - 1) place list (omega arith)
+
+    here : (d : List ℕ) → slice_index_or list (place - 1) d ≡ wanted → ⊥
+    here d is =
+        let at : slice_index_or list (place - 1) d ≡ s.last =
+            got_at list (place - 1) s.last d
+            (stands_at list wanted place bytes steps shared some s) in
+        let same : s.last ≡ wanted = sym at ∙ is in
+        other (s.alike ∙ (ap (λ w. common_length s.last w) (sym same) ∙ (where_same s.last ∙ sym s.long)),
+        s.long ∙ ap length same)
+
+    none-at : (j : ℕ) (d : List ℕ) → place - 1 ≤ j → j < length list →
+        slice_index_or list j d ≡ wanted → ⊥
+    none-at j d lo hi is = ⊎_elim (λ (l : place - 1 < j). s.none j d (omega arith) hi is)
+        (λ (g : j ≤ place - 1).
+        let e : j ≡ place - 1 = omega arith in
+        here d (ap (λ k. slice_index_or list k d) (sym e) ∙ is))
+        (cases_lt (place - 1) j)
+
+end_within : (b : List ℕ) → end_of b ≤ length b
+unfolding end_of
+end_within b = elim (nat_lt (head_of b) 240) as (λ t. cond t (length b - 1) (length b - 17) ≤ length b)
+    [ true ↦ omega arith | false ↦ omega arith ]
+
+pub length-before : (b last : List ℕ) →
+    length (before b last) ≡ length last - dropped_of b + (end_of b - start_of b)
+length-before b last =
+    omega (arith, length-append (take (length last - dropped_of b) last) (tail_of b),
+    length-take (length last - dropped_of b) last,
+    length-take (end_of b - start_of b) (drop (start_of b) b),
+    length-drop (start_of b) b, end_within b)
+
+-- the prefix before fits
+pub before_fits : (list : List (List ℕ)) (wanted : List ℕ) (place : ℕ)
+    (bytes : List ℕ) (steps shared : ℕ) → 0 < place →
+    Seeks list wanted place bytes steps shared →
+    steps - dropped_of bytes + (end_of bytes - start_of bytes) < 2 ^ 63
+before_fits list wanted place bytes steps shared some s =
+    omega (arith, s.long, length-before bytes s.last,
+    s.small, packed_before place bytes s.last s.first s.longest s.packed some)
+
+-- a search begins at the last prefix
+pub seek_start : (list : List (List ℕ)) (first wanted : List ℕ) (longest count : ℕ)
+    (bytes there last : List ℕ) (steps shared : ℕ) → longest < 2 ^ 63 → IsPacked count bytes last first longest →
+    there ≡ bytes → listed count bytes last ≡ list → steps ≡ length last →
+    shared ≡ common_length last wanted → shared ≤ length wanted →
+    Seeks list wanted count there steps shared
+seek_start list first wanted longest count bytes there last steps shared small packed e view f g h = record {
+    last = last;
+    first = first;
+    longest = longest;
+    small = small;
+    long = f;
+    alike = g;
+    few = h;
+    packed = subst (λ (b : List ℕ). IsPacked count b last first longest) (sym e) packed;
+    left = ap (λ b. listed count b last) e ∙ (view ∙ sym (take_all count list (omega (arith, many))));
+    within = omega (arith, many);
+    none = λ j d lo hi is. absurd (omega (arith, many, lo, hi));
+  }
+  where
+    many : length list ≡ count
+    many = sym (ap length view) ∙ length-listed count bytes last
+
+pub packed_few : (n : ℕ) (b last first : List ℕ) (l : ℕ) → IsPacked n b last first l →
+    n ≤ length b + 1
+packed_few n b last first l (inl e) = omega (arith, e)
+packed_few n b last first l (inr s) = stack_count n b last first l s

@@ -5,13 +5,15 @@
 //! to put back. Neighbours that begin alike cost a few bytes.
 
 mod bytes;
+mod seeker;
 #[cfg(test)]
 mod tests;
 
-ghost use Rattle.std.specs.Prelude.{◌≡◌, ℕ, ◌-◌, ◌<◌, ◌≤◌, ◌==◌, List, [], ◌∷◌, ◌++◌, length, take, is_ok, IfOk, if◌then◌else◌, option_copied, slice_get, vec_capacity};
+ghost use Rattle.std.specs.Prelude.{◌≡◌, ℕ, ◌-◌, ◌^◌, ◌<◌, ◌≤◌, ◌==◌, List, [], ◌∷◌, ◌++◌, length, take, is_ok, IfOk, IfSome, IfNone, All, Some, if◌then◌else◌, option_copied, slice_get, slice_index_or, vec_capacity};
 ghost use Rattle.walk.specs.PrefixLists.{last_of};
 
 use crate::prefixes::bytes::{put_way, shared_length, step_back, top};
+use crate::prefixes::seeker::Seeker;
 use std::alloc::{AllocError, Global};
 use std::marker::Model;
 use std::mem;
@@ -53,7 +55,8 @@ impl Prefixes {
 
     /// How many prefixes there are.
     pub fn length(&self) -> usize
-        ensures { result ≡ length self.now }
+        ensures length { result ≡ length self.now }
+        ensures few { result ≤ 2 ^ 63 }
     {
         self.count
     }
@@ -74,6 +77,28 @@ impl Prefixes {
         } else {
             Some(self.last.as_slice())
         }
+    }
+
+    /// A place of a prefix, counted from 0, looked for from the last on. It takes no memory.
+    pub fn position(&self, prefix: &[u8]) -> Option<usize>
+        ensures some { IfSome result (λ k.
+            (k < length self.now) × (slice_get self.now k ≡ Some prefix.now)) }
+        ensures none { IfNone result (All (λ p. p ≡ prefix.now → ⊥) self.now) }
+    {
+        let mut seeker = Seeker {
+            bytes: self.bytes.as_slice(),
+            steps: self.last.len(),
+            shared: shared_length(self.last.as_slice(), prefix),
+        };
+        let mut place = self.count;
+        while 0 < place {
+            place -= 1;
+            if seeker.has_found(prefix) {
+                return Some(place);
+            }
+            seeker = seeker.before(prefix);
+        }
+        None
     }
 
     /// Takes the last prefix away. It takes no memory.

@@ -1,6 +1,6 @@
 // The bytes of ways back, from a prefix to the one before it in a list.
 ghost use Rattle.std.specs.Prelude.{◌≡◌, ℕ, ◌+◌, ◌-◌, ◌^◌, ◌<◌, ◌≤◌, List, ◌++◌, length, take, drop, is_ok, OnOk, if◌then◌else◌, vec_len, vec_capacity, IsOk};
-ghost use Rattle.walk.specs.inner.Packed.{way_bytes, dropped_of, start_of, end_of, number_at, before, head_of};
+ghost use Rattle.walk.specs.inner.Packed.{way_bytes, dropped_of, start_of, end_of, number_at, before, head_of, common_length};
 
 use std::alloc::AllocError;
 
@@ -9,6 +9,7 @@ pub fn shared_length(a: &[u8], b: &[u8]) -> usize
     ensures in_a { result ≤ length a.now }
     ensures in_b { result ≤ length b.now }
     ensures alike { take result a.now ≡ take result b.now }
+    ensures all { result ≡ common_length a.now b.now }
 {
     let most = a.len().min(b.len());
     let mut n = 0;

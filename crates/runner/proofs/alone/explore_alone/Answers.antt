@@ -1,9 +1,11 @@
-use Rattle.std.proofs.Common.{◌≡◌, ◌<◌, ◌+◌, ◌∙◌, ap, subst, sym}
+use Rattle.std.proofs.Common.{◌≡◌, ◌<◌, ◌+◌, ◌∙◌, ap, subst, sym, Result, Ok, Err, IfErr}
+use Rattle.std.specs.Result.{IsErrAnd}
 use Rattle.std.specs.Arc.{arc_value}
 use Rattle.guest_code.specs.Program.{Program}
 use Rattle.walk.specs.declared.mode.Mode.{Mode}
 use Rattle.walk.specs.declared.mode.Mode.TheVariants.{Bounded}
 use Rattle.book.specs.Books.{BookView, bound_of}
+use Rattle.runner.specs.declared.error.ExploreError.TheVariants.{OutOfMemory}
 use Rattle.runner.specs.declared.judge.Next.{Next}
 use Rattle.runner.specs.inner.Judging.{IsStage, ComesAfter, bounds_left}
 use Rattle.runner.proofs.Judgments.{next_stage, fewer_left}
@@ -47,3 +49,13 @@ loop-walker-preserved c =
           (next_stage p o.search mode comes.1.3));
       walker = c.search_mode.ensures.walker ∙ c.loop-walker.invariant.walker;
     }
+
+err_is : {X E : Type 0} (r : Result X E) (P Q : E → Type 0) → ((e : E) → P e → Q e) →
+    IsErrAnd r P → IfErr r Q
+err_is (Ok x) P Q f h = tt
+err_is (Err e) P Q f h = f e h
+
+pub returns-in_err-report-clause-error : goal.returns-in_err-report-clause-error
+returns-in_err-report-clause-error c =
+    err_is c.from_residual-in_err-report.result _ (λ e. e ≡ OutOfMemory)
+    (λ e p. p ∙ c.in_err-report.ensures.error) c.from_residual-in_err-report.ensures.1

@@ -1,6 +1,12 @@
-use Rattle.std.proofs.Common.{sym}
-use Rattle.walk.proofs.PackedPrefixes.{length-listed}
+use Rattle.std.proofs.Common.{arith, sym}
+use Rattle.walk.proofs.PackedPrefixes.{length-listed, packed_few}
 use Rattle.walk.proofs.prefixes.Prefixes.length.Goals as goal
 
-pub returns : goal.returns
-returns c = rw (← c.self.view_is) (sym (length-listed _ _ _))
+pub returns-clause-length : goal.returns-clause-length
+returns-clause-length c = rw (← c.self.view_is) (sym (length-listed _ _ _))
+
+pub returns-clause-few : goal.returns-clause-few
+returns-clause-few c =
+    let i = c.self.inside in
+    omega (arith, i.bytes.ok.0, i.bytes.ok.1, i.bytes.small,
+    packed_few i.count i.bytes.items i.last.items i.first.items i.longest c.self.invariant.1)

@@ -1,7 +1,7 @@
 use Rattle.std.proofs.Common.{◌≡◌, ◌+◌, ◌++◌, length, reverse}
 use Rattle.std.specs.Arc.{arc_value}
 use Rattle.walk.specs.Walks.{items_at}
-use Rattle.book.proofs.packed.all_items.Given as goal
+use Rattle.book.proofs.packed.last_items.Given as goal
 
 abbrev pub invariant-loop : goal.invariant-loop
 invariant-loop l = record {

@@ -1,0 +1,46 @@
+-- What the items of a book are: below the root, so of its program, and their prefixes run.
+use Rattle.std.proofs.Common.{◌≡◌, Bool, true, false, List, ◌++◌, sym, ap, ◌∙◌, subst, append_assoc}
+use Rattle.std.specs.List.{All}
+use Rattle.std.proofs.lemmas.List.Elements.{All-weaker}
+use Rattle.walk.specs.Items.{ItemView, IsItem, root_of}
+use Rattle.walk.specs.Walks.{IsBelow, items_at}
+use Rattle.walk.proofs.ListParts.{all_left, all_right}
+use Rattle.book.specs.ItemLists.{ListView, all_of}
+use Rattle.book.specs.Books.{BookView, Keeps, KeepsWhere}
+use Rattle.book.proofs.PackedItems.{below_run}
+
+left_below : (b : BookView) → Keeps b →
+    All (IsBelow (root_of b.program)) (b.open_items ++ b.deferred)
+left_below b h = go b.dropped h
+  where
+    go : (d : Bool) → KeepsWhere d b →
+        All (IsBelow (root_of b.program)) (b.open_items ++ b.deferred)
+    go true t =
+        all_right (IsBelow (root_of b.program)) t.gone (b.open_items ++ b.deferred)
+        (subst (All (IsBelow (root_of b.program)))
+        (append_assoc t.gone b.open_items b.deferred) t.split.below)
+    go false s = s.below
+
+pub open_run : (b : BookView) (l : ListView) → b.open_items ≡ all_of b.program l → Keeps b →
+    All IsItem (items_at b.program l.packed)
+open_run b l e h =
+    all_left IsItem (items_at b.program l.packed) l.loose
+    (subst (All IsItem) e
+    (below_run (root_of b.program) b.open_items
+    (all_left (IsBelow (root_of b.program)) b.open_items b.deferred (left_below b h))))
+
+pub deferred_run : (b : BookView) (l : ListView) → b.deferred ≡ all_of b.program l → Keeps b →
+    All IsItem (items_at b.program l.packed)
+deferred_run b l e h =
+    all_left IsItem (items_at b.program l.packed) l.loose
+    (subst (All IsItem) e
+    (below_run (root_of b.program) b.deferred
+    (all_right (IsBelow (root_of b.program)) b.open_items b.deferred (left_below b h))))
+
+pub loose_own : (b : BookView) (l : ListView) → b.open_items ≡ all_of b.program l → Keeps b →
+    All (λ i. i.program ≡ b.program) l.loose
+loose_own b l e h =
+    All-weaker (IsBelow (root_of b.program)) (λ i. i.program ≡ b.program) (λ i g. g.program) l.loose
+    (all_right (IsBelow (root_of b.program)) (items_at b.program l.packed) l.loose
+    (subst (All (IsBelow (root_of b.program))) e
+    (all_left (IsBelow (root_of b.program)) b.open_items b.deferred (left_below b h))))

@@ -1,0 +1,37 @@
+-- Lists that grow by what a walk left, and shrink again where a later step is refused.
+use Rattle.std.proofs.Common.{◌≡◌, ℕ, zero, suc, ◌<◌, List, [], ◌∷◌, ◌++◌, length, take, refl, ap, sym, ◌∙◌, arith, append_assoc}
+use Rattle.std.specs.List.{remove}
+use Rattle.std.proofs.lemmas.List.{take_at}
+use Rattle.guest_code.specs.Program.{Program}
+use Rattle.walk.specs.Summaries.{SummaryView}
+use Rattle.walk.specs.Items.{ItemView}
+use Rattle.walk.specs.Walks.{items_at}
+use Rattle.book.specs.ItemLists.{ListView, all_of}
+use Rattle.book.specs.Books.{BookView}
+
+pub loose_only : (p : Program) (l : ListView) → l.packed ≡ [] → all_of p l ≡ l.loose
+loose_only p l e = ap (λ ws. items_at p ws ++ l.loose) e
+
+pub grown : (p : Program) (before after : ListView) (rest : List ItemView) →
+    after.packed ≡ before.packed → after.loose ≡ before.loose ++ rest →
+    all_of p after ≡ all_of p before ++ rest
+grown p before after rest e f =
+    (λ k. items_at p (e k) ++ f k)
+    ∙ sym (append_assoc (items_at p before.packed) before.loose rest)
+
+pub taken_back : {X : Type 0} (before rest after cut : List X) (n : ℕ) → after ≡ before ++ rest →
+    n ≡ length before → cut ≡ take n after → cut ≡ before
+taken_back before rest after cut n e f g =
+    g ∙ (ap (take n) e ∙ take_at before rest n (sym f))
+
+pub removed-left : {X : Type 0} (xs ys : List X) (k : ℕ) → k < length xs →
+    remove (xs ++ ys) k ≡ remove xs k ++ ys
+removed-left [] ys k h = absurd (omega arith)
+removed-left (x ∷ xs) ys zero h = refl
+removed-left (x ∷ xs) ys (suc k) h = ap (λ zs. x ∷ zs) (removed-left xs ys k (omega arith))
+
+pub same_book : (b : BookView) (finished : SummaryView) (open_items deferred : List ItemView) →
+    finished ≡ b.finished → open_items ≡ b.open_items → deferred ≡ b.deferred →
+    record b { finished = finished; open_items = open_items; deferred = deferred } ≡ b
+same_book b finished open_items deferred e f g =
+    λ k. record b { finished = e k; open_items = f k; deferred = g k }

@@ -1,0 +1,231 @@
+use Rattle.std.proofs.Common.{rules, refl, ◌≡◌, ◌∙◌, ◌++◌, ◌<◌, not, sym, ap, subst, arith, length, length-append, true, false, [], Bool, List}
+use Rattle.std.specs.Arc.{arc_value}
+use Rattle.std.specs.List.{All, remove}
+use Rattle.guest_code.specs.Program.{Program}
+use Rattle.walk.specs.Items.{IsItem, ItemView}
+use Rattle.walk.specs.Walks.{WalkView, IsWalked, IsBelow, items_at}
+use Rattle.walk.proofs.ListParts.{all_right}
+use Rattle.walk.specs.Summaries.{join}
+use Rattle.book.specs.ItemLists.{all_of}
+use Rattle.book.specs.Books.{BookView, book_view, Keeps, IsSwept, IsWalkOf, IsOpenAt, settled}
+use Rattle.book.proofs.PackedItems.{below_run, length-all}
+use Rattle.book.proofs.Thinned.{settles_any}
+use Rattle.book.proofs.Swept.{settled_swept}
+use Rattle.book.proofs.TakenOver.{grown, taken_back, removed-left, same_book}
+use Rattle.book.proofs.OpenItems.{open_run}
+use Rattle.book.proofs.books.Book.take_over.Goals as goal
+
+pub unpack_from-requires : goal.unpack_from-requires
+unpack_from-requires c =
+    let b : BookView = book_view c.self.inside.program c.self.inside.mode c.self.inside.finished
+    c.self.inside.open_items c.self.inside.deferred c.self.inside.quick c.self.inside.dropped in
+    open_run b c.self.inside.open_items refl c.self.invariant.0
+
+pub append_prefixes-requires : goal.append_prefixes-requires
+append_prefixes-requires c =
+    let w : WalkView = c.args.walked in
+    let walk : IsWalked w = c.into_parts-part.ensures.walked in
+    let of : arc_value c.self.inside.program ≡ w.item.program = search rules in
+    let are : items_at w.item.program c.into_parts-part.result.deferred ≡ w.deferred =
+    c.into_parts-part.ensures.deferred in
+    subst (λ (p : Program). All IsItem (items_at p c.into_parts-part.result.deferred)) (sym of)
+    (subst (All IsItem) (sym are)
+    (below_run w.item w.deferred (all_right (IsBelow w.item) w.rest w.deferred walk.split.below)))
+
+pub invariant_of-self-in-Err : goal.invariant_of-self-in-Err
+invariant_of-self-in-Err c =
+    let b : BookView = book_view c.self.inside.program c.self.inside.mode c.self.inside.finished
+    c.self.inside.open_items c.self.inside.deferred c.self.inside.quick c.self.inside.dropped in
+    let p = arc_value c.self.inside.program in
+    let rest = c.into_parts-part.result.rest.items in
+    let more : all_of p c.append.new.self ≡ all_of p c.unpack_from.new.self ++ rest =
+    grown p c.unpack_from.new.self c.append.new.self rest c.in_ok-append.ensures.packed
+    c.in_ok-append.ensures.loose in
+    let left : all_of p c.truncate.new.self ≡ b.open_items =
+    taken_back (all_of p c.unpack_from.new.self) rest (all_of p c.append.new.self)
+    (all_of p c.truncate.new.self) c.length-open_length.result more (c.length-open_length.ensures p)
+    (c.truncate.ensures.items p)
+    ∙ c.unpack_from.ensures.same in
+    let same = same_book b b.finished (all_of p c.truncate.new.self)
+    (all_of p c.append_prefixes.new.self) refl left c.in-Err.ensures.all in (
+      subst Keeps (sym same) c.self.invariant.0,
+      subst (IsSwept c.self.inside.swept) (sym same) c.self.invariant.1,
+      λ q. (
+        c.truncate.ensures.none
+            (c.in_ok-append.ensures.packed ∙ c.unpack_from.ensures.none (c.self.invariant.2 q).0),
+        (c.append_prefixes.ensures.packed (let e : (not c.self.inside.quick) ≡ false = ap not q in e)
+            ∙ (c.self.invariant.2 q).1),
+      ),
+    )
+
+pub returns-in-Err : goal.returns-in-Err
+returns-in-Err c =
+    let b : BookView = book_view c.self.inside.program c.self.inside.mode c.self.inside.finished
+    c.self.inside.open_items c.self.inside.deferred c.self.inside.quick c.self.inside.dropped in
+    let p = arc_value c.self.inside.program in
+    let rest = c.into_parts-part.result.rest.items in
+    let more : all_of p c.append.new.self ≡ all_of p c.unpack_from.new.self ++ rest =
+    grown p c.unpack_from.new.self c.append.new.self rest c.in_ok-append.ensures.packed
+    c.in_ok-append.ensures.loose in
+    let left : all_of p c.truncate.new.self ≡ b.open_items =
+    taken_back (all_of p c.unpack_from.new.self) rest (all_of p c.append.new.self)
+    (all_of p c.truncate.new.self) c.length-open_length.result more (c.length-open_length.ensures p)
+    (c.truncate.ensures.items p)
+    ∙ c.unpack_from.ensures.same in
+    let same = same_book b b.finished (all_of p c.truncate.new.self)
+    (all_of p c.append_prefixes.new.self) refl left c.in-Err.ensures.all in
+    same ∙ c.self.view_is
+
+pub invariant_of-self-in-Err-join_in : goal.invariant_of-self-in-Err-join_in
+invariant_of-self-in-Err-join_in c =
+    let b : BookView = book_view c.self.inside.program c.self.inside.mode c.self.inside.finished
+    c.self.inside.open_items c.self.inside.deferred c.self.inside.quick c.self.inside.dropped in
+    let p = arc_value c.self.inside.program in
+    let rest = c.into_parts-part.result.rest.items in
+    let more : all_of p c.append.new.self ≡ all_of p c.unpack_from.new.self ++ rest =
+    grown p c.unpack_from.new.self c.append.new.self rest c.in_ok-append.ensures.packed
+    c.in_ok-append.ensures.loose in
+    let left : all_of p c.truncate-in-Err-join_in.new.self ≡ b.open_items =
+    taken_back (all_of p c.unpack_from.new.self) rest (all_of p c.append.new.self)
+    (all_of p c.truncate-in-Err-join_in.new.self) c.length-open_length.result more (c.length-open_length.ensures p)
+    (c.truncate-in-Err-join_in.ensures.items p)
+    ∙ c.unpack_from.ensures.same in
+    let later : all_of p c.truncate-in-Err-join_in-2.new.self ≡ b.deferred =
+    taken_back b.deferred (items_at p c.into_parts-part.result.deferred)
+    (all_of p c.append_prefixes.new.self) (all_of p c.truncate-in-Err-join_in-2.new.self)
+    c.length-deferred_length.result c.in_default.ensures.all (c.length-deferred_length.ensures p)
+    (c.truncate-in-Err-join_in-2.ensures.items p) in
+    let same = same_book b c.join_in.new.self (all_of p c.truncate-in-Err-join_in.new.self)
+    (all_of p c.truncate-in-Err-join_in-2.new.self) c.in-Err-join_in.ensures left later in (
+      subst Keeps (sym same) c.self.invariant.0,
+      subst (IsSwept c.self.inside.swept) (sym same) c.self.invariant.1,
+      λ q. (
+        c.truncate-in-Err-join_in.ensures.none
+            (c.in_ok-append.ensures.packed ∙ c.unpack_from.ensures.none (c.self.invariant.2 q).0),
+        c.truncate-in-Err-join_in-2.ensures.none
+            (c.append_prefixes.ensures.packed (let e : (not c.self.inside.quick) ≡ false = ap not q in e)
+            ∙ (c.self.invariant.2 q).1),
+      ),
+    )
+
+pub returns-in-Err-join_in : goal.returns-in-Err-join_in
+returns-in-Err-join_in c =
+    let b : BookView = book_view c.self.inside.program c.self.inside.mode c.self.inside.finished
+    c.self.inside.open_items c.self.inside.deferred c.self.inside.quick c.self.inside.dropped in
+    let p = arc_value c.self.inside.program in
+    let rest = c.into_parts-part.result.rest.items in
+    let more : all_of p c.append.new.self ≡ all_of p c.unpack_from.new.self ++ rest =
+    grown p c.unpack_from.new.self c.append.new.self rest c.in_ok-append.ensures.packed
+    c.in_ok-append.ensures.loose in
+    let left : all_of p c.truncate-in-Err-join_in.new.self ≡ b.open_items =
+    taken_back (all_of p c.unpack_from.new.self) rest (all_of p c.append.new.self)
+    (all_of p c.truncate-in-Err-join_in.new.self) c.length-open_length.result more (c.length-open_length.ensures p)
+    (c.truncate-in-Err-join_in.ensures.items p)
+    ∙ c.unpack_from.ensures.same in
+    let later : all_of p c.truncate-in-Err-join_in-2.new.self ≡ b.deferred =
+    taken_back b.deferred (items_at p c.into_parts-part.result.deferred)
+    (all_of p c.append_prefixes.new.self) (all_of p c.truncate-in-Err-join_in-2.new.self)
+    c.length-deferred_length.result c.in_default.ensures.all (c.length-deferred_length.ensures p)
+    (c.truncate-in-Err-join_in-2.ensures.items p) in
+    let same = same_book b c.join_in.new.self (all_of p c.truncate-in-Err-join_in.new.self)
+    (all_of p c.truncate-in-Err-join_in-2.new.self) c.in-Err-join_in.ensures left later in
+    same ∙ c.self.view_is
+
+pub remove-requires-clause-place : goal.remove-requires-clause-place
+remove-requires-clause-place c =
+    let p = arc_value c.self.inside.program in
+    let rest = c.into_parts-part.result.rest.items in
+    let more : all_of p c.append.new.self ≡ all_of p c.unpack_from.new.self ++ rest =
+    grown p c.unpack_from.new.self c.append.new.self rest c.in_ok-append.ensures.packed
+    c.in_ok-append.ensures.loose in
+    omega (
+      arith,
+      length-all p c.append.new.self,
+      ap length more,
+      length-append (all_of p c.unpack_from.new.self) rest,
+      ap length c.unpack_from.ensures.same,
+      ap (λ z. length z.open_items) c.self.view_is,
+      c.requires.is_open.0,
+    )
+
+pub invariant_of-self-2 : goal.invariant_of-self-2
+invariant_of-self-2 c =
+    let w : WalkView = c.args.walked in
+    let place = c.args.place in
+    let b : BookView = book_view c.self.inside.program c.self.inside.mode c.self.inside.finished
+    c.self.inside.open_items c.self.inside.deferred c.self.inside.quick c.self.inside.dropped in
+    let p = arc_value c.self.inside.program in
+    let rest = c.into_parts-part.result.rest.items in
+    let more : all_of p c.append.new.self ≡ all_of p c.unpack_from.new.self ++ rest =
+    grown p c.unpack_from.new.self c.append.new.self rest c.in_ok-append.ensures.packed
+    c.in_ok-append.ensures.loose in
+    let of : IsWalkOf b w = subst (λ (z : BookView). IsWalkOf z w) (sym c.self.view_is) c.requires.of in
+    let at : IsOpenAt b w.item place =
+    subst (λ (z : BookView). IsOpenAt z w.item place) (sym c.self.view_is) c.requires.is_open in
+    let fin : c.join_in.new.self ≡ join b.finished w.part =
+    c.in_default-join_in.ensures ∙ ap (join b.finished) c.into_parts-part.ensures.part in
+    let lt : place < length (all_of p c.unpack_from.new.self) =
+    subst (λ (is : List ItemView). place < length is) (sym c.unpack_from.ensures.same) at.0 in
+    let items : all_of p c.remove.new.self ≡ remove b.open_items place ++ w.rest =
+    c.remove.ensures.items p ∙ (ap (λ is. remove is place) more
+    ∙ (removed-left (all_of p c.unpack_from.new.self) rest place lt
+    ∙ (λ k. remove (c.unpack_from.ensures.same k) place ++ c.into_parts-part.ensures.rest k))) in
+    let own : items_at p c.into_parts-part.result.deferred ≡ w.deferred =
+    ap (λ q. items_at q c.into_parts-part.result.deferred) of.1
+    ∙ c.into_parts-part.ensures.deferred in
+    let later : all_of p c.append_prefixes.new.self ≡ b.deferred ++ w.deferred =
+    c.in_default.ensures.all ∙ ap (λ is. b.deferred ++ is) own in
+    let new : BookView = record b {
+      finished = c.join_in.new.self;
+      open_items = all_of p c.remove.new.self;
+      deferred = all_of p c.append_prefixes.new.self;
+    } in
+    let same : new ≡ settled b w place =
+    λ k. record b { finished = fin k; open_items = items k; deferred = later k } in (
+      subst Keeps (sym same) (settles_any b w place c.self.invariant.0 c.into_parts-part.ensures.walked of at),
+      subst (λ (z : BookView). IsSwept c.both-self-inside.result z) (sym same)
+          (subst (λ (x : Bool). IsSwept x (settled b w place)) (sym c.both-self-inside.ensures)
+          (settled_swept c.self.inside.swept c.is_quiet-quiet.result b w place c.self.invariant.1
+          c.is_quiet-quiet.ensures at)),
+      λ q. (
+        c.remove.ensures.packed ∙ (c.in_ok-append.ensures.packed ∙ c.unpack_from.ensures.none (c.self.invariant.2 q).0),
+        (c.append_prefixes.ensures.packed (let e : (not c.self.inside.quick) ≡ false = ap not q in e)
+            ∙ (c.self.invariant.2 q).1),
+      ),
+    )
+
+pub returns : goal.returns
+returns c =
+    let w : WalkView = c.args.walked in
+    let place = c.args.place in
+    let b : BookView = book_view c.self.inside.program c.self.inside.mode c.self.inside.finished
+    c.self.inside.open_items c.self.inside.deferred c.self.inside.quick c.self.inside.dropped in
+    let p = arc_value c.self.inside.program in
+    let rest = c.into_parts-part.result.rest.items in
+    let more : all_of p c.append.new.self ≡ all_of p c.unpack_from.new.self ++ rest =
+    grown p c.unpack_from.new.self c.append.new.self rest c.in_ok-append.ensures.packed
+    c.in_ok-append.ensures.loose in
+    let of : IsWalkOf b w = subst (λ (z : BookView). IsWalkOf z w) (sym c.self.view_is) c.requires.of in
+    let at : IsOpenAt b w.item place =
+    subst (λ (z : BookView). IsOpenAt z w.item place) (sym c.self.view_is) c.requires.is_open in
+    let fin : c.join_in.new.self ≡ join b.finished w.part =
+    c.in_default-join_in.ensures ∙ ap (join b.finished) c.into_parts-part.ensures.part in
+    let lt : place < length (all_of p c.unpack_from.new.self) =
+    subst (λ (is : List ItemView). place < length is) (sym c.unpack_from.ensures.same) at.0 in
+    let items : all_of p c.remove.new.self ≡ remove b.open_items place ++ w.rest =
+    c.remove.ensures.items p ∙ (ap (λ is. remove is place) more
+    ∙ (removed-left (all_of p c.unpack_from.new.self) rest place lt
+    ∙ (λ k. remove (c.unpack_from.ensures.same k) place ++ c.into_parts-part.ensures.rest k))) in
+    let own : items_at p c.into_parts-part.result.deferred ≡ w.deferred =
+    ap (λ q. items_at q c.into_parts-part.result.deferred) of.1
+    ∙ c.into_parts-part.ensures.deferred in
+    let later : all_of p c.append_prefixes.new.self ≡ b.deferred ++ w.deferred =
+    c.in_default.ensures.all ∙ ap (λ is. b.deferred ++ is) own in
+    let new : BookView = record b {
+      finished = c.join_in.new.self;
+      open_items = all_of p c.remove.new.self;
+      deferred = all_of p c.append_prefixes.new.self;
+    } in
+    let same : new ≡ settled b w place =
+    λ k. record b { finished = fin k; open_items = items k; deferred = later k } in
+    same ∙ ap (λ z. settled z w place) c.self.view_is

@@ -1,0 +1,36 @@
+use Rattle.std.proofs.Common.{◌≡◌, ◌-◌, ◌∙◌, ◌++◌, ap, arith, length, drop, take, sym, min}
+use Rattle.std.specs.Arc.{arc_value}
+use Rattle.std.proofs.lemmas.List.{length-map, take_rest}
+use Rattle.walk.specs.Items.{item_at}
+use Rattle.walk.specs.Walks.{items_at}
+use Rattle.book.specs.ItemLists.{all_of}
+use Rattle.book.proofs.PackedItems.{last_of_both}
+use Rattle.book.proofs.item_list.ItemList.last.Goals as goal
+
+pub returns : goal.returns
+returns c =
+    let i = c.self.inside in
+    let p = arc_value c.args.program.now in
+    let most = c.args.most in
+    let n = length-map i.packed (item_at p) in
+    let count : c.min-count.result ≡ min (most - length i.loose.items) (length i.packed) =
+    omega (
+      arith,
+      c.min-count.ensures,
+      c.saturating_sub.ensures,
+      c.len-loose.ensures,
+      c.length.ensures.length,
+      i.loose.ok.0,
+    ) in
+    let e : c.saturating_sub-2.result ≡ length i.loose.items - most =
+    omega (arith, c.saturating_sub-2.ensures, c.len-loose.ensures, i.loose.ok.0) in
+    let d : take (length c.deref.result.now - c.saturating_sub-2.result)
+    (drop c.saturating_sub-2.result c.deref.result.now)
+    ≡ drop (length i.loose.items - most) i.loose.items =
+    take_rest c.deref.result.now c.saturating_sub-2.result
+    ∙ (λ k. drop (e k) (c.deref.ensures.value k)) in
+    c.in_ok-push_copies.ensures
+    ∙ ((λ k. c.in_ok-items.ensures k ++ d k)
+    ∙ (last_of_both (items_at p i.packed) i.loose.items (length i.packed) most c.min-count.result
+    (sym n) count
+    ∙ ap (λ l. drop (length (all_of p l) - most) (all_of p l)) c.self.view_is))

@@ -1,0 +1,26 @@
+-- How a book holds its items.
+use Rattle.std.specs.Prelude.{◌≡◌, ℕ, Bool, true, List, [], ◌++◌}
+use Rattle.std.specs.declared.alloc.Global.{Global}
+use Rattle.std.specs.declared.vec.Vec.{Vec}
+use Rattle.guest_code.specs.Program.{Program}
+use Rattle.walk.specs.Items.{ItemView}
+use Rattle.walk.specs.Walks.{items_at}
+
+-- what contracts see of a list of items: prefixes after which no thread sleeps, packed, and after them
+-- items as they are
+pub record ListView : Type 0 where
+  pub packed : List (List ℕ)
+  pub loose : List ItemView
+
+-- what contracts see of a list of these parts
+abbrev pub list_view : List (List ℕ) → Vec ItemView Global → ListView
+list_view packed loose = record { packed = packed; loose = loose.items }
+
+-- the items of a list, which are of this program
+abbrev pub all_of : Program → ListView → List ItemView
+all_of p l = items_at p l.packed ++ l.loose
+
+-- a quick book, which drops items in place, packs none
+abbrev pub IsLoose : Bool → ListView → ListView → Type 0
+IsLoose quick open_items deferred =
+    quick ≡ true → (open_items.packed ≡ []) × (deferred.packed ≡ [])

@@ -1,0 +1,305 @@
+// Lists of a book's items.
+
+ghost use Rattle.std.specs.Prelude.{◌≡◌, ℕ, ◌+◌, ◌-◌, ◌<◌, ◌≤◌, ◌↔◌, List, [], ◌∷◌, ◌++◌, false, not, length, take, drop, filter, count_by, is_ok, if◌then◌else◌, IfOk, OnOk, IfSome, IfNone, IsTrue, Some, slice_get, All};
+ghost use Rattle.std.specs.Arc.{arc_value};
+ghost use Rattle.std.specs.List.{remove};
+ghost use Rattle.guest_code.specs.Program.{Program};
+ghost use Rattle.walk.specs.Items.{ItemView, IsItem};
+ghost use Rattle.walk.specs.Walks.{items_at};
+ghost use Rattle.book.specs.Quick.{is_later};
+ghost use Rattle.book.specs.ItemLists.{all_of};
+
+use crate::limits::ROUND;
+use crate::packed::{last_item, last_items};
+use guest_code::program::Program;
+use semantics::mask::Mask;
+use std::alloc::{AllocError, Global};
+use std::marker::Model;
+use std::mem;
+use std::sync::Arc;
+use walk::item::Item;
+use walk::prefixes::Prefixes;
+
+/// A list of items of one program, which its holder knows: prefixes after which no thread sleeps are
+/// packed, a few bytes each, and items that came later or were asked for stand after them as they are.
+#[derive(Drop)]
+pub(crate) struct ItemList {
+    packed: Prefixes,
+    loose: Vec<Item>,
+    // The place in `loose` at which an item is looked for first.
+    hint: usize,
+}
+
+impl Model for ItemList {
+    ghost use Rattle.book.specs.ItemLists.{ListView, list_view};
+
+    ghost Value = { ListView };
+
+    ghost view = { λ l. list_view l.packed l.loose };
+}
+
+impl ItemList {
+    // A list of none.
+    pub(crate) fn new(alloc: Global) -> ItemList
+        ensures packed { result.packed ≡ [] }
+        ensures loose { result.loose ≡ [] }
+    {
+        ItemList {
+            packed: Prefixes::new(alloc),
+            loose: Vec::new(alloc),
+            hint: 0,
+        }
+    }
+
+    // How many items there are.
+    pub(crate) fn length(&self) -> usize
+        ensures { (p : Program) → result ≡ length (all_of p self.now) }
+    {
+        self.packed.length() + self.loose.len()
+    }
+
+    // A copy of the item at a place.
+    pub(crate) fn item(
+        &self,
+        alloc: Global,
+        program: &Arc<Program>,
+        place: usize,
+    ) -> Result<Item, AllocError>
+        requires place { place < length (all_of (arc_value program.now) self.now) }
+        requires run { All IsItem (items_at (arc_value program.now) self.now.packed) }
+        ensures { IfOk result (λ i.
+            slice_get (all_of (arc_value program.now) self.now) place ≡ Some i) }
+    {
+        let packed = self.packed.length();
+        if packed <= place {
+            return self.loose[place - packed].try_clone(alloc);
+        }
+        let mut prefixes = self.packed.try_clone(alloc)?;
+        prefixes.truncate(place + 1);
+        let reading = prefixes.last_first(alloc)?;
+        last_item(alloc, program, &reading)
+    }
+
+    // Copies of the last items, so many at most.
+    pub(crate) fn last(
+        &self,
+        alloc: Global,
+        program: &Arc<Program>,
+        most: usize,
+    ) -> Result<Vec<Item>, AllocError>
+        requires { All IsItem (items_at (arc_value program.now) self.now.packed) }
+        ensures { IfOk result (λ v. v.items ≡
+            drop (length (all_of (arc_value program.now) self.now) - most)
+            (all_of (arc_value program.now) self.now)) }
+    {
+        let loose = self.loose.len();
+        let count = most.saturating_sub(loose).min(self.packed.length());
+        let mut items = last_items(alloc, program, &self.packed, count)?;
+        push_copies(alloc, &mut items, &self.loose[loose.saturating_sub(most)..])?;
+        Ok(items)
+    }
+
+    // The place of an item of the list's program.
+    pub(crate) fn place_of(&self, item: &Item) -> Option<usize>
+        requires { All (λ i. i.program ≡ item.now.program) self.now.loose }
+        ensures some { IfSome result (λ k.
+            (k < length (all_of item.now.program self.now)) ×
+            (slice_get (all_of item.now.program self.now) k ≡ Some item.now)) }
+        ensures none { IfNone result
+            (All (λ i. i ≡ item.now → ⊥) (all_of item.now.program self.now)) }
+    {
+        match find(self.loose.as_slice(), self.hint, item) {
+            Some(place) => Some(self.packed.length() + place),
+            None => self.packed_place_of(item),
+        }
+    }
+
+    // The place of an item of the list's program among the packed ones.
+    fn packed_place_of(&self, item: &Item) -> Option<usize>
+        ensures some { IfSome result (λ k. (k < length self.now.packed) ×
+            (slice_get (items_at item.now.program self.now.packed) k ≡ Some item.now)) }
+        ensures none { IfNone result
+            (All (λ i. i ≡ item.now → ⊥) (items_at item.now.program self.now.packed)) }
+    {
+        if !same_masks(item.mask(), Mask::empty()) {
+            return None;
+        }
+        self.packed.position(item.prefix())
+    }
+
+    // Takes the items from a place on out of the packed ones.
+    pub(crate) fn unpack_from(
+        &mut self,
+        alloc: Global,
+        program: &Arc<Program>,
+        place: usize,
+    ) -> Result<(), AllocError>
+        requires { All IsItem (items_at (arc_value program.now) self.old.packed) }
+        ensures same { all_of (arc_value program.now) self.new ≡
+            all_of (arc_value program.now) self.old }
+        ensures loose { OnOk result (length self.new.packed ≤ place) }
+        ensures none { self.old.packed ≡ [] → self.new.packed ≡ [] }
+    {
+        let packed = self.packed.length();
+        if packed <= place {
+            return Ok(());
+        }
+        let first = place.min(packed.saturating_sub(ROUND));
+        let mut items = last_items(alloc, program, &self.packed, packed - first)?;
+        items.append(&mut self.loose)?;
+        self.packed.truncate(first);
+        self.loose = items;
+        Ok(())
+    }
+
+    // Takes out an item that isn't packed.
+    pub(crate) fn remove(&mut self, place: usize)
+        requires loose { length self.old.packed ≤ place }
+        requires place { place < length self.old.packed + length self.old.loose }
+        ensures items { (p : Program) →
+            all_of p self.new ≡ remove (all_of p self.old) place }
+        ensures packed { self.new.packed ≡ self.old.packed }
+    {
+        let place = place - self.packed.length();
+        drop(self.loose.remove(place));
+        self.hint = place;
+    }
+
+    // Puts items after the others.
+    //
+    // # Errors
+    //
+    // `AllocError` where memory runs out; the list is then as before.
+    pub(crate) fn append(&mut self, mut items: Vec<Item>) -> Result<(), AllocError>
+        ensures packed { self.new.packed ≡ self.old.packed }
+        ensures loose { self.new.loose ≡
+            (if is_ok result then self.old.loose ++ items.items else self.old.loose) }
+    {
+        self.loose.append(&mut items)
+    }
+
+    // Puts the items of prefixes after the others, packed or as they are.
+    //
+    // # Errors
+    //
+    // `AllocError` where memory runs out; the list is then as before.
+    pub(crate) fn append_prefixes(
+        &mut self,
+        alloc: Global,
+        program: &Arc<Program>,
+        mut prefixes: Prefixes,
+        packs: bool,
+    ) -> Result<(), AllocError>
+        requires { All IsItem (items_at (arc_value program.now) prefixes) }
+        ensures all { all_of (arc_value program.now) self.new ≡ (if is_ok result
+            then all_of (arc_value program.now) self.old ++ items_at (arc_value program.now) prefixes
+            else all_of (arc_value program.now) self.old) }
+        ensures packed { packs ≡ false → self.new.packed ≡ self.old.packed }
+    {
+        if packs && self.loose.is_empty() {
+            return self.packed.append(&mut prefixes);
+        }
+        let mut items = last_items(alloc, program, &prefixes, prefixes.length())?;
+        self.loose.append(&mut items)
+    }
+
+    // Keeps so many items at most, the first of them.
+    pub(crate) fn truncate(&mut self, length: usize)
+        ensures items { (p : Program) → all_of p self.new ≡ take length (all_of p self.old) }
+        ensures none { self.old.packed ≡ [] → self.new.packed ≡ [] }
+    {
+        let packed = self.packed.length();
+        self.packed.truncate(length);
+        self.loose.truncate(length.saturating_sub(packed));
+    }
+
+    // Drops the items whose schedules all come after this one, and answers how many.
+    pub(crate) fn drop_later(&mut self, schedule: &[u8]) -> u64
+        requires { self.old.packed ≡ [] }
+        ensures packed { self.new.packed ≡ [] }
+        ensures loose { self.new.loose ≡
+            filter (λ i. not (is_later schedule.now i.prefix)) self.old.loose }
+        ensures number { result ≡
+            count_by (λ i. is_later schedule.now i.prefix) self.old.loose }
+    {
+        drop_later(&mut self.loose, schedule)
+    }
+}
+
+// Puts copies of items after others.
+fn push_copies(alloc: Global, items: &mut Vec<Item>, more: &[Item]) -> Result<(), AllocError>
+    ensures { OnOk result (items.new.items ≡ items.old.items ++ more.now) }
+{
+    for item in more {
+        items.push(item.try_clone(alloc)?)?;
+    }
+    Ok(())
+}
+
+// Where an item stands among others of its program: at this place, or else looked for from the last one on.
+fn find(items: &[Item], hint: usize, item: &Item) -> Option<usize>
+    requires { All (λ i. i.program ≡ item.now.program) items.now }
+    ensures some { IfSome result (λ k.
+        (k < length items.now) × (slice_get items.now k ≡ Some item.now)) }
+    ensures none { IfNone result (All (λ i. i ≡ item.now → ⊥) items.now) }
+{
+    if hint < items.len() && is_at(items, hint, item) {
+        return Some(hint);
+    }
+    let mut place = items.len();
+    while 0 < place {
+        place -= 1;
+        if is_at(items, place, item) {
+            return Some(place);
+        }
+    }
+    None
+}
+
+// Whether an item stands at a place among others of its program. Their programs aren't compared.
+fn is_at(items: &[Item], place: usize, item: &Item) -> bool
+    requires program { All (λ i. i.program ≡ item.now.program) items.now }
+    requires place { place < length items.now }
+    ensures { IsTrue result ↔ (slice_get items.now place ≡ Some item.now) }
+{
+    let other = &items[place];
+    same_steps(other.prefix(), item.prefix()) && same_masks(other.mask(), item.mask())
+}
+
+// Whether the steps are the same.
+fn same_steps(first: &[u8], second: &[u8]) -> bool
+    ensures { IsTrue result ↔ (first.now ≡ second.now) }
+{
+    first == second
+}
+
+// Whether the same threads are in both.
+fn same_masks(first: Mask, second: Mask) -> bool
+    ensures { IsTrue result ↔ (first ≡ second) }
+{
+    first == second
+}
+
+/// Whether a prefix differs from a schedule, and is greater at the first such place.
+pub(crate) fn is_later(schedule: &[u8], prefix: &[u8]) -> bool
+    ensures { result ≡ is_later schedule.now prefix.now }
+{
+    for k in 0..schedule.len().min(prefix.len()) {
+        if schedule[k] != prefix[k] {
+            return schedule[k] < prefix[k];
+        }
+    }
+    false
+}
+
+// Drops the items whose schedules all come after this one, and answers how many.
+fn drop_later(items: &mut Vec<Item>, schedule: &[u8]) -> u64
+    ensures items { items.new.items ≡
+        filter (λ i. not (is_later schedule.now i.prefix)) items.old.items }
+    ensures number { result ≡
+        count_by (λ i. is_later schedule.now i.prefix) items.old.items }
+{
+    let before = items.len();
+    items.retain(|item| !is_later(schedule, item.prefix()));
+    (before - items.len()) as u64
+}
