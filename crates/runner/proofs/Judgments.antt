@@ -1,9 +1,8 @@
 -- What is known after a round, by what was asked for and the mode that the search has come to.
-use Rattle.std.proofs.Common.{◌≡◌, ◌⊎◌, inl, inr, ℕ, ◌+◌, ◌<◌, ◌≤◌, ◌∙◌, Bool, true, false, not}
+use Rattle.std.proofs.Common.{◌≡◌, ◌⊎◌, ℕ, ◌+◌, ◌<◌, ◌≤◌, ◌∙◌, Bool, true, false, not}
 use Rattle.std.proofs.Common.{List, [], ◌++◌, Option, Some, None, refl, ap, sym, subst, arith}
 use Rattle.std.specs.List.{Contains}
 use Rattle.guest_code.specs.Program.{Program}
-use Rattle.semantics.specs.declared.view.Kind.{Kind}
 use Rattle.semantics.specs.Machine.{start}
 use Rattle.semantics.specs.Schedules.{complete_schedules, preemptions}
 use Rattle.walk.specs.declared.limits.TheConstants.{BOUND}
@@ -20,7 +19,7 @@ use Rattle.runner.specs.declared.judge.Next.TheVariants.{Answer, Raise, Again}
 use Rattle.runner.specs.declared.report.Cause.{Cause}
 use Rattle.runner.specs.declared.report.Verdict.{Verdict}
 use Rattle.runner.specs.declared.report.Verdict.TheVariants.{Clean, Bad, Incomplete}
-use Rattle.runner.specs.Reports.{IsBad, IsSummaryOf, HasItems, IsReached, IsCause}
+use Rattle.runner.specs.Reports.{IsBad, HasItems, IsReached, IsCause}
 use Rattle.runner.specs.Unbounded.{IsFirstBad}
 use Rattle.runner.specs.Promises.{IsSearch, IsReportFor, IsReport}
 use Rattle.runner.specs.inner.Judging.{HasPassed, IsModeOf, IsStage, IsLast, IsFound, IsFinishedIn, IsFirstMode}

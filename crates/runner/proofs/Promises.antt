@@ -7,9 +7,9 @@ use Rattle.guest_code.specs.Program.{Program}
 use Rattle.semantics.specs.declared.view.Kind.{Kind}
 use Rattle.semantics.specs.Machine.{start}
 use Rattle.semantics.specs.Schedules.{complete_schedules, state_after, runs, preemptions}
-use Rattle.semantics.specs.Schedules.{schedules_within, exceeds_bound}
+use Rattle.semantics.specs.Schedules.{schedules_within}
 use Rattle.semantics.specs.Order.{precedes, least, ends_badly}
-use Rattle.semantics.specs.Ends.{is_terminal, kind_of, final_kind}
+use Rattle.semantics.specs.Ends.{kind_of, final_kind}
 use Rattle.semantics.specs.Waiters.{In}
 use Rattle.semantics.proofs.LeastSchedule.{least_none, least_some}
 use Rattle.semantics.proofs.ListMembers.{in_contains, contains_in, in_filter, from_filter}

@@ -1,5 +1,5 @@
 -- A report has no number that is not whole.
-use Rattle.std.proofs.Common.{◌≡◌, ◌∙◌, ap, refl, ℕ, ℤ, pos, negsuc, Bool, true, false, ◌||◌}
+use Rattle.std.proofs.Common.{◌≡◌, refl, ℕ, ℤ, pos, negsuc, Bool, true, false, ◌||◌}
 use Rattle.std.proofs.Common.{List, [], ◌∷◌, map, Option, Some, None}
 use Rattle.std.specs.declared.cmp.Ordering.{Ordering}
 use Rattle.std.specs.declared.cmp.Ordering.TheVariants.{Less, Equal, Greater}
@@ -18,7 +18,7 @@ use Rattle.runner.specs.declared.report.Verdict.{Verdict}
 use Rattle.runner.specs.declared.report.Verdict.TheVariants.{Clean, Bad, Incomplete}
 use Rattle.runner.specs.declared.report.Report.{Report}
 use Rattle.runner.specs.ReportText.{kind_data, cause_data, bound_data, values_data, end_data}
-use Rattle.runner.specs.ReportText.{ends_data, first_bad_data, Member, with_members}
+use Rattle.runner.specs.ReportText.{first_bad_data, Member, with_members}
 use Rattle.runner.specs.ReportText.{common_members, quick_members, verdict_members, report_data}
 
 -- the one or the other, where neither

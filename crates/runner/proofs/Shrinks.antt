@@ -1,7 +1,7 @@
 -- A settled walk leaves less to walk.
-use Rattle.std.proofs.Common.{◌≡◌, ℕ, suc, Bool, true, false, cond, not, ◌||◌, ◌+◌, ◌-◌, ◌*◌, ◌^◌, ◌<◌, ◌≤◌}
+use Rattle.std.proofs.Common.{◌≡◌, ℕ, suc, Bool, true, false, cond, not, ◌||◌, ◌+◌, ◌*◌, ◌^◌, ◌<◌, ◌≤◌}
 use Rattle.std.proofs.Common.{◌⊎◌, inl, inr, ⊎_elim, List, [], ◌∷◌, ◌++◌, length, get_or, take, drop}
-use Rattle.std.proofs.Common.{refl, ap, sym, ◌∙◌, subst, arith, min, Ok, length-append, length-drop}
+use Rattle.std.proofs.Common.{refl, ap, sym, ◌∙◌, subst, arith, Ok, length-append, length-drop}
 use Rattle.std.specs.List.{All, remove, filter, list_any}
 use Rattle.std.proofs.lemmas.Bool.{cases_lt}
 use Rattle.std.proofs.lemmas.List.{get_or-drop}
@@ -18,7 +18,7 @@ use Rattle.walk.proofs.ListParts.{all_left, all_right}
 use Rattle.book.specs.Books.{BookView, Keeps, KeepsWhere, Settles, drops, thinned}
 use Rattle.book.proofs.DroppedCounts.{nothing_dropped}
 use Rattle.book.proofs.Lists.{parted}
-use Rattle.runner.specs.inner.Shrinking.{IsSmaller, HasLess, IsPassedOver, Went, Goes}
+use Rattle.runner.specs.inner.Shrinking.{IsSmaller, HasLess, Went, Goes}
 use Rattle.runner.specs.inner.Judging.{IsOf}
 
 count-append : (mode : Mode) (l r : List ItemView)
@@ -117,7 +117,7 @@ last_at open_items items first j item is lt at =
     let g = get_or-drop first open_items j item in
     (omega arith, sym (at ∙ ap (λ (l : List ItemView). get_or l j item) is ∙ g))
 
-keeps_below : (dropped : Bool) (b : BookView) → KeepsWhere dropped b
+pub keeps_below : (dropped : Bool) (b : BookView) → KeepsWhere dropped b
     → All (IsBelow (root_of b.program)) b.open_items
 keeps_below false b h = all_left (IsBelow (root_of b.program)) b.open_items b.deferred h.below
 keeps_below true b t =

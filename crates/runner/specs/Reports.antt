@@ -1,14 +1,14 @@
 -- What the report of a search up to a bound promises, in terms of all complete schedules of its
 -- program.
 use Rattle.std.specs.Prelude.{◌≡◌, ◌↔◌, ◌⊎◌, ℕ, ◌<◌, ◌≤◌, ◌+◌, Bool, true, false}
-use Rattle.std.specs.Prelude.{List, Option, Some, None, All, Contains}
+use Rattle.std.specs.Prelude.{List, Option, Some, None, Contains}
 use Rattle.guest_code.specs.Program.{Program}
 use Rattle.semantics.specs.declared.view.Kind.{Kind}
 use Rattle.semantics.specs.Machine.{start}
 use Rattle.semantics.specs.Schedules.{complete_schedules, preemptions}
 use Rattle.semantics.specs.Order.{precedes, ends_badly}
 use Rattle.walk.specs.declared.mode.Mode.{Mode}
-use Rattle.walk.specs.declared.mode.Mode.TheVariants.{Bounded, Reduced}
+use Rattle.walk.specs.declared.mode.Mode.TheVariants.{Bounded}
 use Rattle.walk.specs.Summaries.{SummaryView, end_kind}
 use Rattle.walk.specs.Items.{ItemView, root_of, whole}
 use Rattle.walk.specs.Walks.{IsSplit}

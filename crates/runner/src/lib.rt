@@ -3,13 +3,17 @@
 //! - [`explore_alone`] searches bound after bound, from no preemption on, and stops at the first
 //!   bound that a bad schedule is within; or without a bound, where sleep sets prune. Its contract
 //!   says what the report means of all complete schedules of the program.
-//! - [`explore_text_alone`] does the same from the bytes of a text on, or says what is wrong with
-//!   it.
+//! - [`explore`] does it by several workers, each in a thread of its own, who ask a [`Gate`]. Its
+//!   report is the same, whatever their number, unless the search was cut short.
+//! - [`explore_text_alone`] and [`explore_text`] do the same from the bytes of a text on, or say
+//!   what is wrong with it.
 //! - [`report_text`] prints a report: its text is the defined one, byte for byte.
 #![tactic(auto)]
 
 mod alone;
+mod crew;
 mod error;
+mod gate;
 mod judge;
 pub mod limits;
 mod options;
@@ -18,11 +22,15 @@ mod report;
 #[cfg(test)]
 mod tests;
 mod text;
+mod together;
+mod worker;
 
 pub use alone::explore_alone;
 pub use error::ExploreError;
+pub use gate::{Answer, Gate, Open};
 pub use limits::{BOUND, QUOTA, WORKERS};
 pub use options::{Options, Search};
 pub use printing::report_text;
 pub use report::{Cause, Report, Verdict};
-pub use text::explore_text_alone;
+pub use text::{explore_text, explore_text_alone};
+pub use together::explore;

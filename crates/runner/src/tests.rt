@@ -1,5 +1,8 @@
 //! What no clause says: that a search goes on to its answer, and honours its limit.
 
+mod gates;
+mod stops;
+
 ghost use Rattle.std.specs.Prelude.{◌≤◌};
 ghost use Rattle.runner.specs.Promises.{IsSearch};
 

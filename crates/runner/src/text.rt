@@ -1,17 +1,32 @@
 //! Searches of a text.
 
-ghost use Rattle.std.specs.Prelude.{◌≤◌, false};
+ghost use Rattle.std.specs.Prelude.{◌≤◌, false, IfOk, IfErr};
+ghost use Rattle.std.specs.Arc.{arc_value};
+ghost use Rattle.runner.specs.declared.limits.TheConstants.{WORKERS};
 ghost use Rattle.runner.specs.Promises.{IsSearch};
-ghost use Rattle.runner.specs.Texts.{ExploreMeans};
+ghost use Rattle.runner.specs.Texts.{IsProgramOf, ExploreErrorMeans, ExploreMeans};
 
 use crate::alone::explore_alone;
 use crate::error::ExploreError;
+use crate::gate::Gate;
 use crate::options::Options;
 use crate::report::Report;
+use crate::together::explore;
 use guest_code::lowering::lower;
+use guest_code::program::Program;
 use guest_syntax::parse;
 use std::alloc::Global;
-use std::sync::Arc;
+use std::sync::{Arc, Wait};
+use std::thread::Threads;
+
+// The program that a text spells.
+fn program_of(alloc: Global, text: &[u8]) -> Result<Arc<Program>, ExploreError>
+    ensures program { IfOk result (λ p. IsProgramOf text.now (arc_value p)) }
+    ensures error { IfErr result (ExploreErrorMeans text.now) }
+{
+    let tree = parse(alloc, text)?;
+    Ok(Arc::new(alloc, lower(alloc, &tree)?)?)
+}
 
 /// The report of a search, by one thread, of the program that a text spells.
 ///
@@ -28,7 +43,28 @@ pub fn explore_text_alone(
     requires quota { 1 ≤ options.quota }
     ensures { ExploreMeans false text.now options result }
 {
-    let tree = parse(alloc, text)?;
-    let program = Arc::new(alloc, lower(alloc, &tree)?)?;
+    let program = program_of(alloc, text)?;
     explore_alone(alloc, &program, options)
+}
+
+/// The same by several workers, from 1 to [`WORKERS`](crate::WORKERS); see [`explore`].
+///
+/// # Errors
+///
+/// As those of [`explore_text_alone`].
+pub fn explore_text<G: Gate, R: Threads + Wait + Sync>(
+    rt: &R,
+    alloc: Global,
+    text: &[u8],
+    options: Options,
+    workers: u32,
+    gate: &G,
+) -> Result<Report, ExploreError>
+    requires search { IsSearch options.search }
+    requires quota { 1 ≤ options.quota }
+    requires workers { (1 ≤ workers) × (workers ≤ WORKERS) }
+    ensures { ExploreMeans (G.stops gate.now) text.now options result }
+{
+    let program = program_of(alloc, text)?;
+    explore(rt, alloc, &program, options, workers, gate)
 }

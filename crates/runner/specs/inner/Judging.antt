@@ -1,5 +1,5 @@
 -- What a round comes to.
-use Rattle.std.specs.Prelude.{◌≡◌, ◌≤◌, ◌<◌, ◌+◌, ◌-◌, ℕ, List, [], Bool, true, false}
+use Rattle.std.specs.Prelude.{◌≡◌, ◌≤◌, ◌<◌, ◌+◌, ◌-◌, ℕ, List, [], Bool, false}
 use Rattle.std.specs.Prelude.{Option, Some, None}
 use Rattle.guest_code.specs.Program.{Program}
 use Rattle.walk.specs.declared.mode.Mode.{Mode}

@@ -1,6 +1,5 @@
 -- How a search ends.
 use Rattle.std.specs.Prelude.{◌≡◌, ◌<◌, ◌⊎◌, List, [], length, All, Result, Ok, Err}
-use Rattle.guest_code.specs.Program.{Program}
 use Rattle.walk.specs.declared.mode.Mode.{Mode}
 use Rattle.walk.specs.Items.{ItemView, schedule_count}
 use Rattle.book.specs.Books.{BookView}

@@ -1,5 +1,4 @@
-use Rattle.std.proofs.Common.{◌≡◌, ◌<◌, ◌^◌, ◌∙◌, subst, sym, arith, length, false}
-use Rattle.book.specs.Books.{BookView}
+use Rattle.std.proofs.Common.{◌<◌, ◌^◌, subst, arith, length, false}
 use Rattle.runner.specs.declared.judge.Next.{Next}
 use Rattle.runner.specs.inner.Judging.{Comes}
 use Rattle.runner.proofs.Shrinks.{round_shrinks, round_keeps}

@@ -1,7 +1,5 @@
-use Rattle.std.proofs.Common.{rules, ◌≡◌, ◌∙◌, ◌+◌, ◌-◌, ◌<◌, sym, ⊎_elim, ap, get_or, arith, length}
-use Rattle.guest_code.specs.Program.{Program}
+use Rattle.std.proofs.Common.{rules, ◌≡◌, ◌∙◌, ◌+◌, ◌-◌, ◌<◌, sym, get_or, arith, length}
 use Rattle.walk.specs.Items.{ItemView}
-use Rattle.book.specs.Books.{BookView}
 use Rattle.runner.proofs.Shrinks.{round_less, last_at, of_book}
 use Rattle.runner.proofs.alone.walk_round.Goals as goal
 

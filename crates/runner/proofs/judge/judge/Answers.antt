@@ -1,4 +1,3 @@
-use Rattle.std.proofs.Common.{◌≡◌, sym, subst}
 use Rattle.std.proofs.lemmas.Result.{IfOk-weaker}
 use Rattle.runner.proofs.Judgments.{whole_comes, open_comes}
 use Rattle.runner.proofs.judge.judge.Goals as goal

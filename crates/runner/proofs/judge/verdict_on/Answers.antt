@@ -1,4 +1,4 @@
-use Rattle.std.proofs.Common.{◌≡◌, ◌∙◌, ap, sym, arith, Some, None}
+use Rattle.std.proofs.Common.{◌≡◌, ◌∙◌, ap, arith, Some}
 use Rattle.semantics.specs.Schedules.{preemptions}
 use Rattle.walk.specs.Summaries.{end_kind}
 use Rattle.replay.specs.Run.{Run}

@@ -1,0 +1,31 @@
+-- What a book is after a round that several workers settled into it.
+use Rattle.std.proofs.Common.{◌≡◌, ◌∙◌, ◌+◌, ap, sym, subst}
+use Rattle.guest_code.specs.Program.{Program}
+use Rattle.walk.specs.declared.mode.Mode.{Mode}
+use Rattle.walk.specs.declared.mode.Mode.TheVariants.{Bounded}
+use Rattle.book.specs.Books.{BookView, Raises, thinned, bound_of}
+use Rattle.runner.specs.declared.options.Options.{Options}
+use Rattle.runner.specs.inner.Judging.{IsStage, IsOf, CanRaise}
+use Rattle.runner.proofs.Judgments.{next_stage}
+
+-- a book that drops items stays one of its program and mode
+pub thinned_of : (old b : BookView) (p : Program) (mode : Mode) (o : Options) → b ≡ thinned old
+    → IsOf old p mode o.quick → IsOf b p mode o.quick
+thinned_of old b p mode o is of = subst (λ (x : BookView). IsOf x p mode o.quick) (sym is)
+    (record { program = of.program; mode = of.mode; quick = of.quick })
+
+-- the stage that a raised book is at
+pub raised_stage : (old new : BookView) (p : Program) (mode next : Mode) (o : Options)
+    → IsOf old p mode o.quick → CanRaise p o.search mode → Raises old new → next ≡ new.mode
+    → IsStage p o.search next × IsOf new p next o.quick
+raised_stage old new p mode next o of can raise same =
+    let is : next ≡ Bounded (bound_of mode + 1) =
+    same ∙ ap (λ (b : BookView). b.mode) raise.book
+    ∙ ap (λ (m : Mode). Bounded (bound_of m + 1)) of.mode in (
+      subst (λ (m : Mode). IsStage p o.search m) (sym is) (next_stage p o.search mode can),
+      record {
+        program = ap (λ (b : BookView). b.program) raise.book ∙ of.program;
+        mode = sym same;
+        quick = ap (λ (b : BookView). b.quick) raise.book ∙ of.quick;
+      },
+    )

@@ -1,0 +1,10 @@
+use Rattle.std.proofs.Common.{◌≡◌, vec_len}
+use Rattle.std.specs.List.{All}
+use Rattle.std.specs.Arc.{arc_value}
+use Rattle.runner.proofs.crew.Crew.new.Given as goal
+
+abbrev pub invariant-loop : goal.invariant-loop
+invariant-loop l = record {
+  of : All (λ w. w ≡ arc_value l.fn.program) l.walkers.items;
+  many : vec_len l.walkers ≡ l.counter;
+}

@@ -1,0 +1,32 @@
+use Rattle.std.proofs.Common.{rules, ◌≡◌, ◌∙◌, ◌-◌, sym, subst, length}
+use Rattle.std.specs.Arc.{arc_value}
+use Rattle.std.specs.List.{All}
+use Rattle.std.proofs.lemmas.List.Elements.{All-same}
+use Rattle.guest_code.specs.Program.{Program}
+use Rattle.walk.specs.Items.{ItemView}
+use Rattle.runner.proofs.RoundItems.{of_program}
+use Rattle.runner.proofs.crew.Crew.walk_round.Goals as goal
+
+pub walk_in_order-ending-requires-clause-items : goal.walk_in_order-ending-requires-clause-items
+walk_in_order-ending-requires-clause-items g c κs within =
+    let b = c.args.book in
+    let walker : c.index_mut-walker.result.now ≡ b.program = search rules in
+    let all = of_program b c.open_length-open.ensures.kept (length b.open_items - 64) in
+    subst (λ (p : Program). All (λ (i : ItemView). i.program ≡ p) c.as_slice.result.now)
+    (sym walker)
+    (All-same (λ (i : ItemView). i.program ≡ b.program) _ _
+    (c.as_slice.ensures.value ∙ c.in_ok-items.ensures) all)
+
+pub walk_by_all-requires-clause-round : goal.walk_by_all-requires-clause-round
+walk_by_all-requires-clause-round g c κs within =
+    let b = c.args.book in
+    let program : arc_value c.in_ok-program.program ≡ b.program = search rules in
+    let all = of_program b c.open_length-open.ensures.kept (length b.open_items - 64) in
+    record {
+      numbers = search rules;
+      items = subst
+          (λ (p : Program). All (λ (i : ItemView). i.program ≡ p) c.in_ok-items.items.items)
+          (sym program)
+          (All-same (λ (i : ItemView). i.program ≡ b.program) _ _ c.in_ok-items.ensures all);
+      quota = c.requires.quota;
+    }

@@ -1,0 +1,42 @@
+-- What is known of the rounds of several workers.
+use Rattle.std.specs.Prelude.{◌≡◌, ◌≤◌, ◌<◌, Bool, All, vec_len}
+use Rattle.std.specs.Arc.{arc_value}
+use Rattle.guest_code.specs.Program.{Program}
+use Rattle.board.specs.Board.{BoardId}
+use Rattle.book.specs.Books.{BookView}
+use Rattle.runner.specs.declared.limits.TheConstants.{WORKERS}
+use Rattle.runner.specs.declared.options.Options.{Options}
+use Rattle.runner.specs.declared.worker.Round.{Round}
+use Rattle.runner.specs.declared.worker.Worker.{Worker}
+use Rattle.runner.specs.declared.crew.Crew.{Crew}
+use Rattle.runner.specs.declared.together.Turn.{Turn}
+use Rattle.runner.specs.declared.together.Turn.TheVariants.{Ends, Goes, Stranger}
+use Rattle.runner.specs.Promises.{IsReport}
+use Rattle.runner.specs.inner.Judging.{IsStage, IsOf}
+
+-- the board has a number for each item, and each item is of the round's program
+pub record IsRound (r : Round) : Type 0 where
+  pub numbers : r.board.id.limit ≡ vec_len r.items
+  pub items : All (λ i. i.program ≡ arc_value r.program) r.items.items
+  pub quota : 1 ≤ r.quota
+
+-- the worker's seat is of this board, and its walker of this program
+pub record IsOn (board : BoardId) (p : Program) (w : Worker) : Type 0 where
+  pub seat : w.seat.board ≡ board
+  pub walker : w.walker ≡ p
+
+-- the worker takes part in the round
+abbrev pub IsSeated : Round → Worker → Type 0
+IsSeated r w = IsOn r.board.id (arc_value r.program) w
+
+-- as many workers as a search may have, each with a walker of the program
+pub record IsCrewOf (p : Program) (c : Crew) : Type 0 where
+  pub some : 0 < vec_len c.walkers
+  pub few : vec_len c.walkers ≤ WORKERS
+  pub of : All (λ w. w ≡ p) c.walkers.items
+
+-- what follows a round: a report, or another round, of which the book is then
+abbrev pub Follows : Bool → Program → Options → BookView → Turn → Type 0
+Follows may p o book (Ends r) = IsReport may p o r
+Follows may p o book (Goes mode) = IsStage p o.search mode × IsOf book p mode o.quick
+Follows may p o book Stranger = Unit {0}

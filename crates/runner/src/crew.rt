@@ -1,0 +1,236 @@
+//! The rounds of several workers.
+
+ghost use Rattle.std.specs.Prelude.{◌≡◌, ◌<◌, ◌≤◌, true, IfOk, IfErr, vec_len};
+ghost use Rattle.std.specs.List.{All};
+ghost use Rattle.std.specs.Arc.{arc_value};
+ghost use Rattle.runner.specs.declared.limits.TheConstants.{WORKERS};
+ghost use Rattle.runner.specs.declared.error.ExploreError.TheVariants.{OutOfMemory};
+ghost use Rattle.runner.specs.declared.worker.Ending.TheVariants.{Stopped};
+ghost use Rattle.runner.specs.inner.Rounds.{IsOn, IsSeated, IsRound, IsCrewOf};
+
+use crate::error::ExploreError;
+use crate::gate::{Answer, Gate};
+use crate::limits::{SMALL_ROUND, WORKERS};
+use crate::worker::{Ending, Round, Worker, ending_of, work_all};
+use board::{Board, Seat};
+use book::books::Book;
+use book::errors::SettleError;
+use book::limits::ROUND;
+use guest_code::program::Program;
+use std::alloc::{AllocError, Global};
+use std::sync::{Arc, Mutex, Wait};
+use std::thread::Threads;
+use walk::item::Item;
+use walk::walker::Walker;
+
+/// What is kept from one round of several workers to the next.
+#[derive(Drop)]
+pub(crate) struct Crew {
+    /// One for each worker.
+    pub walkers: Vec<Walker>,
+    /// Whether the last round had as many items as one can have, and tried few schedules.
+    pub was_small: bool,
+}
+
+/// What is left of a round.
+#[derive(Drop)]
+pub(crate) struct Left {
+    pub book: Book,
+    pub crew: Crew,
+    pub ending: Ending,
+}
+
+// The workers of a round: one for each seat, with a walker each.
+fn seated(
+    alloc: Global,
+    board: &Board,
+    program: &Program,
+    seats: Vec<Seat>,
+    mut walkers: Vec<Walker>,
+) -> Result<Vec<Worker>, AllocError>
+    requires count { vec_len walkers ≡ vec_len seats }
+    requires seats { All (λ s. s.board ≡ board.now.id) seats.items }
+    requires walkers { All (λ w. w ≡ program.now) walkers.items }
+    ensures seated { IfOk result (λ v. All (IsOn board.now.id program.now) v.items) }
+    ensures count { IfOk result (λ v. vec_len v ≡ vec_len seats) }
+{
+    let mut workers = Vec::new(alloc);
+    let mut number = 0u32;
+    for seat in seats {
+        let Some(walker) = walkers.pop() else {
+            unreachable!()
+        };
+        workers.push(Worker {
+            number,
+            seat,
+            walker,
+            ending: Ending::Drawn,
+        })?;
+        number = number.wrapping_add(1);
+    }
+    Ok(workers)
+}
+
+// Takes the workers of a round apart: the seats go back to the board, and the walkers are kept.
+fn disbanded(
+    alloc: Global,
+    board: &Board,
+    program: &Program,
+    workers: Vec<Worker>,
+) -> Result<(Vec<Seat>, Vec<Walker>), AllocError>
+    requires { All (IsOn board.now.id program.now) workers.items }
+    ensures seats { IfOk result (λ r. All (λ s. s.board ≡ board.now.id) r.0.items) }
+    ensures count { IfOk result (λ r. vec_len r.0 ≡ vec_len workers) }
+    ensures walkers { IfOk result (λ r. All (λ w. w ≡ program.now) r.1.items) }
+    ensures kept { IfOk result (λ r. vec_len r.1 ≡ vec_len workers) }
+{
+    let mut seats = Vec::new(alloc);
+    let mut walkers = Vec::new(alloc);
+    for worker in workers {
+        let Worker { seat, walker, .. } = worker;
+        seats.push(seat)?;
+        walkers.push(walker)?;
+    }
+    Ok((seats, walkers))
+}
+
+// Walks the items of a round in their order, as the first worker, where there is no board.
+fn walk_in_order<G: Gate>(
+    alloc: Global,
+    gate: &G,
+    quota: u32,
+    book: &mut Book,
+    walker: &mut Walker,
+    items: &[Item],
+) -> Ending
+    requires quota { 1 ≤ quota }
+    requires items { All (λ i. i.program ≡ walker.old) items.now }
+    ensures walker { walker.new ≡ walker.old }
+    ensures stopped { result ≡ Stopped → G.stops gate.now ≡ true }
+{
+    let mode = book.mode();
+    for k in 0..items.len() {
+        if gate.before(0, k as u64) == Answer::Stop {
+            return Ending::Stopped;
+        }
+        let Ok(walked) = walker.walk(alloc, &items[k], mode, quota) else {
+            return Ending::OutOfMemory;
+        };
+        gate.walked(0, k as u64);
+        if let Err(SettleError::OutOfMemory) = book.settle(alloc, walked) {
+            return Ending::OutOfMemory;
+        }
+    }
+    Ending::Drawn
+}
+
+// Walks the items of a round by all its workers, in at most so many threads. Answers, beside what
+// is left, how many items were drawn.
+fn walk_by_all<G: Gate, R: Threads + Wait + Sync>(
+    rt: &R,
+    alloc: Global,
+    gate: &G,
+    round: Round,
+    threads: usize,
+    mut workers: Vec<Worker>,
+) -> Result<(Left, u64), AllocError>
+    requires threads { 0 < threads }
+    requires round { IsRound round }
+    requires seated { All (IsSeated round) workers.items }
+    requires count { vec_len workers ≡ round.board.seats }
+    requires few { (0 < vec_len workers) × (vec_len workers ≤ WORKERS) }
+    ensures crew { IfOk result (λ r. IsCrewOf (arc_value round.program) r.0.crew) }
+    ensures stopped { IfOk result (λ r. r.0.ending ≡ Stopped → G.stops gate.now ≡ true) }
+{
+    work_all(rt, alloc, gate, &round, threads, &mut workers);
+    let ending = ending_of(workers.as_slice());
+    let (seats, walkers) = disbanded(alloc, &round.board, &round.program, workers)?;
+    let Round { board, book, .. } = round;
+    let drawn = board.gather(seats).count();
+    let left = Left {
+        book: book.into_inner(),
+        crew: Crew {
+            walkers,
+            was_small: false,
+        },
+        ending,
+    };
+    Ok((left, drawn))
+}
+
+impl Crew {
+    /// The crew of a search of this program by so many workers.
+    pub fn new(alloc: Global, program: &Arc<Program>, workers: u32) -> Result<Crew, AllocError>
+        requires { (0 < workers) × (workers ≤ WORKERS) }
+        ensures { IfOk result (IsCrewOf (arc_value program.now)) }
+    {
+        let mut walkers = Vec::new(alloc);
+        for _ in 0..workers {
+            walkers.push(Walker::new(alloc, Arc::try_clone(program)?)?)?;
+        }
+        Ok(Crew {
+            walkers,
+            was_small: false,
+        })
+    }
+
+    // How many threads a round of so many items is walked by. Making threads costs more than they
+    // save where the items are as small as those of the last round were.
+    fn threads(&self, items: usize) -> usize
+        requires { 0 < vec_len self.now.walkers }
+        ensures { 0 < result }
+    {
+        if self.was_small && items == ROUND {
+            1
+        } else {
+            self.walkers.len()
+        }
+    }
+
+    /// Walks the items of a round of a book and settles the walks. Nothing is known of the book
+    /// then but what its type keeps.
+    pub fn walk_round<G: Gate, R: Threads + Wait + Sync>(
+        mut self,
+        rt: &R,
+        alloc: Global,
+        gate: &G,
+        quota: u32,
+        mut book: Book,
+    ) -> Result<Left, ExploreError>
+        requires quota { 1 ≤ quota }
+        requires crew { IsCrewOf book.program self }
+        ensures crew { IfOk result (λ l. IsCrewOf book.program l.crew) }
+        ensures stopped { IfOk result (λ l. l.ending ≡ Stopped → G.stops gate.now ≡ true) }
+        ensures error { IfErr result (λ e. e ≡ OutOfMemory) }
+    {
+        let items = book.round(alloc)?;
+        let _open = book.open_length();
+        let (count, seats) = (items.len() as u32, self.walkers.len() as u32);
+        let Ok((board, seats)) = Board::new(alloc, count, seats) else {
+            let walker = &mut self.walkers[0];
+            let ending = walk_in_order(alloc, gate, quota, &mut book, walker, items.as_slice());
+            return Ok(Left {
+                book,
+                crew: self,
+                ending,
+            });
+        };
+        let threads = self.threads(items.len());
+        let tried = book.finished().tried();
+        let program = Arc::try_clone(book.program())?;
+        let Crew { walkers, .. } = self;
+        let workers = seated(alloc, &board, &program, seats, walkers)?;
+        let round = Round {
+            program,
+            mode: book.mode(),
+            quota,
+            items,
+            board,
+            book: Mutex::new(book),
+        };
+        let (mut left, drawn) = walk_by_all(rt, alloc, gate, round, threads, workers)?;
+        let tried = left.book.finished().tried().saturating_sub(tried);
+        left.crew.was_small = drawn == ROUND as u64 && tried < SMALL_ROUND;
+        Ok(left)
+    }
+}

@@ -1,0 +1,168 @@
+//! Searches that a gate stops, or keeps waiting.
+
+ghost use Rattle.std.specs.Prelude.{◌≤◌};
+ghost use Rattle.runner.specs.Promises.{IsSearch};
+ghost use Rattle.runner.specs.declared.limits.TheConstants.{WORKERS};
+
+use crate::gate::{Gate, Open};
+use crate::options::{Options, Search};
+use crate::printing::report_text;
+use crate::tests::gates::{Holding, Passing, StopsOne};
+use crate::text::explore_text;
+use guest_code::lowering::lower;
+use guest_syntax::parse;
+use std::alloc::{Alloc, Global};
+use std::sync::atomic::Ordering;
+use std::sync::{Arc, Wait};
+use std::test::*;
+use std::thread::Threads;
+use walk::item::Item;
+use walk::mode::Mode;
+use walk::walker::walk;
+
+/// Three threads that each store to a variable of their own: six schedules, without a preemption.
+const THREE: &str =
+    "var x; var y; var z; thread A { store x 1; } thread B { store y 1; } thread C { store z 1; }";
+
+/// Four of them.
+const FOUR: &str =
+    "var w; var x; var y; var z; thread A { store w 1; } thread B { store x 1; } thread C { store y 1; } thread D { store z 1; }";
+
+/// The report of the three threads where nothing stops its search.
+const CLEAN: &str =
+    r#"{"all":true,"bound":0,"ends":[{"kind":"done","vars":[1,1,1]}],"failed":0,"stuck":0,"tried":6,"verdict":"clean"}"#;
+
+const STOPPED_AT_ONCE: &str =
+    r#"{"bound":0,"cause":"stopped","ends":[],"failed":0,"finished":null,"schedule":null,"stuck":0,"tried":0,"verdict":"incomplete"}"#;
+
+const STOPPED_AFTER_ONE: &str =
+    r#"{"bound":0,"cause":"stopped","ends":[{"kind":"done","vars":[1,1,1]}],"failed":0,"finished":null,"schedule":null,"stuck":0,"tried":1,"verdict":"incomplete"}"#;
+
+const LIMITED_TO_ONE: &str =
+    r#"{"bound":0,"cause":"limit","ends":[{"kind":"done","vars":[1,1,1]}],"failed":0,"finished":null,"schedule":null,"stuck":0,"tried":1,"verdict":"incomplete"}"#;
+
+const STOPPED_AFTER_TWO: &str =
+    r#"{"bound":0,"cause":"stopped","ends":[{"kind":"done","vars":[1,1,1]}],"failed":0,"finished":null,"schedule":null,"stuck":0,"tried":2,"verdict":"incomplete"}"#;
+
+/// The text of the report of a search without preemptions.
+fn searched<G: Gate>(
+    rt: &(impl Threads + Wait + Sync + Alloc<A = Global>),
+    text: &str,
+    options: Options,
+    workers: u32,
+    gate: &G,
+) -> Result<Vec<u8>, Fail>
+    requires search { IsSearch options.search }
+    requires quota { 1 ≤ options.quota }
+    requires workers { (1 ≤ workers) × (workers ≤ WORKERS) }
+{
+    let alloc = rt.alloc();
+    match explore_text(rt, alloc, text.as_bytes(), options, workers, gate) {
+        Ok(report) => Ok(report_text(alloc, &report)?),
+        Err(_) => Err(Fail::new("the search has no report")),
+    }
+}
+
+/// A search without preemptions that tries one schedule a walk.
+const ONE_BY_ONE: Options = Options {
+    search: Search::UpTo(0),
+    limit: None,
+    quota: 1,
+    quick: false,
+};
+
+#[test]
+fn a_gate_stops_all(rt: HostRuntime) -> Result<(), Fail> {
+    let found = searched(&rt, THREE, ONE_BY_ONE, 2, &Passing::new(0))?;
+    assert_eq!(rt; found.as_slice(), STOPPED_AT_ONCE.as_bytes());
+    let limited = Options {
+        limit: Some(1),
+        ..ONE_BY_ONE
+    };
+    let found = searched(&rt, THREE, limited, 2, &Passing::new(0))?;
+    assert_eq!(rt; found.as_slice(), STOPPED_AT_ONCE.as_bytes());
+    Ok(())
+}
+
+#[test]
+fn one_worker_asks_no_gate(rt: HostRuntime) -> Result<(), Fail> {
+    let gate = Passing::new(0);
+    let found = searched(&rt, THREE, ONE_BY_ONE, 1, &gate)?;
+    assert_eq!(rt; found.as_slice(), CLEAN.as_bytes());
+    assert_eq!(rt; gate.asked.load(Ordering::SeqCst), 0);
+    Ok(())
+}
+
+#[test]
+fn a_gate_stops_after_one(rt: HostRuntime) -> Result<(), Fail> {
+    let found = searched(&rt, THREE, ONE_BY_ONE, 2, &Passing::new(1))?;
+    assert_eq!(rt; found.as_slice(), STOPPED_AFTER_ONE.as_bytes());
+    let limited = Options {
+        limit: Some(1),
+        ..ONE_BY_ONE
+    };
+    let found = searched(&rt, THREE, limited, 2, &Passing::new(1))?;
+    assert_eq!(rt; found.as_slice(), LIMITED_TO_ONE.as_bytes());
+    Ok(())
+}
+
+#[test]
+fn a_stop_is_looked_at_before_the_limit(rt: HostRuntime) -> Result<(), Fail> {
+    let limited = Options {
+        limit: Some(2),
+        ..ONE_BY_ONE
+    };
+    let found = searched(&rt, THREE, limited, 2, &Passing::new(2))?;
+    assert_eq!(rt; found.as_slice(), STOPPED_AFTER_TWO.as_bytes());
+    Ok(())
+}
+
+#[test]
+fn a_gate_that_never_stops(rt: HostRuntime) -> Result<(), Fail> {
+    let found = searched(&rt, THREE, ONE_BY_ONE, 2, &Passing::new(u64::MAX))?;
+    assert_eq!(rt; found.as_slice(), CLEAN.as_bytes());
+    Ok(())
+}
+
+#[test]
+fn a_gate_stops_one_worker(rt: HostRuntime) -> Result<(), Fail> {
+    for _ in 0..200 {
+        let found = searched(&rt, THREE, ONE_BY_ONE, 2, &StopsOne)?;
+        let stopped = found.starts_with(br#"{"bound":0,"cause":"stopped","#);
+        assert!(&rt; stopped || found.as_slice() == CLEAN.as_bytes());
+    }
+    Ok(())
+}
+
+#[test]
+fn two_walks_are_out_at_once(rt: HostRuntime) -> Result<(), Fail> {
+    let gate = Holding::new(3);
+    let found = searched(&rt, THREE, ONE_BY_ONE, 2, &gate)?;
+    assert_eq!(rt; found.as_slice(), CLEAN.as_bytes());
+    assert_eq!(rt; gate.late.load(Ordering::SeqCst), 0);
+    assert!(&rt; gate.walks.load(Ordering::SeqCst) >= 4);
+    Ok(())
+}
+
+/// How many walks of the four threads are made in the first two rounds: one of all of them, which
+/// tries one schedule, and one of each item that it leaves.
+fn first_walks(alloc: Global) -> Result<u64, Fail> {
+    let tree = parse(alloc, FOUR.as_bytes())?;
+    let root = Item::root(alloc, Arc::new(alloc, lower(alloc, &tree)?)?)?;
+    let left = walk(alloc, &root, Mode::Bounded(0), 1)?.rest_length() as u64;
+    Ok(left.saturating_add(1))
+}
+
+#[test]
+fn items_are_not_shared_out_beforehand(rt: HostRuntime) -> Result<(), Fail> {
+    let walks = first_walks(rt.alloc())?;
+    assert!(&rt; walks >= 7);
+    let gate = Holding::new(walks);
+    let found = searched(&rt, FOUR, ONE_BY_ONE, 2, &gate)?;
+    let want =
+        r#"{"all":true,"bound":0,"ends":[{"kind":"done","vars":[1,1,1,1]}],"failed":0,"stuck":0,"tried":24,"verdict":"clean"}"#;
+    assert_eq!(rt; found.as_slice(), want.as_bytes());
+    assert_eq!(rt; gate.late.load(Ordering::SeqCst), 0);
+    assert!(&rt; gate.walks.load(Ordering::SeqCst) >= walks);
+    Ok(())
+}

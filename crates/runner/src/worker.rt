@@ -1,0 +1,137 @@
+//! The workers of a round, each in a thread of its own.
+
+ghost use Rattle.std.specs.Prelude.{◌≡◌, ◌<◌, true, vec_len, IfOk, IfErr};
+ghost use Rattle.std.specs.List.{All, Any};
+ghost use Rattle.runner.specs.declared.error.ExploreError.TheVariants as explore;
+ghost use Rattle.runner.specs.declared.worker.Ending.TheVariants.{Stopped};
+ghost use Rattle.runner.specs.inner.Rounds.{IsRound, IsSeated};
+
+use crate::error::ExploreError;
+use crate::gate::{Answer, Gate};
+use board::{Board, Seat};
+use book::books::Book;
+use book::errors::SettleError;
+use guest_code::program::Program;
+use std::alloc::Global;
+use std::sync::{Arc, Mutex, Wait};
+use std::thread;
+use std::thread::Threads;
+use walk::item::Item;
+use walk::mode::Mode;
+use walk::walker::Walker;
+
+/// What the workers of a round share: the items, the board that their numbers are drawn from, and
+/// the book that walks are settled in.
+#[derive(Drop)]
+pub(crate) struct Round {
+    pub program: Arc<Program>,
+    pub mode: Mode,
+    pub quota: u32,
+    pub items: Vec<Item>,
+    pub board: Board,
+    pub book: Mutex<Book>,
+}
+
+/// How a worker, or all of them, ended a round.
+#[derive(Clone, Copy, Debug, PartialEq, Eq)]
+pub(crate) enum Ending {
+    /// All items were drawn.
+    Drawn,
+    /// The gate stopped it.
+    Stopped,
+    /// Memory ran out.
+    OutOfMemory,
+}
+
+impl Ending {
+    /// Whether a worker was stopped.
+    ///
+    /// # Errors
+    ///
+    /// `OutOfMemory` where memory ran out.
+    pub fn is_stopped(self) -> Result<bool, ExploreError>
+        ensures stopped { IfOk result (λ b. b ≡ true → self ≡ Stopped) }
+        ensures error { IfErr result (λ e. e ≡ explore.OutOfMemory) }
+    {
+        match self {
+            Ending::Drawn => Ok(false),
+            Ending::Stopped => Ok(true),
+            Ending::OutOfMemory => Err(ExploreError::OutOfMemory),
+        }
+    }
+}
+
+/// A worker of a round.
+#[derive(Drop)]
+pub(crate) struct Worker {
+    pub number: u32,
+    pub seat: Seat,
+    pub walker: Walker,
+    pub ending: Ending,
+}
+
+impl Worker {
+    // Draws items, walks them and settles the walks, until all are drawn, the gate stops it or memory
+    // runs out.
+    fn work<G: Gate, R: Wait>(&mut self, rt: &R, alloc: Global, gate: &G, round: &Round) -> Ending
+        requires round { IsRound round.now }
+        requires seated { IsSeated round.now self.old }
+        ensures seated { IsSeated round.now self.new }
+        ensures stopped { result ≡ Stopped → G.stops gate.now ≡ true }
+    {
+        for _ in rt.forever() {
+            let Some(k) = round.board.claim(&mut self.seat) else {
+                return Ending::Drawn;
+            };
+            if gate.before(self.number, k) == Answer::Stop {
+                return Ending::Stopped;
+            }
+            let item = &round.items[k as usize];
+            let Ok(walked) = self.walker.walk(alloc, item, round.mode, round.quota) else {
+                return Ending::OutOfMemory;
+            };
+            gate.walked(self.number, k);
+            if let Err(SettleError::OutOfMemory) = round.book.lock(rt).settle(alloc, walked) {
+                return Ending::OutOfMemory;
+            }
+        }
+        unreachable!()
+    }
+}
+
+/// Lets all workers of a round work, in at most so many threads.
+pub(crate) fn work_all<G: Gate, R: Threads + Wait + Sync>(
+    rt: &R,
+    alloc: Global,
+    gate: &G,
+    round: &Round,
+    threads: usize,
+    workers: &mut Vec<Worker>,
+)
+    requires threads { 0 < threads }
+    requires round { IsRound round.now }
+    requires seated { All (IsSeated round.now) workers.old.items }
+    ensures seated { All (IsSeated round.now) workers.new.items }
+    ensures stopped { All (λ w. w.ending ≡ Stopped → G.stops gate.now ≡ true) workers.new.items }
+    ensures count { vec_len workers.new ≡ vec_len workers.old }
+{
+    let one = |_: usize, w: &mut Worker|
+        requires { IsRound round.now × IsSeated round.now w.old }
+        ensures { IsSeated round.entry.now w.new
+            × (w.new.ending ≡ Stopped → G.stops gate.entry.now ≡ true) }
+    { w.ending = w.work(rt, alloc, gate, round) };
+    thread::for_each_mut(rt, workers.as_mut_slice(), threads, &one);
+}
+
+/// How the workers ended a round together: what the first of these is that one of them met.
+pub(crate) fn ending_of(workers: &[Worker]) -> Ending
+    ensures { result ≡ Stopped → Any (λ w. w.ending ≡ Stopped) workers.now }
+{
+    if workers.iter().any(|w| w.ending == Ending::OutOfMemory) {
+        Ending::OutOfMemory
+    } else if workers.iter().any(|w| w.ending == Ending::Stopped) {
+        Ending::Stopped
+    } else {
+        Ending::Drawn
+    }
+}
