@@ -1,7 +1,7 @@
 use Rattle.std.proofs.Common.{rules, ◌≡◌, ◌∙◌, ◌-◌, sym, subst, length}
 use Rattle.std.specs.Arc.{arc_value}
 use Rattle.std.specs.List.{All}
-use Rattle.std.proofs.lemmas.List.Elements.{All-same}
+use Rattle.std.proofs.lemmas.List.Elements.{All-same, All-set}
 use Rattle.guest_code.specs.Program.{Program}
 use Rattle.walk.specs.Items.{ItemView}
 use Rattle.runner.proofs.RoundItems.{of_program}
@@ -29,4 +29,16 @@ walk_by_all-requires-clause-round g c κs within =
           (sym program)
           (All-same (λ (i : ItemView). i.program ≡ b.program) _ _ c.in_ok-items.ensures all);
       quota = c.requires.quota;
+    }
+
+pub returns-in_default-clause-crew : goal.returns-in_default-clause-crew
+returns-in_default-clause-crew g c =
+    let p = c.args.book.program in
+    let crew = c.requires.crew in
+    let before : c.index_mut-walker.result.now ≡ p = search rules in
+    record {
+      some = crew.some;
+      few = crew.few;
+      of = All-set (λ w. w ≡ p) c.args.self.walkers.items 0 c.walk_in_order-ending.new.walker
+          (c.walk_in_order-ending.ensures.walker ∙ before) crew.of;
     }
