@@ -1,6 +1,5 @@
-use Rattle.std.proofs.Common.{◌≡◌, ◌≢◌, ◌<◌, ◌≤◌, ◌+◌, ◌&&◌, ◌||◌, not, nat_lt, nat_eq, ◌∙◌, ◌^◌, arith, below_more, sym, ap, rules, inl, inr, refl, ℕ, Bool, true, false}
+use Rattle.std.proofs.Common.{◌≡◌, ◌≢◌, ◌&&◌, ◌||◌, not, nat_lt, nat_eq, ◌∙◌, arith, below_more, sym, ap, rules, inl, inr, refl, ℕ, Bool, true, false}
 use Rattle.std.proofs.lemmas.Bool.{cases_lt}
-use Rattle.guest_code.specs.declared.limits.TheConstants.{THREADS}
 use Rattle.guest_code.specs.Program.{Program}
 use Rattle.semantics.specs.declared.mask.Mask.{Mask}
 use Rattle.semantics.specs.Machine.{Snapshot, is_enabled, next_of}
