@@ -4,14 +4,11 @@ use Rattle.std.proofs.lemmas.Bool.{cases_lt}
 use Rattle.std.proofs.lemmas.Bool.Decides.{nat_tests}
 use Rattle.guest_code.specs.Program.{Program, code_of}
 use Rattle.semantics.specs.declared.mask.Mask.{Mask}
-use Rattle.semantics.specs.declared.action.Others.{Others}
 use Rattle.semantics.specs.declared.action.Others.TheVariants.{Same, Fewer, More}
 use Rattle.semantics.specs.declared.state.Thread.{Thread}
 use Rattle.semantics.specs.declared.state.ConditionAction.{ConditionAction}
 use Rattle.semantics.specs.declared.state.ConditionAction.TheVariants.{Signal as Signals, Broadcast as Broadcasts}
-use Rattle.semantics.specs.declared.state.MutexAction.{MutexAction}
 use Rattle.semantics.specs.declared.state.MutexAction.TheVariants.{Lock as Locks, Unlock as Unlocks, Retake as Retakes}
-use Rattle.semantics.specs.declared.state.SemaphoreAction.{SemaphoreAction}
 use Rattle.semantics.specs.declared.state.SemaphoreAction.TheVariants.{Acquire as Acquires, Release as Releases}
 use Rattle.semantics.specs.declared.state.Action.{Action}
 use Rattle.semantics.specs.declared.state.Action.TheVariants.{OnVariable, OnMutex, Wait as Waits, OnCondition, OnSemaphore}

@@ -1,12 +1,12 @@
 -- Members of a mask members_from a number on.
-use Rattle.std.proofs.Common.{◌≡◌, ◌≢◌, ℕ, ℤ, zero, suc, ◌+◌, ◌-◌, ◌<◌, ◌≤◌, Bool, true, false, cond, not, ◌&&◌, min, List, [], ◌∷◌, length, Option, Some, None, refl, ap, ◌∙◌, sym, arith, subst, inl, inr, get_or-set_other, set, pow-suc, ◌/◌, ◌^◌, ◌*◌, ◌%◌, nat_eq}
+use Rattle.std.proofs.Common.{◌≡◌, ◌≢◌, ℕ, ℤ, zero, suc, ◌+◌, ◌-◌, ◌<◌, ◌≤◌, Bool, true, false, cond, not, ◌&&◌, min, List, [], ◌∷◌, length, Option, Some, None, refl, ap, ◌∙◌, sym, arith, inl, inr, get_or-set_other, pow-suc, ◌/◌, ◌^◌, ◌*◌, ◌%◌, nat_eq}
 use Rattle.std.specs.List.{filter}
 use Rattle.std.specs.Int.{bit_at, bit_not, w16, trailing_zeros}
 use Rattle.std.specs.Int.Bits.{bit_and}
 use Rattle.guest_code.specs.declared.limits.TheConstants.{THREADS}
 use Rattle.std.proofs.Math.Nat.{div-div-eq-div-mul, div-le_self}
 use Rattle.std.proofs.lemmas.Nat.{pow-add}
-use Rattle.std.proofs.lemmas.Nat.Bits.{bit_at_above, bit_at-zero, bit_at-trailing_zeros, bit_at_not, bit_at_and, bit_at-lt, bit_at_cat_low, bit_at_cat_high, bit_at_lowest, same_from_bits_below}
+use Rattle.std.proofs.lemmas.Nat.Bits.{bit_at_above, bit_at-zero, bit_at-trailing_zeros, bit_at_not, bit_at_and, bit_at-lt, bit_at_cat_low, bit_at_cat_high, same_from_bits_below}
 use Rattle.std.proofs.lemmas.Bool.{cases_lt}
 use Rattle.guest_code.specs.Program.{Program, code_of}
 use Rattle.semantics.specs.declared.mask.Mask.{Mask}
@@ -14,7 +14,7 @@ use Rattle.semantics.specs.declared.state.Action.{Action}
 use Rattle.semantics.specs.declared.state.VariableAction.{VariableAction}
 use Rattle.semantics.specs.declared.state.Thread.{Thread}
 use Rattle.semantics.specs.declared.state.Action.TheVariants.{OnVariable, OnMutex, Wait as Waits, OnCondition, OnSemaphore}
-use Rattle.semantics.specs.Machine.{Snapshot, is_enabled, acts, can_do, next_of, thread_at, missing_thread, action_at, resumed, reader_after, value_of}
+use Rattle.semantics.specs.Machine.{Snapshot, is_enabled, acts, can_do, next_of, thread_at, missing_thread, action_at}
 use Rattle.std.specs.Prelude.{slice_get}
 use Rattle.semantics.specs.Mask.{has, no_threads, members_from, bits_of, mask_of}
 use Rattle.semantics.specs.Schedules.{up_from, enabled, one_if}

@@ -1,9 +1,8 @@
 -- What a step wrote, written back.
-use Rattle.std.proofs.Common.{◌≡◌, ◌≢◌, ℕ, ℤ, zero, suc, pos, ◌+◌, ◌<◌, ◌≤◌, inl, inr, Bool, true, false, cond, List, [], ◌∷◌, ◌++◌, length, take, drop, Option, Some, None, slice_get, get_or, set, refl, ap, ◌∙◌, sym, arith, subst}
+use Rattle.std.proofs.Common.{◌≡◌, ◌≢◌, ℕ, ℤ, zero, suc, pos, ◌<◌, ◌≤◌, inl, inr, List, [], ◌∷◌, ◌++◌, length, take, drop, Option, Some, None, slice_get, get_or, set, refl, ap, ◌∙◌, sym, arith, subst}
 use Rattle.std.specs.Prelude.{All, ◌⊎◌}
 use Rattle.std.proofs.lemmas.List.{set-set, set-get_or, length-set, drop-set-lt}
-use Rattle.std.proofs.lemmas.Bool.{cases_lt}
-use Rattle.guest_code.specs.declared.limits.TheConstants.{THREADS, LOCALS}
+use Rattle.guest_code.specs.declared.limits.TheConstants.{LOCALS}
 use Rattle.guest_code.specs.declared.program.Instruction.{Instruction}
 use Rattle.guest_code.specs.Program.{Program, code_of}
 use Rattle.semantics.specs.declared.state.Status.{Status}
@@ -16,9 +15,8 @@ use Rattle.semantics.specs.declared.state.Action.TheVariants.{OnVariable, OnMute
 use Rattle.semantics.specs.declared.undo.Saved.{Saved}
 use Rattle.semantics.specs.declared.undo.Undo.{Undo}
 use Rattle.semantics.specs.declared.undo.Change.{Change}
-use Rattle.semantics.specs.declared.undo.Change.TheVariants.{Variable, Owner, Count, Wait, Call}
 use Rattle.semantics.specs.Machine.{Snapshot, acts, next_of, action_at, thread_at, missing_thread, resumed, wake, woken, woken_status, with_status, threads_to_wake, queue_of, queue_after, queue_joined, owner_of, owner_after, given_back, count_of, count_after, value_of, var_after, reader_after, taker_after, waiter_after, counter_after}
-use Rattle.semantics.specs.Waiters.{In, Once, HasWaiters}
+use Rattle.semantics.specs.Waiters.{In, HasWaiters}
 use Rattle.semantics.specs.Reachable.{IsOf, IsValidAction}
 use Rattle.semantics.specs.Undoing.{restored, thread_before, waiting_again, old_queue, with_change, undone, IsInRange, IsRecordOf}
 use Rattle.semantics.specs.inner.Recording.{HasBegun, HasObject}

@@ -61,13 +61,11 @@ fn retake_of(instruction: &Instruction) -> Option<Action>
 pub fn action_at(status: Status, instruction: &Instruction) -> Option<Action>
     ensures { result ≡ action_at status (Some instruction.now) }
 {
-    if let Status::Running = status {
-        return action_of(instruction);
+    match status {
+        Status::Running => action_of(instruction),
+        Status::Woken => retake_of(instruction),
+        Status::Waiting(_) | Status::Ended | Status::Stopped(_) => None,
     }
-    if let Status::Woken = status {
-        return retake_of(instruction);
-    }
-    None
 }
 
 /// Whether a thread owns a mutex.

@@ -84,11 +84,14 @@ pub fn sleepers_after(
     requires enabled { HasEnabled enabled program.now state.now }
     ensures { result ≡ mask_of (next_sleep_set program.now state.now (has asleep) thread) }
 {
+    let step = state.next(program, thread);
     let mut sleepers = Mask::empty();
-    for other in 0..program.threads() {
-        let goes_on = enabled.has(other) && is_tried(asleep, thread, other);
-        let sleeps = goes_on && independent(program, state, thread, other);
+    let mut from = 0;
+    while let Some(other) = enabled.first_from(from) {
+        let tried = is_tried(asleep, thread, other) && thread != other;
+        let sleeps = tried && next_apart(step, state.next(program, other));
         sleepers = sleepers.with(other, sleeps);
+        from = other + 1;
     }
     sleepers
 }

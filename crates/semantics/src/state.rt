@@ -41,10 +41,10 @@ pub enum Stop {
 pub enum Status {
     /// It is at a visible statement.
     Running,
-    /// It is in the queue of the condition of this number.
-    Waiting(usize),
     /// It was called, and has to take its mutex again.
     Woken,
+    /// It is in the queue of the condition of this number.
+    Waiting(usize),
     /// It ran to the end of its code.
     Ended,
     /// It takes no further step, and keeps the mutexes that it owns.
@@ -290,13 +290,11 @@ impl State {
         requires { (p : Program) × IsOf p self.now × IsValid p instruction.now }
         ensures { result ≡ can_do self.now (action_at status (Some instruction.now)) }
     {
-        if let Status::Running = status {
-            return self.allows_visible(instruction);
+        match status {
+            Status::Running => self.allows_visible(instruction),
+            Status::Woken => self.allows_retaking(instruction),
+            Status::Waiting(_) | Status::Ended | Status::Stopped(_) => false,
         }
-        if let Status::Woken = status {
-            return self.allows_retaking(instruction);
-        }
-        false
     }
 
     // Whether the instruction is a `wait` whose mutex is free.

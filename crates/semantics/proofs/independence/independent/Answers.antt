@@ -1,5 +1,4 @@
-use Rattle.std.proofs.Common.{◌≡◌, ◌∙◌, sym, ap}
-use Rattle.semantics.specs.Machine.{next_of}
+use Rattle.std.proofs.Common.{◌∙◌, sym, ap}
 use Rattle.semantics.specs.Sleep.{apart, independent}
 use Rattle.semantics.proofs.DependentSteps.{independent-itself}
 use Rattle.semantics.proofs.IndependentStepsCommute.{both_orders, independent-differ}

@@ -1,65 +1,67 @@
-use Rattle.std.proofs.Common.{◌≡◌, ◌≢◌, ◌<◌, ◌≤◌, ◌&&◌, ◌||◌, nat_lt, ◌∙◌, ◌^◌, arith, below_more, sym, ap, rules, inl, inr, refl, Bool, true, false}
+use Rattle.std.proofs.Common.{◌≡◌, ◌≢◌, ◌&&◌, ◌||◌, not, nat_lt, nat_eq, ◌∙◌, arith, below_more, sym, ap, rules, inl, inr, refl, ℕ, Bool, true, false}
 use Rattle.std.proofs.lemmas.Bool.{cases_lt}
-use Rattle.guest_code.specs.declared.limits.TheConstants.{THREADS}
-use Rattle.semantics.specs.Machine.{is_enabled}
+use Rattle.guest_code.specs.Program.{Program}
 use Rattle.semantics.specs.declared.mask.Mask.{Mask}
+use Rattle.semantics.specs.Machine.{Snapshot, is_enabled, next_of}
 use Rattle.semantics.specs.Mask.{has}
-use Rattle.semantics.specs.Sleep.{independent, next_sleep_set}
-use Rattle.semantics.proofs.WorkFalls.{disabled_past}
-use Rattle.semantics.proofs.Masks.{is_mask_of, empty_has}
-use Rattle.semantics.proofs.independence.sleepers_after.Goals.{then-has, else-has, then-goes_on, else-goes_on}
+use Rattle.semantics.specs.Sleep.{apart, independent, next_sleep_set}
+use Rattle.semantics.proofs.Masks.{is_mask_of, none_left}
+use Rattle.semantics.proofs.independence.sleepers_after.Goals.{then-is_tried, else-is_tried, then-tried, else-tried}
 use Rattle.semantics.proofs.independence.sleepers_after.Goals as goal
-
-pub loop-other-init : goal.loop-other-init
-loop-other-init c = record { fits = (let e : c.empty-sleepers.result.bits ≡ 0 = ap (λ (m : Mask). m.bits) c.empty-sleepers.ensures in omega (arith, e)); below = λ k h. absurd (omega arith); above = λ k h. ap (λ m. has m k) c.empty-sleepers.ensures ∙ empty_has k }
-
-goes_on_is : (c : goal.After-with-sleepers) → c.if-has.goes_on ≡ (is_enabled c.args.program.now c.args.state.now c.loop-other.other && (has c.args.asleep c.loop-other.other || nat_lt c.loop-other.other c.args.thread))
-goes_on_is c = elim c.if-has.branch [
-  | then-has w ↦ w.goes_on-is ∙ (w.is_tried-goes_on.ensures ∙ ap (λ b. b && tried) (sym (enabled ∙ w.if-has.true)))
-  | else-has w ↦ w.goes_on-is ∙ (w.if-has.false ∙ ap (λ b. b && tried) (sym (enabled ∙ w.if-has.false)))
-]
-  where
-    tried : Bool
-    tried = has c.args.asleep c.loop-other.other || nat_lt c.loop-other.other c.args.thread
-
-    enabled : is_enabled c.args.program.now c.args.state.now c.loop-other.other ≡ c.has.result
-    enabled = sym (c.requires.enabled c.loop-other.other) ∙ sym c.has.ensures
 
 both : (a b x : Bool) → ((a && b) && x) ≡ (a && (b && x))
 both true b x = refl
 both false b x = refl
 
-sleeps_is : (c : goal.After-with-sleepers) → c.if-goes_on.sleeps ≡ next_sleep_set c.args.program.now c.args.state.now (has c.args.asleep) c.args.thread c.loop-other.other
-sleeps_is c = elim c.if-goes_on.branch [
-  | then-goes_on w ↦ w.sleeps-is ∙ (w.independent-sleeps.ensures.value ∙ (ap (λ b. b && apart) (sym w.if-goes_on.true) ∙ rest))
-  | else-goes_on w ↦ w.sleeps-is ∙ (w.if-goes_on.false ∙ (ap (λ b. b && apart) (sym w.if-goes_on.false) ∙ rest))
+-- the thread comes before, and is another one
+tried_is : (c : goal.After-with-sleepers) → c.if-is_tried.tried ≡ ((has c.args.asleep c.in-Some.other || nat_lt c.in-Some.other c.args.thread) && not (nat_eq c.args.thread c.in-Some.other))
+tried_is c = elim c.if-is_tried.branch [
+  | then-is_tried w ↦ w.tried-is ∙ ap (λ b. b && not (nat_eq c.args.thread c.in-Some.other)) (sym (sym c.is_tried.ensures ∙ w.if-is_tried.true))
+  | else-is_tried w ↦ w.tried-is ∙ (w.if-is_tried.false ∙ ap (λ b. b && not (nat_eq c.args.thread c.in-Some.other)) (sym (sym c.is_tried.ensures ∙ w.if-is_tried.false)))
 ]
+
+sleeps_is : (c : goal.After-with-sleepers) → c.if-tried.sleeps ≡ next_sleep_set c.args.program.now c.args.state.now (has c.args.asleep) c.args.thread c.in-Some.other
+unfolding independent
+sleeps_is c = here ∙ (ap (λ b. b && both_apart) (tried_is c) ∙ (both before differ both_apart ∙ ap (λ b. b && (before && (differ && both_apart))) (sym enabled)))
   where
-    enabled : Bool
-    enabled = is_enabled c.args.program.now c.args.state.now c.loop-other.other
+    before : Bool
+    before = has c.args.asleep c.in-Some.other || nat_lt c.in-Some.other c.args.thread
 
-    tried : Bool
-    tried = has c.args.asleep c.loop-other.other || nat_lt c.loop-other.other c.args.thread
+    differ : Bool
+    differ = not (nat_eq c.args.thread c.in-Some.other)
 
-    apart : Bool
-    apart = independent c.args.program.now c.args.state.now c.args.thread c.loop-other.other
+    both_apart : Bool
+    both_apart = apart (next_of c.args.program.now c.args.state.now c.args.thread) (next_of c.args.program.now c.args.state.now c.in-Some.other)
 
-    rest : (c.if-has.goes_on && apart) ≡ (enabled && (tried && apart))
-    rest = ap (λ b. b && apart) (goes_on_is c) ∙ both enabled tried apart
+    enabled : is_enabled c.args.program.now c.args.state.now c.in-Some.other ≡ true
+    enabled = sym (c.requires.enabled c.in-Some.other) ∙ c.in-Some.ensures.member.0
+
+    here : c.if-tried.sleeps ≡ (c.if-is_tried.tried && both_apart)
+    here = elim c.if-tried.branch [
+      | then-tried w ↦ w.sleeps-is ∙ (w.next_apart-sleeps.ensures ∙ ((λ i. apart (c.next-step.ensures.value i) (w.next.ensures.value i)) ∙ ap (λ b. b && both_apart) (sym w.if-tried.true)))
+      | else-tried w ↦ w.sleeps-is ∙ (w.if-tried.false ∙ ap (λ b. b && both_apart) (sym w.if-tried.false))
+    ]
+
+-- who is not enabled doesn't sleep
+disabled : (p : Program) (s : Snapshot) (asleep : Mask) (t v : ℕ) → is_enabled p s v ≡ false → false ≡ next_sleep_set p s (has asleep) t v
+disabled p s asleep t v off = ap (λ e. e && ((has asleep v || nat_lt v t) && independent p s t v)) (sym off)
 
 pub loop-other-preserved : goal.loop-other-preserved
 loop-other-preserved c = record {
   fits = search rules;
+  near = omega (arith, c.in-Some.ensures.member.2);
   below = below_more _ _
-      (λ k h. let ne : k ≢ c.loop-other.other = omega arith in c.with-sleepers.ensures.others k ne ∙ c.loop-other.invariant.below k h)
+      (λ k h. let ne : k ≢ c.in-Some.other = omega (arith, h) in c.with-sleepers.ensures.others k ne ∙ elim (cases_lt k c.loop-other.from) [
+        | inl a ↦ c.loop-other.invariant.below k a
+        | inr b ↦ c.loop-other.invariant.above k b ∙ disabled c.args.program.now c.args.state.now c.args.asleep c.args.thread k (sym (c.requires.enabled k) ∙ c.in-Some.ensures.none k b h)
+      ])
       (c.with-sleepers.ensures.same ∙ sleeps_is c);
-  above = λ k h. let ne : k ≢ c.loop-other.other = omega arith in c.with-sleepers.ensures.others k ne ∙ c.loop-other.invariant.above k (omega arith);
+  above = λ k h. let ne : k ≢ c.in-Some.other = omega (arith, h) in c.with-sleepers.ensures.others k ne ∙ c.loop-other.invariant.above k (omega (arith, h, c.in-Some.ensures.member.1));
 }
 
 pub returns : goal.returns
 returns c =
-    is_mask_of c.loop-other.sleepers (next_sleep_set c.args.program.now c.args.state.now (has c.args.asleep) c.args.thread) c.loop-other.invariant.fits (λ t l. elim (cases_lt t c.loop-other.other) [
+    is_mask_of c.loop-other.sleepers (next_sleep_set c.args.program.now c.args.state.now (has c.args.asleep) c.args.thread) c.loop-other.invariant.fits (λ t l. elim (cases_lt t c.loop-other.from) [
       | inl a ↦ c.loop-other.invariant.below t a
-      | inr b ↦ c.loop-other.invariant.above t b
-          ∙ sym (ap (λ e. e && ((has c.args.asleep t || nat_lt t c.args.thread) && independent c.args.program.now c.args.state.now c.args.thread t)) (disabled_past c.args.program.now c.args.state.now t (omega (arith, b, c.loop-other-test.false, c.threads-other-end.ensures.number, c.requires.of.threads))))
+      | inr b ↦ c.loop-other.invariant.above t b ∙ disabled c.args.program.now c.args.state.now c.args.asleep c.args.thread t (sym (c.requires.enabled t) ∙ none_left c.args.enabled c.loop-other.from t c.in_default.ensures.list b l)
     ])

@@ -1,4 +1,4 @@
-use Rattle.std.proofs.Common.{◌≡◌, ◌≤◌, ◌+◌, ◌-◌, length, drop, IsTrue, IsFalse, cond}
+use Rattle.std.proofs.Common.{◌≡◌, ◌≤◌, ◌+◌, ◌-◌, length, IsTrue, IsFalse, cond}
 use Rattle.guest_code.specs.declared.limits.TheConstants.{LOCALS}
 use Rattle.semantics.specs.Machine.{run_from}
 use Rattle.semantics.specs.Undoing.{restored}

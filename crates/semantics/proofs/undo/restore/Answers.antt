@@ -1,4 +1,4 @@
-use Rattle.std.proofs.Common.{rules, arith, ◌≡◌, ◌∙◌, ◌+◌, ◌<◌, ℕ, suc, length, ℤ, pos, List, get_or, set, take, drop, ◌++◌, refl, ap, w64, length-set, of_z, to_z, FitsSigned, sym}
+use Rattle.std.proofs.Common.{rules, arith, ◌≡◌, ◌∙◌, ◌+◌, ◌<◌, ℕ, suc, length, ℤ, pos, List, get_or, set, take, drop, ◌++◌, ap, w64, length-set, of_z, to_z, FitsSigned}
 use Rattle.std.proofs.lemmas.Int.{to_z-of_z}
 use Rattle.guest_code.specs.declared.limits.TheConstants.{LOCALS}
 use Rattle.semantics.proofs.Undone.{restore_step}

@@ -1,4 +1,4 @@
-use Rattle.std.proofs.Common.{rules, ◌≡◌, ◌<◌, ◌≤◌, ◌+◌, ◌^◌, arith}
+use Rattle.std.proofs.Common.{rules, ◌<◌, ◌^◌, arith}
 use Rattle.semantics.proofs.Masks.{members_past, no_more, next_one}
 use Rattle.semantics.proofs.mask.Mask.first_from.Goals as goal
 

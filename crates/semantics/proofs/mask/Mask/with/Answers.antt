@@ -1,11 +1,7 @@
-use Rattle.std.proofs.Common.{rules, ◌≡◌, ◌≢◌, ◌<◌, ◌≤◌, ◌+◌, ◌-◌, ◌*◌, ◌/◌, ◌%◌, ◌^◌, ◌∙◌, ◌∷◌, [], ℕ, arith, sym, ap, inl, inr, nat_eq, refl, true, false, min, subst}
+use Rattle.std.proofs.Common.{rules, ◌≡◌, ◌<◌, ◌-◌, ◌*◌, ◌%◌, ◌^◌, ◌∙◌, ℕ, arith, sym, ap, inl, inr, nat_eq, min}
 use Rattle.std.specs.Int.{bit_at, w16}
-use Rattle.std.specs.Int.Bits.{bit_and}
 use Rattle.std.proofs.lemmas.Bool.{cases_lt}
-use Rattle.std.proofs.lemmas.Bool.Decides.{nat_tests}
 use Rattle.std.proofs.lemmas.Nat.Bits.{bit_at_above, bit_at_set_same, bit_at_set_other, bit_at_clear_same, bit_at_clear_other, bit_at_and}
-use Rattle.semantics.specs.Mask.{has, members_from}
-use Rattle.semantics.proofs.Masks.{members_past, no_more, next_one}
 use Rattle.semantics.proofs.mask.Mask.with.Goals as goal
 
 least : (n : ℕ) → min 0 n ≡ 0

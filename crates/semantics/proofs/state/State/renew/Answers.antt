@@ -1,4 +1,4 @@
-use Rattle.std.proofs.Common.{◌<◌, ◌≤◌, ◌∙◌, length, arith, subst}
+use Rattle.std.proofs.Common.{◌<◌, ◌∙◌, arith, subst}
 use Rattle.guest_code.specs.declared.limits.TheConstants.{THREADS}
 use Rattle.semantics.specs.declared.action.Others.{Others}
 use Rattle.semantics.specs.inner.Recording.{Changes}

@@ -1,6 +1,5 @@
-use Rattle.std.proofs.Common.{◌≡◌, ◌≢◌, ◌<◌, ◌≤◌, ◌+◌, ◌∙◌, ℕ, Bool, true, false, cond, length, inl, inr, arith, below_more, sym, ap}
+use Rattle.std.proofs.Common.{◌≡◌, ◌≢◌, ◌<◌, ◌∙◌, ℕ, true, cond, length, inl, inr, arith, below_more, sym, ap}
 use Rattle.std.proofs.lemmas.Bool.{cases_lt}
-use Rattle.guest_code.specs.declared.limits.TheConstants.{THREADS}
 use Rattle.semantics.specs.Machine.{is_enabled}
 use Rattle.semantics.specs.Mask.{has}
 use Rattle.semantics.proofs.Masks.{none_left}
