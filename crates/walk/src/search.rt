@@ -79,12 +79,7 @@ impl Found {
     }
 
     // Puts off the steps of these threads, of which this is the first, after the others.
-    fn put_off_all(
-        &mut self,
-        steps: &mut Vec<u8>,
-        past: Mask,
-        first: u8,
-    ) -> Result<(), AllocError>
+    fn put_off_all(&mut self, steps: &mut Vec<u8>, past: Mask, first: u8) -> Result<(), AllocError>
         requires shared { IsShared steps.old.items self.old }
         requires first { members_from past 0 ≡ first ∷ members_from past (first + 1) }
         requires fits { first < THREADS }
