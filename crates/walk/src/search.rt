@@ -54,7 +54,6 @@ impl Found {
         ensures deferred { OnOk result (self.new.deferred
             ≡ self.old.deferred ++ (steps.old.items ++ thread ∷ []) ∷ []) }
         ensures shared { OnOk result (IsShared steps.old.items self.new) }
-        ensures all { OnOk result (self.new.shared ≡ length steps.old.items) }
     {
         steps.push(thread)?;
         let pushed = self.deferred.push_after(self.shared, &steps[self.shared..]);
@@ -65,45 +64,25 @@ impl Found {
         Ok(())
     }
 
-    // The same after a step of another thread was put off there.
-    fn put_off_beside(&mut self, _steps: &[u8], thread: u8) -> Result<(), AllocError>
-        requires shared { IsShared _steps.now self.old }
-        requires all { self.old.shared ≡ length _steps.now }
-        ensures part { self.new.part ≡ self.old.part }
-        ensures deferred { OnOk result (self.new.deferred
-            ≡ self.old.deferred ++ (_steps.now ++ thread ∷ []) ∷ []) }
-        ensures shared { OnOk result (IsShared _steps.now self.new) }
-        ensures all { self.new.shared ≡ length _steps.now }
-    {
-        self.deferred.push_after(self.shared, &[thread])
-    }
-
-    // Puts off the steps of these threads, of which this is the first, after the others.
-    fn put_off_all(
-        &mut self,
-        steps: &mut Vec<u8>,
-        past: Mask,
-        first: u8,
-    ) -> Result<(), AllocError>
-        requires shared { IsShared steps.old.items self.old }
-        requires first { members_from past 0 ≡ first ∷ members_from past (first + 1) }
-        requires fits { first < THREADS }
+    // Puts off the steps of these threads after the others.
+    fn put_off_all(&mut self, steps: &mut Vec<u8>, past: Mask) -> Result<(), AllocError>
+        requires { IsShared steps.old.items self.old }
         ensures steps { steps.new.items ≡ steps.old.items }
-        ensures part { OnOk result (self.new.part ≡ with_beyond self.old.part true) }
+        ensures part { OnOk result (self.new.part ≡ with_beyond self.old.part
+            (self.old.part.beyond || not (is_empty (members_from past 0)))) }
         ensures deferred { OnOk result (self.new.deferred ≡ self.old.deferred
             ++ map (λ t. steps.old.items ++ t ∷ []) (members_from past 0)) }
         ensures shared { OnOk result (IsShared steps.old.items self.new) }
     {
-        self.put_off(steps, first)?;
-        let mut next = first + 1;
+        let mut next = 0;
         while let Some(thread) = past.first_from(next) {
-            self.put_off_beside(steps.as_slice(), thread)?;
+            self.put_off(steps, thread)?;
             next = thread + 1;
         }
         Ok(())
     }
 
-    // Puts off the steps of these threads, if there are any, after the others.
+    // The same, where there often is none.
     #[inline(always)]
     fn defer(&mut self, steps: &mut Vec<u8>, past: Mask) -> Result<(), AllocError>
         requires { IsShared steps.old.items self.old }
@@ -116,7 +95,7 @@ impl Found {
     {
         match past.first_from(0) {
             None => Ok(()),
-            Some(first) => self.put_off_all(steps, past, first),
+            Some(_) => self.put_off_all(steps, past),
         }
     }
 

@@ -17,12 +17,12 @@ use std::alloc::{AllocError, Global};
 /// tried, and how it was come to.
 #[derive(Clone, Copy, Debug)]
 pub struct Node {
+    /// The thread of the last step.
+    pub last: Option<u8>,
     pub enabled: Mask,
     pub asleep: Mask,
     /// The threads whose steps are still to be tried.
     pub todo: Mask,
-    /// The thread of the last step.
-    pub last: Option<u8>,
     /// The preemptions so far.
     pub used: u32,
 }
@@ -86,7 +86,7 @@ impl Frame {
                 enabled: Mask::empty(),
                 asleep: Mask::empty(),
                 todo: Mask::empty(),
-                    last: None,
+                last: None,
                 used: 0,
             },
             thread: 0,
