@@ -1,22 +1,23 @@
 //! What the program answers to a request, as a value: the bytes for each stream, and the status.
 
-ghost use Rattle.std.specs.Prelude.{◌≡◌, ◌≤◌};
-ghost use Rattle.runner.specs.Promises.{IsSearch};
+ghost use Rattle.std.specs.Prelude.{◌≡◌};
 ghost use Rattle.ctxbound.specs.Answer.{ReplayMeans, ExplorationMeans, IsAnswerTo};
 ghost use Rattle.ctxbound.specs.Status.{replay_status, verdict_status};
 ghost use Rattle.ctxbound.specs.Serve.{IsWritten};
 
-use crate::asked::Asked;
+use crate::asked::{Asked, Exploration};
 use crate::fault::Fault;
 use guest_code::lowering::lower;
 use guest_syntax::parse;
 use replay::{replay, schedule_from, trace_text};
-use runner::{Options, Verdict, explore_text_alone, report_text};
+use runner::{Open, Verdict, report_text};
 use semantics::view::Kind;
 use std::alloc::Global;
 use std::io;
 use std::io::Write;
 use std::marker::Model;
+use std::sync::Wait;
+use std::thread::Threads;
 
 /// What the program prints where it did what it was asked for, and the status that it ends with.
 #[derive(Debug, Drop)]
@@ -58,18 +59,23 @@ pub fn replay_status(kind: Option<Kind>) -> u8
     }
 }
 
-/// The report of a search of the program that `text` spells, and a line feed.
+/// The report of a search of the program that `text` spells, by as many workers as asked for, and a
+/// line feed.
 ///
 /// # Errors
 ///
 /// What is wrong first, with the text or with the program that it spells; `Memory` where memory
 /// runs out.
-pub fn explore_text(alloc: Global, text: &[u8], options: Options) -> Result<Printed, Fault>
-    requires search { IsSearch options.search }
-    requires quota { 1 ≤ options.quota }
-    ensures { ExplorationMeans text.now options result }
+pub fn explore_text<R: Threads + Wait + Sync>(
+    rt: &R,
+    alloc: Global,
+    text: &[u8],
+    asked: Exploration,
+) -> Result<Printed, Fault>
+    ensures { ExplorationMeans text.now asked.options result }
 {
-    let report = explore_text_alone(alloc, text, options)?;
+    let Exploration { options, workers } = asked;
+    let report = runner::explore_text(rt, alloc, text, options, workers, &Open)?;
     let mut output = report_text(alloc, &report)?;
     output.push(b'\n')?;
     Ok(Printed {
@@ -107,7 +113,12 @@ impl Model for Answer {
 
 impl Answer {
     /// The answer to a request, where the reader gave this text or failed so.
-    pub fn new(alloc: Global, asked: &Asked, given: Result<Vec<u8>, Fault>) -> Answer
+    pub fn new<R: Threads + Wait + Sync>(
+        rt: &R,
+        alloc: Global,
+        asked: &Asked,
+        given: Result<Vec<u8>, Fault>,
+    ) -> Answer
         ensures { IsAnswerTo asked.now given result }
     {
         let result = match (given, asked) {
@@ -115,7 +126,7 @@ impl Answer {
                 replay_text(alloc, text.as_slice(), schedule.as_bytes())
             }
             (Ok(text), Asked::Explore(asked)) => {
-                explore_text(alloc, text.as_slice(), asked.options)
+                explore_text(rt, alloc, text.as_slice(), *asked)
             }
             (Err(fault), _) => Err(fault),
         };

@@ -10,6 +10,8 @@ use crate::fault::Fault;
 use guest_syntax::TEXT_BYTES;
 use std::alloc::Global;
 use std::io::{Read, Write};
+use std::sync::Wait;
+use std::thread::Threads;
 
 /// The text of a guest program, or one byte more than a program may have where it is too long.
 fn read_text<R: Read>(alloc: Global, input: &mut R) -> Result<Vec<u8>, Fault>
@@ -36,7 +38,8 @@ fn write_out<W: Write>(out: &mut W, output: &[u8]) -> Result<(), Fault>
 
 /// Does what is asked with the guest program that `input` gives: the answer goes to `out`, the
 /// line of a fault to `err`. Answers the status that the program ends with.
-pub fn serve<R: Read, W: Write, E: Write>(
+pub fn serve<H: Threads + Wait + Sync, R: Read, W: Write, E: Write>(
+    rt: &H,
     alloc: Global,
     asked: &Asked,
     input: &mut R,
@@ -46,7 +49,7 @@ pub fn serve<R: Read, W: Write, E: Write>(
     ensures { IfSome (R.remaining input.old) (λ text. (result ≡ 4)
         ⊎ IsServed asked.now text (W.contents out.old) (W.contents out.new) result) }
 {
-    let answer = Answer::new(alloc, asked, read_text(alloc, input));
+    let answer = Answer::new(rt, alloc, asked, read_text(alloc, input));
     match write_out(out, answer.output()) {
         Ok(()) => {
             let _ = answer.write_error(err);

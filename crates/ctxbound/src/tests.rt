@@ -16,7 +16,9 @@ use crate::tests::rows::{RACE, REFUSALS, TRACES};
 use crate::words::asked;
 use std::alloc::{Alloc, Global};
 use std::process::Abort;
+use std::sync::Wait;
 use std::test::*;
+use std::thread::Threads;
 
 const FILE_FAULT: &[u8] = b"ctxbound: file\n";
 
@@ -55,23 +57,32 @@ fn search(alloc: Global, line: &str) -> Result<Asked, Fail> {
 }
 
 /// What the program writes on both streams, and the status that it ends with.
-fn answered(alloc: Global, text: &[u8], request: &Asked) -> Result<(Vec<u8>, Vec<u8>, u8), Fail> {
+fn answered(
+    rt: &(impl Threads + Wait + Sync + Alloc<A = Global>),
+    text: &[u8],
+    request: &Asked,
+) -> Result<(Vec<u8>, Vec<u8>, u8), Fail> {
+    let alloc = rt.alloc();
     let mut input = text;
     let mut out = Vec::new(alloc);
     let mut err = Vec::new(alloc);
-    let status = serve(alloc, request, &mut input, &mut out, &mut err);
+    let status = serve(rt, alloc, request, &mut input, &mut out, &mut err);
     Ok((out, err, status))
 }
 
 /// The same of a replay.
-fn served(alloc: Global, text: &[u8], schedule: &str) -> Result<(Vec<u8>, Vec<u8>, u8), Fail> {
-    answered(alloc, text, &request(alloc, schedule)?)
+fn served(
+    rt: &(impl Threads + Wait + Sync + Alloc<A = Global>),
+    text: &[u8],
+    schedule: &str,
+) -> Result<(Vec<u8>, Vec<u8>, u8), Fail> {
+    answered(rt, text, &request(rt.alloc(), schedule)?)
 }
 
 #[test]
 fn prints_traces(rt: HostRuntime) -> Result<(), Fail> {
     for (text, schedule, trace, want) in TRACES.iter() {
-        let (out, err, status) = served(rt.alloc(), text.as_bytes(), schedule)?;
+        let (out, err, status) = served(&rt, text.as_bytes(), schedule)?;
         assert_eq!(rt; out.as_slice(), trace.as_bytes(), "{text} with {schedule}");
         assert_eq!(rt; err.len(), 0, "{text} with {schedule}");
         assert_eq!(rt; status, *want, "{text} with {schedule}");
@@ -82,7 +93,7 @@ fn prints_traces(rt: HostRuntime) -> Result<(), Fail> {
 #[test]
 fn prints_refusals(rt: HostRuntime) -> Result<(), Fail> {
     for (text, schedule, line) in REFUSALS.iter() {
-        let (out, err, status) = served(rt.alloc(), text.as_bytes(), schedule)?;
+        let (out, err, status) = served(&rt, text.as_bytes(), schedule)?;
         assert_eq!(rt; out.len(), 0, "{text} with {schedule}");
         assert_eq!(rt; err.as_slice(), line.as_bytes(), "{text} with {schedule}");
         assert_eq!(rt; status, 2, "{text} with {schedule}");
@@ -92,12 +103,12 @@ fn prints_refusals(rt: HostRuntime) -> Result<(), Fail> {
 
 /// Compares the reports of searches.
 fn prints_reports(
-    rt: &(impl Abort + Alloc<A = Global>),
+    rt: &(impl Abort + Threads + Wait + Sync + Alloc<A = Global>),
     rows: &[(&str, &str, &str, u8)],
 ) -> Result<(), Fail> {
     let alloc = rt.alloc();
     for (text, line, report, want) in rows {
-        let (out, err, status) = answered(alloc, text.as_bytes(), &search(alloc, line)?)?;
+        let (out, err, status) = answered(rt, text.as_bytes(), &search(alloc, line)?)?;
         let report = format!(in alloc; "{report}\n")?;
         assert_eq!(rt; out.as_slice(), report.as_bytes(), "{line} of {text}");
         assert_eq!(rt; err.len(), 0, "{line} of {text}");
@@ -132,7 +143,7 @@ fn tells_a_text_that_cannot_be_searched(rt: HostRuntime) -> Result<(), Fail> {
         ),
     ] {
         let (out, err, status) = answered(
-            alloc,
+            &rt,
             text.as_bytes(),
             &search(alloc, "unbounded FILE")?,
         )?;
@@ -144,11 +155,12 @@ fn tells_a_text_that_cannot_be_searched(rt: HostRuntime) -> Result<(), Fail> {
 
 /// Serves a request over a reader that fails at this call.
 fn reader_fails(
-    alloc: Global,
+    rt: &(impl Threads + Wait + Sync + Alloc<A = Global>),
     request: &Asked,
     text: &str,
     fails_at: usize,
 ) -> Result<(u8, usize, usize, Vec<u8>), Fail> {
+    let alloc = rt.alloc();
     let mut input = FailingReader {
         text: text.as_bytes(),
         fails_at,
@@ -156,40 +168,40 @@ fn reader_fails(
     };
     let mut out = Vec::new(alloc);
     let mut err = Vec::new(alloc);
-    let status = serve(alloc, request, &mut input, &mut out, &mut err);
+    let status = serve(rt, alloc, request, &mut input, &mut out, &mut err);
     Ok((status, out.len(), input.calls, err))
 }
 
 /// Serves a request over a writer that fails at this call.
 fn writer_fails(
-    alloc: Global,
+    rt: &(impl Threads + Wait + Sync + Alloc<A = Global>),
     request: &Asked,
     text: &str,
     fails_at: usize,
 ) -> Result<(u8, usize, Vec<u8>), Fail> {
+    let alloc = rt.alloc();
     let mut input = text.as_bytes();
     let mut out = FailingWriter::at(fails_at);
     let mut err = Vec::new(alloc);
-    let status = serve(alloc, request, &mut input, &mut out, &mut err);
+    let status = serve(rt, alloc, request, &mut input, &mut out, &mut err);
     Ok((status, out.calls, err))
 }
 
 /// Each call of a device fails in turn: the program says so, and doesn't try it again.
 fn devices_fail(
-    rt: &(impl Abort + Alloc<A = Global>),
+    rt: &(impl Abort + Threads + Wait + Sync + Alloc<A = Global>),
     request: &Asked,
     text: &str,
 ) -> Result<(), Fail> {
-    let alloc = rt.alloc();
     for fails_at in 0..=text.len() {
-        let (status, written, calls, err) = reader_fails(alloc, request, text, fails_at)?;
+        let (status, written, calls, err) = reader_fails(rt, request, text, fails_at)?;
         assert_eq!(rt; (status, written, calls), (4, 0, fails_at + 1));
         assert_eq!(rt; err.as_slice(), FILE_FAULT);
     }
-    let (output, _, _) = answered(alloc, text.as_bytes(), request)?;
+    let (output, _, _) = answered(rt, text.as_bytes(), request)?;
     assert!(rt; output.len() > 0);
     for fails_at in 0..=output.len() {
-        let (status, calls, err) = writer_fails(alloc, request, text, fails_at)?;
+        let (status, calls, err) = writer_fails(rt, request, text, fails_at)?;
         assert_eq!(rt; (status, calls), (4, fails_at + 1));
         assert_eq!(rt; err.as_slice(), FILE_FAULT);
     }
@@ -230,7 +242,7 @@ fn after<'a>(text: &'a [u8], begins: &str) -> Result<&'a str, Fail> {
 fn is_cut_short_in_a_bound(rt: HostRuntime) -> Result<(), Fail> {
     let alloc = rt.alloc();
     let request = search(alloc, "explore FILE --bound 0 --limit 1000")?;
-    let (out, _, status) = answered(alloc, EIGHT_STORES.as_bytes(), &request)?;
+    let (out, _, status) = answered(&rt, EIGHT_STORES.as_bytes(), &request)?;
     assert_eq!(rt; status, 3);
     let tried = number_in(after(out.as_slice(), CUT_SHORT)?);
     assert!(rt; tried >= 1000 && tried <= 17383, "{tried}");
@@ -244,7 +256,7 @@ fn keeps_its_status_where_a_stream_fails(rt: HostRuntime) -> Result<(), Fail> {
     let mut out = FailingWriter::at(0);
     let mut err = Vec::new(alloc);
     let mut input = RACE.as_bytes();
-    assert_eq!(rt; serve(alloc, &request, &mut input, &mut out, &mut err), 2);
+    assert_eq!(rt; serve(&rt, alloc, &request, &mut input, &mut out, &mut err), 2);
     assert_eq!(rt; out.calls, 0);
     assert_eq!(rt;
         err.as_slice(),
@@ -252,7 +264,7 @@ fn keeps_its_status_where_a_stream_fails(rt: HostRuntime) -> Result<(), Fail> {
     );
     let mut input = RACE.as_bytes();
     let mut err = FailingWriter::at(0);
-    assert_eq!(rt; serve(alloc, &request, &mut input, &mut out, &mut err), 2);
+    assert_eq!(rt; serve(&rt, alloc, &request, &mut input, &mut out, &mut err), 2);
     let mut err = FailingWriter::at(0);
     assert_eq!(rt; Fault::Memory.report(&mut err), 4);
     Ok(())

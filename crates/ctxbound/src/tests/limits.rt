@@ -18,11 +18,11 @@ fn spaces(alloc: Global, count: usize) -> Result<Vec<u8>, Fail> {
 #[test]
 fn keeps_its_limits(rt: HostRuntime) -> Result<(), Fail> {
     let most = spaces(rt.alloc(), 65_536)?;
-    let (_, err, _) = served(rt.alloc(), most.as_slice(), "-")?;
+    let (_, err, _) = served(&rt, most.as_slice(), "-")?;
     assert_eq!(rt; err.as_slice(), &b"ctxbound: check C4 NoThreads\n"[..]);
     for count in [65_537, 200_000] {
         let text = spaces(rt.alloc(), count)?;
-        let (_, err, status) = served(rt.alloc(), text.as_slice(), "x")?;
+        let (_, err, status) = served(&rt, text.as_slice(), "x")?;
         assert_eq!(rt;
             err.as_slice(),
             &b"ctxbound: syntax S5 TooLong at 1:1\n"[..]
@@ -50,11 +50,11 @@ fn runs_the_longest_thread(rt: HostRuntime) -> Result<(), Fail> {
     }
     want.extend_from_slice(b"preemptions 0\nkind done\nvars x=4\n")?;
     let all = zeros(alloc, 255)?;
-    let (out, _, status) = served(alloc, LONGEST.as_bytes(), all.as_str())?;
+    let (out, _, status) = served(&rt, LONGEST.as_bytes(), all.as_str())?;
     assert_eq!(rt; out.as_slice(), want.as_slice());
     assert_eq!(rt; status, 0);
     let more = zeros(alloc, 4_096)?;
-    let (_, err, status) = served(alloc, LONGEST.as_bytes(), more.as_str())?;
+    let (_, err, status) = served(&rt, LONGEST.as_bytes(), more.as_str())?;
     assert_eq!(rt;
         err.as_slice(),
         &b"ctxbound: schedule P2 NotEnabled at 256\n"[..]
@@ -75,7 +75,7 @@ fn reads_no_further_than_it_must(rt: HostRuntime) -> Result<(), Fail> {
     };
     let mut out = Vec::new(alloc);
     let mut err = Vec::new(alloc);
-    let status = serve(alloc, &request, &mut input, &mut out, &mut err);
+    let status = serve(&rt, alloc, &request, &mut input, &mut out, &mut err);
     assert_eq!(rt; (status, out.len(), input.calls), (2, 0, 65_537));
     assert_eq!(rt;
         err.as_slice(),
@@ -91,12 +91,12 @@ fn refuses_deep_blocks_and_other_bytes(rt: HostRuntime) -> Result<(), Fail> {
     for _ in 0..33 {
         deep.push_str("if 1 { ")?;
     }
-    let (_, err, _) = served(alloc, deep.as_bytes(), "x")?;
+    let (_, err, _) = served(&rt, deep.as_bytes(), "x")?;
     assert_eq!(rt;
         err.as_slice(),
         &b"ctxbound: syntax S6 TooDeep at 1:241\n"[..]
     );
-    let (_, err, _) = served(alloc, &b"# \xc3"[..], "x")?;
+    let (_, err, _) = served(&rt, &b"# \xc3"[..], "x")?;
     assert_eq!(rt;
         err.as_slice(),
         &b"ctxbound: syntax S1 NotAscii at 1:3\n"[..]
@@ -146,7 +146,7 @@ fn reads_each_cut(rt: HostRuntime) -> Result<(), Fail> {
     for cut in 0..text.len() {
         let (kept, rest) = text.split_at(cut);
         let want = line_of_cut(alloc, kept, rest)?;
-        let (out, err, status) = served(alloc, kept, "!")?;
+        let (out, err, status) = served(&rt, kept, "!")?;
         assert_eq!(rt; (out.len(), status), (0, 2), "cut at {cut}");
         assert_eq!(rt; err.as_slice(), want.as_bytes(), "cut at {cut}");
     }
@@ -167,12 +167,12 @@ fn takes_sixteen_threads(rt: HostRuntime) -> Result<(), Fail> {
     let alloc = rt.alloc();
     for names in ["ABCDEFGHI", "ABCDEFGHIJKLMNOP"] {
         let text = threads(alloc, names, "")?;
-        let (out, _, status) = served(alloc, text.as_slice(), "-")?;
+        let (out, _, status) = served(&rt, text.as_slice(), "-")?;
         assert_eq!(rt; out.as_slice(), &b"preemptions 0\nkind done\nvars\n"[..]);
         assert_eq!(rt; status, 0);
     }
     let text = threads(alloc, "ABCDEFGHIJKLMNOPQ", "")?;
-    let (_, err, status) = served(alloc, text.as_slice(), "-")?;
+    let (_, err, status) = served(&rt, text.as_slice(), "-")?;
     assert_eq!(rt;
         err.as_slice(),
         &b"ctxbound: check C5 TooMany at 1:216\n"[..]
@@ -195,7 +195,7 @@ fn replays_sixteen_threads(rt: HostRuntime) -> Result<(), Fail> {
         writeln!(want, "{step} {name} add x {step} {}", step + 1)?;
     }
     want.extend_from_slice(b"preemptions 0\nkind done\nvars x=32\n")?;
-    let (out, err, status) = served(alloc, text.as_slice(), schedule)?;
+    let (out, err, status) = served(&rt, text.as_slice(), schedule)?;
     assert_eq!(rt; out.as_slice(), want.as_slice());
     assert_eq!(rt; (err.len(), status), (0, 0));
     Ok(())
