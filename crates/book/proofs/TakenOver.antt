@@ -1,7 +1,8 @@
 -- Lists that grow by what a walk left, and shrink again where a later step is refused.
-use Rattle.std.proofs.Common.{◌≡◌, ℕ, zero, suc, ◌<◌, List, [], ◌∷◌, ◌++◌, length, take, refl, ap, sym, ◌∙◌, arith, append_assoc}
+use Rattle.std.proofs.Common.{◌≡◌, ℕ, zero, suc, ◌<◌, ◌≤◌, Bool, true, false, Option, None, List, [], ◌∷◌, ◌++◌, length, take, refl, ap, sym, ◌∙◌, arith, append_assoc}
 use Rattle.std.specs.List.{remove}
 use Rattle.std.proofs.lemmas.List.{take_at}
+use Rattle.semantics.specs.Order.{lesser}
 use Rattle.guest_code.specs.Program.{Program}
 use Rattle.walk.specs.Summaries.{SummaryView}
 use Rattle.walk.specs.Items.{ItemView}
@@ -35,3 +36,24 @@ pub same_book : (b : BookView) (finished : SummaryView) (open_items deferred : L
     record b { finished = finished; open_items = open_items; deferred = deferred } ≡ b
 same_book b finished open_items deferred e f g =
     λ k. record b { finished = e k; open_items = f k; deferred = g k }
+
+-- where a quick book has found a bad schedule it packs no more
+pub packs_none : (packs quick : Bool) (first part : Option (List ℕ)) →
+    (packs ≡ true → quick ≡ true → (first ≡ None) × (part ≡ None)) → quick ≡ true →
+    (first ≡ None → ⊥) → packs ≡ false
+packs_none true quick first part h q bad = absurd (bad (h refl q).0)
+packs_none false quick first part h q bad = refl
+
+pub loose_after : (packs quick : Bool) (first part after : Option (List ℕ))
+    (open_items deferred : List (List ℕ)) →
+    (packs ≡ true → quick ≡ true → (first ≡ None) × (part ≡ None)) →
+    (packs ≡ false → (open_items ≡ []) × (deferred ≡ [])) → after ≡ lesser first part →
+    quick ≡ true → (after ≡ None → ⊥) → (open_items ≡ []) × (deferred ≡ [])
+loose_after true quick first part after open_items deferred h k e q bad =
+    let none = h refl q in
+    absurd (bad (e ∙ (λ i. lesser (none.0 i) (none.1 i))))
+loose_after false quick first part after open_items deferred h k e q bad = k refl
+
+pub none_there : (packed : List (List ℕ)) (n : ℕ) → length packed ≤ n → n ≡ 0 → packed ≡ []
+none_there [] n h e = refl
+none_there (x ∷ xs) n h e = absurd (omega (arith, h, e))

@@ -1,5 +1,5 @@
 -- How a book holds its items.
-use Rattle.std.specs.Prelude.{◌≡◌, ℕ, Bool, true, List, [], ◌++◌}
+use Rattle.std.specs.Prelude.{◌≡◌, ℕ, Bool, true, List, [], ◌++◌, Option, None}
 use Rattle.std.specs.declared.alloc.Global.{Global}
 use Rattle.std.specs.declared.vec.Vec.{Vec}
 use Rattle.guest_code.specs.Program.{Program}
@@ -20,7 +20,7 @@ list_view packed loose = record { packed = packed; loose = loose.items }
 abbrev pub all_of : Program → ListView → List ItemView
 all_of p l = items_at p l.packed ++ l.loose
 
--- a quick book, which drops items in place, packs none
-abbrev pub IsLoose : Bool → ListView → ListView → Type 0
-IsLoose quick open_items deferred =
-    quick ≡ true → (open_items.packed ≡ []) × (deferred.packed ≡ [])
+-- a quick book that found a bad schedule, and so drops items in place, packs none
+abbrev pub IsLoose : Bool → Option (List ℕ) → ListView → ListView → Type 0
+IsLoose quick first_bad open_items deferred =
+    quick ≡ true → (first_bad ≡ None → ⊥) → (open_items.packed ≡ []) × (deferred.packed ≡ [])

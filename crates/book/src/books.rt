@@ -51,7 +51,7 @@ impl Model for Book {
 
     ghost view = { λ b. book_view b.program b.mode b.finished b.open_items b.deferred b.quick b.dropped };
 
-    ghost invariant = { λ b. Keeps (book_view b.program b.mode b.finished b.open_items b.deferred b.quick b.dropped) × IsSwept b.swept (book_view b.program b.mode b.finished b.open_items b.deferred b.quick b.dropped) × IsLoose b.quick b.open_items b.deferred };
+    ghost invariant = { λ b. Keeps (book_view b.program b.mode b.finished b.open_items b.deferred b.quick b.dropped) × IsSwept b.swept (book_view b.program b.mode b.finished b.open_items b.deferred b.quick b.dropped) × IsLoose b.quick b.finished.first_bad b.open_items b.deferred };
 }
 
 impl Book {
@@ -311,7 +311,12 @@ impl Book {
         requires is_open { IsOpenAt self.old walked.item place }
         ensures { self.new ≡ (if is_ok result then settled self.old walked place else self.old) }
     {
-        self.open_items.unpack_from(alloc, &self.program, place)?;
+        let packs = is_packed(self.quick, &self.finished, walked.part());
+        self.open_items
+            .unpack_from(alloc, &self.program, first_loose(packs, place))?;
+        let deferred_length = self.deferred.length();
+        self.deferred
+            .unpack_from(alloc, &self.program, first_loose(packs, deferred_length))?;
         let quiet = is_quiet(&walked);
         let Parts {
             part,
@@ -320,8 +325,6 @@ impl Book {
         } = walked.into_parts();
         let open_length = self.open_items.length();
         self.open_items.append(rest)?;
-        let deferred_length = self.deferred.length();
-        let packs = !self.quick;
         if let Err(error) = self
             .deferred
             .append_prefixes(alloc, &self.program, deferred, packs)
@@ -390,6 +393,23 @@ fn next_mode(mode: Mode) -> Option<Mode>
         }
         Mode::Reduced => None,
     }
+}
+
+// Whether a book packs prefixes after a walk: not where a quick one has found a bad schedule, since it
+// drops items in place.
+fn is_packed(quick: bool, finished: &Summary, part: &Summary) -> bool
+    ensures { IsTrue result → quick ≡ true →
+        (finished.now.first_bad ≡ None) × (part.now.first_bad ≡ None) }
+{
+    !quick || (finished.first_bad().is_none() && part.first_bad().is_none())
+}
+
+// The place from which on items are not packed: this one, where any are packed at all.
+fn first_loose(packs: bool, place: usize) -> usize
+    ensures place { result ≤ place }
+    ensures none { packs ≡ false → result ≡ 0 }
+{
+    if packs { place } else { 0 }
 }
 
 // Whether both hold.

@@ -94,9 +94,9 @@ pub past_before : (kept more start end : ℕ) (bytes last wanted : List ℕ) →
     kept + more ≡ common_length (before bytes last) wanted
 past_before kept more start end bytes last wanted es ee ek le em =
     let m : more ≡ common_length (tail_of bytes) (drop kept wanted) =
-        em ∙ (λ i. common_length (take (ee i - es i) (drop (es i) bytes)) (take_rest wanted kept i)) in
+    em ∙ (λ i. common_length (take (ee i - es i) (drop (es i) bytes)) (take_rest wanted kept i)) in
     let p : common_length (take kept last ++ tail_of bytes) wanted
-        ≡ kept + common_length (tail_of bytes) (drop kept wanted) =
-        common_past kept last (tail_of bytes) wanted (omega (arith, ek)) le in
+    ≡ kept + common_length (tail_of bytes) (drop kept wanted) =
+    common_past kept last (tail_of bytes) wanted (omega (arith, ek)) le in
     ap (λ x. kept + x) m
     ∙ (sym p ∙ ap (λ k. common_length (take k last ++ tail_of bytes) wanted) ek)

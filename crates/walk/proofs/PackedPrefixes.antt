@@ -328,7 +328,7 @@ pub seek_found : (list : List (List ℕ)) (wanted : List ℕ) (place : ℕ)
     shared ≡ steps → steps ≡ length wanted → slice_get list (place - 1) ≡ Some wanted
 seek_found list wanted place bytes steps shared some s e f =
     let is : s.last ≡ wanted =
-        same_where s.last wanted (sym s.alike ∙ (e ∙ s.long)) (sym s.long ∙ f) in
+    same_where s.last wanted (sym s.alike ∙ (e ∙ s.long)) (sym s.long ∙ f) in
     stands_at list wanted place bytes steps shared some s ∙ ap (λ w. Some w) is
 
 -- the search goes on, where the prefix isn't the wanted one
@@ -360,18 +360,20 @@ seek_before list wanted place bytes rest steps shared steps' shared' some s othe
     shorter : take (length (take place list) - 1) (take place list) ≡ take (place - 1) list
     shorter =
         let n : length (take place list) - 1 ≡ place - 1
-            = omega (arith, length-take place list, s.within) in
+        = omega (arith, length-take place list, s.within) in
         ap (λ n. take n (take place list)) n
         ∙ take-take (place - 1) place list (omega arith)
 
     here : (d : List ℕ) → slice_index_or list (place - 1) d ≡ wanted → ⊥
     here d is =
         let at : slice_index_or list (place - 1) d ≡ s.last =
-            got_at list (place - 1) s.last d
-            (stands_at list wanted place bytes steps shared some s) in
+        got_at list (place - 1) s.last d
+        (stands_at list wanted place bytes steps shared some s) in
         let same : s.last ≡ wanted = sym at ∙ is in
-        other (s.alike ∙ (ap (λ w. common_length s.last w) (sym same) ∙ (where_same s.last ∙ sym s.long)),
-        s.long ∙ ap length same)
+        other (
+          s.alike ∙ (ap (λ w. common_length s.last w) (sym same) ∙ (where_same s.last ∙ sym s.long)),
+          s.long ∙ ap length same,
+        )
 
     none-at : (j : ℕ) (d : List ℕ) → place - 1 ≤ j → j < length list →
         slice_index_or list j d ≡ wanted → ⊥
@@ -389,10 +391,14 @@ end_within b = elim (nat_lt (head_of b) 240) as (λ t. cond t (length b - 1) (le
 pub length-before : (b last : List ℕ) →
     length (before b last) ≡ length last - dropped_of b + (end_of b - start_of b)
 length-before b last =
-    omega (arith, length-append (take (length last - dropped_of b) last) (tail_of b),
-    length-take (length last - dropped_of b) last,
-    length-take (end_of b - start_of b) (drop (start_of b) b),
-    length-drop (start_of b) b, end_within b)
+    omega (
+      arith,
+      length-append (take (length last - dropped_of b) last) (tail_of b),
+      length-take (length last - dropped_of b) last,
+      length-take (end_of b - start_of b) (drop (start_of b) b),
+      length-drop (start_of b) b,
+      end_within b,
+    )
 
 -- the prefix before fits
 pub before_fits : (list : List (List ℕ)) (wanted : List ℕ) (place : ℕ)
@@ -400,8 +406,13 @@ pub before_fits : (list : List (List ℕ)) (wanted : List ℕ) (place : ℕ)
     Seeks list wanted place bytes steps shared →
     steps - dropped_of bytes + (end_of bytes - start_of bytes) < 2 ^ 63
 before_fits list wanted place bytes steps shared some s =
-    omega (arith, s.long, length-before bytes s.last,
-    s.small, packed_before place bytes s.last s.first s.longest s.packed some)
+    omega (
+      arith,
+      s.long,
+      length-before bytes s.last,
+      s.small,
+      packed_before place bytes s.last s.first s.longest s.packed some,
+    )
 
 -- a search begins at the last prefix
 pub seek_start : (list : List (List ℕ)) (first wanted : List ℕ) (longest count : ℕ)
@@ -410,18 +421,18 @@ pub seek_start : (list : List (List ℕ)) (first wanted : List ℕ) (longest cou
     shared ≡ common_length last wanted → shared ≤ length wanted →
     Seeks list wanted count there steps shared
 seek_start list first wanted longest count bytes there last steps shared small packed e view f g h = record {
-    last = last;
-    first = first;
-    longest = longest;
-    small = small;
-    long = f;
-    alike = g;
-    few = h;
-    packed = subst (λ (b : List ℕ). IsPacked count b last first longest) (sym e) packed;
-    left = ap (λ b. listed count b last) e ∙ (view ∙ sym (take_all count list (omega (arith, many))));
-    within = omega (arith, many);
-    none = λ j d lo hi is. absurd (omega (arith, many, lo, hi));
-  }
+  last = last;
+  first = first;
+  longest = longest;
+  small = small;
+  long = f;
+  alike = g;
+  few = h;
+  packed = subst (λ (b : List ℕ). IsPacked count b last first longest) (sym e) packed;
+  left = ap (λ b. listed count b last) e ∙ (view ∙ sym (take_all count list (omega (arith, many))));
+  within = omega (arith, many);
+  none = λ j d lo hi is. absurd (omega (arith, many, lo, hi));
+}
   where
     many : length list ≡ count
     many = sym (ap length view) ∙ length-listed count bytes last

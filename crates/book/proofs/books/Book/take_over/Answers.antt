@@ -1,18 +1,19 @@
-use Rattle.std.proofs.Common.{rules, refl, ◌≡◌, ◌∙◌, ◌++◌, ◌<◌, not, sym, ap, subst, arith, length, length-append, true, false, [], Bool, List}
+use Rattle.std.proofs.Common.{rules, refl, ◌≡◌, ◌∙◌, ◌++◌, ◌<◌, not, sym, ap, subst, arith, length, length-append, None, true, false, [], Bool, List}
 use Rattle.std.specs.Arc.{arc_value}
 use Rattle.std.specs.List.{All, remove}
 use Rattle.guest_code.specs.Program.{Program}
 use Rattle.walk.specs.Items.{IsItem, ItemView}
 use Rattle.walk.specs.Walks.{WalkView, IsWalked, IsBelow, items_at}
 use Rattle.walk.proofs.ListParts.{all_right}
-use Rattle.walk.specs.Summaries.{join}
+use Rattle.walk.specs.Summaries.{SummaryView, join}
+use Rattle.walk.proofs.SumsJoin.{join_first_bad}
 use Rattle.book.specs.ItemLists.{all_of}
 use Rattle.book.specs.Books.{BookView, book_view, Keeps, IsSwept, IsWalkOf, IsOpenAt, settled}
 use Rattle.book.proofs.PackedItems.{below_run, length-all}
 use Rattle.book.proofs.Thinned.{settles_any}
 use Rattle.book.proofs.Swept.{settled_swept}
-use Rattle.book.proofs.TakenOver.{grown, taken_back, removed-left, same_book}
-use Rattle.book.proofs.OpenItems.{open_run}
+use Rattle.book.proofs.TakenOver.{grown, taken_back, removed-left, same_book, packs_none, loose_after, none_there}
+use Rattle.book.proofs.OpenItems.{open_run, deferred_run}
 use Rattle.book.proofs.books.Book.take_over.Goals as goal
 
 pub unpack_from-requires : goal.unpack_from-requires
@@ -20,6 +21,12 @@ unpack_from-requires c =
     let b : BookView = book_view c.self.inside.program c.self.inside.mode c.self.inside.finished
     c.self.inside.open_items c.self.inside.deferred c.self.inside.quick c.self.inside.dropped in
     open_run b c.self.inside.open_items refl c.self.invariant.0
+
+pub unpack_from-requires-2 : goal.unpack_from-requires-2
+unpack_from-requires-2 c =
+    let b : BookView = book_view c.self.inside.program c.self.inside.mode c.self.inside.finished
+    c.self.inside.open_items c.self.inside.deferred c.self.inside.quick c.self.inside.dropped in
+    deferred_run b c.self.inside.deferred refl c.self.invariant.0
 
 pub append_prefixes-requires : goal.append_prefixes-requires
 append_prefixes-requires c =
@@ -34,6 +41,10 @@ append_prefixes-requires c =
 
 pub invariant_of-self-in-Err : goal.invariant_of-self-in-Err
 invariant_of-self-in-Err c =
+    let is_packed : c.is_packed-packs.result ≡ true → c.self.inside.quick ≡ true →
+    (c.self.inside.finished.first_bad ≡ None) × (c.args.walked.part.first_bad ≡ None) =
+    λ h q. let e = c.is_packed-packs.ensures h q in
+    (e.0, ap (λ (z : SummaryView). z.first_bad) (sym c.part.ensures) ∙ e.1) in
     let b : BookView = book_view c.self.inside.program c.self.inside.mode c.self.inside.finished
     c.self.inside.open_items c.self.inside.deferred c.self.inside.quick c.self.inside.dropped in
     let p = arc_value c.self.inside.program in
@@ -47,14 +58,16 @@ invariant_of-self-in-Err c =
     (c.truncate.ensures.items p)
     ∙ c.unpack_from.ensures.same in
     let same = same_book b b.finished (all_of p c.truncate.new.self)
-    (all_of p c.append_prefixes.new.self) refl left c.in-Err.ensures.all in (
+    (all_of p c.append_prefixes.new.self) refl left
+    (c.in-Err.ensures.all ∙ c.unpack_from-2.ensures.same) in (
       subst Keeps (sym same) c.self.invariant.0,
       subst (IsSwept c.self.inside.swept) (sym same) c.self.invariant.1,
-      λ q. (
+      λ q bad. (
         c.truncate.ensures.none
-            (c.in_ok-append.ensures.packed ∙ c.unpack_from.ensures.none (c.self.invariant.2 q).0),
-        (c.append_prefixes.ensures.packed (let e : (not c.self.inside.quick) ≡ false = ap not q in e)
-            ∙ (c.self.invariant.2 q).1),
+            (c.in_ok-append.ensures.packed ∙ c.unpack_from.ensures.none (c.self.invariant.2 q bad).0),
+        (c.append_prefixes.ensures.packed (packs_none c.is_packed-packs.result c.self.inside.quick
+            c.self.inside.finished.first_bad c.args.walked.part.first_bad is_packed q bad)
+            ∙ c.unpack_from-2.ensures.none (c.self.invariant.2 q bad).1),
       ),
     )
 
@@ -73,11 +86,16 @@ returns-in-Err c =
     (c.truncate.ensures.items p)
     ∙ c.unpack_from.ensures.same in
     let same = same_book b b.finished (all_of p c.truncate.new.self)
-    (all_of p c.append_prefixes.new.self) refl left c.in-Err.ensures.all in
+    (all_of p c.append_prefixes.new.self) refl left
+    (c.in-Err.ensures.all ∙ c.unpack_from-2.ensures.same) in
     same ∙ c.self.view_is
 
 pub invariant_of-self-in-Err-join_in : goal.invariant_of-self-in-Err-join_in
 invariant_of-self-in-Err-join_in c =
+    let is_packed : c.is_packed-packs.result ≡ true → c.self.inside.quick ≡ true →
+    (c.self.inside.finished.first_bad ≡ None) × (c.args.walked.part.first_bad ≡ None) =
+    λ h q. let e = c.is_packed-packs.ensures h q in
+    (e.0, ap (λ (z : SummaryView). z.first_bad) (sym c.part.ensures) ∙ e.1) in
     let b : BookView = book_view c.self.inside.program c.self.inside.mode c.self.inside.finished
     c.self.inside.open_items c.self.inside.deferred c.self.inside.quick c.self.inside.dropped in
     let p = arc_value c.self.inside.program in
@@ -93,19 +111,23 @@ invariant_of-self-in-Err-join_in c =
     let later : all_of p c.truncate-in-Err-join_in-2.new.self ≡ b.deferred =
     taken_back b.deferred (items_at p c.into_parts-part.result.deferred)
     (all_of p c.append_prefixes.new.self) (all_of p c.truncate-in-Err-join_in-2.new.self)
-    c.length-deferred_length.result c.in_default.ensures.all (c.length-deferred_length.ensures p)
-    (c.truncate-in-Err-join_in-2.ensures.items p) in
+    c.length-deferred_length.result
+    (c.in_default.ensures.all
+    ∙ ap (λ is. is ++ items_at p c.into_parts-part.result.deferred) c.unpack_from-2.ensures.same)
+    (c.length-deferred_length.ensures p) (c.truncate-in-Err-join_in-2.ensures.items p) in
     let same = same_book b c.join_in.new.self (all_of p c.truncate-in-Err-join_in.new.self)
     (all_of p c.truncate-in-Err-join_in-2.new.self) c.in-Err-join_in.ensures left later in (
       subst Keeps (sym same) c.self.invariant.0,
       subst (IsSwept c.self.inside.swept) (sym same) c.self.invariant.1,
-      λ q. (
-        c.truncate-in-Err-join_in.ensures.none
-            (c.in_ok-append.ensures.packed ∙ c.unpack_from.ensures.none (c.self.invariant.2 q).0),
-        c.truncate-in-Err-join_in-2.ensures.none
-            (c.append_prefixes.ensures.packed (let e : (not c.self.inside.quick) ≡ false = ap not q in e)
-            ∙ (c.self.invariant.2 q).1),
-      ),
+      λ q k. let bad : c.self.inside.finished.first_bad ≡ None → ⊥ =
+          λ e. k (ap (λ (z : SummaryView). z.first_bad) c.in-Err-join_in.ensures ∙ e) in (
+            c.truncate-in-Err-join_in.ensures.none
+                (c.in_ok-append.ensures.packed ∙ c.unpack_from.ensures.none (c.self.invariant.2 q bad).0),
+            c.truncate-in-Err-join_in-2.ensures.none
+                (c.append_prefixes.ensures.packed (packs_none c.is_packed-packs.result c.self.inside.quick
+                c.self.inside.finished.first_bad c.args.walked.part.first_bad is_packed q bad)
+                ∙ c.unpack_from-2.ensures.none (c.self.invariant.2 q bad).1),
+          ),
     )
 
 pub returns-in-Err-join_in : goal.returns-in-Err-join_in
@@ -125,8 +147,10 @@ returns-in-Err-join_in c =
     let later : all_of p c.truncate-in-Err-join_in-2.new.self ≡ b.deferred =
     taken_back b.deferred (items_at p c.into_parts-part.result.deferred)
     (all_of p c.append_prefixes.new.self) (all_of p c.truncate-in-Err-join_in-2.new.self)
-    c.length-deferred_length.result c.in_default.ensures.all (c.length-deferred_length.ensures p)
-    (c.truncate-in-Err-join_in-2.ensures.items p) in
+    c.length-deferred_length.result
+    (c.in_default.ensures.all
+    ∙ ap (λ is. is ++ items_at p c.into_parts-part.result.deferred) c.unpack_from-2.ensures.same)
+    (c.length-deferred_length.ensures p) (c.truncate-in-Err-join_in-2.ensures.items p) in
     let same = same_book b c.join_in.new.self (all_of p c.truncate-in-Err-join_in.new.self)
     (all_of p c.truncate-in-Err-join_in-2.new.self) c.in-Err-join_in.ensures left later in
     same ∙ c.self.view_is
@@ -150,6 +174,10 @@ remove-requires-clause-place c =
 
 pub invariant_of-self-2 : goal.invariant_of-self-2
 invariant_of-self-2 c =
+    let is_packed : c.is_packed-packs.result ≡ true → c.self.inside.quick ≡ true →
+    (c.self.inside.finished.first_bad ≡ None) × (c.args.walked.part.first_bad ≡ None) =
+    λ h q. let e = c.is_packed-packs.ensures h q in
+    (e.0, ap (λ (z : SummaryView). z.first_bad) (sym c.part.ensures) ∙ e.1) in
     let w : WalkView = c.args.walked in
     let place = c.args.place in
     let b : BookView = book_view c.self.inside.program c.self.inside.mode c.self.inside.finished
@@ -174,7 +202,7 @@ invariant_of-self-2 c =
     ap (λ q. items_at q c.into_parts-part.result.deferred) of.1
     ∙ c.into_parts-part.ensures.deferred in
     let later : all_of p c.append_prefixes.new.self ≡ b.deferred ++ w.deferred =
-    c.in_default.ensures.all ∙ ap (λ is. b.deferred ++ is) own in
+    c.in_default.ensures.all ∙ (λ k. c.unpack_from-2.ensures.same k ++ own k) in
     let new : BookView = record b {
       finished = c.join_in.new.self;
       open_items = all_of p c.remove.new.self;
@@ -187,11 +215,18 @@ invariant_of-self-2 c =
           (subst (λ (x : Bool). IsSwept x (settled b w place)) (sym c.both-self-inside.ensures)
           (settled_swept c.self.inside.swept c.is_quiet-quiet.result b w place c.self.invariant.1
           c.is_quiet-quiet.ensures at)),
-      λ q. (
-        c.remove.ensures.packed ∙ (c.in_ok-append.ensures.packed ∙ c.unpack_from.ensures.none (c.self.invariant.2 q).0),
-        (c.append_prefixes.ensures.packed (let e : (not c.self.inside.quick) ≡ false = ap not q in e)
-            ∙ (c.self.invariant.2 q).1),
-      ),
+      loose_after c.is_packed-packs.result c.self.inside.quick c.self.inside.finished.first_bad
+          w.part.first_bad c.join_in.new.self.first_bad c.remove.new.self.packed
+          c.append_prefixes.new.self.packed is_packed
+          (λ n. (
+            c.remove.ensures.packed ∙ (c.in_ok-append.ensures.packed
+                ∙ none_there c.unpack_from.new.self.packed c.first_loose.result
+                c.in_ok-unpack_from.ensures.loose (c.first_loose.ensures.none n)),
+            c.append_prefixes.ensures.packed n
+                ∙ none_there c.unpack_from-2.new.self.packed c.first_loose-2.result
+                c.in_ok-unpack_from-2.ensures.loose (c.first_loose-2.ensures.none n),
+          ))
+          (ap (λ (z : SummaryView). z.first_bad) fin ∙ join_first_bad b.finished w.part),
     )
 
 pub returns : goal.returns
@@ -220,7 +255,7 @@ returns c =
     ap (λ q. items_at q c.into_parts-part.result.deferred) of.1
     ∙ c.into_parts-part.ensures.deferred in
     let later : all_of p c.append_prefixes.new.self ≡ b.deferred ++ w.deferred =
-    c.in_default.ensures.all ∙ ap (λ is. b.deferred ++ is) own in
+    c.in_default.ensures.all ∙ (λ k. c.unpack_from-2.ensures.same k ++ own k) in
     let new : BookView = record b {
       finished = c.join_in.new.self;
       open_items = all_of p c.remove.new.self;
@@ -229,3 +264,21 @@ returns c =
     let same : new ≡ settled b w place =
     λ k. record b { finished = fin k; open_items = items k; deferred = later k } in
     same ∙ ap (λ z. settled z w place) c.self.view_is
+
+pub invariant_of-self-in_err-append : goal.invariant_of-self-in_err-append
+invariant_of-self-in_err-append c =
+    let b : BookView = book_view c.self.inside.program c.self.inside.mode c.self.inside.finished
+    c.self.inside.open_items c.self.inside.deferred c.self.inside.quick c.self.inside.dropped in
+    let p = arc_value c.self.inside.program in
+    let left : all_of p c.append.new.self ≡ b.open_items =
+    (λ k. items_at p (c.in_err-append.ensures.packed k) ++ c.in_err-append.ensures.loose k)
+    ∙ c.unpack_from.ensures.same in
+    let same = same_book b b.finished (all_of p c.append.new.self)
+    (all_of p c.unpack_from-2.new.self) refl left c.unpack_from-2.ensures.same in (
+      subst Keeps (sym same) c.self.invariant.0,
+      subst (IsSwept c.self.inside.swept) (sym same) c.self.invariant.1,
+      λ q bad. (
+        c.in_err-append.ensures.packed ∙ c.unpack_from.ensures.none (c.self.invariant.2 q bad).0,
+        c.unpack_from-2.ensures.none (c.self.invariant.2 q bad).1,
+      ),
+    )

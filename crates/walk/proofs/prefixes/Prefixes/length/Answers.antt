@@ -8,5 +8,10 @@ returns-clause-length c = rw (← c.self.view_is) (sym (length-listed _ _ _))
 pub returns-clause-few : goal.returns-clause-few
 returns-clause-few c =
     let i = c.self.inside in
-    omega (arith, i.bytes.ok.0, i.bytes.ok.1, i.bytes.small,
-    packed_few i.count i.bytes.items i.last.items i.first.items i.longest c.self.invariant.1)
+    omega (
+      arith,
+      i.bytes.ok.0,
+      i.bytes.ok.1,
+      i.bytes.small,
+      packed_few i.count i.bytes.items i.last.items i.first.items i.longest c.self.invariant.1,
+    )

@@ -17,10 +17,11 @@ loop-place-init c =
 pub returns-then-has_found-clause-some : goal.returns-then-has_found-clause-some
 returns-then-has_found-clause-some c =
     let s = c.loop-place.invariant in
-    let i = c.self.inside in
-    (omega (arith, s.within),
-    seek_found c.args.self.now c.args.prefix.now c.loop-place.place _ _ _
-    (omega arith) s (c.if-has_found.ensures.0 refl).0 (c.if-has_found.ensures.0 refl).1)
+    let i = c.self.inside in (
+      omega (arith, s.within),
+      seek_found c.args.self.now c.args.prefix.now c.loop-place.place _ _ _
+          (omega arith) s (c.if-has_found.ensures.0 refl).0 (c.if-has_found.ensures.0 refl).1,
+    )
 
 pub before-seeker-requires-clause-shared : goal.before-seeker-requires-clause-shared
 before-seeker-requires-clause-shared c = c.loop-place.invariant.few
@@ -28,9 +29,11 @@ before-seeker-requires-clause-shared c = c.loop-place.invariant.few
 pub before-seeker-requires-clause-fits : goal.before-seeker-requires-clause-fits
 before-seeker-requires-clause-fits c =
     let i = c.self.inside in
-    omega (arith,
-    before_fits c.args.self.now c.args.prefix.now c.loop-place.place _ _ _
-    (omega arith) c.loop-place.invariant)
+    omega (
+      arith,
+      before_fits c.args.self.now c.args.prefix.now c.loop-place.place _ _ _
+          (omega arith) c.loop-place.invariant,
+    )
 
 pub loop-place-preserved : goal.loop-place-preserved
 loop-place-preserved c =
