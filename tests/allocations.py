@@ -1,12 +1,14 @@
 #!/usr/bin/env python3
-"""allocations.py BINARY WALKER: each request for memory of a run fails in turn.
+"""allocations.py BINARY WALKER: each request of a run for memory or a thread fails in turn.
 
 BINARY is the program. With ample memory each run must end with its own status and say something.
 With a request refused, its answer must be the same, or `ctxbound: memory` with status 4 and nothing
 on standard output. WALKER is the program of the benchmark, which walks all schedules of a guest:
 with ample memory it must count them and end with status 0, and with a request refused do the same,
-or say nothing and end with status 1 or 2. The sweep of a run ends at the first number that is past
-its last request. The last line is `N passed, M failed`.
+or say nothing and end with status 1 or 2. A run that doesn't end in time fails its sweep. The sweep of
+a run ends at the first number that is past its last request; since runs of several threads have more
+requests or fewer, it ends only after some such numbers in a row. The last line is
+`N passed, M failed`.
 """
 import os
 import subprocess
@@ -15,6 +17,9 @@ import tempfile
 
 HERE = os.path.dirname(os.path.abspath(__file__))
 MOST = 5000
+# So many runs in a row without a refusal end a sweep.
+QUIET = 5
+SECONDS = 60
 
 PROGRAMS = {
     "race": "var x; thread A { store x 1; store x 0; } thread B { load r x; assert r == 0; }",
@@ -42,7 +47,10 @@ RUNS = [
     ("explore", "locks", "--workers 1", 1), ("explore", "locks", "--workers 2", 1),
     ("explore", "waits", "--workers 1", 1), ("explore", "waits", "--workers 2", 1),
     ("explore", "late", "--workers 1", 1), ("explore", "late", "--workers 2", 1),
-    ("explore", "locks", "--quick", 1), ("explore", "cut", "", 2),
+    ("explore", "locks", "--quick", 1), ("explore", "locks", "--quick --workers 2", 1),
+    ("explore", "race", "--workers 2", 1), ("explore", "loops", "--workers 2", 0),
+    ("explore", "two", "--workers 2", 0), ("explore", "cut", "--workers 2", 2),
+    ("explore", "unknown", "--workers 2", 2),
     ("unbounded", "late", "--workers 1", 1), ("unbounded", "late", "--workers 2", 1),
     ("unbounded", "updates", "--workers 1", 0), ("unbounded", "updates", "--workers 2", 0),
 ]
@@ -52,11 +60,19 @@ WALKS = [("race", "1"), ("locks", "1"), ("waits", "0"), ("two", "1"),
 
 
 def run(binary, words, library=None, fail_at=0):
+    """What a run writes and its status, and whether a request of it was refused."""
     env = dict(os.environ)
+    told, tells = os.pipe()
     if library:
-        env.update(LD_PRELOAD=library, FAIL_AT=str(fail_at))
-    done = subprocess.run([binary] + words, env=env, capture_output=True, timeout=60)
-    return done.stdout, done.stderr, done.returncode
+        env.update(LD_PRELOAD=library, FAIL_AT=str(fail_at), REFUSED_FD=str(tells))
+    try:
+        done = subprocess.run([binary] + words, env=env, capture_output=True, timeout=SECONDS, pass_fds=[tells])
+        answer = done.stdout, done.stderr, done.returncode
+    except subprocess.TimeoutExpired:
+        answer = b"", b"no end after %d seconds" % SECONDS, None
+    os.close(tells)
+    with os.fdopen(told, "rb") as file:
+        return answer, file.read() != b""
 
 
 def says_memory(answer):
@@ -69,18 +85,19 @@ def says_nothing(answer):
 
 def sweep(binary, words, library, status, is_refusal):
     """How many requests were refused in turn, and a line that says what went wrong, or None."""
-    ample = run(binary, words)
+    ample, _ = run(binary, words)
     if ample[2] != status or ample[0] + ample[1] == b"":
         return 0, "%s, with ample memory: %r" % (" ".join(words), ample)
+    refusals = quiet = 0
     for fail_at in range(1, MOST):
-        answer = run(binary, words, library, fail_at)
-        if answer == ample:
-            if run(binary, words, library, fail_at + 1) == ample:
-                return fail_at - 1, None
-            continue
-        if not is_refusal(answer):
-            return fail_at, "%s, request %d refused: %r" % (" ".join(words), fail_at, answer)
-    return MOST, "%s: no end after %d requests" % (" ".join(words), MOST)
+        answer, was_refused = run(binary, words, library, fail_at)
+        if answer != ample and not (was_refused and is_refusal(answer)):
+            return refusals, "%s, request %d refused: %r" % (" ".join(words), fail_at, answer)
+        refusals += was_refused
+        quiet = 0 if was_refused else quiet + 1
+        if quiet == QUIET:
+            return refusals, None
+    return refusals, "%s: no end after %d requests" % (" ".join(words), MOST)
 
 
 def main(binary, walker):
@@ -104,7 +121,7 @@ def main(binary, walker):
             passed, failed = passed + (wrong is None), failed + (wrong is not None)
             if wrong:
                 print(wrong)
-    print("%d requests for memory were refused, one a run" % refusals)
+    print("%d requests for memory or a thread were refused, one a run" % refusals)
     print("%d passed, %d failed" % (passed, failed))
     return 1 if failed or refusals == 0 else 0
 

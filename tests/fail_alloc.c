@@ -1,23 +1,30 @@
-/* Preloaded before a program: its request for memory number FAIL_AT, counted from 1, is refused.
-   Only requests of the program itself count: those before `main` are the C library's own. */
+/* Preloaded before a program: its request number FAIL_AT, counted from 1, is refused; a request is one
+   for memory or for a thread. Where one was refused, a byte is written to the file REFUSED_FD. Only
+   requests of the program itself count: those before `main` are the C library's own. */
 #define _GNU_SOURCE
 #include <dlfcn.h>
 #include <errno.h>
+#include <pthread.h>
 #include <stdlib.h>
 #include <stddef.h>
+#include <unistd.h>
 
 static unsigned long requests, fail_at;
-static int started;
+static int started, refused_fd = -1;
 
 __attribute__((constructor)) static void start(void) {
     const char *text = getenv("FAIL_AT");
     fail_at = text ? strtoul(text, NULL, 10) : 0;
+    text = getenv("REFUSED_FD");
+    refused_fd = text ? atoi(text) : -1;
     started = 1;
 }
 
 static int refused(void) {
-    if (!started || ++requests != fail_at)
+    if (!started || __atomic_add_fetch(&requests, 1, __ATOMIC_SEQ_CST) != fail_at)
         return 0;
+    if (refused_fd >= 0 && write(refused_fd, "r", 1) != 1)
+        abort();
     errno = ENOMEM;
     return 1;
 }
@@ -50,4 +57,11 @@ int posix_memalign(void **out, size_t align, size_t size) {
     if (!next)
         next = NEXT(posix_memalign);
     return refused() ? ENOMEM : next(out, align, size);
+}
+
+int pthread_create(pthread_t *thread, const pthread_attr_t *attributes, void *(*run)(void *), void *given) {
+    static int (*next)(pthread_t *, const pthread_attr_t *, void *(*)(void *), void *);
+    if (!next)
+        next = NEXT(pthread_create);
+    return refused() ? EAGAIN : next(thread, attributes, run, given);
 }

@@ -2,6 +2,7 @@
 
 mod gates;
 mod stops;
+mod workers;
 
 ghost use Rattle.std.specs.Prelude.{◌≤◌};
 ghost use Rattle.runner.specs.Promises.{IsSearch};

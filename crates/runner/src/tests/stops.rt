@@ -4,7 +4,7 @@ ghost use Rattle.std.specs.Prelude.{◌≤◌};
 ghost use Rattle.runner.specs.Promises.{IsSearch};
 ghost use Rattle.runner.specs.declared.limits.TheConstants.{WORKERS};
 
-use crate::gate::{Gate, Open};
+use crate::gate::Gate;
 use crate::options::{Options, Search};
 use crate::printing::report_text;
 use crate::tests::gates::{Holding, Passing, StopsOne};
@@ -44,8 +44,8 @@ const LIMITED_TO_ONE: &str =
 const STOPPED_AFTER_TWO: &str =
     r#"{"bound":0,"cause":"stopped","ends":[{"kind":"done","vars":[1,1,1]}],"failed":0,"finished":null,"schedule":null,"stuck":0,"tried":2,"verdict":"incomplete"}"#;
 
-/// The text of the report of a search without preemptions.
-fn searched<G: Gate>(
+/// The text of the report of a search.
+pub fn searched<G: Gate>(
     rt: &(impl Threads + Wait + Sync + Alloc<A = Global>),
     text: &str,
     options: Options,
