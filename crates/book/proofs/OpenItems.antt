@@ -1,8 +1,8 @@
 -- What the items of a book are: below the root, so of its program, and their prefixes run.
-use Rattle.std.proofs.Common.{◌≡◌, Bool, true, false, List, ◌++◌, sym, ap, ◌∙◌, subst, append_assoc}
+use Rattle.std.proofs.Common.{◌≡◌, Bool, true, false, ◌++◌, subst, append_assoc}
 use Rattle.std.specs.List.{All}
 use Rattle.std.proofs.lemmas.List.Elements.{All-weaker}
-use Rattle.walk.specs.Items.{ItemView, IsItem, root_of}
+use Rattle.walk.specs.Items.{IsItem, root_of}
 use Rattle.walk.specs.Walks.{IsBelow, items_at}
 use Rattle.walk.proofs.ListParts.{all_left, all_right}
 use Rattle.book.specs.ItemLists.{ListView, all_of}

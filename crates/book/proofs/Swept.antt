@@ -8,7 +8,7 @@ use Rattle.walk.specs.Walks.{WalkView}
 use Rattle.std.proofs.lemmas.List.Folds.{list_any-append}
 use Rattle.walk.proofs.LesserSchedules.{lesser_none}
 use Rattle.walk.proofs.SumsJoin.{join_first_bad}
-use Rattle.book.specs.Books.{BookView, IsSwept, IsOpenAt, settled, cannot_hold, drops, thinned}
+use Rattle.book.specs.Books.{BookView, IsSwept, IsOpenAt, settled, cannot_hold, drops}
 use Rattle.book.proofs.DroppedCounts.{IsDropped, after_drop, thinned_is}
 use Rattle.book.proofs.Lists.{parted}
 

@@ -1,7 +1,7 @@
 use Rattle.std.proofs.Common.{◌≡◌, ◌+◌, ◌∙◌, ◌<◌, ap, sym, subst, arith, length, take, Some, slice_get, List, ℕ}
 use Rattle.std.specs.Arc.{arc_value}
 use Rattle.std.specs.List.{All}
-use Rattle.walk.specs.Items.{ItemView, IsItem, item_at}
+use Rattle.walk.specs.Items.{IsItem, item_at}
 use Rattle.walk.specs.PrefixLists.{last_of}
 use Rattle.walk.specs.Walks.{items_at}
 use Rattle.book.specs.ItemLists.{ListView, all_of}

@@ -1,7 +1,6 @@
 use Rattle.std.proofs.Common.{◌≡◌, ◌∙◌, ◌<◌, ap, sym, subst, refl, true, false, length, slice_get, Some, List, ℕ}
 use Rattle.std.specs.List.{All}
 use Rattle.semantics.specs.Mask.{no_threads}
-use Rattle.book.specs.ItemLists.{ListView}
 use Rattle.book.proofs.PackedItems.{none_masked, none_packed, packed_there, if_none, if_some}
 use Rattle.book.proofs.item_list.ItemList.packed_place_of.Goals as goal
 
