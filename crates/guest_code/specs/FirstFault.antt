@@ -4,7 +4,8 @@ use Rattle.guest_code.specs.declared.error.CheckError.{CheckError}
 use Rattle.guest_code.specs.Uses.{Use}
 use Rattle.guest_code.specs.Fault.{refusal}
 
--- one of these uses gets this refusal, and none in front of it gets any; `before` are in front of all of them
+-- one of these uses gets this refusal, and none in front of it gets any; `before` are in front of
+-- all of them
 pub record IsFirstFault (all before us : List Use) (e : CheckError) : Type 0 where
   pub front : List Use
   pub here : Use

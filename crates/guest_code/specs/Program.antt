@@ -183,7 +183,8 @@ abbrev pub JumpsWithin : List Instruction → Type 0
 JumpsWithin code = (k : ℕ) → k < length code
     → k + 1 + skip_of (slice_index_or code k (Skip 0)) ≤ length code
 
--- the limits are kept, every number of an object or a local is in range, and each jump is within its code
+-- the limits are kept, every number of an object or a local is in range, and each jump is within
+-- its code
 pub record IsWellFormed (p : Program) : Type 0 where
   pub some_thread : 0 < length p.threads
   pub threads : length p.threads ≤ THREADS

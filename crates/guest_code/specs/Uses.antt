@@ -111,7 +111,8 @@ knows (n ∷ ns) name = bytes_eq n name || knows ns name
 abbrev pub with_name : List (List ℕ) → List ℕ → List (List ℕ)
 with_name ns name = if knows ns name then ns else ns ++ name ∷ []
 
--- the locals of the thread that the uses end in, each once, in the order of their first uses; `ns` are those before
+-- the locals of the thread that the uses end in, each once, in the order of their first uses; `ns`
+-- are those before
 abbrev pub locals_from : List (List ℕ) → List Use → List (List ℕ)
 locals_from ns [] = ns
 locals_from ns (declares k n ∷ us) = locals_from [] us

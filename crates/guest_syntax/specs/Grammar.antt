@@ -93,7 +93,8 @@ IsThread t = IsKeyword keywords.Thread then IsName t.name then IsBlock t.body (s
 abbrev pub IsTree : Tree → List Token → Type 0
 IsTree t ts = (each IsDeclaration t.declarations then each IsThread t.threads) ts []
 
--- The text spells the tree: its bytes are ASCII and not too many, and its tokens are those of the tree.
+-- The text spells the tree: its bytes are ASCII and not too many, and its tokens are those of the
+-- tree.
 pub record Spells (text : List ℕ) (t : Tree) : Type 0 where
   pub tokens : List Token
   pub spelt : Tokens (record { line = 1; col = 1 }) text tokens

@@ -90,7 +90,8 @@ Spelling (number n) bs = (0 < length bs) × IsTrue (list_all is_digit bs)
 Spelling (symbol s) bs = bs ≡ symbol_text s
 Spelling bad bs = ⊥
 
--- Whether these bytes end in a comment, where they begin in one or not. None where a byte is neither blank nor in a comment.
+-- Whether these bytes end in a comment, where they begin in one or not. None where a byte is
+-- neither blank nor in a comment.
 abbrev pub blank : Bool → List ℕ → Option Bool
 blank comment [] = Some comment
 blank true (b ∷ bs) = blank (not (b == 10)) bs

@@ -22,7 +22,8 @@
 //!
 //! Which fault is the first, and which of the text's tokens it is at, is shown by tests.
 //!
-//! `specs/reader` models the reader of this crate. Only proofs need it: no public contract cites it.
+//! `specs/reader` models the reader of this crate. Only proofs need it: no public contract cites
+//! it.
 #![tactic(auto)]
 
 mod blocks;

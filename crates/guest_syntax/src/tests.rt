@@ -243,7 +243,8 @@ fn nested(alloc: Global, depth: usize) -> Result<String, Fail> {
     Ok(text)
 }
 
-/// A thread of this many statements, each with its number and on a line of its own, and spaces up to
+/// A thread of this many statements, each with its number and on a line of its own, and spaces up
+/// to
 /// this many bytes.
 fn long_text(alloc: Global, statements: usize, bytes: usize) -> Result<String, Fail> {
     let mut text = String::from_str(alloc, "var x;\nthread A {\n")?;

@@ -13,7 +13,8 @@ use Rattle.replay.proofs.PrintedRuns.{joined_same, joined_other, printed_spells}
 abbrev with_comma : Piece → List ℕ
 with_comma run = piece_text run ++ 44 ∷ []
 
--- these runs are written, each with a comma; the next begins with the steps of this run and goes on with the rest
+-- these runs are written, each with a comma; the next begins with the steps of this run and goes on
+-- with the rest
 pub record IsWritten (w text : List ℕ) (run : Piece) (rest : List ℕ) : Type 0 where
   pub done : List Piece
   pub written : text ≡ flat_map with_comma done

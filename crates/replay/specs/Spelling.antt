@@ -70,7 +70,8 @@ Spells text w = SpellEach (pieces_of text) w
 abbrev pub length_with_commas : List (List ℕ) → ℕ
 length_with_commas pieces = sum_by (λ piece. length piece + 1) pieces
 
--- at this offset begins this piece of the text, and those before it spell this schedule, which is not too long
+-- at this offset begins this piece of the text, and those before it spell this schedule, which is
+-- not too long
 pub record IsReadUpTo (text : List ℕ) (at : ℕ) (piece w : List ℕ) : Type 0 where
   pub before : List (List ℕ)
   pub after : List (List ℕ)

@@ -71,7 +71,8 @@ static LONG: [(&[u8], usize); 8] = [
     (b"1x40000,2x0", 0),
 ];
 
-/// A thread that fails where its step comes between two of another, and one that fails at the start.
+/// A thread that fails where its step comes between two of another, and one that fails at the
+/// start.
 const RACE: &[u8] =
     b"var x; thread A { store x 1; store x 0; } thread B { load r x; assert r == 0; } thread C { assert 0; }";
 

@@ -1,4 +1,5 @@
--- The schedules of two threads that each load a variable, add 1 and store the sum, by computing them.
+-- The schedules of two threads that each load a variable, add 1 and store the sum, by computing
+-- them.
 use Rattle.std.proofs.Common.{◌≡◌, pos, [], ◌∷◌, map, refl}
 use Rattle.std.specs.Int.{int_wrap}
 use Rattle.semantics.specs.Machine.{start}
@@ -16,7 +17,9 @@ pub their_preemptions : map (preemptions increments) six_schedules ≡ 0 ∷ 2 �
 unfolding int_wrap
 their_preemptions = refl
 
-pub their_ends : map (end_of increments) six_schedules ≡ done_with (pos 2) ∷ done_with (pos 1) ∷ done_with (pos 1) ∷ done_with (pos 1) ∷ done_with (pos 1) ∷ done_with (pos 2) ∷ []
+pub their_ends : map (end_of increments) six_schedules
+    ≡ done_with (pos 2) ∷ done_with (pos 1) ∷ done_with (pos 1) ∷ done_with (pos 1)
+    ∷ done_with (pos 1) ∷ done_with (pos 2) ∷ []
 unfolding int_wrap
 their_ends = refl
 

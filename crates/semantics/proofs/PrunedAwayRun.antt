@@ -1,4 +1,5 @@
--- The schedules of the program that loses its failure to sleep sets within a bound, by computing them.
+-- The schedules of the program that loses its failure to sleep sets within a bound, by computing
+-- them.
 use Rattle.std.proofs.Common.{◌≡◌, [], ◌∷◌, map, filter, nat_le, refl}
 use Rattle.std.specs.Int.{int_wrap}
 use Rattle.semantics.specs.declared.view.Kind.TheVariants.{Done, Failed}
@@ -17,7 +18,8 @@ pub their_preemptions : map (preemptions pruned_away) three_schedules ≡ 0 ∷ 
 unfolding int_wrap
 their_preemptions = refl
 
-pub their_kinds : map (λ w. (end_of pruned_away w).kind) three_schedules ≡ Done ∷ Failed ∷ Failed ∷ []
+pub their_kinds : map (λ w. (end_of pruned_away w).kind) three_schedules
+    ≡ Done ∷ Failed ∷ Failed ∷ []
 unfolding int_wrap
 their_kinds = refl
 
@@ -25,6 +27,7 @@ pub two_kept : reduced_schedules pruned_away (start pruned_away) none_asleep ≡
 unfolding reduced_schedules complete_schedules work enabled is_terminal independent int_wrap
 two_kept = refl
 
-pub one_within : filter (λ w. nat_le (preemptions pruned_away w) 0) (reduced_schedules pruned_away (start pruned_away) none_asleep) ≡ last ∷ []
+pub one_within : filter (λ w. nat_le (preemptions pruned_away w) 0)
+    (reduced_schedules pruned_away (start pruned_away) none_asleep) ≡ last ∷ []
 unfolding reduced_schedules complete_schedules work enabled is_terminal independent int_wrap
 one_within = refl

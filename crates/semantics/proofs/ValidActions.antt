@@ -9,7 +9,8 @@ use Rattle.semantics.specs.declared.state.Status.TheVariants.{Running, Woken}
 use Rattle.semantics.specs.Actions.{action_of, action_at}
 use Rattle.semantics.specs.Reachable.{IsValidAction}
 
-valid_action_of : (p : Program) (i : Instruction) → IsValid p i → IfSome (action_of i) (IsValidAction p)
+valid_action_of : (p : Program) (i : Instruction) → IsValid p i
+    → IfSome (action_of i) (IsValidAction p)
 valid_action_of p (Load r x) h = (h.1, h.0)
 valid_action_of p (Store x a) h = h
 valid_action_of p (Add r x a) h = (h.1, (h.0, h.2))
@@ -26,7 +27,8 @@ valid_action_of p (Assert e) h = tt
 valid_action_of p (SkipIfZero e n) h = tt
 valid_action_of p (Skip n) h = tt
 
-pub valid_action_at : (p : Program) (status : Status) (i : Option Instruction) → IfSome i (IsValid p) → IfSome (action_at status i) (IsValidAction p)
+pub valid_action_at : (p : Program) (status : Status) (i : Option Instruction)
+    → IfSome i (IsValid p) → IfSome (action_at status i) (IsValidAction p)
 valid_action_at p Running (Some i) h = valid_action_of p i h
 valid_action_at p Woken (Some (Wait c m)) h = h.1
 valid_action_at p status i h = search rules

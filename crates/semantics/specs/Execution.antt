@@ -5,7 +5,8 @@ use Rattle.semantics.specs.Machine.{Snapshot, start, step}
 use Rattle.semantics.specs.Schedules.{state_after, runs, preempts, one_if, preemptions, last_of}
 use Rattle.semantics.specs.Reachable.{IsOf}
 
--- the state after the steps, the thread of the last one, if there is one, and the preempting switches
+-- the state after the steps, the thread of the last one, if there is one, and the preempting
+-- switches
 pub record ExecutionView : Type 0 where
   pub state : Snapshot
   pub last : Option ℕ

@@ -1,5 +1,7 @@
--- A program as a value, and its schedules written out by hand: two threads that each load a variable, add 1 and store
--- the sum, `var x; thread A { load r x; set r r + 1; store x r; } thread B { load r x; set r r + 1; store x r; }`.
+-- A program as a value, and its schedules written out by hand: two threads that each load a
+-- variable, add 1 and store
+-- the sum, `var x; thread A { load r x; set r r + 1; store x r; } thread B { load r x; set r r + 1;
+-- store x r; }`.
 use Rattle.std.specs.Prelude.{ℕ, ℤ, pos, List, [], ◌∷◌}
 use Rattle.guest_syntax.specs.declared.tree.Op.TheVariants.{Add as plus}
 use Rattle.guest_code.specs.declared.program.Value.TheVariants.{Local, Literal}
@@ -21,7 +23,8 @@ increments = record {
   mutexes = [];
   conditions = [];
   semaphores = [];
-  threads = record { name = 65 ∷ []; locals = 1; code = increment } ∷ record { name = 66 ∷ []; locals = 1; code = increment } ∷ [];
+  threads = record { name = 65 ∷ []; locals = 1; code = increment }
+      ∷ record { name = 66 ∷ []; locals = 1; code = increment } ∷ [];
 }
 
 -- the six ways to take two steps of each thread, in order
@@ -35,7 +38,8 @@ six_schedules =
     ∷ (1 ∷ 1 ∷ 0 ∷ 0 ∷ [])
     ∷ []
 
--- the four that sleep sets keep: of schedules that differ in the order of the two loads alone, the first
+-- the four that sleep sets keep: of schedules that differ in the order of the two loads alone, the
+-- first
 abbrev pub four_schedules : List (List ℕ)
 four_schedules =
     (0 ∷ 0 ∷ 1 ∷ 1 ∷ [])

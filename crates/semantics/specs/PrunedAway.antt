@@ -1,4 +1,5 @@
--- A program as a value, and its schedules written out by hand: `var x; var y; thread A { store y 1; load r x;
+-- A program as a value, and its schedules written out by hand: `var x; var y; thread A { store y 1;
+-- load r x;
 -- assert r == 0; } thread B { store x 1; }`. Its assertion fails where B goes before A's load.
 use Rattle.std.specs.Prelude.{ℕ, pos, List, [], ◌∷◌}
 use Rattle.guest_syntax.specs.declared.tree.Op.TheVariants.{Equal}
@@ -23,11 +24,13 @@ storing = Store 0 (Literal (pos 1)) ∷ []
 -- the names are `x`, `y`, `A` and `B`
 abbrev pub pruned_away : Program
 pruned_away = record {
-  variables = record { name = 120 ∷ []; opening = pos 0 } ∷ record { name = 121 ∷ []; opening = pos 0 } ∷ [];
+  variables = record { name = 120 ∷ []; opening = pos 0 }
+      ∷ record { name = 121 ∷ []; opening = pos 0 } ∷ [];
   mutexes = [];
   conditions = [];
   semaphores = [];
-  threads = record { name = 65 ∷ []; locals = 1; code = asserting } ∷ record { name = 66 ∷ []; locals = 0; code = storing } ∷ [];
+  threads = record { name = 65 ∷ []; locals = 1; code = asserting }
+      ∷ record { name = 66 ∷ []; locals = 0; code = storing } ∷ [];
 }
 
 -- B goes last, between A's steps, or first

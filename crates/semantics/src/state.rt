@@ -80,7 +80,8 @@ pub enum VariableAction {
     Load(usize),
     /// The variable becomes this value.
     Store(Value),
-    /// The local of this number becomes the variable's old value, and the variable the sum of it and
+    /// The local of this number becomes the variable's old value, and the variable the sum of it
+    /// and
     /// this value.
     Add(usize, Value),
     /// Where the variable equals the first value it becomes the second one, and the local of this
@@ -142,7 +143,13 @@ impl Model for State {
 
     ghost Value = { Snapshot };
 
-    ghost view = { λ s. record { vars = s.variables.items; owners = s.owners.items; queues = s.queues.items; counts = s.counts.items; threads = s.threads.items } };
+    ghost view = { λ s. record {
+      vars = s.variables.items;
+      owners = s.owners.items;
+      queues = s.queues.items;
+      counts = s.counts.items;
+      threads = s.threads.items;
+    } };
 }
 
 impl State {

@@ -51,7 +51,8 @@ walk all ns (outside at ∷ us) = Err (LeaveOutside at)
 
 -- ---- what is answered
 
--- what a function returned is Ok exactly where there is no fault, and else the fault, unless memory ran out
+-- what a function returned is Ok exactly where there is no fault, and else the fault, unless memory
+-- ran out
 abbrev pub Answers : {X : Type 0} → Result X CheckError → Option CheckError → Type 0
 Answers (Ok x) fault = fault ≡ None
 Answers (Err e) fault = Refuses e fault

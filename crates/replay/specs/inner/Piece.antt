@@ -5,7 +5,8 @@ use Rattle.replay.specs.declared.schedule.ScheduleError.{ScheduleError}
 use Rattle.replay.specs.declared.schedule.ScheduleError.TheVariants.{BadSchedule, TooLong, OutOfMemory}
 use Rattle.replay.specs.Spelling.{SpellsPiece, IsBadAt, IsTooLongAt}
 
--- the text spells a piece that is held so: a count that is larger than any number is held as the largest
+-- the text spells a piece that is held so: a count that is larger than any number is held as the
+-- largest
 pub record IsHeldAs (text : List ℕ) (held : Piece) : Type 0 where
   pub count : ℕ
   pub spelt : SpellsPiece text (record { thread = held.thread; count = count })

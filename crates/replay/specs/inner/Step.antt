@@ -9,7 +9,8 @@ use Rattle.replay.specs.declared.error.ReplayError.TheVariants.{NoSuchThread, No
 use Rattle.replay.specs.Run.{line_at}
 use Rattle.replay.specs.Trace.{IsValidLine}
 
--- a step of thread t, which was enabled, led from the old execution to the new one, and this line tells it
+-- a step of thread t, which was enabled, led from the old execution to the new one, and this line
+-- tells it
 pub record IsStepOf (p : Program) (old new : ExecutionView) (t : ℕ) (line : Line) : Type 0 where
   pub enabled : is_enabled p old.state t ≡ true
   pub told : line_at p old.state old.last t (next_of p old.state t) ≡ line ∷ []

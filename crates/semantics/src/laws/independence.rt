@@ -45,7 +45,8 @@ pub fn dependent_means_a_shared_object()
 {}
 
 /// What the step of each instruction accesses: a load reads its variable; a store, an `add` and a
-/// `cas` write it, a `cas` also where it misses; lock, unlock and taking the mutex again write the mutex, a wait writes its condition and its mutex, a
+/// `cas` write it, a `cas` also where it misses; lock, unlock and taking the mutex again write the
+/// mutex, a wait writes its condition and its mutex, a
 /// signal and a broadcast write the condition, and acquire and release write the semaphore. The
 /// other instructions take no step.
 pub fn steps_access_these_objects()

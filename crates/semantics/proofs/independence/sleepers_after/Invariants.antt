@@ -8,7 +8,8 @@ abbrev pub invariant-loop-other : goal.invariant-loop-other
 invariant-loop-other l = record {
   fits : l.sleepers.bits < 2 ^ 16;
   near : l.from ≤ THREADS;
-  below : (v : ℕ) → v < l.from → has l.sleepers v ≡ next_sleep_set l.program l.state (has l.asleep) l.thread v;
+  below : (v : ℕ) → v < l.from → has l.sleepers v
+      ≡ next_sleep_set l.program l.state (has l.asleep) l.thread v;
   above : (v : ℕ) → l.from ≤ v → has l.sleepers v ≡ false;
 }
 

@@ -17,5 +17,7 @@ loop-i-preserved c =
     let long : length S ≡ LOCALS = search rules in
     record {
       long = length-set c.loop-i.locals n v ∙ c.loop-i.invariant.long;
-      so_far = ap (λ (X : List ℤ). set X n v) c.loop-i.invariant.so_far ∙ (restore_step n S L v (omega (arith, below, long)) (omega (arith, below, c.told-locals)) e ∙ ap (λ (m : ℕ). take m S ++ drop m L) one);
+      so_far = ap (λ (X : List ℤ). set X n v) c.loop-i.invariant.so_far ∙
+          (restore_step n S L v (omega (arith, below, long)) (omega (arith, below, c.told-locals))
+          e ∙ ap (λ (m : ℕ). take m S ++ drop m L) one);
     }

@@ -2,4 +2,8 @@ use Rattle.semantics.proofs.LeastSchedule.{never_before_itself, before_later, ei
 use Rattle.semantics.proofs.laws.order.order_is_total.Goals as goal
 
 pub returns : goal.returns
-returns c = record { never_itself = never_before_itself; later = before_later; either = either_first }
+returns c = record {
+  never_itself = never_before_itself;
+  later = before_later;
+  either = either_first;
+}

@@ -7,7 +7,8 @@ use Rattle.semantics.proofs.state.State.test_again.Given as goal
 abbrev pub invariant-loop-thread : goal.invariant-loop-thread
 invariant-loop-thread l = record {
   near : l.next ≤ length l.program.threads;
-  below : (u : ℕ) → u < l.next → has l.mask u ≡ cond (has l.some u) (is_enabled l.program l.self u) (has l.fn.mask u);
+  below : (u : ℕ) → u < l.next → has l.mask u
+      ≡ cond (has l.some u) (is_enabled l.program l.self u) (has l.fn.mask u);
   above : (u : ℕ) → l.next ≤ u → has l.mask u ≡ has l.fn.mask u;
 }
 
