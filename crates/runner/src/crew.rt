@@ -223,6 +223,7 @@ impl Crew {
         let round = Round {
             program,
             mode: book.mode(),
+            quick: book.is_quick(),
             quota,
             items,
             board,

@@ -8,7 +8,7 @@ ghost use Rattle.runner.specs.inner.Rounds.{IsRound, IsSeated};
 
 use crate::error::ExploreError;
 use crate::gate::{Answer, Gate};
-use board::{Board, Seat};
+use board::{Board, NONE_TOLD, Seat};
 use book::books::Book;
 use book::errors::SettleError;
 use guest_code::program::Program;
@@ -26,6 +26,7 @@ use walk::walker::Walker;
 pub(crate) struct Round {
     pub program: Arc<Program>,
     pub mode: Mode,
+    pub quick: bool,
     pub quota: u32,
     pub items: Vec<Item>,
     pub board: Board,
@@ -71,6 +72,30 @@ pub(crate) struct Worker {
 }
 
 impl Worker {
+    // Whether a quick search leaves an item out for now: one that comes before it, in the order of
+    // schedules, has a bad schedule.
+    fn leaves_out(&mut self, round: &Round, item: &Item) -> bool
+        requires { IsSeated round.now self.old }
+        ensures { IsSeated round.now self.new }
+    {
+        if !round.quick {
+            return false;
+        }
+        let least = round.board.least(&mut self.seat);
+        least != NONE_TOLD && rank_of(round.items.as_slice(), item) > least
+    }
+
+    // Tells the other workers that an item has a bad schedule, where the search is a quick one.
+    fn tells_of(&mut self, round: &Round, item: &Item)
+        requires { IsSeated round.now self.old }
+        ensures { IsSeated round.now self.new }
+    {
+        if round.quick {
+            let rank = rank_of(round.items.as_slice(), item);
+            round.board.tell(&mut self.seat, rank);
+        }
+    }
+
     // Draws items, walks them and settles the walks, until all are drawn, the gate stops it or memory
     // runs out.
     fn work<G: Gate, R: Wait>(&mut self, rt: &R, alloc: Global, gate: &G, round: &Round) -> Ending
@@ -83,20 +108,33 @@ impl Worker {
             let Some(k) = round.board.claim(&mut self.seat) else {
                 return Ending::Drawn;
             };
+            let item = &round.items[k as usize];
+            if self.leaves_out(round, item) {
+                continue;
+            }
             if gate.before(self.number, k) == Answer::Stop {
                 return Ending::Stopped;
             }
-            let item = &round.items[k as usize];
             let Ok(walked) = self.walker.walk(alloc, item, round.mode, round.quota) else {
                 return Ending::OutOfMemory;
             };
             gate.walked(self.number, k);
-            if let Err(SettleError::OutOfMemory) = round.book.lock(rt).settle(alloc, walked) {
-                return Ending::OutOfMemory;
+            let is_bad = walked.part().first_bad().is_some();
+            let settled = round.book.lock(rt).settle(alloc, walked);
+            match settled {
+                Ok(()) if is_bad => self.tells_of(round, item),
+                Err(SettleError::OutOfMemory) => return Ending::OutOfMemory,
+                _ => {}
             }
         }
         unreachable!()
     }
+}
+
+// How many items of a round come before one of them, in the order of schedules.
+fn rank_of(items: &[Item], item: &Item) -> u64 {
+    let before = items.iter().filter(|other| other.prefix() < item.prefix());
+    before.count() as u64
 }
 
 /// Lets all workers of a round work, in at most so many threads.
@@ -123,7 +161,8 @@ pub(crate) fn work_all<G: Gate, R: Threads + Wait + Sync>(
     thread::for_each_mut(rt, workers.as_mut_slice(), threads, &one);
 }
 
-/// How the workers ended a round together: what the first of these is that one of them met.
+/// How the workers ended a round together: out of memory where one of them was, else stopped where one
+/// of them was.
 pub(crate) fn ending_of(workers: &[Worker]) -> Ending
     ensures { result ≡ Stopped → Any (λ w. w.ending ≡ Stopped) workers.now }
 {
