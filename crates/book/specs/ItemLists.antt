@@ -6,8 +6,8 @@ use Rattle.guest_code.specs.Program.{Program}
 use Rattle.walk.specs.Items.{ItemView}
 use Rattle.walk.specs.Walks.{items_at}
 
--- what contracts see of a list of items: prefixes after which no thread sleeps, packed, and after them
--- items as they are
+-- what contracts see of a list of items: prefixes after which no thread sleeps, packed, and after
+-- them items as they are
 pub record ListView : Type 0 where
   pub packed : List (List ℕ)
   pub loose : List ItemView

@@ -20,8 +20,9 @@ use std::sync::Arc;
 use walk::item::Item;
 use walk::prefixes::Prefixes;
 
-/// A list of items of one program, which its holder knows: prefixes after which no thread sleeps are
-/// packed, a few bytes each, and items that came later or were asked for stand after them as they are.
+/// A list of items of one program, which its holder knows: prefixes after which no thread sleeps
+/// are packed, a few bytes each, and items that came later or were asked for stand after them as
+/// they are.
 #[derive(Drop)]
 pub(crate) struct ItemList {
     packed: Prefixes,
@@ -192,7 +193,8 @@ impl ItemList {
     ) -> Result<(), AllocError>
         requires { All IsItem (items_at (arc_value program.now) prefixes) }
         ensures all { all_of (arc_value program.now) self.new ≡ (if is_ok result
-            then all_of (arc_value program.now) self.old ++ items_at (arc_value program.now) prefixes
+            then all_of (arc_value program.now) self.old
+            ++ items_at (arc_value program.now) prefixes
             else all_of (arc_value program.now) self.old) }
         ensures packed { packs ≡ false → self.new.packed ≡ self.old.packed }
     {
@@ -236,7 +238,8 @@ fn push_copies(alloc: Global, items: &mut Vec<Item>, more: &[Item]) -> Result<()
     Ok(())
 }
 
-// Where an item stands among others of its program: at this place, or else looked for from the last one on.
+// Where an item stands among others of its program: at this place, or else looked for from the last
+// one on.
 fn find(items: &[Item], hint: usize, item: &Item) -> Option<usize>
     requires { All (λ i. i.program ≡ item.now.program) items.now }
     ensures some { IfSome result (λ k.

@@ -105,7 +105,8 @@ invariant_of-self-in-Err-join_in c =
     c.in_ok-append.ensures.loose in
     let left : all_of p c.truncate-in-Err-join_in.new.self ≡ b.open_items =
     taken_back (all_of p c.unpack_from.new.self) rest (all_of p c.append.new.self)
-    (all_of p c.truncate-in-Err-join_in.new.self) c.length-open_length.result more (c.length-open_length.ensures p)
+    (all_of p c.truncate-in-Err-join_in.new.self) c.length-open_length.result more
+    (c.length-open_length.ensures p)
     (c.truncate-in-Err-join_in.ensures.items p)
     ∙ c.unpack_from.ensures.same in
     let later : all_of p c.truncate-in-Err-join_in-2.new.self ≡ b.deferred =
@@ -141,7 +142,8 @@ returns-in-Err-join_in c =
     c.in_ok-append.ensures.loose in
     let left : all_of p c.truncate-in-Err-join_in.new.self ≡ b.open_items =
     taken_back (all_of p c.unpack_from.new.self) rest (all_of p c.append.new.self)
-    (all_of p c.truncate-in-Err-join_in.new.self) c.length-open_length.result more (c.length-open_length.ensures p)
+    (all_of p c.truncate-in-Err-join_in.new.self) c.length-open_length.result more
+    (c.length-open_length.ensures p)
     (c.truncate-in-Err-join_in.ensures.items p)
     ∙ c.unpack_from.ensures.same in
     let later : all_of p c.truncate-in-Err-join_in-2.new.self ≡ b.deferred =
@@ -187,7 +189,8 @@ invariant_of-self-2 c =
     let more : all_of p c.append.new.self ≡ all_of p c.unpack_from.new.self ++ rest =
     grown p c.unpack_from.new.self c.append.new.self rest c.in_ok-append.ensures.packed
     c.in_ok-append.ensures.loose in
-    let of : IsWalkOf b w = subst (λ (z : BookView). IsWalkOf z w) (sym c.self.view_is) c.requires.of in
+    let of : IsWalkOf b w =
+    subst (λ (z : BookView). IsWalkOf z w) (sym c.self.view_is) c.requires.of in
     let at : IsOpenAt b w.item place =
     subst (λ (z : BookView). IsOpenAt z w.item place) (sym c.self.view_is) c.requires.is_open in
     let fin : c.join_in.new.self ≡ join b.finished w.part =
@@ -210,7 +213,8 @@ invariant_of-self-2 c =
     } in
     let same : new ≡ settled b w place =
     λ k. record b { finished = fin k; open_items = items k; deferred = later k } in (
-      subst Keeps (sym same) (settles_any b w place c.self.invariant.0 c.into_parts-part.ensures.walked of at),
+      subst Keeps (sym same)
+          (settles_any b w place c.self.invariant.0 c.into_parts-part.ensures.walked of at),
       subst (λ (z : BookView). IsSwept c.both-self-inside.result z) (sym same)
           (subst (λ (x : Bool). IsSwept x (settled b w place)) (sym c.both-self-inside.ensures)
           (settled_swept c.self.inside.swept c.is_quiet-quiet.result b w place c.self.invariant.1
@@ -240,7 +244,8 @@ returns c =
     let more : all_of p c.append.new.self ≡ all_of p c.unpack_from.new.self ++ rest =
     grown p c.unpack_from.new.self c.append.new.self rest c.in_ok-append.ensures.packed
     c.in_ok-append.ensures.loose in
-    let of : IsWalkOf b w = subst (λ (z : BookView). IsWalkOf z w) (sym c.self.view_is) c.requires.of in
+    let of : IsWalkOf b w =
+    subst (λ (z : BookView). IsWalkOf z w) (sym c.self.view_is) c.requires.of in
     let at : IsOpenAt b w.item place =
     subst (λ (z : BookView). IsOpenAt z w.item place) (sym c.self.view_is) c.requires.is_open in
     let fin : c.join_in.new.self ≡ join b.finished w.part =
