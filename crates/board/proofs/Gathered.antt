@@ -55,5 +55,6 @@ each_answered v seats least r told answered k d lt = record {
   was_told = All-by_times (WasTold (told_by seats)) v.answered (answered_to seats) answered
       (All-weaker (IsOfAccount v) (WasTold (told_by seats)) (was_told v seats told) v.answered
       r.answers) k d lt;
-  at_least = All-by_times (λ x. least ≤ x) v.answered (answered_to seats) answered r.answered k d lt;
+  at_least = All-by_times (λ x. least ≤ x) v.answered (answered_to seats) answered r.answered k d
+      lt;
 }

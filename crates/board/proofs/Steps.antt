@@ -92,7 +92,8 @@ given_by size word views views' r same each =
     let is = r.word_is in let late = r.late in let within = r.within in let seated = r.seated in
     record {
       once = subst (λ (z : ℕ). IsOneBelow z (λ x. times_in x views')) (sym d)
-          (one_same (drawn_in views) (λ x. times_in x views) (λ x. times_in x views') r.once same.3);
+          (one_same (drawn_in views) (λ x. times_in x views) (λ x. times_in x views') r.once
+          same.3);
       within = omega arith;
       word_is = omega arith;
       late = λ some_marks. d ∙ late (omega arith);
@@ -245,7 +246,8 @@ module _ (size : Size) (slots id : ℕ) (me : Mine) (small : size.limit < 2 ^ 32
         late = λ _. omega arith;
         seated = omega arith;
         each = each_set (IsAccount size.limit) s.views id with_mark
-            (seated_is size.limit with_mark (omega arith) (mine.limit_is (omega arith)) (omega arith))
+            (seated_is size.limit with_mark (omega arith) (mine.limit_is (omega arith))
+            (omega arith))
             g.each;
       }
 
@@ -293,7 +295,8 @@ record SameDrawn (v w : Account) : Type 0 where
   marks : w.marks ≡ v.marks
   drawn : w.drawn ≡ v.drawn
 
-by_second : (size : Size) (s : State (Unit {0}) Account) (id : ℕ) (me : Mine) (w : Account) (m : ℕ) →
+by_second : (size : Size) (s : State (Unit {0}) Account) (id : ℕ) (me : Mine) (w : Account) (m : ℕ)
+    →
     Kept size s → get_elem? s.views id ≡ some me.0 → SameDrawn me.0 w → 0 < me.0.seats →
     IsLeast m (set s.views id w) → Kept size (stepped s 1 m id me.1 w keeps)
 by_second size s id me w m r at same live least =

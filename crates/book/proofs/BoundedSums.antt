@@ -52,7 +52,8 @@ sums_kept mode (i ∷ is) =
 sums-append : (mode : Mode) (xs ys : List ItemView) →
     item_sums mode (xs ++ ys) ≡ join (item_sums mode xs) (item_sums mode ys)
 sums-append mode [] ys =
-    sym (join_comm nothing (item_sums mode ys) ∙ join_nothing (item_sums mode ys) (sums_kept mode ys))
+    sym (join_comm nothing (item_sums mode ys) ∙ join_nothing (item_sums mode ys)
+    (sums_kept mode ys))
 sums-append mode (x ∷ xs) ys =
     ap (join (item_sum mode x)) (sums-append mode xs ys)
     ∙ sym (join_assoc (item_sum mode x) (item_sums mode xs) (item_sums mode ys))
@@ -120,7 +121,8 @@ thinned_bounded b t =
     let dropped = item_sums b.mode t.gone in
     let l = lesser_some t.first still_open.first_bad in
     let is : known.first_bad ≡ Some l.0 =
-    join_first_bad b.finished still_open ∙ (ap (λ o. lesser o still_open.first_bad) t.found ∙ l.1) in
+    join_first_bad b.finished still_open ∙ (ap (λ o. lesser o still_open.first_bad) t.found ∙ l.1)
+    in
     let has : All (HasItsOf b.mode (root_of b.program)) t.gone =
     all_left (HasItsOf b.mode (root_of b.program)) t.gone b.open_items
     (rest_has b.mode (root_of b.program) (t.gone ++ b.open_items) b.deferred

@@ -29,8 +29,10 @@ some_counted f (x ∷ xs) = go (f x) (some_counted f xs) ∙ ap (nat_lt 0) (sym 
   where
     go : (b : Bool) → list_any f xs ≡ nat_lt 0 (count_by f xs) →
         (b || list_any f xs) ≡ nat_lt 0 ((0 + cond b 1 0) + count_by f xs)
-    go true r = let l : nat_lt 0 ((0 + 1) + count_by f xs) ≡ true = grind (arith, nat_tests) in sym l
-    go false r = let e : (0 + 0) + count_by f xs ≡ count_by f xs = omega arith in r ∙ ap (nat_lt 0) (sym e)
+    go true r = let l : nat_lt 0 ((0 + 1) + count_by f xs) ≡ true =
+        grind (arith, nat_tests) in sym l
+    go false r = let e : (0 + 0) + count_by f xs ≡ count_by f xs =
+        omega arith in r ∙ ap (nat_lt 0) (sym e)
 
 pub left_and_dropped : {A : Type 0} (f : A → Bool) (xs : List A) →
     length (filter (λ i. not (f i)) xs) + count_by f xs ≡ length xs
@@ -102,7 +104,8 @@ pub thinned_is : (b : BookView) (first : List ℕ) (items : List ItemView) (numb
     IsDropped b first items number → after_drop b items number ≡ thinned b
 thinned_is b first items number h =
     λ k. record b {
-      open_items = (h.left ∙ ap (λ (g : ItemView → Bool). filter (λ i. not (g i)) b.open_items) f) k;
+      open_items = (h.left ∙ ap (λ (g : ItemView → Bool). filter (λ i. not (g i)) b.open_items) f)
+          k;
       dropped = ap (λ z. b.dropped || z) (ap (nat_lt 0) (count_is h) ∙ sym any) k;
     }
   where

@@ -18,7 +18,8 @@ swept_filter f [] = refl
 swept_filter f (x ∷ xs) = go (f x) refl (swept_filter f xs)
   where
     go : (b : Bool) → f x ≡ b → list_any f (filter (λ i. not (f i)) xs) ≡ false →
-        list_any f (cond (not b) (x ∷ filter (λ i. not (f i)) xs) (filter (λ i. not (f i)) xs)) ≡ false
+        list_any f (cond (not b) (x ∷ filter (λ i. not (f i)) xs) (filter (λ i. not (f i)) xs))
+        ≡ false
     go true e r = r
     go false e r = (λ k. e k || list_any f (filter (λ i. not (f i)) xs)) ∙ r
 

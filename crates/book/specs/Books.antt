@@ -20,8 +20,9 @@ use Rattle.book.specs.declared.errors.SettleError.TheVariants.{NotOpen, Stranger
 use Rattle.book.specs.declared.errors.RaiseError.{RaiseError}
 use Rattle.book.specs.declared.errors.RaiseError.TheVariants.{StillOpen, Dropped, LastBound}
 
--- what contracts see of a book: the summary of what is finished, the items that are still open, those
--- that wait for the next bound, whether the search is a quick one, and whether it dropped an item
+-- what contracts see of a book: the summary of what is finished, the items that are still open,
+-- those that wait for the next bound, whether the search is a quick one, and whether it dropped an
+-- item
 pub record BookView : Type 0 where
   pub program : Program
   pub mode : Mode

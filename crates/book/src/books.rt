@@ -23,13 +23,13 @@ use walk::mode::Mode;
 use walk::summary::Summary;
 use walk::walked::{Parts, Walked};
 
-/// What is finished of a program's search in a mode, which items are still open, and which wait for the
-/// next bound.
+/// What is finished of a program's search in a mode, which items are still open, and which wait for
+/// the next bound.
 ///
 /// The type keeps that the program's summary is what is finished joined with the sums of the open
-/// items, that nothing is counted that was not tried, that every item is of the program, and that no
-/// schedule lies under two items. Where items were dropped from a quick book, they come after the first
-/// bad schedule that was found.
+/// items, that nothing is counted that was not tried, that every item is of the program, and that
+/// no schedule lies under two items. Where items were dropped from a quick book, they come after
+/// the first bad schedule that was found.
 #[derive(Drop)]
 pub struct Book {
     program: Arc<Program>,
@@ -49,9 +49,13 @@ impl Model for Book {
 
     ghost Value = { BookView };
 
-    ghost view = { λ b. book_view b.program b.mode b.finished b.open_items b.deferred b.quick b.dropped };
+    ghost view = { λ b. book_view b.program b.mode b.finished b.open_items b.deferred b.quick
+        b.dropped };
 
-    ghost invariant = { λ b. Keeps (book_view b.program b.mode b.finished b.open_items b.deferred b.quick b.dropped) × IsSwept b.swept (book_view b.program b.mode b.finished b.open_items b.deferred b.quick b.dropped) × IsLoose b.quick b.finished.first_bad b.open_items b.deferred };
+    ghost invariant = { λ b. Keeps (book_view b.program b.mode b.finished b.open_items b.deferred
+        b.quick b.dropped) × IsSwept b.swept
+        (book_view b.program b.mode b.finished b.open_items b.deferred b.quick b.dropped)
+        × IsLoose b.quick b.finished.first_bad b.open_items b.deferred };
 }
 
 impl Book {
@@ -184,7 +188,8 @@ impl Book {
     ///
     /// `AllocError` where memory runs out.
     pub fn round(&self, alloc: Global) -> Result<Vec<Item>, AllocError>
-        ensures { IfOk result (λ v. v.items ≡ drop (length self.now.open_items - ROUND) self.now.open_items) }
+        ensures { IfOk result (λ v. v.items
+            ≡ drop (length self.now.open_items - ROUND) self.now.open_items) }
     {
         self.open_items.last(alloc, &self.program, ROUND)
     }
@@ -194,7 +199,8 @@ impl Book {
     pub fn closed(&self, program: &Program, mode: Mode) -> Option<&Summary>
         ensures some { IfSome result (λ s. (s.now ≡ self.now.finished) × (self.now.quick ≡ false) ×
             IsClosed self.now program.now mode) }
-        ensures none { IfNone result (self.now.quick ≡ false → IsClosed self.now program.now mode → ⊥) }
+        ensures none { IfNone result (self.now.quick ≡ false → IsClosed self.now program.now mode
+            → ⊥) }
         ensures whole { IfSome result (λ s. s.now ≡ whole program.now mode) }
     {
         if !self.quick && self.is_closed(program, mode) {
@@ -204,13 +210,14 @@ impl Book {
         }
     }
 
-    /// The summary of what a quick search tried, where nothing is open and program and mode are equal
-    /// to these by value. It is bounded by the summary of the whole program, and is that one where it
-    /// has no bad schedule.
+    /// The summary of what a quick search tried, where nothing is open and program and mode are
+    /// equal to these by value. It is bounded by the summary of the whole program, and is that one
+    /// where it has no bad schedule.
     pub fn closed_quick(&self, program: &Program, mode: Mode) -> Option<&Summary>
         ensures some { IfSome result (λ s. (s.now ≡ self.now.finished) × (self.now.quick ≡ true) ×
             IsClosed self.now program.now mode) }
-        ensures none { IfNone result (self.now.quick ≡ true → IsClosed self.now program.now mode → ⊥) }
+        ensures none { IfNone result (self.now.quick ≡ true → IsClosed self.now program.now mode
+            → ⊥) }
         ensures bounded { IfSome result (λ s. IsBoundedBy s.now (whole program.now mode)) }
         ensures whole { IfSome result (λ s.
             self.now.dropped ≡ false → s.now ≡ whole program.now mode) }
@@ -232,8 +239,8 @@ impl Book {
             && self.program.is_same(program)
     }
 
-    /// Whether the book drops an item that is open: it is quick, and each schedule of the item comes
-    /// after the first bad one so far.
+    /// Whether the book drops an item that is open: it is quick, and each schedule of the item
+    /// comes after the first bad one so far.
     pub fn drops(&self, item: &Item) -> bool
         ensures { result ≡ drops self.now item.now }
     {
@@ -246,8 +253,8 @@ impl Book {
         }
     }
 
-    /// Drops the open items of a quick book whose schedules all come after the first bad one so far,
-    /// and answers how many. It does nothing to any other book. It takes no memory.
+    /// Drops the open items of a quick book whose schedules all come after the first bad one so
+    /// far, and answers how many. It does nothing to any other book. It takes no memory.
     pub fn drop_later(&mut self) -> u64
         ensures book { self.new ≡ thinned self.old }
         ensures number { result ≡ count_by (drops self.old) self.old.open_items }
@@ -273,8 +280,8 @@ impl Book {
     /// # Errors
     ///
     /// `Stranger` where program or mode are others, else `NotOpen` where the item isn't open,
-    /// `OutOfMemory` where memory runs out. The book is as before then, and an item that is open can be
-    /// walked again.
+    /// `OutOfMemory` where memory runs out. The book is as before then, and an item that is open
+    /// can be walked again.
     pub fn settle(&mut self, alloc: Global, walked: Walked) -> Result<(), SettleError>
         ensures ok { OnOk result (Settles self.old walked self.new) }
         ensures err { IfErr result (λ e. (self.new ≡ self.old) × IsRefused self.old walked e) }
@@ -285,7 +292,8 @@ impl Book {
         self.settle_own(alloc, walked)
     }
 
-    /// The same where the walk is known to be of the book's program and mode: no program is compared.
+    /// The same where the walk is known to be of the book's program and mode: no program is
+    /// compared.
     ///
     /// # Errors
     ///
@@ -304,8 +312,8 @@ impl Book {
         }
     }
 
-    // The same where the item is at a place among the open ones. The lists grow first; then the part is
-    // joined, which is the last that can be refused, and the item is taken out.
+    // The same where the item is at a place among the open ones. The lists grow first; then the
+    // part is joined, which is the last that can be refused, and the item is taken out.
     fn take_over(&mut self, alloc: Global, walked: Walked, place: usize) -> Result<(), AllocError>
         requires of { IsWalkOf self.old walked }
         requires is_open { IsOpenAt self.old walked.item place }
@@ -342,13 +350,13 @@ impl Book {
         Ok(())
     }
 
-    /// Goes from a bound to the next: what is finished stays, `beyond` aside, and the items that waited
-    /// are open. It takes no memory.
+    /// Goes from a bound to the next: what is finished stays, `beyond` aside, and the items that
+    /// waited are open. It takes no memory.
     ///
     /// # Errors
     ///
-    /// `StillOpen` where an item is open, else `Dropped` where one was dropped, else `LastBound` where
-    /// the bound is the greatest or the mode has none. The book is as before then.
+    /// `StillOpen` where an item is open, else `Dropped` where one was dropped, else `LastBound`
+    /// where the bound is the greatest or the mode has none. The book is as before then.
     pub fn raise(&mut self) -> Result<(), RaiseError>
         ensures ok { OnOk result (Raises self.old self.new) }
         ensures err { IfErr result (λ e. (self.new ≡ self.old) × IsNotRaised self.old e) }
@@ -395,8 +403,8 @@ fn next_mode(mode: Mode) -> Option<Mode>
     }
 }
 
-// Whether a book packs prefixes after a walk: not where a quick one has found a bad schedule, since it
-// drops items in place.
+// Whether a book packs prefixes after a walk: not where a quick one has found a bad schedule, since
+// it drops items in place.
 fn is_packed(quick: bool, finished: &Summary, part: &Summary) -> bool
     ensures { IsTrue result → quick ≡ true →
         (finished.now.first_bad ≡ None) × (part.now.first_bad ≡ None) }

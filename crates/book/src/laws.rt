@@ -1,5 +1,5 @@
-//! What a book's type keeps, said of the schedules of its program. A law is what its function ensures;
-//! the functions do nothing.
+//! What a book's type keeps, said of the schedules of its program. A law is what its function
+//! ensures; the functions do nothing.
 
 ghost use Rattle.std.specs.Prelude.{◌≡◌, ◌≤◌, ◌<◌, ◌++◌, ℕ, [], false, true, List, Some, Contains, All, length, slice_index_or};
 ghost use Rattle.semantics.specs.Machine.{start};
@@ -24,20 +24,22 @@ pub fn finished_and_open_join()
         whole b.program b.mode ≡ join b.finished (item_sums b.mode b.open_items) }
 {}
 
-/// What is finished, `beyond` aside, is the sum of the book's schedules that lie under no open item.
+/// What is finished, `beyond` aside, is the sum of the book's schedules that lie under no open
+/// item.
 pub fn finished_is_under_none()
     ensures { (b : BookView) → IsBook b → b.finished ≡ with_beyond
         (sum_of b.program (clear_of b.open_items (book_schedules b))) b.finished.beyond }
 {}
 
-/// Each open item is of the book's program, and has those of its schedules that begin with the item's
-/// prefix.
+/// Each open item is of the book's program, and has those of its schedules that begin with the
+/// item's prefix.
 pub fn open_have_their_schedules()
     ensures below { (b : BookView) → IsBook b → All (IsBelow (root_of b.program)) b.open_items }
     ensures schedules { (b : BookView) → IsBook b → All (HasItsSchedules b) b.open_items }
 {}
 
-/// No schedule begins with the prefixes of two of the open and the deferred items, at different places.
+/// No schedule begins with the prefixes of two of the open and the deferred items, at different
+/// places.
 pub fn none_is_under_two()
     ensures { (b : BookView) (v : List ℕ) (i j : ℕ) (d : ItemView) → IsBook b →
         i < j → j < length (items_left b) →
@@ -45,9 +47,9 @@ pub fn none_is_under_two()
         begins_with (slice_index_or (items_left b) j d).prefix v ≡ false }
 {}
 
-/// At a bound all complete schedules of the program, whatever their preemptions, are what is finished,
-/// `beyond` aside, and those of the open and the deferred items. So of the parts that were settled no
-/// two are of one schedule, at whatever bounds they were walked.
+/// At a bound all complete schedules of the program, whatever their preemptions, are what is
+/// finished, `beyond` aside, and those of the open and the deferred items. So of the parts that
+/// were settled no two are of one schedule, at whatever bounds they were walked.
 pub fn nothing_is_walked_twice()
     ensures { (b : BookView) (bound : ℕ) → b.mode ≡ Bounded bound → IsBook b →
         full_sum (root_of b.program) ≡
@@ -55,7 +57,8 @@ pub fn nothing_is_walked_twice()
 {}
 
 /// Each complete schedule past the bound lies under an open or a deferred item. The open items are
-/// within the bound, and the deferred ones of the program and past the bound by their last step alone.
+/// within the bound, and the deferred ones of the program and past the bound by their last step
+/// alone.
 pub fn what_is_past_is_kept()
     ensures all { (b : BookView) (bound : ℕ) (v : List ℕ) → b.mode ≡ Bounded bound → IsBook b →
         Contains (complete_schedules b.program (start b.program)) v →
@@ -86,8 +89,8 @@ pub fn dropping_needs_a_bad_one()
         Contains (book_schedules b) w × (is_bad (end_kind b.program w) ≡ true) }
 {}
 
-/// The open items keep what they keep without a drop, and no schedule begins with the prefixes of two
-/// of the open and the deferred ones.
+/// The open items keep what they keep without a drop, and no schedule begins with the prefixes of
+/// two of the open and the deferred ones.
 pub fn dropping_keeps_the_open()
     ensures below { (b : BookView) → IsThinned b →
         All (IsBelow (root_of b.program)) b.open_items }

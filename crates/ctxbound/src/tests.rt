@@ -142,11 +142,7 @@ fn tells_a_text_that_cannot_be_searched(rt: HostRuntime) -> Result<(), Fail> {
             "ctxbound: syntax S3 Expected at 1:21\n",
         ),
     ] {
-        let (out, err, status) = answered(
-            &rt,
-            text.as_bytes(),
-            &search(alloc, "unbounded FILE")?,
-        )?;
+        let (out, err, status) = answered(&rt, text.as_bytes(), &search(alloc, "unbounded FILE")?)?;
         assert_eq!(rt; (out.len(), status), (0, 2));
         assert_eq!(rt; err.as_slice(), line.as_bytes());
     }
@@ -256,7 +252,10 @@ fn keeps_its_status_where_a_stream_fails(rt: HostRuntime) -> Result<(), Fail> {
     let mut out = FailingWriter::at(0);
     let mut err = Vec::new(alloc);
     let mut input = RACE.as_bytes();
-    assert_eq!(rt; serve(&rt, alloc, &request, &mut input, &mut out, &mut err), 2);
+    assert_eq!(rt;
+        serve(&rt, alloc, &request, &mut input, &mut out, &mut err),
+        2
+    );
     assert_eq!(rt; out.calls, 0);
     assert_eq!(rt;
         err.as_slice(),
@@ -264,7 +263,10 @@ fn keeps_its_status_where_a_stream_fails(rt: HostRuntime) -> Result<(), Fail> {
     );
     let mut input = RACE.as_bytes();
     let mut err = FailingWriter::at(0);
-    assert_eq!(rt; serve(&rt, alloc, &request, &mut input, &mut out, &mut err), 2);
+    assert_eq!(rt;
+        serve(&rt, alloc, &request, &mut input, &mut out, &mut err),
+        2
+    );
     let mut err = FailingWriter::at(0);
     assert_eq!(rt; Fault::Memory.report(&mut err), 4);
     Ok(())

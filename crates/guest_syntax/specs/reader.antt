@@ -1,6 +1,5 @@
 -- The reader as functions on lists, which the proofs put between the code and the grammar. No
--- public
--- contract cites it, so nobody has to believe it.
+-- public contract cites it, so nobody has to believe it.
 pub mod BlankBytes
 pub mod TokenViews
 pub mod Scanner

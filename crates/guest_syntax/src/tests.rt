@@ -244,8 +244,7 @@ fn nested(alloc: Global, depth: usize) -> Result<String, Fail> {
 }
 
 /// A thread of this many statements, each with its number and on a line of its own, and spaces up
-/// to
-/// this many bytes.
+/// to this many bytes.
 fn long_text(alloc: Global, statements: usize, bytes: usize) -> Result<String, Fail> {
     let mut text = String::from_str(alloc, "var x;\nthread A {\n")?;
     for i in 0..statements {

@@ -33,8 +33,8 @@ stored_by locals expected new old =
     if is_expected locals expected old then Some (value_of_operand locals new) else None
 
 -- what thread t does in a state by its action: a load is told with the value read, a store with the
--- value stored,
--- an `add` with both, and a `cas` with the value read, and where it hits with the one stored
+-- value stored, an `add` with both, and a `cas` with the value read, and where it hits with the one
+-- stored
 abbrev pub act_of : Snapshot → ℕ → Action → Act
 act_of s t (OnVariable x (Loads r)) = Load x (value_of s x)
 act_of s t (OnVariable x (Stores a)) = Store x (value_of_operand (thread_at s t).locals a)

@@ -63,8 +63,7 @@ pub fn the_printed_spelling_is_read_back()
 {}
 
 /// The pieces of the printed spelling are the longest runs of the schedule: no two neighbours are
-/// of
-/// one thread.
+/// of one thread.
 pub fn the_longest_runs_are_printed()
     ensures pieces { (w : List ℕ) →
         All (λ t. t < NUMBERS) w → length w < 2 ^ 64 →

@@ -1,6 +1,6 @@
 //! The texts of schedules: `-` where the schedule is empty, else pieces joined by commas. A piece
-//! is
-//! a thread number, or a thread number, `x` and how many steps of that thread follow one another.
+//! is a thread number, or a thread number, `x` and how many steps of that thread follow one
+//! another.
 
 ghost use Rattle.std.specs.Prelude.{◌≡◌, ◌≤◌, false, length, IfOk, MatchResult, codes};
 ghost use Rattle.std.specs.Str.{bytes_eq};

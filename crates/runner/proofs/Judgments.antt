@@ -150,7 +150,11 @@ book_has_items b keeps = go b.dropped keeps
 pub first_stage : (p : Program) (search : Search) (mode : Mode)
     → IsFirstMode search mode → IsStage p search mode
 first_stage p (UpTo last) (Bounded bound) h =
-    record { of = omega (arith, h); passed = subst (HasPassed p) (ap Bounded (sym h)) (passed_none p) }
+    record {
+      of = omega (arith, h);
+      passed = subst (HasPassed p) (ap Bounded (sym h))
+          (passed_none p);
+    }
 first_stage p Unbounded Reduced h = record { of = tt; passed = tt }
 first_stage p (UpTo last) Reduced h = absurd h
 first_stage p Unbounded (Bounded bound) h = absurd h

@@ -24,7 +24,8 @@ IsBoundedVerdict may p o last bound sum (Clean all) = IsClean p last bound sum a
 IsBoundedVerdict may p o last bound sum (Bad k w kind) =
     IsBad o.quick p last bound sum k w.items kind
 IsBoundedVerdict may p o last bound sum (Incomplete cause finished) =
-    (bound ≤ last) × IsCutShort may p (Bounded bound) o.limit sum cause × IsFinished p bound finished
+    (bound ≤ last) × IsCutShort may p (Bounded bound) o.limit sum cause
+    × IsFinished p bound finished
 
 -- what a verdict says where an unbounded search has come to this summary
 abbrev pub IsUnboundedVerdict : Bool → Program → Options → SummaryView → Verdict → Type 0

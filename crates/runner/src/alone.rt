@@ -133,10 +133,10 @@ fn search_mode(
 /// The report of a search of a program by one thread.
 ///
 /// A search up to a bound tries all complete schedules with no preemption, then those with at most
-/// one, and so on; it ends at the first bound that a bad schedule is within, at the least bound that
-/// no schedule exceeds, or at the bound that was asked for. An unbounded one tries those that sleep
-/// sets leave. A quick one leaves out what can't hold the first bad schedule any more. It is cut
-/// short, unless it has its answer, after a round in which the limit was reached.
+/// one, and so on; it ends at the first bound that a bad schedule is within, at the least bound
+/// that no schedule exceeds, or at the bound that was asked for. An unbounded one tries those that
+/// sleep sets leave. A quick one leaves out what can't hold the first bad schedule any more. It is
+/// cut short, unless it has its answer, after a round in which the limit was reached.
 ///
 /// # Errors
 ///

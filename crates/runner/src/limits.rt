@@ -8,7 +8,8 @@ pub const QUOTA: u32 = 256;
 /// The most workers of a search.
 pub const WORKERS: u32 = 16;
 
-/// A round of as many items as one can have is a small one where it tried fewer schedules than this.
-/// The next one like it is walked by one thread: to make more takes longer than they save. Measured:
-/// 64 items of 2 to 6 schedules each take up to twice as long with a thread for each worker.
+/// A round of as many items as one can have is a small one where it tried fewer schedules than
+/// this. The next one like it is walked by one thread: to make more takes longer than they save.
+/// Measured: 64 items of 2 to 6 schedules each take up to twice as long with a thread for each
+/// worker.
 pub const SMALL_ROUND: u64 = 512;

@@ -77,8 +77,8 @@ fn after_round(
 ///
 /// The search goes by rounds. The workers of a round draw its items one by one; each asks the gate,
 /// walks the item while it holds no lock, and settles the walk in the one book that all share. The
-/// report is that of [`explore_alone`], whatever the workers and the quota, but for the numbers of an
-/// incomplete one, and for what a quick search leaves out.
+/// report is that of [`explore_alone`], whatever the workers and the quota, but for the numbers of
+/// an incomplete one, and for what a quick search leaves out.
 ///
 /// A worker that the gate stops works no more in its round. Where the search has no answer then, it
 /// is cut short. A single worker asks no gate.

@@ -96,8 +96,8 @@ impl Worker {
         }
     }
 
-    // Draws items, walks them and settles the walks, until all are drawn, the gate stops it or memory
-    // runs out.
+    // Draws items, walks them and settles the walks, until all are drawn, the gate stops it or
+    // memory runs out.
     fn work<G: Gate, R: Wait>(&mut self, rt: &R, alloc: Global, gate: &G, round: &Round) -> Ending
         requires round { IsRound round.now }
         requires seated { IsSeated round.now self.old }
@@ -161,8 +161,8 @@ pub(crate) fn work_all<G: Gate, R: Threads + Wait + Sync>(
     thread::for_each_mut(rt, workers.as_mut_slice(), threads, &one);
 }
 
-/// How the workers ended a round together: out of memory where one of them was, else stopped where one
-/// of them was.
+/// How the workers ended a round together: out of memory where one of them was, else stopped where
+/// one of them was.
 pub(crate) fn ending_of(workers: &[Worker]) -> Ending
     ensures { result ≡ Stopped → Any (λ w. w.ending ≡ Stopped) workers.now }
 {

@@ -15,8 +15,8 @@ use Rattle.semantics.proofs.Waking.{wake-get, wake-length}
 abbrev pub over : ℕ → List Thread → List Thread → List Thread
 over n I W = take n (W ++ drop (length W) I)
 
--- of queues Q and n threads I: q is the queue of condition c, W are the threads after the call, and x is
--- the caller among them
+-- of queues Q and n threads I: q is the queue of condition c, W are the threads after the call, and
+-- x is the caller among them
 pub record HasCalled (s : Snapshot) (t c : ℕ) (d : ConditionAction) (n : ℕ) (I : List Thread)
     (q : List ℕ)
     (W : List Thread) (x : Thread) : Type 0 where

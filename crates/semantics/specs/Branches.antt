@@ -1,6 +1,5 @@
 -- A program as a value, whose threads take no step: the flat code of `set r N; if r == 5 { set q 7;
--- } else { set q 9; }
--- assert q == 7;`, by one thread with 5 for N and by one with 4.
+-- } else { set q 9; } assert q == 7;`, by one thread with 5 for N and by one with 4.
 use Rattle.std.specs.Prelude.{◌≡◌, ℕ, ℤ, pos, List, [], ◌∷◌}
 use Rattle.guest_syntax.specs.declared.tree.Op.TheVariants.{Equal}
 use Rattle.guest_code.specs.declared.program.Value.TheVariants.{Local, Literal}

@@ -1,7 +1,6 @@
 -- A program as a value, and its schedules written out by hand: two threads that each load a
--- variable, add 1 and store
--- the sum, `var x; thread A { load r x; set r r + 1; store x r; } thread B { load r x; set r r + 1;
--- store x r; }`.
+-- variable, add 1 and store the sum, `var x; thread A { load r x; set r r + 1; store x r; } thread
+-- B { load r x; set r r + 1; store x r; }`.
 use Rattle.std.specs.Prelude.{ℕ, ℤ, pos, List, [], ◌∷◌}
 use Rattle.guest_syntax.specs.declared.tree.Op.TheVariants.{Add as plus}
 use Rattle.guest_code.specs.declared.program.Value.TheVariants.{Local, Literal}

@@ -1,6 +1,6 @@
 -- A program as a value, and its schedules written out by hand: `var x; var y; thread A { store y 1;
--- load r x;
--- assert r == 0; } thread B { store x 1; }`. Its assertion fails where B goes before A's load.
+-- load r x; assert r == 0; } thread B { store x 1; }`. Its assertion fails where B goes before A's
+-- load.
 use Rattle.std.specs.Prelude.{ℕ, pos, List, [], ◌∷◌}
 use Rattle.guest_syntax.specs.declared.tree.Op.TheVariants.{Equal}
 use Rattle.guest_code.specs.declared.program.Value.TheVariants.{Local, Literal}

@@ -3,9 +3,8 @@
 //! A schedule is a list of thread numbers, one for each step. `State::start` is where all begin:
 //! each thread has run its own instructions up to its first visible statement. `State::enabled`
 //! says who may take a step, `State::step` takes one, and `State::kind` says how a schedule ends
-//! after which nobody may step.
-//! `Execution` carries a schedule out: beside the state it has the last thread and the preemptions
-//! so far, and its contract says which schedule has led to it.
+//! after which nobody may step. `Execution` carries a schedule out: beside the state it has the
+//! last thread and the preemptions so far, and its contract says which schedule has led to it.
 //!
 //! The contracts speak of a `State` as a snapshot: the lists of the variables' values, the owners
 //! of the mutexes, the queues of the conditions, the counts of the semaphores, and the threads.

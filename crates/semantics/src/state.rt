@@ -81,8 +81,7 @@ pub enum VariableAction {
     /// The variable becomes this value.
     Store(Value),
     /// The local of this number becomes the variable's old value, and the variable the sum of it
-    /// and
-    /// this value.
+    /// and this value.
     Add(usize, Value),
     /// Where the variable equals the first value it becomes the second one, and the local of this
     /// number 1; else the local becomes 0.

@@ -31,9 +31,11 @@ use Rattle.walk.proofs.WalkSteps.{walk_of, first_open, walked_leaf, walked_node,
 use Rattle.walk.proofs.Turns.{costs-append, cost_two, children_cost}
 
 -- the node's preemptions are within the bound
-pub within_at : (mode : Mode) (p : Program) (w : List ℕ) (s : Snapshot) (n : Node) → IsNode p w s n →
+pub within_at : (mode : Mode) (p : Program) (w : List ℕ) (s : Snapshot) (n : Node) → IsNode p w s n
+    →
     IsWithin mode (item_of p w n) → IsWithinAt mode n
-within_at (Bounded bound) p w s n h fits = subst (λ (k : ℕ). k ≤ bound) (sym h.reaches.preemptions) fits
+within_at (Bounded bound) p w s n h fits =
+    subst (λ (k : ℕ). k ≤ bound) (sym h.reaches.preemptions) fits
 within_at Reduced p w s n h fits = tt
 
 -- the same place, where other children are to be tried
@@ -44,11 +46,14 @@ pub record IsOpened (old new : Trail) : Type 0 where
   pub base : new.base ≡ old.base
   pub node : new.node ≡ record old.node { todo = new.node.todo }
 
-node_opened : (p : Program) (w : List ℕ) (s : Snapshot) (n m : Node) (todo : Mask) → IsNode p w s n →
+node_opened : (p : Program) (w : List ℕ) (s : Snapshot) (n m : Node) (todo : Mask) → IsNode p w s n
+    →
     m ≡ record n { todo = todo } → IsNode p w s m
-node_opened p w s n m todo h e = subst (IsNode p w s) (sym e) (record { reaches = h.reaches; enabled = h.enabled })
+node_opened p w s n m todo h e = subst (IsNode p w s) (sym e)
+    (record { reaches = h.reaches; enabled = h.enabled })
 
-pub place_opened : (p : Program) (old new : Trail) → IsPlace p old → IsOpened old new → IsPlace p new
+pub place_opened : (p : Program) (old new : Trail) → IsPlace p old → IsOpened old new
+    → IsPlace p new
 place_opened p old new h o = record {
   trail = trail_same p old new h.trail o.steps (ap (take (length old.steps.items)) o.frames)
       (let r = h.trail.room in let e = ap length o.frames in omega (arith, r, e)) o.state
@@ -63,9 +68,12 @@ open_opened : (mode : Mode) (p : Program) (old new : Trail) → IsPlace p old �
 open_opened mode p old new h o kept =
     let mask : new.node.asleep ≡ old.node.asleep = ap (λ (n : Node). n.asleep) o.node in
     let members : members_from new.node.todo 0 ≡ kept_steps mode (here p old) =
-    kept_members mode p old.steps.items old.state old.node new.node.todo h.trail.node h.trail.state kept in
-    (λ i. children_of mode (record { program = p; prefix = o.steps i; mask = mask i }) (members_from new.node.todo 0)
-    ++ open_above mode p (length (o.steps i) - o.base i) (reverse (take (length (o.steps i)) (o.frames i))))
+    kept_members mode p old.steps.items old.state old.node new.node.todo h.trail.node h.trail.state
+    kept in
+    (λ i. children_of mode (record { program = p; prefix = o.steps i; mask = mask i })
+    (members_from new.node.todo 0)
+    ++ open_above mode p (length (o.steps i) - o.base i)
+    (reverse (take (length (o.steps i)) (o.frames i))))
     ∙ ap (λ (ts : List ℕ). children_of mode (here p old) ts ++ left_above mode p old) members
 
 state_here : (p : Program) (t : Trail) → IsTrail p t → t.state ≡ state_of (here p t)
@@ -75,22 +83,27 @@ here_of : (p : Program) (t : Trail) → IsTrail p t → IsOf p (state_of (here p
 here_of p t h = subst (IsOf p) (state_here p t h) h.state
 
 -- something is enabled, or nothing is
-here_goes_on : (p : Program) (t : Trail) (u : ℕ) (us : List ℕ) → IsTrail p t → members_from t.node.enabled 0 ≡ u ∷ us →
+here_goes_on : (p : Program) (t : Trail) (u : ℕ) (us : List ℕ) → IsTrail p t
+    → members_from t.node.enabled 0 ≡ u ∷ us →
     is_terminal p (state_of (here p t)) ≡ false
-here_goes_on p t u us h e = over_some p (state_of (here p t)) u us (sym (node_enabled p t.steps.items t.state t.node h.node h.state) ∙ e)
+here_goes_on p t u us h e = over_some p (state_of (here p t)) u us
+    (sym (node_enabled p t.steps.items t.state t.node h.node h.state) ∙ e)
 
 here_is_over : (p : Program) (t : Trail) → IsTrail p t → members_from t.node.enabled 0 ≡ [] →
     is_terminal p (state_of (here p t)) ≡ true
-here_is_over p t h e = over_none p (state_of (here p t)) (sym (node_enabled p t.steps.items t.state t.node h.node h.state) ∙ e)
+here_is_over p t h e = over_none p (state_of (here p t))
+    (sym (node_enabled p t.steps.items t.state t.node h.node h.state) ∙ e)
 
-none_kept : (mode : Mode) (p : Program) (t : Trail) → IsTrail p t → members_from t.node.enabled 0 ≡ [] →
+none_kept : (mode : Mode) (p : Program) (t : Trail) → IsTrail p t
+    → members_from t.node.enabled 0 ≡ [] →
     children mode (here p t) ≡ []
 none_kept mode p t h e =
     ap (λ (ts : List ℕ). children_of mode (here p t) (filter (is_kept_step mode (here p t)) ts))
     (sym (node_enabled p t.steps.items t.state t.node h.node h.state) ∙ e)
 
 -- a node where something is enabled
-pub arrived_node : (mode : Mode) (i : ItemView) (old new : Trail) (f g : Found) (past : Mask) (u : ℕ) (us : List ℕ) →
+pub arrived_node : (mode : Mode) (i : ItemView) (old new : Trail) (f g : Found) (past : Mask)
+    (u : ℕ) (us : List ℕ) →
     IsSearch mode i old f (here i.program old ∷ left_above mode i.program old) → IsOpened old new →
     ((t : ℕ) → has new.node.todo t ≡ (has old.node.enabled t && is_kept_at mode old.node t)) →
     ((t : ℕ) → has past t ≡ (has old.node.enabled t && is_past_at mode old.node t)) →
@@ -102,26 +115,35 @@ arrived_node mode i old new f g past u us h o kept passed e part deferred shared
     let p : Program = i.program in
     let c : ItemView = here p old in
     let members : members_from past 0 ≡ past_steps mode c =
-    past_members mode p old.steps.items old.state old.node past h.place.trail.node h.place.trail.state passed in
+    past_members mode p old.steps.items old.state old.node past h.place.trail.node
+    h.place.trail.state passed in
     let walked = walked_node mode i c f.part (left_above mode p old) (map (item_at p) f.deferred)
     (here_of p old h.place.trail) (here_goes_on p old u us h.place.trail e) h.walked in
     let part_is : g.part ≡ with_beyond f.part (f.part.beyond || passes_bound mode c) =
     part ∙ ap (λ (ts : List ℕ). with_beyond f.part (f.part.beyond || not (is_empty ts))) members in
-    let deferred_is : map (item_at p) g.deferred ≡ map (item_at p) f.deferred ++ past_children mode c =
-    ap (map (item_at p)) (deferred ∙ ap (λ (ts : List ℕ). f.deferred ++ map (λ t. old.steps.items ++ t ∷ []) ts) members)
+    let deferred_is : map (item_at p) g.deferred
+    ≡ map (item_at p) f.deferred ++ past_children mode c =
+    ap (map (item_at p)) (deferred ∙ ap (λ (ts : List ℕ). f.deferred
+    ++ map (λ t. old.steps.items ++ t ∷ []) ts) members)
     ∙ deferred_are mode c f.deferred in
     record {
       place = place_opened p old new h.place o;
-      walked = subst (λ (s : SummaryView). IsWalked (walk_of mode i s (still_open mode p new) (map (item_at p) g.deferred))) (sym part_is)
-          (subst (λ (rs : List ItemView). IsWalked (walk_of mode i (with_beyond f.part (f.part.beyond || passes_bound mode c)) rs (map (item_at p) g.deferred)))
+      walked = subst (λ (s : SummaryView). IsWalked
+          (walk_of mode i s (still_open mode p new) (map (item_at p) g.deferred))) (sym part_is)
+          (subst (λ (rs : List ItemView). IsWalked
+          (walk_of mode i (with_beyond f.part (f.part.beyond || passes_bound mode c)) rs
+          (map (item_at p) g.deferred)))
           (sym (open_opened mode p old new h.place o kept))
-          (subst (λ (ds : List ItemView). IsWalked (walk_of mode i (with_beyond f.part (f.part.beyond || passes_bound mode c)) (children mode c ++ left_above mode p old) ds))
+          (subst (λ (ds : List ItemView). IsWalked
+          (walk_of mode i (with_beyond f.part (f.part.beyond || passes_bound mode c))
+          (children mode c ++ left_above mode p old) ds))
           (sym deferred_is) walked));
       shared = shared_same old.steps.items new.steps.items g shared o.steps;
     }
 
 -- a complete schedule
-pub arrived_leaf : (mode : Mode) (i : ItemView) (old new : Trail) (f g : Found) (w : List ℕ) (v : View) →
+pub arrived_leaf : (mode : Mode) (i : ItemView) (old new : Trail) (f g : Found) (w : List ℕ)
+    (v : View) →
     IsSearch mode i old f (here i.program old ∷ left_above mode i.program old) → IsOpened old new →
     ((t : ℕ) → has new.node.todo t ≡ (has old.node.enabled t && is_kept_at mode old.node t)) →
     members_from old.node.enabled 0 ≡ [] → w ≡ old.steps.items → v ≡ view_at old.state →
@@ -130,38 +152,54 @@ pub arrived_leaf : (mode : Mode) (i : ItemView) (old new : Trail) (f g : Found) 
 arrived_leaf mode i old new f g w v h o kept e schedule view part deferred shared =
     let p : Program = i.program in
     let c : ItemView = here p old in
-    let walked = walked_leaf mode i c f.part (left_above mode p old) (map (item_at p) f.deferred) (here_is_over p old h.place.trail e) h.walked in
+    let walked = walked_leaf mode i c f.part (left_above mode p old) (map (item_at p) f.deferred)
+    (here_is_over p old h.place.trail e) h.walked in
     let part_is : g.part ≡ added f.part old.steps.items (end_of p old.steps.items) =
-    part ∙ (λ k. added f.part (schedule k) ((view ∙ ap view_at (state_here p old h.place.trail)) k)) in
+    part ∙ (λ k. added f.part (schedule k) ((view ∙ ap view_at (state_here p old h.place.trail))
+    k)) in
     let open_is : still_open mode p new ≡ left_above mode p old =
-    open_opened mode p old new h.place o kept ∙ ap (λ (cs : List ItemView). cs ++ left_above mode p old) (none_kept mode p old h.place.trail e) in
+    open_opened mode p old new h.place o kept ∙
+    ap (λ (cs : List ItemView). cs ++ left_above mode p old)
+    (none_kept mode p old h.place.trail e) in
     record {
       place = place_opened p old new h.place o;
-      walked = subst (λ (s : SummaryView). IsWalked (walk_of mode i s (still_open mode p new) (map (item_at p) g.deferred))) (sym part_is)
-          (subst (λ (rs : List ItemView). IsWalked (walk_of mode i (added f.part old.steps.items (end_of p old.steps.items)) rs (map (item_at p) g.deferred))) (sym open_is)
-          (subst (λ (ds : List ItemView). IsWalked (walk_of mode i (added f.part old.steps.items (end_of p old.steps.items)) (left_above mode p old) ds)) (ap (map (item_at p)) (sym deferred)) walked));
+      walked = subst (λ (s : SummaryView). IsWalked
+          (walk_of mode i s (still_open mode p new) (map (item_at p) g.deferred))) (sym part_is)
+          (subst (λ (rs : List ItemView). IsWalked
+          (walk_of mode i (added f.part old.steps.items (end_of p old.steps.items)) rs
+          (map (item_at p) g.deferred))) (sym open_is)
+          (subst (λ (ds : List ItemView). IsWalked
+          (walk_of mode i (added f.part old.steps.items (end_of p old.steps.items))
+          (left_above mode p old) ds)) (ap (map (item_at p)) (sym deferred)) walked));
       shared = shared_kept old.steps.items new.steps.items f g h.shared o.steps deferred shared;
     }
 
 -- how far there is to go then
-pub falls_node : (mode : Mode) (p : Program) (old new : Trail) (u : ℕ) (us : List ℕ) → IsPlace p old → IsOpened old new →
+pub falls_node : (mode : Mode) (p : Program) (old new : Trail) (u : ℕ) (us : List ℕ)
+    → IsPlace p old → IsOpened old new →
     ((t : ℕ) → has new.node.todo t ≡ (has old.node.enabled t && is_kept_at mode old.node t)) →
     members_from old.node.enabled 0 ≡ u ∷ us →
-    turns_left mode p new + 2 ≤ cost_of (here p old) + costs (left_above mode p old) + length old.steps.items
+    turns_left mode p new + 2 ≤ cost_of (here p old) + costs (left_above mode p old) + length
+    old.steps.items
 unfolding turns_left
 falls_node mode p old new u us h o kept e =
-    let a = ap costs (open_opened mode p old new h o kept) ∙ costs-append (children mode (here p old)) (left_above mode p old) in
-    let b = children_cost mode (here p old) (here_of p old h.trail) (here_goes_on p old u us h.trail e) in
+    let a = ap costs (open_opened mode p old new h o kept) ∙ costs-append
+    (children mode (here p old)) (left_above mode p old) in
+    let b = children_cost mode (here p old) (here_of p old h.trail)
+    (here_goes_on p old u us h.trail e) in
     let k = ap length o.steps in
     omega (arith, a, b, k)
 
 pub falls_leaf : (mode : Mode) (p : Program) (old new : Trail) → IsPlace p old → IsOpened old new →
     ((t : ℕ) → has new.node.todo t ≡ (has old.node.enabled t && is_kept_at mode old.node t)) →
     members_from old.node.enabled 0 ≡ [] →
-    turns_left mode p new + 2 ≤ cost_of (here p old) + costs (left_above mode p old) + length old.steps.items
+    turns_left mode p new + 2 ≤ cost_of (here p old) + costs (left_above mode p old) + length
+    old.steps.items
 unfolding turns_left
 falls_leaf mode p old new h o kept e =
-    let a = ap costs (open_opened mode p old new h o kept ∙ ap (λ (cs : List ItemView). cs ++ left_above mode p old) (none_kept mode p old h.trail e)) in
+    let a = ap costs (open_opened mode p old new h o kept ∙
+    ap (λ (cs : List ItemView). cs ++ left_above mode p old) (none_kept mode p old h.trail e))
+    in
     let b = cost_two (here p old) in
     let k = ap length o.steps in
     omega (arith, a, b, k)
@@ -174,28 +212,41 @@ tried_added a w v = least (a.tried + 1) greatest_count
     least m n = grind arith
 
 -- the first child that is open is entered
-pub child_enabled : (mode : Mode) (p : Program) (t : Trail) (u : ℕ) → IsTrail p t → IsItem (child_of mode (here p t) u) →
+pub child_enabled : (mode : Mode) (p : Program) (t : Trail) (u : ℕ) → IsTrail p t
+    → IsItem (child_of mode (here p t) u) →
     is_enabled p t.state u ≡ true
 child_enabled mode p t u h i = step_enabled p t.steps.items t.state u i h.node.reaches.state
 
-pub entered_search : (mode : Mode) (i : ItemView) (old new : Trail) (f : Found) (u : ℕ) (asleep : Mask) →
+pub entered_search : (mode : Mode) (i : ItemView) (old new : Trail) (f : Found) (u : ℕ)
+    (asleep : Mask) →
     IsSearch mode i old f (child_of mode (here i.program old) u ∷ still_open mode i.program old) →
-    IsTrail i.program new → IsEntered old new u asleep → asleep ≡ mask_after mode (here i.program old) u →
+    IsTrail i.program new → IsEntered old new u asleep
+    → asleep ≡ mask_after mode (here i.program old) u →
     IsSearch mode i new f (here i.program new ∷ left_above mode i.program new)
 entered_search mode i old new f u asleep h trail e mask =
     let p : Program = i.program in
     let same : here p new ≡ child_of mode (here p old) u =
     λ k. record { program = p; prefix = e.steps k; mask = (e.sleepers ∙ mask) k } in
     record {
-      place = record { trail = trail; base = let b = h.place.base in let d = e.base in let l = ap length e.steps in let k = length_push old.steps.items u in omega (arith, b, d, l, k) };
-      walked = subst (λ (c : ItemView). IsWalked (walk_of mode i f.part (c ∷ left_above mode p new) (map (item_at p) f.deferred))) (sym same)
-          (subst (λ (rs : List ItemView). IsWalked (walk_of mode i f.part (child_of mode (here p old) u ∷ rs) (map (item_at p) f.deferred)))
+      place = record {
+        trail = trail;
+        base = let b = h.place.base in let d = e.base in
+            let l = ap length e.steps in let k =
+            length_push old.steps.items u in omega (arith, b, d, l, k);
+      };
+      walked = subst (λ (c : ItemView). IsWalked
+          (walk_of mode i f.part (c ∷ left_above mode p new) (map (item_at p) f.deferred)))
+          (sym same)
+          (subst (λ (rs : List ItemView). IsWalked
+          (walk_of mode i f.part (child_of mode (here p old) u ∷ rs)
+          (map (item_at p) f.deferred)))
           (sym (open_entered mode p old new u asleep h.place e)) h.walked);
       shared = shared_entered old.steps.items new.steps.items u f h.shared e.steps;
     }
 
 -- how far there was to go
-pub entered_cost : (mode : Mode) (p : Program) (old new : Trail) (u n : ℕ) (asleep : Mask) → IsPlace p old →
+pub entered_cost : (mode : Mode) (p : Program) (old new : Trail) (u n : ℕ) (asleep : Mask)
+    → IsPlace p old →
     IsEntered old new u asleep → asleep ≡ mask_after mode (here p old) u →
     n + 2 ≤ cost_of (here p new) + costs (left_above mode p new) + length new.steps.items →
     n < cost_of (child_of mode (here p old) u) + turns_left mode p old

@@ -22,8 +22,10 @@ rises : (v w x : View) → view_cmp w x ≡ Less
 rises v w x before = go (view_cmp v w) refl
   where
     go : (o : Ordering) → view_cmp v w ≡ o
-        → ordering_index (ordering_reverse (view_cmp v w)) ≤ ordering_index (ordering_reverse (view_cmp v x))
-    go Less e = let f : view_cmp v x ≡ Less = view_total.trans v w x e before in rw (e, f) (omega arith)
+        → ordering_index (ordering_reverse (view_cmp v w)) ≤ ordering_index
+        (ordering_reverse (view_cmp v x))
+    go Less e = let f : view_cmp v x ≡ Less =
+        view_total.trans v w x e before in rw (e, f) (omega arith)
     go Equal e =
         let f : view_cmp v x ≡ Less = ap (λ u. view_cmp u x) (view_same v w e) ∙ before in
         rw (e, f) (omega arith)

@@ -11,26 +11,45 @@ pub length-listed : (n : ℕ) (b last : List ℕ) → length (listed n b last) �
 unfolding listed
 length-listed zero b last = refl
 length-listed (suc n) b last =
-    omega (arith, length-append (listed n (below_of b) (before b last)) (last ∷ []), length-listed n (below_of b) (before b last))
+    omega (
+      arith,
+      length-append (listed n (below_of b) (before b last)) (last ∷ []),
+      length-listed n (below_of b) (before b last),
+    )
 
 pub listed_one : (b last : List ℕ) → listed 1 b last ≡ last ∷ []
 unfolding listed
 listed_one b last = refl
 
-pub listed_more : (n : ℕ) (b last : List ℕ) → 0 < n → listed n b last ≡ listed (n - 1) (below_of b) (before b last) ++ last ∷ []
+pub listed_more : (n : ℕ) (b last : List ℕ) → 0 < n
+    → listed n b last ≡ listed (n - 1) (below_of b) (before b last) ++ last ∷ []
 unfolding listed
 listed_more zero b last more = absurd (omega arith)
 listed_more (suc n) b last more = let e : suc n - 1 ≡ n = omega arith in rw e refl
 
-pub listed_push : (n : ℕ) (b t : List ℕ) (d : ℕ) (last next : List ℕ) → d < 2 ^ 64 → length t < 2 ^ 64 → back (d, t) next ≡ last → listed (n + 1) (b ++ way_bytes d t) next ≡ listed n b last ++ next ∷ []
+pub listed_push : (n : ℕ) (b t : List ℕ) (d : ℕ) (last next : List ℕ) → d < 2 ^ 64
+    → length t < 2 ^ 64 → back (d, t) next ≡ last
+    → listed (n + 1) (b ++ way_bytes d t) next ≡ listed n b last ++ next ∷ []
 listed_push n b t d last next fits short leads =
     let e : n + 1 - 1 ≡ n = omega arith in
-    rw (listed_more (n + 1) (b ++ way_bytes d t) next (omega arith), e, below_of-way b t d fits short, before-way b t d next fits short, leads) refl
+    rw (
+      listed_more (n + 1) (b ++ way_bytes d t) next (omega arith),
+      e,
+      below_of-way b t d fits short,
+      before-way b t d next fits short,
+      leads,
+    ) refl
 
-more_room : (ws : List Way) (last : List ℕ) (l m : ℕ) → AreWays ws last l → l ≤ m → AreWays ws last m
+more_room : (ws : List Way) (last : List ℕ) (l m : ℕ) → AreWays ws last l → l ≤ m
+    → AreWays ws last m
 unfolding AreWays
 more_room [] last l m a le = omega arith
-more_room (w ∷ ws) last l m a le = (a.0, a.1, omega (arith, a.2), more_room ws (back w last) l m a.3 le)
+more_room (w ∷ ws) last l m a le = (
+  a.0,
+  a.1,
+  omega (arith, a.2),
+  more_room ws (back w last) l m a.3 le,
+)
 
 last_short : (ws : List Way) (last : List ℕ) (l : ℕ) → AreWays ws last l → length last ≤ l
 unfolding AreWays
@@ -39,12 +58,21 @@ last_short (w ∷ ws) last l a = a.2
 
 pub stack_one : (s : List ℕ) (l : ℕ) → length s ≤ l → IsStack 1 [] s s l
 unfolding ways_bytes first_by AreWays
-stack_one s l short = record { ways = []; counted = omega arith; spelt = refl; leads = refl; sound = short }
+stack_one s l short = record {
+  ways = [];
+  counted = omega arith;
+  spelt = refl;
+  leads = refl;
+  sound = short;
+}
 
-pub stack_short : (n : ℕ) (b last first : List ℕ) (l : ℕ) → IsStack n b last first l → length last ≤ l
+pub stack_short : (n : ℕ) (b last first : List ℕ) (l : ℕ) → IsStack n b last first l
+    → length last ≤ l
 stack_short n b last first l s = last_short s.ways last l s.sound
 
-pub stack_push : (n : ℕ) (b last first : List ℕ) (l m : ℕ) (t next : List ℕ) (d : ℕ) → IsStack n b last first l → l ≤ m → length next ≤ m → d < 2 ^ 64 → length t < 2 ^ 64 → back (d, t) next ≡ last → IsStack (n + 1) (b ++ way_bytes d t) next first m
+pub stack_push : (n : ℕ) (b last first : List ℕ) (l m : ℕ) (t next : List ℕ) (d : ℕ)
+    → IsStack n b last first l → l ≤ m → length next ≤ m → d < 2 ^ 64 → length t < 2 ^ 64
+    → back (d, t) next ≡ last → IsStack (n + 1) (b ++ way_bytes d t) next first m
 unfolding ways_bytes first_by AreWays
 stack_push n b last first l m t next d s le short fits fit leads = record {
   ways = (d, t) ∷ s.ways;
@@ -54,7 +82,9 @@ stack_push n b last first l m t next d s le short fits fit leads = record {
   sound = (fits, fit, short, rw leads (more_room s.ways last l m s.sound le));
 }
 
-pop_ways : (ws : List Way) (n : ℕ) (b last first : List ℕ) (l : ℕ) → n ≡ length ws + 1 → b ≡ ways_bytes ws → first ≡ first_by ws last → AreWays ws last l → 1 < n → IsStack (n - 1) (below_of b) (before b last) first l
+pop_ways : (ws : List Way) (n : ℕ) (b last first : List ℕ) (l : ℕ) → n ≡ length ws + 1
+    → b ≡ ways_bytes ws → first ≡ first_by ws last → AreWays ws last l → 1 < n
+    → IsStack (n - 1) (below_of b) (before b last) first l
 unfolding ways_bytes first_by AreWays
 pop_ways [] n b last first l c s e a more = absurd (omega arith)
 pop_ways (w ∷ ws) n b last first l c s e a more = record {
@@ -65,52 +95,74 @@ pop_ways (w ∷ ws) n b last first l c s e a more = record {
   sound = rw (s, before-way (ways_bytes ws) w.1 w.0 last a.0 a.1) a.3;
 }
 
-pub stack_pop : (n : ℕ) (b last first : List ℕ) (l : ℕ) → IsStack n b last first l → 1 < n → IsStack (n - 1) (below_of b) (before b last) first l
-stack_pop n b last first l s more = pop_ways s.ways n b last first l s.counted s.spelt s.leads s.sound more
+pub stack_pop : (n : ℕ) (b last first : List ℕ) (l : ℕ) → IsStack n b last first l → 1 < n
+    → IsStack (n - 1) (below_of b) (before b last) first l
+stack_pop n b last first l s more = pop_ways s.ways n b last first l s.counted s.spelt s.leads
+    s.sound more
 
 no_tail : (i j : ℕ) (b : List ℕ) → b ≡ [] → length (take j (drop i b)) ≤ 0
 no_tail i j b e = omega (arith, length-drop i b, length-take j (drop i b), ap length e)
 
-before_ways : (ws : List Way) (b last : List ℕ) (l : ℕ) → b ≡ ways_bytes ws → AreWays ws last l → length (before b last) ≤ l
+before_ways : (ws : List Way) (b last : List ℕ) (l : ℕ) → b ≡ ways_bytes ws → AreWays ws last l
+    → length (before b last) ≤ l
 unfolding ways_bytes AreWays
 before_ways [] b last l s a =
-    rw s (omega (arith, length-append (take (length last - dropped_of []) last) (tail_of []), length-take (length last - dropped_of []) last, no_tail (start_of []) (end_of [] - start_of []) [] refl))
+    rw s (omega (
+      arith,
+      length-append (take (length last - dropped_of []) last) (tail_of []),
+      length-take (length last - dropped_of []) last,
+      no_tail (start_of []) (end_of [] - start_of []) [] refl,
+    ))
 before_ways (w ∷ ws) b last l s a =
     rw (s, before-way (ways_bytes ws) w.1 w.0 last a.0 a.1) (last_short ws (back w last) l a.3)
 
-pub before_short : (n : ℕ) (b last first : List ℕ) (l : ℕ) → IsStack n b last first l → length (before b last) ≤ l
+pub before_short : (n : ℕ) (b last first : List ℕ) (l : ℕ) → IsStack n b last first l
+    → length (before b last) ≤ l
 before_short n b last first l s = before_ways s.ways b last l s.spelt s.sound
 
 count_ways : (ws : List Way) → length ws ≤ length (ways_bytes ws)
 unfolding ways_bytes
 count_ways [] = omega arith
 count_ways (w ∷ ws) =
-    omega (arith, count_ways ws, length-append (ways_bytes ws) (way_bytes w.0 w.1), length-way w.0 w.1)
+    omega (
+      arith,
+      count_ways ws,
+      length-append (ways_bytes ws) (way_bytes w.0 w.1),
+      length-way w.0 w.1,
+    )
 
-pub stack_count : (n : ℕ) (b last first : List ℕ) (l : ℕ) → IsStack n b last first l → n ≤ length b + 1
+pub stack_count : (n : ℕ) (b last first : List ℕ) (l : ℕ) → IsStack n b last first l
+    → n ≤ length b + 1
 stack_count n b last first l s = omega (arith, count_ways s.ways, s.counted, ap length s.spelt)
 
 ways_bytes-append : (us ws : List Way) → ways_bytes (us ++ ws) ≡ ways_bytes ws ++ ways_bytes us
 unfolding ways_bytes
 ways_bytes-append [] ws = sym (append-nil (ways_bytes ws))
-ways_bytes-append (u ∷ us) ws = rw (ways_bytes-append us ws) (append_assoc (ways_bytes ws) (ways_bytes us) (way_bytes u.0 u.1))
+ways_bytes-append (u ∷ us) ws = rw (ways_bytes-append us ws)
+    (append_assoc (ways_bytes ws) (ways_bytes us) (way_bytes u.0 u.1))
 
-first_by-append : (us ws : List Way) (last : List ℕ) → first_by (us ++ ws) last ≡ first_by ws (first_by us last)
+first_by-append : (us ws : List Way) (last : List ℕ)
+    → first_by (us ++ ws) last ≡ first_by ws (first_by us last)
 unfolding first_by
 first_by-append [] ws last = refl
 first_by-append (u ∷ us) ws last = first_by-append us ws (back u last)
 
-AreWays-append : (us ws : List Way) (last : List ℕ) (l : ℕ) → AreWays us last l → AreWays ws (first_by us last) l → AreWays (us ++ ws) last l
+AreWays-append : (us ws : List Way) (last : List ℕ) (l : ℕ) → AreWays us last l
+    → AreWays ws (first_by us last) l → AreWays (us ++ ws) last l
 unfolding AreWays first_by
 AreWays-append [] ws last l a c = c
 AreWays-append (u ∷ us) ws last l a c = (a.0, a.1, a.2, AreWays-append us ws (back u last) l a.3 c)
 
-first_short : (us : List Way) (last : List ℕ) (l : ℕ) → AreWays us last l → length (first_by us last) ≤ l
+first_short : (us : List Way) (last : List ℕ) (l : ℕ) → AreWays us last l
+    → length (first_by us last) ≤ l
 unfolding AreWays first_by
 first_short [] last l a = a
 first_short (u ∷ us) last l a = first_short us (back u last) l a.3
 
-pub stack_append : (n k : ℕ) (b c last first end start : List ℕ) (l j m : ℕ) (t : List ℕ) (d : ℕ) → IsStack n b last first l → IsStack k c end start j → l ≤ m → j ≤ m → d < 2 ^ 64 → length t < 2 ^ 64 → back (d, t) start ≡ last → IsStack (n + k) ((b ++ way_bytes d t) ++ c) end first m
+pub stack_append : (n k : ℕ) (b c last first end start : List ℕ) (l j m : ℕ) (t : List ℕ) (d : ℕ)
+    → IsStack n b last first l → IsStack k c end start j → l ≤ m → j ≤ m → d < 2 ^ 64
+    → length t < 2 ^ 64 → back (d, t) start ≡ last
+    → IsStack (n + k) ((b ++ way_bytes d t) ++ c) end first m
 unfolding ways_bytes first_by AreWays
 stack_append n k b c last first end start l j m t d s r le je fits fit leads =
     let over = more_room r.ways end j m r.sound je in
@@ -121,10 +173,18 @@ stack_append n k b c last first end start l j m t d s r le je fits fit leads =
       spelt = rw (s.spelt, r.spelt, ways_bytes-append r.ways (w ∷ s.ways)) refl;
       leads = rw (first_by-append r.ways (w ∷ s.ways) end, ← r.leads, leads) s.leads;
       sound = AreWays-append r.ways (w ∷ s.ways) end m over
-          (rw (← r.leads) (fits, fit, rw r.leads (first_short r.ways end m over), rw leads (more_room s.ways last l m s.sound le)));
+          (rw (← r.leads) (
+            fits,
+            fit,
+            rw r.leads (first_short r.ways end m over),
+            rw leads (more_room s.ways last l m s.sound le),
+          ));
     }
 
-listed_over : (us : List Way) (n : ℕ) (b last : List ℕ) (l : ℕ) (x : List (List ℕ)) → AreWays us last l → listed n (below_of b) (before b (first_by us last)) ≡ x → listed (n + length us + 1) (b ++ ways_bytes us) last ≡ x ++ listed (length us + 1) (ways_bytes us) last
+listed_over : (us : List Way) (n : ℕ) (b last : List ℕ) (l : ℕ) (x : List (List ℕ))
+    → AreWays us last l → listed n (below_of b) (before b (first_by us last)) ≡ x
+    → listed (n + length us + 1) (b ++ ways_bytes us) last
+    ≡ x ++ listed (length us + 1) (ways_bytes us) last
 unfolding AreWays first_by ways_bytes
 listed_over [] n b last l x a e =
     let k : n + 0 + 1 - 1 ≡ n = omega arith in
@@ -141,37 +201,47 @@ listed_over (u ∷ us) n b last l x a e =
       listed_over us n b (back u last) l x a.3 e,
     ) (append_assoc x (listed (length us + 1) (ways_bytes us) (back u last)) (last ∷ []))
 
-pub listed_append : (n k : ℕ) (b c last end start : List ℕ) (j : ℕ) (t : List ℕ) (d : ℕ) → IsStack k c end start j → d < 2 ^ 64 → length t < 2 ^ 64 → back (d, t) start ≡ last → listed (n + k) ((b ++ way_bytes d t) ++ c) end ≡ listed n b last ++ listed k c end
+pub listed_append : (n k : ℕ) (b c last end start : List ℕ) (j : ℕ) (t : List ℕ) (d : ℕ)
+    → IsStack k c end start j → d < 2 ^ 64 → length t < 2 ^ 64 → back (d, t) start ≡ last
+    → listed (n + k) ((b ++ way_bytes d t) ++ c) end ≡ listed n b last ++ listed k c end
 listed_append n k b c last end start j t d r fits fit leads =
     let e : n + (length r.ways + 1) ≡ n + length r.ways + 1 = omega arith in
     rw (r.counted, r.spelt, e)
     (listed_over r.ways n (b ++ way_bytes d t) end j (listed n b last) r.sound
     (rw (← r.leads, below_of-way b t d fits fit, before-way b t d start fits fit, leads) refl))
 
-pub packed_pop : (n : ℕ) (b last first : List ℕ) (l : ℕ) → IsPacked n b last first l → 0 < n → IsPacked (n - 1) (below_of b) (before b last) first l
+pub packed_pop : (n : ℕ) (b last first : List ℕ) (l : ℕ) → IsPacked n b last first l → 0 < n
+    → IsPacked (n - 1) (below_of b) (before b last) first l
 packed_pop n b last first l (inl e) more = absurd (omega arith)
 packed_pop n b last first l (inr s) more =
     ⊎_elim (λ h. inr (stack_pop n b last first l s h)) (λ h. inl (omega arith)) (cases_lt 1 n)
 
-pub packed_before : (n : ℕ) (b last first : List ℕ) (l : ℕ) → IsPacked n b last first l → 0 < n → length (before b last) ≤ l
+pub packed_before : (n : ℕ) (b last first : List ℕ) (l : ℕ) → IsPacked n b last first l → 0 < n
+    → length (before b last) ≤ l
 packed_before n b last first l (inl e) more = absurd (omega arith)
 packed_before n b last first l (inr s) more = before_short n b last first l s
 
-pub packed_short : (n : ℕ) (b last first : List ℕ) (l : ℕ) → IsPacked n b last first l → 0 < n → length last ≤ l
+pub packed_short : (n : ℕ) (b last first : List ℕ) (l : ℕ) → IsPacked n b last first l → 0 < n
+    → length last ≤ l
 packed_short n b last first l (inl e) more = absurd (omega arith)
 packed_short n b last first l (inr s) more = stack_short n b last first l s
 
-pub packed_stack : (n : ℕ) (b last first : List ℕ) (l : ℕ) → IsPacked n b last first l → 0 < n → IsStack n b last first l
+pub packed_stack : (n : ℕ) (b last first : List ℕ) (l : ℕ) → IsPacked n b last first l → 0 < n
+    → IsStack n b last first l
 packed_stack n b last first l (inl e) more = absurd (omega arith)
 packed_stack n b last first l (inr s) more = s
 
-pub view_pop : (n : ℕ) (b last : List ℕ) → 0 < n → listed (n - 1) (below_of b) (before b last) ≡ take (length (listed n b last) - 1) (listed n b last)
+pub view_pop : (n : ℕ) (b last : List ℕ) → 0 < n
+    → listed (n - 1) (below_of b) (before b last)
+    ≡ take (length (listed n b last) - 1) (listed n b last)
 view_pop n b last more =
     rw (listed_more n b last more)
-    (sym (take_at (listed (n - 1) (below_of b) (before b last)) (last ∷ []) _ (omega (arith, length_push (listed (n - 1) (below_of b) (before b last)) last))))
+    (sym (take_at (listed (n - 1) (below_of b) (before b last)) (last ∷ []) _
+    (omega (arith, length_push (listed (n - 1) (below_of b) (before b last)) last))))
 
 -- an equation that holds where a call went well
-pub on_ok : {T E X : Type 0} (r : Result T E) (x y z w : X) → x ≡ cond (is_ok r) y z → y ≡ w → OnOk r (x ≡ w)
+pub on_ok : {T E X : Type 0} (r : Result T E) (x y z w : X) → x ≡ cond (is_ok r) y z → y ≡ w
+    → OnOk r (x ≡ w)
 on_ok (Ok v) x y z w e f = e ∙ f
 on_ok (Err v) x y z w e f = tt
 
@@ -187,14 +257,17 @@ pub listed_none : (n : ℕ) (b last : List ℕ) → n ≡ 0 → listed n b last 
 unfolding listed
 listed_none n b last e = rw e refl
 
-slice_get_at : {X : Type 0} (xs : List X) (y : X) (n : ℕ) → n ≡ length xs → slice_get (xs ++ y ∷ []) n ≡ Some y
+slice_get_at : {X : Type 0} (xs : List X) (y : X) (n : ℕ) → n ≡ length xs
+    → slice_get (xs ++ y ∷ []) n ≡ Some y
 slice_get_at [] y n e = rw e refl
 slice_get_at (x ∷ xs) y n e = rw e (slice_get_at xs y (length xs) refl)
 
-pub listed_last : (n : ℕ) (b last : List ℕ) → 0 < n → Some last ≡ slice_get (listed n b last) (length (listed n b last) - 1)
+pub listed_last : (n : ℕ) (b last : List ℕ) → 0 < n
+    → Some last ≡ slice_get (listed n b last) (length (listed n b last) - 1)
 listed_last n b last more =
     rw (listed_more n b last more)
-    (sym (slice_get_at (listed (n - 1) (below_of b) (before b last)) last _ (omega (arith, length_push (listed (n - 1) (below_of b) (before b last)) last))))
+    (sym (slice_get_at (listed (n - 1) (below_of b) (before b last)) last _
+    (omega (arith, length_push (listed (n - 1) (below_of b) (before b last)) last))))
 
 leads_back : (last rest t : List ℕ) (k : ℕ) → k ≤ length last → t ≡ drop k last
     → back (length rest, t) (take k last ++ rest) ≡ last
@@ -221,13 +294,19 @@ pushed n b last first l rest c top t k m stack le fits fit e f g room short =
     = omega (arith, length-append (take k last) rest, length-take k last) in
     let leads : back (length rest, t) s ≡ last = leads_back last rest t k le e in
     rw (f, g) (record {
-      stack = stack_push n b last first l m t s (length rest) stack room (omega (arith, ap length g, short)) fits fit leads;
+      stack = stack_push n b last first l m t s (length rest) stack room
+          (omega (arith, ap length g, short)) fits fit leads;
       view = listed_push n b t (length rest) last s fits fit leads;
     })
 
 -- a stack goes on top
-pub appended : (n k : ℕ) (b c last first end start : List ℕ) (l j : ℕ) (mid both top t : List ℕ) (i m : ℕ) → IsStack n b last first l → IsStack k c end start j → i ≤ length last → i ≤ length start → length start < 2 ^ 64 → length t < 2 ^ 64 → take i last ≡ take i start → t ≡ drop i last → mid ≡ b ++ way_bytes (length start - i) t → both ≡ mid ++ c → top ≡ end → l ≤ m → j ≤ m → Grown (n + k) both top first m (listed n b last ++ listed k c end)
-appended n k b c last first end start l j mid both top t i m stack other low le fits fit alike e f g h room above =
+pub appended : (n k : ℕ) (b c last first end start : List ℕ) (l j : ℕ) (mid both top t : List ℕ)
+    (i m : ℕ) → IsStack n b last first l → IsStack k c end start j → i ≤ length last
+    → i ≤ length start → length start < 2 ^ 64 → length t < 2 ^ 64 → take i last ≡ take i start
+    → t ≡ drop i last → mid ≡ b ++ way_bytes (length start - i) t → both ≡ mid ++ c → top ≡ end
+    → l ≤ m → j ≤ m → Grown (n + k) both top first m (listed n b last ++ listed k c end)
+appended n k b c last first end start l j mid both top t i m stack other low le fits fit alike e f
+    g h room above =
     let made : take i last ++ drop i start ≡ start = rw alike (take-append-drop i start) in
     let count : length (drop i start) ≡ length start - i = length-drop i start in
     let leads : back (length start - i, t) start ≡ last
@@ -235,8 +314,10 @@ appended n k b c last first end start l j mid both top t i m stack other low le 
     ∙ ap (λ n. back (n, t) (take i last ++ drop i start)) (sym count)
     ∙ leads_back last (drop i start) t i low e in
     rw (g, f, h) (record {
-      stack = stack_append n k b c last first end start l j m t (length start - i) stack other room above (omega arith) fit leads;
-      view = listed_append n k b c last end start j t (length start - i) other (omega arith) fit leads;
+      stack = stack_append n k b c last first end start l j m t (length start - i) stack other room
+          above (omega arith) fit leads;
+      view = listed_append n k b c last end start j t (length start - i) other (omega arith) fit
+          leads;
     })
 
 pub last_of_listed : (n : ℕ) (b last : List ℕ) → 0 < n → last_of (listed n b last) ≡ last
@@ -257,7 +338,8 @@ taken_after p last prefix k e alike =
     rw (e, alike, take_rest prefix k, take-append-drop k prefix) refl
 
 -- a list that counts none has none
-pub none_listed : (n : ℕ) (b last : List ℕ) (p : List (List ℕ)) → listed n b last ≡ p → n ≡ 0 → p ≡ []
+pub none_listed : (n : ℕ) (b last : List ℕ) (p : List (List ℕ)) → listed n b last ≡ p → n ≡ 0
+    → p ≡ []
 none_listed n b last p e none = sym e ∙ listed_none n b last none
 
 take_none : {X : Type 0} (k : ℕ) → take {A = X} k [] ≡ []
@@ -348,7 +430,8 @@ seek_before list wanted place bytes rest steps shared steps' shared' some s othe
       long = f;
       alike = g;
       few = h;
-      packed = subst (λ (b : List ℕ). IsPacked (place - 1) b (before bytes s.last) s.first s.longest)
+      packed = subst (λ (b : List ℕ). IsPacked (place - 1) b (before bytes s.last) s.first
+          s.longest)
           (sym e) (packed_pop place bytes s.last s.first s.longest s.packed some);
       left = ap (λ b. listed (place - 1) b (before bytes s.last)) e
           ∙ (view_pop place bytes s.last some
@@ -371,7 +454,8 @@ seek_before list wanted place bytes rest steps shared steps' shared' some s othe
         (stands_at list wanted place bytes steps shared some s) in
         let same : s.last ≡ wanted = sym at ∙ is in
         other (
-          s.alike ∙ (ap (λ w. common_length s.last w) (sym same) ∙ (where_same s.last ∙ sym s.long)),
+          s.alike ∙ (ap (λ w. common_length s.last w) (sym same) ∙
+              (where_same s.last ∙ sym s.long)),
           s.long ∙ ap length same,
         )
 
@@ -385,7 +469,8 @@ seek_before list wanted place bytes rest steps shared steps' shared' some s othe
 
 end_within : (b : List ℕ) → end_of b ≤ length b
 unfolding end_of
-end_within b = elim (nat_lt (head_of b) 240) as (λ t. cond t (length b - 1) (length b - 17) ≤ length b)
+end_within b = elim (nat_lt (head_of b) 240) as
+    (λ t. cond t (length b - 1) (length b - 17) ≤ length b)
     [ true ↦ omega arith | false ↦ omega arith ]
 
 pub length-before : (b last : List ℕ) →
@@ -416,23 +501,25 @@ before_fits list wanted place bytes steps shared some s =
 
 -- a search begins at the last prefix
 pub seek_start : (list : List (List ℕ)) (first wanted : List ℕ) (longest count : ℕ)
-    (bytes there last : List ℕ) (steps shared : ℕ) → longest < 2 ^ 63 → IsPacked count bytes last first longest →
+    (bytes there last : List ℕ) (steps shared : ℕ) → longest < 2 ^ 63
+    → IsPacked count bytes last first longest →
     there ≡ bytes → listed count bytes last ≡ list → steps ≡ length last →
     shared ≡ common_length last wanted → shared ≤ length wanted →
     Seeks list wanted count there steps shared
-seek_start list first wanted longest count bytes there last steps shared small packed e view f g h = record {
-  last = last;
-  first = first;
-  longest = longest;
-  small = small;
-  long = f;
-  alike = g;
-  few = h;
-  packed = subst (λ (b : List ℕ). IsPacked count b last first longest) (sym e) packed;
-  left = ap (λ b. listed count b last) e ∙ (view ∙ sym (take_all count list (omega (arith, many))));
-  within = omega (arith, many);
-  none = λ j d lo hi is. absurd (omega (arith, many, lo, hi));
-}
+seek_start list first wanted longest count bytes there last steps shared small packed e view f g
+    h = record {
+      last = last;
+      first = first;
+      longest = longest;
+      small = small;
+      long = f;
+      alike = g;
+      few = h;
+      packed = subst (λ (b : List ℕ). IsPacked count b last first longest) (sym e) packed;
+      left = ap (λ b. listed count b last) e ∙ (view ∙ sym (take_all count list (omega (arith, many))));
+      within = omega (arith, many);
+      none = λ j d lo hi is. absurd (omega (arith, many, lo, hi));
+    }
   where
     many : length list ≡ count
     many = sym (ap length view) ∙ length-listed count bytes last

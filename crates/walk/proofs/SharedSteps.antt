@@ -21,11 +21,13 @@ pub shared_kept : (w v : List ℕ) (f g : Found) → IsShared w f → v ≡ w �
     g.shared ≡ f.shared → IsShared v g
 shared_kept w v f g h e deferred shared = record {
   fits = let k = ap length e in let l = h.fits in omega (arith, k, l, shared);
-  same = (λ i. take (shared i) (last_of (deferred i))) ∙ (h.same ∙ sym (λ i. take (shared i) (e i)));
+  same = (λ i. take (shared i) (last_of (deferred i))) ∙
+      (h.same ∙ sym (λ i. take (shared i) (e i)));
 }
 
 -- after one more step
-pub shared_entered : (w v : List ℕ) (t : ℕ) (f : Found) → IsShared w f → v ≡ w ++ t ∷ [] → IsShared v f
+pub shared_entered : (w v : List ℕ) (t : ℕ) (f : Found) → IsShared w f → v ≡ w ++ t ∷ []
+    → IsShared v f
 shared_entered w v t f h e = record {
   fits = let k = ap length e ∙ length_push w t in let l = h.fits in omega (arith, k, l);
   same = h.same ∙ sym (ap (take f.shared) e ∙ take-append-le f.shared w (t ∷ []) h.fits);

@@ -1,4 +1,5 @@
--- What a turn does to the walk of an item: the first open item gives way to its children, or is tried.
+-- What a turn does to the walk of an item: the first open item gives way to its children, or is
+-- tried.
 use Rattle.std.proofs.Common.{◌≡◌, ℕ, zero, suc, ◌+◌, ◌-◌, ◌<◌, ◌≤◌, ◌^◌, Bool, true, false, ◌||◌, not, List, [], ◌∷◌, ◌++◌, length, map, refl, ap, ◌∙◌, sym, arith, subst, min}
 use Rattle.std.specs.List.{All}
 use Rattle.std.proofs.lemmas.List.{append-nil}
@@ -23,7 +24,13 @@ use Rattle.walk.proofs.Turns.{costs-append, cost_two, children_cost}
 
 -- a walk of these parts
 abbrev pub walk_of : Mode → ItemView → SummaryView → List ItemView → List ItemView → WalkView
-walk_of mode i part rest deferred = record { mode = mode; item = i; part = part; rest = rest; deferred = deferred }
+walk_of mode i part rest deferred = record {
+  mode = mode;
+  item = i;
+  part = part;
+  rest = rest;
+  deferred = deferred;
+}
 
 -- what is known of the first item that is open
 pub record IsFirst (mode : Mode) (p : Program) (c : ItemView) : Type 0 where
@@ -31,45 +38,62 @@ pub record IsFirst (mode : Mode) (p : Program) (c : ItemView) : Type 0 where
   pub program : c.program ≡ p
   pub within : IsWithin mode c
 
-cut_first : (mode : Mode) (i c : ItemView) (rest deferred : List ItemView) → IsCut mode i (c ∷ rest) deferred → IsWithin mode c
-cut_first (Bounded bound) i c rest deferred h = All-head (λ (r : ItemView). preemptions r.program r.prefix ≤ bound) c rest h.within
+cut_first : (mode : Mode) (i c : ItemView) (rest deferred : List ItemView)
+    → IsCut mode i (c ∷ rest) deferred → IsWithin mode c
+cut_first (Bounded bound) i c rest deferred h =
+    All-head (λ (r : ItemView). preemptions r.program r.prefix ≤ bound) c rest h.within
 cut_first Reduced i c rest deferred h = tt
 
-pub first_open : (mode : Mode) (i c : ItemView) (part : SummaryView) (rest deferred : List ItemView) →
+pub first_open : (mode : Mode) (i c : ItemView) (part : SummaryView)
+    (rest deferred : List ItemView) →
     IsWalked (walk_of mode i part (c ∷ rest) deferred) → IsFirst mode i.program c
 first_open mode i c part rest deferred h =
     let below = All-head (λ (r : ItemView). IsBelow i r) c (rest ++ deferred) h.split.below in
-    record { item = below.item; program = below.program; within = cut_first mode i c rest deferred h.split.cut }
+    record {
+      item = below.item;
+      program = below.program;
+      within = cut_first mode i c rest deferred h.split.cut;
+    }
 
 -- it is complete, and tried
-pub walked_leaf : (mode : Mode) (i c : ItemView) (part : SummaryView) (rest deferred : List ItemView) →
+pub walked_leaf : (mode : Mode) (i c : ItemView) (part : SummaryView)
+    (rest deferred : List ItemView) →
     is_terminal c.program (state_of c) ≡ true → IsWalked (walk_of mode i part (c ∷ rest) deferred) →
     IsWalked (walk_of mode i (added part c.prefix (end_of c.program c.prefix)) rest deferred)
 walked_leaf mode i c part rest deferred over h =
     let f = first_open mode i c part rest deferred h in
     let kept : IsSummary part = split_kept mode i part (c ∷ rest) deferred h.split in
-    subst (λ (s : SummaryView). IsWalked (walk_of mode i s rest deferred)) (join_leaf c.program part c.prefix kept)
-    (subst (λ (ds : List ItemView). IsWalked (walk_of mode i (join part (sum_of c.program (c.prefix ∷ []))) rest ds)) (append-nil deferred)
-    (walked_further mode i c part (sum_of c.program (c.prefix ∷ [])) rest deferred [] [] h (leaf_walked mode c f.item over f.within)))
+    subst (λ (s : SummaryView). IsWalked (walk_of mode i s rest deferred))
+    (join_leaf c.program part c.prefix kept)
+    (subst (λ (ds : List ItemView). IsWalked
+    (walk_of mode i (join part (sum_of c.program (c.prefix ∷ []))) rest ds))
+    (append-nil deferred)
+    (walked_further mode i c part (sum_of c.program (c.prefix ∷ [])) rest deferred [] [] h
+    (leaf_walked mode c f.item over f.within)))
 
 -- it goes on, and gives way to its children
-pub walked_node : (mode : Mode) (i c : ItemView) (part : SummaryView) (rest deferred : List ItemView) →
+pub walked_node : (mode : Mode) (i c : ItemView) (part : SummaryView)
+    (rest deferred : List ItemView) →
     IsOf c.program (state_of c) → is_terminal c.program (state_of c) ≡ false →
     IsWalked (walk_of mode i part (c ∷ rest) deferred) →
-    IsWalked (walk_of mode i (with_beyond part (part.beyond || passes_bound mode c)) (children mode c ++ rest)
+    IsWalked (walk_of mode i (with_beyond part (part.beyond || passes_bound mode c))
+    (children mode c ++ rest)
     (deferred ++ past_children mode c))
 walked_node mode i c part rest deferred of' more h =
     let f = first_open mode i c part rest deferred h in
     let kept : IsSummary part = split_kept mode i part (c ∷ rest) deferred h.split in
-    subst (λ (s : SummaryView). IsWalked (walk_of mode i s (children mode c ++ rest) (deferred ++ past_children mode c)))
+    subst (λ (s : SummaryView). IsWalked (walk_of mode i s (children mode c ++ rest)
+    (deferred ++ past_children mode c)))
     (join_past part (passes_bound mode c) kept)
-    (walked_further mode i c part (with_beyond nothing (passes_bound mode c)) rest deferred (children mode c) (past_children mode c) h (node_walked mode c f.item of' more f.within))
+    (walked_further mode i c part (with_beyond nothing (passes_bound mode c)) rest deferred
+    (children mode c) (past_children mode c) h (node_walked mode c f.item of' more f.within))
 
 -- nothing is enabled, or something is
 pub over_none : (p : Program) (s : Snapshot) → enabled p s ≡ [] → is_terminal p s ≡ true
 unfolding is_terminal
 over_none p s e = ap is_empty e
 
-pub over_some : (p : Program) (s : Snapshot) (t : ℕ) (ts : List ℕ) → enabled p s ≡ t ∷ ts → is_terminal p s ≡ false
+pub over_some : (p : Program) (s : Snapshot) (t : ℕ) (ts : List ℕ) → enabled p s ≡ t ∷ ts
+    → is_terminal p s ≡ false
 unfolding is_terminal
 over_some p s t ts e = ap is_empty e

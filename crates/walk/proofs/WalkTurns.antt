@@ -27,32 +27,38 @@ use Rattle.walk.specs.inner.Paths.{leaves, IsNode, path, above, state_at, IsTrai
 use Rattle.walk.specs.inner.WalkerInvariant.{item_of, here, open_at, open_above, left_above, still_open, turns_left, is_kept_at, is_past_at, IsPlace, IsSearch}
 
 -- the step of an item that is one step further is one of an enabled thread
-pub step_enabled : (p : Program) (w : List ℕ) (s : Snapshot) (t : ℕ) → runs p (start p) (w ++ t ∷ []) ≡ true →
+pub step_enabled : (p : Program) (w : List ℕ) (s : Snapshot) (t : ℕ)
+    → runs p (start p) (w ++ t ∷ []) ≡ true →
     s ≡ state_at p w → is_enabled p s t ≡ true
 step_enabled p w s t h at =
     let n : length w < length (w ++ t ∷ []) = let e = length_push w t in omega (arith, e) in
     let on = runs_at p (start p) (w ++ t ∷ []) (length w) h n in
     subst (λ (z : Snapshot). is_enabled p z t ≡ true) (sym at)
-    (subst (λ (v : List ℕ). is_enabled p (state_at p v) t ≡ true) (take_at w (t ∷ []) (length w) refl)
+    (subst (λ (v : List ℕ). is_enabled p (state_at p v) t ≡ true)
+    (take_at w (t ∷ []) (length w) refl)
     (subst (λ (u : ℕ). is_enabled p (state_at p (take (length w) (w ++ t ∷ []))) u ≡ true)
     (get_or_at w t [] 0 (length w) refl) on))
 
 -- what was open is open above, once a step is taken
-pub open_entered : (mode : Mode) (p : Program) (old new : Trail) (t : ℕ) (asleep : Mask) → IsPlace p old →
+pub open_entered : (mode : Mode) (p : Program) (old new : Trail) (t : ℕ) (asleep : Mask)
+    → IsPlace p old →
     IsEntered old new t asleep → left_above mode p new ≡ still_open mode p old
 open_entered mode p old new t asleep h e =
     let count : length new.steps.items - new.base ≡ suc (length old.steps.items - old.base) =
-    let k : length new.steps.items ≡ length old.steps.items + 1 = ap length e.steps ∙ length_push old.steps.items t in
+    let k : length new.steps.items ≡ length old.steps.items + 1 =
+    ap length e.steps ∙ length_push old.steps.items t in
     let b = e.base in let l = h.base in omega (arith, k, b, l) in
     (λ i. open_above mode p (count i) (e.above i))
     ∙ (λ i. open_at mode p (sym h.trail.steps i) (e.node i) ++ left_above mode p old)
 
 -- and once the last step is taken back
-pub open_left : (mode : Mode) (p : Program) (old new : Trail) → old.base < length old.steps.items → IsTrail p new →
+pub open_left : (mode : Mode) (p : Program) (old new : Trail) → old.base < length old.steps.items
+    → IsTrail p new →
     IsLeft old new → left_above mode p old ≡ still_open mode p new
 open_left mode p old new l h e =
     let count : length old.steps.items - old.base ≡ suc (length new.steps.items - new.base) =
-    let k : length old.steps.items ≡ length new.steps.items + 1 = ap length e.steps ∙ length_push new.steps.items e.frame.thread in
+    let k : length old.steps.items ≡ length new.steps.items + 1 =
+    ap length e.steps ∙ length_push new.steps.items e.frame.thread in
     let b = e.base in omega (arith, k, b, l) in
     (λ i. open_above mode p (count i) (e.above i))
     ∙ (λ i. open_at mode p (sym h.steps i) (sym e.node i) ++ left_above mode p new)
@@ -65,59 +71,75 @@ open_done mode p t e = ap (λ (ts : List ℕ). children_of mode (here p t) ts ++
 -- filters by two tests, one after the other
 filter_both : (f g : ℕ → Bool) (xs : List ℕ) → filter (λ t. g t && f t) xs ≡ filter f (filter g xs)
 filter_both f g [] = refl
-filter_both f g (x ∷ xs) = elim (g x) as (λ b. cond (b && f x) (x ∷ filter (λ t. g t && f t) xs) (filter (λ t. g t && f t) xs) ≡ filter f (cond b (x ∷ filter g xs) (filter g xs)))
-    [ true ↦ ap (λ (ys : List ℕ). cond (f x) (x ∷ ys) ys) (filter_both f g xs) | false ↦ filter_both f g xs ]
+filter_both f g (x ∷ xs) = elim (g x) as
+    (λ b. cond (b && f x) (x ∷ filter (λ t. g t && f t) xs) (filter (λ t. g t && f t) xs)
+    ≡ filter f (cond b (x ∷ filter g xs) (filter g xs))) [
+      | true ↦ ap (λ (ys : List ℕ). cond (f x) (x ∷ ys) ys) (filter_both f g xs)
+      | false ↦
+          filter_both f g xs
+    ]
 
 filter_alike : (f g : ℕ → Bool) (xs : List ℕ) → ((t : ℕ) → f t ≡ g t) → filter f xs ≡ filter g xs
 filter_alike f g [] h = refl
-filter_alike f g (x ∷ xs) h = rw (h x) (ap (λ (ys : List ℕ). cond (g x) (x ∷ ys) ys) (filter_alike f g xs h))
+filter_alike f g (x ∷ xs) h = rw (h x) (ap (λ (ys : List ℕ). cond (g x) (x ∷ ys) ys)
+    (filter_alike f g xs h))
 
 -- the members that pass a test
 pub members_chosen : (m e : Mask) (f : ℕ → Bool) → ((t : ℕ) → has m t ≡ (has e t && f t)) →
     members_from m 0 ≡ filter f (members_from e 0)
 unfolding members_from
 members_chosen m e f h =
-    filter_alike (has m) (λ t. has e t && f t) (up_from 0 (THREADS - 0)) h ∙ filter_both f (has e) (up_from 0 (THREADS - 0))
+    filter_alike (has m) (λ t. has e t && f t) (up_from 0 (THREADS - 0)) h ∙ filter_both f (has e)
+    (up_from 0 (THREADS - 0))
 
 -- the threads that are enabled at a node
-pub node_enabled : (p : Program) (w : List ℕ) (s : Snapshot) (n : Node) → IsNode p w s n → IsOf p s →
+pub node_enabled : (p : Program) (w : List ℕ) (s : Snapshot) (n : Node) → IsNode p w s n → IsOf p s
+    →
     members_from n.enabled 0 ≡ enabled p (state_at p w)
-node_enabled p w s n h o = members_enabled p s n.enabled h.enabled o.few (disabled_past p s) ∙ ap (enabled p) h.reaches.state
+node_enabled p w s n h o = members_enabled p s n.enabled h.enabled o.few (disabled_past p s) ∙
+    ap (enabled p) h.reaches.state
 
 -- the preemptions after one more step
 pub used_after : (p : Program) (w : List ℕ) (s : Snapshot) (n : Node) (t : ℕ) → IsNode p w s n →
     n.used + one_if (leaves n t) ≡ preemptions p (w ++ t ∷ [])
 used_after p w s n t h =
     (λ i. h.reaches.preemptions i + one_if (leaves_is p s n.enabled n.last t h.enabled i))
-    ∙ ((λ i. preemptions p w + one_if (preempts p (h.reaches.state i) (h.reaches.last i) t)) ∙ sym (preemptions-push p w t))
+    ∙ ((λ i. preemptions p w + one_if (preempts p (h.reaches.state i) (h.reaches.last i) t)) ∙ sym
+    (preemptions-push p w t))
 
-kept_alike : (mode : Mode) (p : Program) (w : List ℕ) (s : Snapshot) (n : Node) → IsNode p w s n → (t : ℕ) →
+kept_alike : (mode : Mode) (p : Program) (w : List ℕ) (s : Snapshot) (n : Node) → IsNode p w s n
+    → (t : ℕ) →
     is_kept_at mode n t ≡ is_kept_step mode (item_of p w n) t
 kept_alike (Bounded bound) p w s n h t = ap (λ (k : ℕ). nat_le k bound) (used_after p w s n t h)
 kept_alike Reduced p w s n h t = refl
 
-past_alike : (mode : Mode) (p : Program) (w : List ℕ) (s : Snapshot) (n : Node) → IsNode p w s n → (t : ℕ) →
+past_alike : (mode : Mode) (p : Program) (w : List ℕ) (s : Snapshot) (n : Node) → IsNode p w s n
+    → (t : ℕ) →
     is_past_at mode n t ≡ is_past_step mode (item_of p w n) t
 past_alike (Bounded bound) p w s n h t = ap (λ (k : ℕ). nat_lt bound k) (used_after p w s n t h)
 past_alike Reduced p w s n h t = refl
 
 -- the steps that are kept, by the node
-pub kept_members : (mode : Mode) (p : Program) (w : List ℕ) (s : Snapshot) (n : Node) (m : Mask) → IsNode p w s n →
+pub kept_members : (mode : Mode) (p : Program) (w : List ℕ) (s : Snapshot) (n : Node) (m : Mask)
+    → IsNode p w s n →
     IsOf p s → ((t : ℕ) → has m t ≡ (has n.enabled t && is_kept_at mode n t)) →
     members_from m 0 ≡ kept_steps mode (item_of p w n)
 kept_members mode p w s n m h o e =
     members_chosen m n.enabled (is_kept_at mode n) e
     ∙ (ap (filter (is_kept_at mode n)) (node_enabled p w s n h o)
-    ∙ filter_alike (is_kept_at mode n) (is_kept_step mode (item_of p w n)) (enabled p (state_at p w)) (kept_alike mode p w s n h))
+    ∙ filter_alike (is_kept_at mode n) (is_kept_step mode (item_of p w n))
+    (enabled p (state_at p w)) (kept_alike mode p w s n h))
 
 -- and those that pass the bound
-pub past_members : (mode : Mode) (p : Program) (w : List ℕ) (s : Snapshot) (n : Node) (m : Mask) → IsNode p w s n →
+pub past_members : (mode : Mode) (p : Program) (w : List ℕ) (s : Snapshot) (n : Node) (m : Mask)
+    → IsNode p w s n →
     IsOf p s → ((t : ℕ) → has m t ≡ (has n.enabled t && is_past_at mode n t)) →
     members_from m 0 ≡ past_steps mode (item_of p w n)
 past_members mode p w s n m h o e =
     members_chosen m n.enabled (is_past_at mode n) e
     ∙ (ap (filter (is_past_at mode n)) (node_enabled p w s n h o)
-    ∙ filter_alike (is_past_at mode n) (is_past_step mode (item_of p w n)) (enabled p (state_at p w)) (past_alike mode p w s n h))
+    ∙ filter_alike (is_past_at mode n) (is_past_step mode (item_of p w n))
+    (enabled p (state_at p w)) (past_alike mode p w s n h))
 
 -- what is put off are the children past the bound
 pub deferred_are : (mode : Mode) (i : ItemView) (L : List (List ℕ)) →
@@ -125,12 +147,15 @@ pub deferred_are : (mode : Mode) (i : ItemView) (L : List (List ℕ)) →
     ≡ map (item_at i.program) L ++ past_children mode i
 deferred_are (Bounded bound) i L =
     map-append (item_at i.program) L (map (λ t. i.prefix ++ t ∷ []) (past_steps (Bounded bound) i))
-    ∙ ap (λ (xs : List ItemView). map (item_at i.program) L ++ xs) (map_map (past_steps (Bounded bound) i))
+    ∙ ap (λ (xs : List ItemView). map (item_at i.program) L ++ xs)
+    (map_map (past_steps (Bounded bound) i))
   where
-    map_map : (ts : List ℕ) → map (item_at i.program) (map (λ t. i.prefix ++ t ∷ []) ts) ≡ map (child_of (Bounded bound) i) ts
+    map_map : (ts : List ℕ) → map (item_at i.program) (map (λ t. i.prefix ++ t ∷ []) ts)
+        ≡ map (child_of (Bounded bound) i) ts
     map_map [] = refl
     map_map (t ∷ ts) = ap (λ (xs : List ItemView). child_of (Bounded bound) i t ∷ xs) (map_map ts)
 deferred_are Reduced i L =
     map-append (item_at i.program) L (map (λ t. i.prefix ++ t ∷ []) (past_steps Reduced i))
-    ∙ (λ k. map (item_at i.program) L ++ map (item_at i.program) (map (λ t. i.prefix ++ t ∷ []) (reduced_past i k)))
+    ∙ (λ k. map (item_at i.program) L ++ map (item_at i.program)
+    (map (λ t. i.prefix ++ t ∷ []) (reduced_past i k)))
     ∙ (λ k. map (item_at i.program) L ++ children_of Reduced i (sym (reduced_past i) k))

@@ -1,8 +1,8 @@
 //! Packed lists of prefixes of schedules.
 //!
-//! [`Prefixes`] is a list of prefixes, each a list of thread numbers. It keeps the last in full, and
-//! of each earlier one the way back to it from its successor: how many steps to take away, and which
-//! to put back. Neighbours that begin alike cost a few bytes.
+//! [`Prefixes`] is a list of prefixes, each a list of thread numbers. It keeps the last in full,
+//! and of each earlier one the way back to it from its successor: how many steps to take away, and
+//! which to put back. Neighbours that begin alike cost a few bytes.
 
 mod bytes;
 mod seeker;
@@ -36,7 +36,8 @@ impl Model for Prefixes {
 
     ghost view = { λ p. listed p.count p.bytes.items p.last.items };
 
-    ghost invariant = { λ p. (p.longest ≤ vec_capacity p.last) × IsPacked p.count p.bytes.items p.last.items p.first.items p.longest };
+    ghost invariant = { λ p. (p.longest ≤ vec_capacity p.last)
+        × IsPacked p.count p.bytes.items p.last.items p.first.items p.longest };
 }
 
 impl Prefixes {
@@ -136,8 +137,8 @@ impl Prefixes {
         self.push_after(shared, &prefix[shared..])
     }
 
-    /// Puts a prefix after the others that begins as the last one does, so many steps, and then goes on
-    /// with the rest. It compares nothing.
+    /// Puts a prefix after the others that begins as the last one does, so many steps, and then
+    /// goes on with the rest. It compares nothing.
     ///
     /// # Errors
     ///
@@ -280,7 +281,8 @@ impl<'a> Model for LastFirst<'a> {
 
     ghost view = { λ p. listed p.count p.bytes.now p.last.items };
 
-    ghost invariant = { λ p. (p.longest ≤ vec_capacity p.last) × IsPacked p.count p.bytes.now p.last.items p.first.now p.longest };
+    ghost invariant = { λ p. (p.longest ≤ vec_capacity p.last)
+        × IsPacked p.count p.bytes.now p.last.items p.first.now p.longest };
 }
 
 impl<'a> LastFirst<'a> {

@@ -124,7 +124,8 @@ impl Node {
     #[inline(always)]
     fn past(self, bound: u32) -> Mask
         requires { self.used ≤ bound }
-        ensures { (t : ℕ) → has result t ≡ (has self.enabled t && is_past_at (Mode.Bounded bound) self t) }
+        ensures { (t : ℕ) → has result t
+            ≡ (has self.enabled t && is_past_at (Mode.Bounded bound) self t) }
     {
         if self.used < bound {
             return Mask::empty();
@@ -144,8 +145,10 @@ impl Node {
     // The steps that are kept from here on are to be tried; those that pass the bound.
     fn open(&mut self, mode: Mode) -> Mask
         requires { IsWithinAt mode self.old }
-        ensures kept { (t : ℕ) → has self.new.todo t ≡ (has self.old.enabled t && is_kept_at mode self.old t) }
-        ensures past { (t : ℕ) → has result t ≡ (has self.old.enabled t && is_past_at mode self.old t) }
+        ensures kept { (t : ℕ) → has self.new.todo t
+            ≡ (has self.old.enabled t && is_kept_at mode self.old t) }
+        ensures past { (t : ℕ) → has result t
+            ≡ (has self.old.enabled t && is_past_at mode self.old t) }
         ensures same { self.new ≡ record self.old { todo = self.new.todo } }
     {
         match mode {
@@ -251,8 +254,10 @@ impl Trail {
         requires place { IsPlace program.now self.old }
         requires done { members_from self.old.node.todo 0 ≡ [] }
         ensures place { IsPlace program.now self.new }
-        ensures same { still_open _mode program.now self.new ≡ still_open _mode program.now self.old }
-        ensures steps { self.new.steps.items ≡ take (length self.new.steps.items) self.old.steps.items }
+        ensures same { still_open _mode program.now self.new
+            ≡ still_open _mode program.now self.old }
+        ensures steps { self.new.steps.items
+            ≡ take (length self.new.steps.items) self.old.steps.items }
         ensures further { IsTrue result →
             turns_left _mode program.now self.new < turns_left _mode program.now self.old }
         ensures over { IsFalse result → still_open _mode program.now self.new ≡ [] }
@@ -275,13 +280,15 @@ impl Trail {
         item: &Item,
         mode: Mode,
     ) -> Result<bool, AllocError>
-        requires search { IsSearch mode item.now self.old found.old (still_open mode item.now.program self.old) }
+        requires search { IsSearch mode item.now self.old found.old
+            (still_open mode item.now.program self.old) }
         ensures trail { IsTrail item.now.program self.new }
         ensures search { OnOk result (IsSearch mode item.now self.new found.new
             (still_open mode item.now.program self.new)) }
         ensures further { IfOk result (λ more. IsTrue more →
             turns_left mode item.now.program self.new < turns_left mode item.now.program self.old) }
-        ensures over { IfOk result (λ more. IsFalse more → still_open mode item.now.program self.new ≡ []) }
+        ensures over { IfOk result (λ more. IsFalse more
+            → still_open mode item.now.program self.new ≡ []) }
         ensures there { IfOk result (λ more. IsFalse more →
             turns_left mode item.now.program self.new ≡ turns_left mode item.now.program self.old) }
         ensures tried { OnOk result (found.new.part.tried ≤ found.old.part.tried + 1) }
@@ -309,13 +316,15 @@ impl Trail {
         mode: Mode,
         quota: u32,
     ) -> Result<(), AllocError>
-        requires search { IsSearch mode item.now self.old found.old (still_open mode item.now.program self.old) }
+        requires search { IsSearch mode item.now self.old found.old
+            (still_open mode item.now.program self.old) }
         requires few { found.old.part.tried ≤ quota }
         ensures trail { IsTrail item.now.program self.new }
         ensures search { OnOk result (IsSearch mode item.now self.new found.new
             (still_open mode item.now.program self.new)) }
         ensures few { OnOk result (found.new.part.tried ≤ quota) }
-        ensures all { OnOk result (found.new.part.tried < quota → still_open mode item.now.program self.new ≡ []) }
+        ensures all { OnOk result (found.new.part.tried < quota
+            → still_open mode item.now.program self.new ≡ []) }
     {
         let mut going = true;
         while going && found.part.tried() < quota as u64 {
@@ -340,7 +349,8 @@ impl Trail {
             ≡ rest.old.items ++ still_open mode item.now.program self.old) }
         ensures further { IfOk result (λ more. IsTrue more →
             turns_left mode item.now.program self.new < turns_left mode item.now.program self.old) }
-        ensures over { IfOk result (λ more. IsFalse more → still_open mode item.now.program self.new ≡ []) }
+        ensures over { IfOk result (λ more. IsFalse more
+            → still_open mode item.now.program self.new ≡ []) }
         ensures there { IfOk result (λ more. IsFalse more →
             turns_left mode item.now.program self.new ≡ turns_left mode item.now.program self.old) }
     {
@@ -366,7 +376,8 @@ impl Trail {
         requires place { IsPlace item.now.program self.old }
         requires items { All IsItem (still_open mode item.now.program self.old) }
         ensures place { IsPlace item.now.program self.new }
-        ensures rest { IfOk result (λ rest. rest.items ≡ still_open mode item.now.program self.old) }
+        ensures rest { IfOk result (λ rest.
+            rest.items ≡ still_open mode item.now.program self.old) }
     {
         let mut rest = Vec::new(alloc);
         let mut going = true;

@@ -33,7 +33,8 @@ impl Model for Summary {
 
     ghost view = { λ s. summary_view s.tried s.failed s.stuck s.beyond s.first_bad s.ends };
 
-    ghost invariant = { λ s. IsSummary (summary_view s.tried s.failed s.stuck s.beyond s.first_bad s.ends) };
+    ghost invariant = { λ s. IsSummary
+        (summary_view s.tried s.failed s.stuck s.beyond s.first_bad s.ends) };
 }
 
 impl Summary {
@@ -116,7 +117,8 @@ impl Summary {
         })
     }
 
-    /// This summary and another as one: the counts added, the lesser first bad schedule, the end views of both.
+    /// This summary and another as one: the counts added, the lesser first bad schedule, the end
+    /// views of both.
     ///
     /// # Errors
     ///
@@ -135,8 +137,8 @@ impl Summary {
         })
     }
 
-    /// Joins another summary in, in place: what [`Summary::join`] answers. Nothing is cloned, and nothing
-    /// is allocated where the other has no end view that is new.
+    /// Joins another summary in, in place: what [`Summary::join`] answers. Nothing is cloned, and
+    /// nothing is allocated where the other has no end view that is new.
     ///
     /// # Errors
     ///

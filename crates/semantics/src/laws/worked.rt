@@ -40,8 +40,7 @@ pub fn pruning_within_a_bound_loses_a_failure()
 
 /// Two threads that set a local, branch on it and assert: the one whose test holds takes the first
 /// branch and ends, the other takes the second one and stops at its assertion. None takes a step,
-/// so
-/// the one complete schedule is empty, and it fails.
+/// so the one complete schedule is empty, and it fails.
 pub fn branches_run_at_once()
     ensures taken { IsAt (thread_at (start branches) 0) 6 Ended (pos 7) }
     ensures other { IsAt (thread_at (start branches) 1) 5 (Stopped FailedAssert) (pos 9) }

@@ -53,7 +53,8 @@ pub record IsShared (steps : List ℕ) (f : Found) : Type 0 where
   pub same : take f.shared (last_of f.deferred) ≡ take f.shared steps
 
 -- what was found, what these items have, and what was put off make a walk of the item
-pub record IsSearch (mode : Mode) (i : ItemView) (t : Trail) (f : Found) (open_items : List ItemView) :
+pub record IsSearch (mode : Mode) (i : ItemView) (t : Trail) (f : Found)
+    (open_items : List ItemView) :
     Type 0 where
   pub place : IsPlace i.program t
   pub walked : IsWalked (record {

@@ -40,7 +40,8 @@ fn write_way(bytes: &mut Vec<u8>, dropped: usize, tail: &[u8]) -> Result<(), All
 
 // Writes a way back after the bytes, or nothing where memory runs out.
 pub fn put_way(bytes: &mut Vec<u8>, dropped: usize, tail: &[u8]) -> Result<(), AllocError>
-    ensures { bytes.new.items ≡ (if is_ok result then bytes.old.items ++ way_bytes dropped tail.now else bytes.old.items) }
+    ensures { bytes.new.items ≡ (if is_ok result then bytes.old.items
+        ++ way_bytes dropped tail.now else bytes.old.items) }
 {
     let len = bytes.len();
     match write_way(bytes, dropped, tail) {
@@ -122,7 +123,8 @@ pub fn step_back(bytes: &[u8], top: WayBack, last: &mut Vec<u8>) -> Result<(), A
     requires within { top.end ≤ length bytes.now }
     ensures done { OnOk result (last.new.items ≡ before bytes.now last.old.items) }
     ensures room { vec_capacity last.old ≤ vec_capacity last.new }
-    ensures succeeds { length (before bytes.now last.old.items) ≤ vec_capacity last.old → IsOk result }
+    ensures succeeds { length (before bytes.now last.old.items) ≤ vec_capacity last.old
+        → IsOk result }
 {
     last.truncate(last.len().saturating_sub(top.dropped));
     last.extend_from_slice(&bytes[top.start..top.end])

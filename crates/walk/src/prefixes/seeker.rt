@@ -4,8 +4,8 @@ ghost use Rattle.walk.specs.inner.Packed.{dropped_of, start_of, end_of, before, 
 
 use crate::prefixes::bytes::{shared_length, top};
 
-// Where a search stands. It takes no memory: of the prefix there it knows how many steps it has, and
-// how many of them are those that the wanted one begins with.
+// Where a search stands. It takes no memory: of the prefix there it knows how many steps it has,
+// and how many of them are those that the wanted one begins with.
 #[derive(Clone, Copy, Drop)]
 pub struct Seeker<'a> {
     pub bytes: &'a [u8],
@@ -16,7 +16,8 @@ pub struct Seeker<'a> {
 impl<'a> Seeker<'a> {
     // Whether the prefix is the wanted one.
     pub fn has_found(&self, wanted: &[u8]) -> bool
-        ensures { IsTrue result ↔ ((self.now.shared ≡ self.now.steps) × (self.now.steps ≡ length wanted.now)) }
+        ensures { IsTrue result ↔ ((self.now.shared ≡ self.now.steps)
+            × (self.now.steps ≡ length wanted.now)) }
     {
         self.shared == self.steps && self.steps == wanted.len()
     }

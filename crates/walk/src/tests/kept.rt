@@ -12,8 +12,8 @@ use std::alloc::Global;
 use std::sync::Arc;
 use std::test::*;
 
-/// What a kept walker finds of the schedules that begin with a prefix. Where memory is refused once,
-/// it is asked again.
+/// What a kept walker finds of the schedules that begin with a prefix. Where memory is refused
+/// once, it is asked again.
 fn next_found(
     alloc: Global,
     walker: &mut Walker,

@@ -12,8 +12,8 @@ const SECOND_FAILS: &str = "var x; thread A { store x 1; } thread B { load r x; 
 const BETWEEN: &str =
     "var x; thread A { store x 1; store x 0; } thread B { load r x; assert r == 0; }";
 
-/// A thread that fails where it reads between the first and the last step of another. A program of its own that
-/// goes through all interleavings counts 296 complete schedules, of which 74 fail.
+/// A thread that fails where it reads between the first and the last step of another. A program of
+/// its own that goes through all interleavings counts 296 complete schedules, of which 74 fail.
 const THREE: &str =
     "var x; var y; thread A { store x 1; store y 1; store x 0; } thread B { store x 2; store y 2; store x 0; } thread C { load r x; assert r == 0; store y 3; }";
 

@@ -10,12 +10,14 @@ use Rattle.ctxbound.proofs.answer.replay_text.Goals as goal
 pub returns-in_err-tree : goal.returns-in_err-tree
 returns-in_err-tree c =
     let p = err_from_is_err_and c.from_residual.result c.from_residual.ensures.1 in
-    rw (p.1, p.2) (syntax_tells c.args.text.now c.args.schedule.now c.in_err-tree.field-0.0 c.in_err-tree.ensures.refused)
+    rw (p.1, p.2) (syntax_tells c.args.text.now c.args.schedule.now c.in_err-tree.field-0.0
+    c.in_err-tree.ensures.refused)
 
 pub returns : goal.returns
 returns c =
     let is_run : IsRunOf c.in_ok-program.program c.in_ok-schedule.schedule.items c.in_ok-run.run' =
-    subst (λ (w : List ℕ). IsRunOf c.in_ok-program.program w c.in_ok-run.run') c.as_slice.ensures.value c.in_ok-run.ensures.value in
+    subst (λ (w : List ℕ). IsRunOf c.in_ok-program.program w c.in_ok-run.run')
+    c.as_slice.ensures.value c.in_ok-run.ensures.value in
     record {
       program = c.in_ok-program.program;
       is_program = record {

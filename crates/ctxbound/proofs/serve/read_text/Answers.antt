@@ -5,5 +5,6 @@ use Rattle.ctxbound.proofs.serve.read_text.Goals as goal
 pub returns-clause-text : goal.returns-clause-text
 returns-clause-text g c =
     let reader = ap (λ r. g.R.Read.remaining r.now) c.take.ensures.inner in
-    filled_is_part _ _ c.take.result.limit c.new-text.result.items c.read_to_end.new.buf.items reader
+    filled_is_part _ _ c.take.result.limit c.new-text.result.items c.read_to_end.new.buf.items
+    reader
     c.new-text.ensures.items c.take.ensures.limit c.in_ok-read_to_end.ensures.bytes

@@ -14,7 +14,11 @@ loop-view-preserved c =
     let left = c.pop.new.self.items in
     let put : c.insert_view.new.ends.items ≡ with_view v ends
     = if_ok c.insert_view.result _ _ _
-    (c.insert_view.ensures.room (omega (arith, c.loop-view.invariant.room, c.in-Some.ensures.cases)))
+    (c.insert_view.ensures.room (omega (
+      arith,
+      c.loop-view.invariant.room,
+      c.in-Some.ensures.cases,
+    )))
     c.insert_view.ensures.items in
     record {
       sorted = subst (IsStrictlySortedBy view_cmp) (sym put)

@@ -7,7 +7,8 @@ use Rattle.walk.proofs.summary.join_views.Given as goal
 abbrev pub invariant-loop-view : goal.invariant-loop-view
 invariant-loop-view l = record {
   sorted : IsStrictlySortedBy view_cmp l.ends.items;
-  same : sorted_views (l.ends.items ++ l.views.items) ≡ sorted_views (l.initial.ends.items ++ l.initial.views.items);
+  same : sorted_views (l.ends.items ++ l.views.items)
+      ≡ sorted_views (l.initial.ends.items ++ l.initial.views.items);
   room : vec_len l.ends + vec_len l.views ≤ vec_capacity l.ends;
 }
 

@@ -11,5 +11,6 @@ returns-in-Equal c =
     λ _. (
       c.if-index-ends.false,
       found v c.args.ends.now c.args.index end c.requires c.if-index-ends.false
-          (ap (view_cmp v) (sym c.index-ends-index.is) ∙ sym c.compare_parts.ensures ∙ c.in-Equal.is),
+          (ap (view_cmp v) (sym c.index-ends-index.is) ∙ sym c.compare_parts.ensures ∙
+          c.in-Equal.is),
     )

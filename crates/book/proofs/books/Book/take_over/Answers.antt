@@ -64,7 +64,8 @@ invariant_of-self-in-Err c =
       subst (IsSwept c.self.inside.swept) (sym same) c.self.invariant.1,
       λ q bad. (
         c.truncate.ensures.none
-            (c.in_ok-append.ensures.packed ∙ c.unpack_from.ensures.none (c.self.invariant.2 q bad).0),
+            (c.in_ok-append.ensures.packed ∙ c.unpack_from.ensures.none
+            (c.self.invariant.2 q bad).0),
         (c.append_prefixes.ensures.packed (packs_none c.is_packed-packs.result c.self.inside.quick
             c.self.inside.finished.first_bad c.args.walked.part.first_bad is_packed q bad)
             ∙ c.unpack_from-2.ensures.none (c.self.invariant.2 q bad).1),
@@ -123,9 +124,11 @@ invariant_of-self-in-Err-join_in c =
       λ q k. let bad : c.self.inside.finished.first_bad ≡ None → ⊥ =
           λ e. k (ap (λ (z : SummaryView). z.first_bad) c.in-Err-join_in.ensures ∙ e) in (
             c.truncate-in-Err-join_in.ensures.none
-                (c.in_ok-append.ensures.packed ∙ c.unpack_from.ensures.none (c.self.invariant.2 q bad).0),
+                (c.in_ok-append.ensures.packed ∙ c.unpack_from.ensures.none
+                (c.self.invariant.2 q bad).0),
             c.truncate-in-Err-join_in-2.ensures.none
-                (c.append_prefixes.ensures.packed (packs_none c.is_packed-packs.result c.self.inside.quick
+                (c.append_prefixes.ensures.packed (packs_none c.is_packed-packs.result
+                c.self.inside.quick
                 c.self.inside.finished.first_bad c.args.walked.part.first_bad is_packed q bad)
                 ∙ c.unpack_from-2.ensures.none (c.self.invariant.2 q bad).1),
           ),

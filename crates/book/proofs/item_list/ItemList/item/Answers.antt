@@ -17,7 +17,8 @@ last_item-requires-clause-run c =
     ∙ (c.truncate.ensures ∙ ap (take (c.args.place + 1)) c.in_ok-prefixes.ensures) in
     subst (λ (ws : List (List ℕ)). All IsItem (items_at p ws)) (sym is)
     (first_run p i.packed (c.args.place + 1)
-    (subst (λ (l : ListView). All IsItem (items_at p l.packed)) (sym c.self.view_is) c.requires.run))
+    (subst (λ (l : ListView). All IsItem (items_at p l.packed)) (sym c.self.view_is)
+    c.requires.run))
 
 pub returns : goal.returns
 returns c =

@@ -4,23 +4,36 @@ use Rattle.walk.proofs.PackedPrefixes.{went_well, packed_pop, packed_before, vie
 use Rattle.walk.proofs.prefixes.LastFirst.advance.Goals as goal
 
 pub overflow_sub-self : goal.overflow_sub-self
-overflow_sub-self c = let i = c.self.inside in omega (arith, length-listed i.count i.bytes.now i.last.items, ap length c.self.view_is)
+overflow_sub-self c = let i = c.self.inside in omega
+    (arith, length-listed i.count i.bytes.now i.last.items, ap length c.self.view_is)
 
 some : (c : goal.After-self-3-1) → 0 < c.self.inside.count
-some c = let i = c.self.inside in omega (arith, length-listed i.count i.bytes.now i.last.items, ap length c.self.view_is)
+some c = let i = c.self.inside in omega (
+  arith,
+  length-listed i.count i.bytes.now i.last.items,
+  ap length c.self.view_is,
+)
 
-last_is : (c : goal.After-self-3-1) → c.step_back.new.last.items ≡ before c.self.inside.bytes.now c.self.inside.last.items
+last_is : (c : goal.After-self-3-1) → c.step_back.new.last.items
+    ≡ before c.self.inside.bytes.now c.self.inside.last.items
 last_is c =
     let i = c.self.inside in
-    let short = packed_before i.count i.bytes.now i.last.items i.first.now i.longest c.self.invariant.1 (some c) in
-    went_well c.step_back.result _ _ (c.step_back.ensures.succeeds (omega (arith, c.self.invariant.0))) c.step_back.ensures.done
+    let short = packed_before i.count i.bytes.now i.last.items i.first.now i.longest
+    c.self.invariant.1 (some c) in
+    went_well c.step_back.result _ _ (c.step_back.ensures.succeeds
+    (omega (arith, c.self.invariant.0))) c.step_back.ensures.done
 
 pub invariant_of-self : goal.invariant_of-self
 invariant_of-self c =
-    let i = c.self.inside in
-    (omega (arith, c.self.invariant.0, c.step_back.ensures.room), rw (last_is c, c.top-top.ensures.start) (packed_pop i.count i.bytes.now i.last.items i.first.now i.longest c.self.invariant.1 (some c)))
+    let i = c.self.inside in (
+      omega (arith, c.self.invariant.0, c.step_back.ensures.room),
+      rw (last_is c, c.top-top.ensures.start)
+          (packed_pop i.count i.bytes.now i.last.items i.first.now i.longest c.self.invariant.1
+          (some c)),
+    )
 
 pub returns : goal.returns
 returns c =
     let i = c.self.inside in
-    rw (last_is c, c.top-top.ensures.start, ← c.self.view_is) (view_pop i.count i.bytes.now i.last.items (some c))
+    rw (last_is c, c.top-top.ensures.start, ← c.self.view_is)
+    (view_pop i.count i.bytes.now i.last.items (some c))

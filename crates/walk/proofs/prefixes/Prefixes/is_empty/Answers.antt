@@ -3,4 +3,8 @@ use Rattle.walk.proofs.PackedPrefixes.{length-listed}
 use Rattle.walk.proofs.prefixes.Prefixes.is_empty.Goals as goal
 
 pub returns : goal.returns
-returns c = rw (← c.self.view_is, length-listed c.self.inside.count c.self.inside.bytes.items c.self.inside.last.items) refl
+returns c = rw (
+  ← c.self.view_is,
+  length-listed c.self.inside.count c.self.inside.bytes.items
+      c.self.inside.last.items,
+) refl

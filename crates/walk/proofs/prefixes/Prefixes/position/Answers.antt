@@ -7,7 +7,8 @@ pub loop-place-init : goal.loop-place-init
 loop-place-init c =
     let i = c.self.inside in
     seek_start c.args.self.now i.first.items c.args.prefix.now i.longest i.count i.bytes.items
-    c.as_slice.result.now i.last.items _ _ (omega (arith, c.self.invariant.0, i.last.small)) c.self.invariant.1
+    c.as_slice.result.now i.last.items _ _ (omega (arith, c.self.invariant.0, i.last.small))
+    c.self.invariant.1
     c.as_slice.ensures.value c.self.view_is
     (omega (arith, c.len.ensures, i.last.ok.0))
     (c.shared_length.ensures.all

@@ -12,7 +12,8 @@ pub returns-then-self-eq0 : goal.returns-then-self-eq0
 returns-then-self-eq0 c =
     let i = c.self.inside in
     let none : c.args.self.now ≡ []
-    = none_listed i.count i.bytes.items i.last.items c.args.self.now c.self.view_is c.if-self-eq0.true in
+    = none_listed i.count i.bytes.items i.last.items c.args.self.now c.self.view_is
+    c.if-self-eq0.true in
     rw none c.start.ensures
 
 pub returns : goal.returns
@@ -20,7 +21,9 @@ returns c =
     let i = c.self.inside in
     let k = c.shared_length-shared.result in
     let last : last_of c.args.self.now ≡ i.last.items
-    = ap last_of (sym c.self.view_is) ∙ last_of_listed i.count i.bytes.items i.last.items (omega arith) in
+    = ap last_of (sym c.self.view_is) ∙ last_of_listed i.count i.bytes.items i.last.items
+    (omega arith) in
     let alike : take k i.last.items ≡ take k c.args.prefix.now
     = ap (take k) (sym c.as_slice.ensures.value) ∙ c.shared_length-shared.ensures.alike in
-    rw (← taken_after c.args.self.now i.last.items c.args.prefix.now k last alike) c.push_after.ensures
+    rw (← taken_after c.args.self.now i.last.items c.args.prefix.now k last alike)
+    c.push_after.ensures

@@ -14,31 +14,45 @@ pub returns-then-self-eq0 : goal.returns-then-self-eq0
 returns-then-self-eq0 c =
     let i = c.self.inside in
     let none : c.args.self.now ≡ []
-    = none_listed i.count i.bytes.items i.last.items c.args.self.now c.self.view_is c.if-self-eq0.true in
+    = none_listed i.count i.bytes.items i.last.items c.args.self.now c.self.view_is
+    c.if-self-eq0.true in
     rw (after_none c.args.self.now c.args.rest.now c.args.shared none, none) c.start.ensures
 
 pub overflow_add-self : goal.overflow_add-self
 overflow_add-self c =
     let i = c.self.inside in
-    let n = stack_count i.count i.bytes.items i.last.items i.first.items i.longest (packed_stack i.count i.bytes.items i.last.items i.first.items i.longest c.self.invariant.1 (omega arith)) in
+    let n = stack_count i.count i.bytes.items i.last.items i.first.items i.longest
+    (packed_stack i.count i.bytes.items i.last.items i.first.items i.longest c.self.invariant.1
+    (omega arith)) in
     omega (arith, n, i.bytes.ok.0, i.bytes.small)
 
 -- the last prefix after the push
 made : (c : goal.After-self-2-1)
-    → c.extend_from_slice.new.self.items ≡ take c.min-shared.result c.self.inside.last.items ++ c.args.rest.now
+    → c.extend_from_slice.new.self.items ≡ take c.min-shared.result c.self.inside.last.items
+    ++ c.args.rest.now
 made c =
     let k = c.min-shared.result in
     let last = c.self.inside.last.items in
     let cut : c.truncate.new.self.items ≡ take k last
     = c.truncate.ensures.items ∙ ap (take k) c.reserve.ensures.items in
-    let fits : vec_len c.truncate.new.self + length c.args.rest.now ≤ vec_capacity c.truncate.new.self
-    = omega (arith, c.in_ok-reserve.ensures.ok, c.reserve.ensures.len, c.truncate.ensures.capacity, c.truncate.ensures.len) in
-    if_ok c.extend_from_slice.result _ _ _ (c.extend_from_slice.ensures.succeeds fits) c.extend_from_slice.ensures.items
+    let fits : vec_len c.truncate.new.self + length c.args.rest.now ≤ vec_capacity
+    c.truncate.new.self
+    = omega (
+      arith,
+      c.in_ok-reserve.ensures.ok,
+      c.reserve.ensures.len,
+      c.truncate.ensures.capacity,
+      c.truncate.ensures.len,
+    ) in
+    if_ok c.extend_from_slice.result _ _ _ (c.extend_from_slice.ensures.succeeds fits)
+    c.extend_from_slice.ensures.items
     ∙ ap (λ x. x ++ c.args.rest.now) cut
 
 grown : (c : goal.After-self-2-1)
-    → Grown (c.self.inside.count + 1) c.put_way.new.bytes.items c.extend_from_slice.new.self.items c.self.inside.first.items c.max-self-inside.result
-    (listed c.self.inside.count c.self.inside.bytes.items c.self.inside.last.items ++ (take c.min-shared.result c.self.inside.last.items ++ c.args.rest.now) ∷ [])
+    → Grown (c.self.inside.count + 1) c.put_way.new.bytes.items c.extend_from_slice.new.self.items
+    c.self.inside.first.items c.max-self-inside.result
+    (listed c.self.inside.count c.self.inside.bytes.items c.self.inside.last.items
+    ++ (take c.min-shared.result c.self.inside.last.items ++ c.args.rest.now) ∷ [])
 grown c =
     let i = c.self.inside in
     let rest = c.args.rest.now in
@@ -48,17 +62,36 @@ grown c =
     let low : k ≤ length last = omega (arith, c.min-shared.ensures, c.len.ensures, i.last.ok.0) in
     let t = take (length c.deref.result.now - k) (drop k c.deref.result.now) in
     let tail : t ≡ drop k last = take_rest c.deref.result.now k ∙ ap (drop k) whole in
-    let wrote : c.put_way.new.bytes.items ≡ i.bytes.items ++ way_bytes (length rest) t = c.in_ok-put_way.ensures in
-    let stack = packed_stack i.count i.bytes.items last i.first.items i.longest c.self.invariant.1 (omega arith) in
-    let long : length rest < 2 ^ 64 = omega (arith, c.in_ok-reserve.ensures.ok, c.reserve.new.self.small) in
-    let short : length t < 2 ^ 64 = omega (arith, ap length tail, length-drop k last, i.last.ok.0, i.last.small) in
-    pushed i.count i.bytes.items last i.first.items i.longest rest _ _ t k _ stack low long short tail wrote (made c)
+    let wrote : c.put_way.new.bytes.items ≡ i.bytes.items ++ way_bytes (length rest) t =
+    c.in_ok-put_way.ensures in
+    let stack = packed_stack i.count i.bytes.items last i.first.items i.longest c.self.invariant.1
+    (omega arith) in
+    let long : length rest < 2 ^ 64 = omega
+    (arith, c.in_ok-reserve.ensures.ok, c.reserve.new.self.small) in
+    let short : length t < 2 ^ 64 = omega (
+      arith,
+      ap length tail,
+      length-drop k last,
+      i.last.ok.0,
+      i.last.small,
+    ) in
+    pushed i.count i.bytes.items last i.first.items i.longest rest _ _ t k _ stack low long short
+    tail wrote (made c)
     (omega (arith, c.max-self-inside.ensures))
     (omega (arith, c.max-self-inside.ensures, c.len-2.ensures, c.extend_from_slice.new.self.ok.0))
 
 pub invariant_of-self-2 : goal.invariant_of-self-2
 invariant_of-self-2 c = (
-  omega (arith, c.self.invariant.0, c.max-self-inside.ensures, c.len-2.ensures, c.extend_from_slice.new.self.ok.1, c.extend_from_slice.ensures.capacity, c.truncate.ensures.capacity, c.reserve.ensures.capacity),
+  omega (
+    arith,
+    c.self.invariant.0,
+    c.max-self-inside.ensures,
+    c.len-2.ensures,
+    c.extend_from_slice.new.self.ok.1,
+    c.extend_from_slice.ensures.capacity,
+    c.truncate.ensures.capacity,
+    c.reserve.ensures.capacity,
+  ),
   inr (grown c).stack,
 )
 

@@ -6,7 +6,12 @@ use Rattle.walk.proofs.prefixes.bytes.head.Goals as goal
 
 pub returns-then-is_empty : goal.returns-then-is_empty
 unfolding head_of
-returns-then-is_empty c = sym (get_or_past c.args.bytes.now _ 0 (omega (arith, eqb-true (length c.args.bytes.now) 0 (sym c.is_empty.ensures ∙ c.if-is_empty.true))))
+returns-then-is_empty c = sym (get_or_past c.args.bytes.now _ 0
+    (omega (
+      arith,
+      eqb-true (length c.args.bytes.now) 0
+          (sym c.is_empty.ensures ∙ c.if-is_empty.true),
+    )))
 
 pub returns-else-is_empty : goal.returns-else-is_empty
 unfolding head_of

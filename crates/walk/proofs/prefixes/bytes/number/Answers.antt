@@ -8,4 +8,5 @@ unfolding number_at
 returns-in-Ok c =
     let e = c.in-Ok.ensures.1.same in
     let k : c.args.at + 8 - c.args.at ≡ 8 = omega arith in
-    c.from_le_bytes.ensures ∙ ap (from_le_bytes w64) (e ∙ ap (λ i. take i (drop c.args.at c.args.bytes.now)) k)
+    c.from_le_bytes.ensures ∙ ap (from_le_bytes w64)
+    (e ∙ ap (λ i. take i (drop c.args.at c.args.bytes.now)) k)

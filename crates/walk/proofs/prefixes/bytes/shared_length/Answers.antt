@@ -5,14 +5,21 @@ use Rattle.std.proofs.lemmas.Bool.Decides.{Decides-eqb}
 use Rattle.walk.proofs.CommonSteps.{common_is}
 use Rattle.walk.proofs.prefixes.bytes.shared_length.Goals as goal
 
-more : (n : ℕ) (a b : List ℕ) → take n a ≡ take n b → take (n + 16 - n) (drop n a) ≡ take (n + 16 - n) (drop n b) → take (n + 16) a ≡ take (n + 16) b
+more : (n : ℕ) (a b : List ℕ) → take n a ≡ take n b
+    → take (n + 16 - n) (drop n a) ≡ take (n + 16 - n) (drop n b)
+    → take (n + 16) a ≡ take (n + 16) b
 more n a b e f =
     let k : n + 16 - n ≡ 16 = omega arith in
     rw (take-add n 16 a, take-add n 16 b, e, ← k, f) refl
 
 pub loop-n-preserved : goal.loop-n-preserved
 loop-n-preserved c =
-    record { within = omega arith; alike = more c.loop-n.n c.args.a.now c.args.b.now c.loop-n.invariant.alike (((slice_eq-Decides Decides-eqb _ _ _ c.eq.ensures).0) c.if-eq.true) }
+    record {
+      within = omega arith;
+      alike = more c.loop-n.n c.args.a.now c.args.b.now
+          c.loop-n.invariant.alike (((slice_eq-Decides Decides-eqb _ _ _ c.eq.ensures).0)
+          c.if-eq.true);
+    }
 
 pub returns-else-a-n-clause-all : goal.returns-else-a-n-clause-all
 returns-else-a-n-clause-all c =

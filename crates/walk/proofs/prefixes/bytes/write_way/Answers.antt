@@ -3,7 +3,9 @@ use Rattle.walk.proofs.WayBytes.{small_way, large_way}
 use Rattle.walk.proofs.prefixes.bytes.write_way.Goals as goal
 
 pub returns-in_ok-push-clause-done : goal.returns-in_ok-push-clause-done
-returns-in_ok-push-clause-done c = small_way c.args.bytes.now.items c.args.tail.now c.extend_from_slice.new.self.items _ c.args.dropped _ c.if-dropped-lt15.true c.if-steps-lt16.true c.in_ok-extend_from_slice.ensures.items refl c.in_ok-push.ensures.items
+returns-in_ok-push-clause-done c = small_way c.args.bytes.now.items c.args.tail.now
+    c.extend_from_slice.new.self.items _ c.args.dropped _ c.if-dropped-lt15.true
+    c.if-steps-lt16.true c.in_ok-extend_from_slice.ensures.items refl c.in_ok-push.ensures.items
 
 pub returns-in_ok-push-2-clause-done : goal.returns-in_ok-push-2-clause-done
 returns-in_ok-push-2-clause-done c =
@@ -11,6 +13,9 @@ returns-in_ok-push-2-clause-done c =
     let f = c.in_ok-extend_from_slice-2.ensures.items in
     let g = c.in_ok-extend_from_slice-3.ensures.items in
     let h = c.in_ok-push-2.ensures.items in
-    large_way c.args.bytes.now.items c.args.tail.now c.extend_from_slice.new.self.items c.extend_from_slice-else-dropped-lt15.new.self.items c.extend_from_slice-else-dropped-lt15-2.new.self.items c.push-else-dropped-lt15.new.self.items c.args.dropped
+    large_way c.args.bytes.now.items c.args.tail.now c.extend_from_slice.new.self.items
+    c.extend_from_slice-else-dropped-lt15.new.self.items
+    c.extend_from_slice-else-dropped-lt15-2.new.self.items
+    c.push-else-dropped-lt15.new.self.items c.args.dropped
     (⊎_elim (λ p. inr p.1) (λ q. inl q) c.else-dropped-lt15.either)
     e (rw (← c.to_le_bytes.ensures) f) (rw (← c.to_le_bytes-else-dropped-lt15.ensures) g) h

@@ -11,9 +11,12 @@ invariant-loop-thread l = record {
   steps : l.steps.items ≡ l.initial.steps.items;
   shared : IsShared l.initial.steps.items l.self;
   part : with_beyond l.self.part (l.self.part.beyond || not (is_empty (members_from l.past l.next)))
-      ≡ with_beyond l.initial.self.part (l.initial.self.part.beyond || not (is_empty (members_from l.past 0)));
-  deferred : (l.self.deferred ++ map (λ t. l.initial.steps.items ++ t ∷ []) (members_from l.past l.next))
-      ≡ (l.initial.self.deferred ++ map (λ t. l.initial.steps.items ++ t ∷ []) (members_from l.past 0));
+      ≡ with_beyond l.initial.self.part (l.initial.self.part.beyond || not
+      (is_empty (members_from l.past 0)));
+  deferred : (l.self.deferred ++ map (λ t. l.initial.steps.items ++ t ∷ [])
+      (members_from l.past l.next))
+      ≡ (l.initial.self.deferred ++ map (λ t. l.initial.steps.items ++ t ∷ [])
+      (members_from l.past 0));
 }
 
 abbrev pub decreases-loop-thread : goal.decreases-loop-thread

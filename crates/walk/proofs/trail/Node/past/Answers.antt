@@ -8,5 +8,6 @@ with-requires c =
     let fits : c.args.self.enabled.bits < 2 ^ 16 = search rules in
     elim (cases_lt c.in-Some.last 16) [
       | inl l ↦ l
-      | inr g ↦ absurd (false≢true (sym (has-above c.args.self.enabled c.in-Some.last fits g) ∙ (sym c.has.ensures ∙ c.if-has.true)))
+      | inr g ↦ absurd (false≢true (sym (has-above c.args.self.enabled c.in-Some.last fits g) ∙
+          (sym c.has.ensures ∙ c.if-has.true)))
     ]

@@ -12,34 +12,70 @@ open-past-requires c =
     let p = c.args.item.now.program in
     let t = c.args.self.now in
     within_at c.args.mode p t.steps.items t.state t.node c.requires.search.place.trail.node
-    (first_open c.args.mode c.args.item.now (here p t) c.args.found.now.part (left_above c.args.mode p t) _ c.requires.search.walked).within
+    (first_open c.args.mode c.args.item.now (here p t) c.args.found.now.part
+    (left_above c.args.mode p t) _ c.requires.search.walked).within
 
 pub returns-in_ok-defer-in-Some-clause-search : goal.returns-in_ok-defer-in-Some-clause-search
 returns-in_ok-defer-in-Some-clause-search c =
-    arrived_node c.args.mode c.args.item.now c.args.self.now _ c.args.found.now _ c.open-past.result _ _ c.requires.search
-    (record { steps = c.defer.ensures.steps; frames = refl; state = refl; base = refl; node = c.open-past.ensures.same })
-    c.open-past.ensures.kept c.open-past.ensures.past (ap (λ (n : Node). members_from n.enabled 0) (sym c.open-past.ensures.same) ∙ c.in-Some.ensures.list) c.in_ok-defer-in-Some.ensures.part c.in_ok-defer-in-Some.ensures.deferred c.in_ok-defer-in-Some.ensures.shared
+    arrived_node c.args.mode c.args.item.now c.args.self.now _ c.args.found.now _
+    c.open-past.result _ _ c.requires.search
+    (record {
+      steps = c.defer.ensures.steps;
+      frames = refl;
+      state = refl;
+      base = refl;
+      node = c.open-past.ensures.same;
+    })
+    c.open-past.ensures.kept c.open-past.ensures.past
+    (ap (λ (n : Node). members_from n.enabled 0) (sym c.open-past.ensures.same) ∙
+    c.in-Some.ensures.list) c.in_ok-defer-in-Some.ensures.part
+    c.in_ok-defer-in-Some.ensures.deferred c.in_ok-defer-in-Some.ensures.shared
 
 pub returns-in_ok-defer-in-Some-clause-falls : goal.returns-in_ok-defer-in-Some-clause-falls
 returns-in_ok-defer-in-Some-clause-falls c =
     falls_node c.args.mode c.args.item.now.program c.args.self.now _ _ _ c.requires.search.place
-    (record { steps = c.defer.ensures.steps; frames = refl; state = refl; base = refl; node = c.open-past.ensures.same })
-    c.open-past.ensures.kept (ap (λ (n : Node). members_from n.enabled 0) (sym c.open-past.ensures.same) ∙ c.in-Some.ensures.list)
+    (record {
+      steps = c.defer.ensures.steps;
+      frames = refl;
+      state = refl;
+      base = refl;
+      node = c.open-past.ensures.same;
+    })
+    c.open-past.ensures.kept (ap (λ (n : Node). members_from n.enabled 0)
+    (sym c.open-past.ensures.same) ∙ c.in-Some.ensures.list)
 
 pub returns-in_ok-add-in-None-clause-search : goal.returns-in_ok-add-in-None-clause-search
 returns-in_ok-add-in-None-clause-search c =
-    arrived_leaf c.args.mode c.args.item.now c.args.self.now _ c.args.found.now _ _ _ c.requires.search
-    (record { steps = refl; frames = refl; state = refl; base = refl; node = c.open-past.ensures.same })
-    c.open-past.ensures.kept (ap (λ (n : Node). members_from n.enabled 0) (sym c.open-past.ensures.same) ∙ c.in-None.ensures.list) c.as_slice.ensures.value
-    (λ i. record { kind = c.final_kind-kind.ensures i; vars = c.variables.ensures i }) c.in_ok-add-in-None.ensures refl refl
+    arrived_leaf c.args.mode c.args.item.now c.args.self.now _ c.args.found.now _ _ _
+    c.requires.search
+    (record {
+      steps = refl;
+      frames = refl;
+      state = refl;
+      base = refl;
+      node = c.open-past.ensures.same;
+    })
+    c.open-past.ensures.kept (ap (λ (n : Node). members_from n.enabled 0)
+    (sym c.open-past.ensures.same) ∙ c.in-None.ensures.list) c.as_slice.ensures.value
+    (λ i. record { kind = c.final_kind-kind.ensures i; vars = c.variables.ensures i })
+    c.in_ok-add-in-None.ensures refl refl
 
 pub returns-in_ok-add-in-None-clause-falls : goal.returns-in_ok-add-in-None-clause-falls
 returns-in_ok-add-in-None-clause-falls c =
     falls_leaf c.args.mode c.args.item.now.program c.args.self.now _ c.requires.search.place
-    (record { steps = refl; frames = refl; state = refl; base = refl; node = c.open-past.ensures.same })
-    c.open-past.ensures.kept (ap (λ (n : Node). members_from n.enabled 0) (sym c.open-past.ensures.same) ∙ c.in-None.ensures.list)
+    (record {
+      steps = refl;
+      frames = refl;
+      state = refl;
+      base = refl;
+      node = c.open-past.ensures.same;
+    })
+    c.open-past.ensures.kept (ap (λ (n : Node). members_from n.enabled 0)
+    (sym c.open-past.ensures.same) ∙ c.in-None.ensures.list)
 
 pub returns-in_ok-add-in-None-clause-tried : goal.returns-in_ok-add-in-None-clause-tried
 returns-in_ok-add-in-None-clause-tried c =
-    let least = tried_added c.args.found.now.part c.as_slice.result.now (record { kind = c.final_kind-kind.result; vars = c.variables.result.now }) in
-    subst (λ (s : _). s.tried ≤ c.args.found.now.part.tried + 1) (sym c.in_ok-add-in-None.ensures) least
+    let least = tried_added c.args.found.now.part c.as_slice.result.now
+    (record { kind = c.final_kind-kind.result; vars = c.variables.result.now }) in
+    subst (λ (s : _). s.tried ≤ c.args.found.now.part.tried + 1) (sym c.in_ok-add-in-None.ensures)
+    least

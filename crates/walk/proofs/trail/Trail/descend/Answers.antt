@@ -15,7 +15,8 @@ sleepers-asleep-requires-clause-enabled c =
     let t = c.args.self.now in
     subst (λ (q : Program). is_enabled q t.state c.args.thread ≡ _) (sym c.program-program.ensures)
     (child_enabled c.args.mode p t c.args.thread c.requires.search.place.trail
-    (first_open c.args.mode c.args.item.now (child_of c.args.mode (here p t) c.args.thread) c.args.found.now.part (still_open c.args.mode p t) _ c.requires.search.walked).item)
+    (first_open c.args.mode c.args.item.now (child_of c.args.mode (here p t) c.args.thread)
+    c.args.found.now.part (still_open c.args.mode p t) _ c.requires.search.walked).item)
 
 pub enter-requires-clause-enabled : goal.enter-requires-clause-enabled
 enter-requires-clause-enabled c =
@@ -23,21 +24,27 @@ enter-requires-clause-enabled c =
     let t = c.args.self.now in
     subst (λ (q : Program). is_enabled q t.state c.args.thread ≡ _) (sym c.program-program.ensures)
     (child_enabled c.args.mode p t c.args.thread c.requires.search.place.trail
-    (first_open c.args.mode c.args.item.now (child_of c.args.mode (here p t) c.args.thread) c.args.found.now.part (still_open c.args.mode p t) _ c.requires.search.walked).item)
+    (first_open c.args.mode c.args.item.now (child_of c.args.mode (here p t) c.args.thread)
+    c.args.found.now.part (still_open c.args.mode p t) _ c.requires.search.walked).item)
 
 pub arrive-requires : goal.arrive-requires
 arrive-requires c =
-    let trail = subst (λ (q : Program). IsTrail q c.enter.new.self) c.program-program.ensures c.enter.ensures.trail in
+    let trail = subst (λ (q : Program). IsTrail q c.enter.new.self) c.program-program.ensures
+    c.enter.ensures.trail in
     record {
-      search = entered_search c.args.mode c.args.item.now c.args.self.now c.enter.new.self c.args.found.now c.args.thread c.sleepers-asleep.result
+      search = entered_search c.args.mode c.args.item.now c.args.self.now c.enter.new.self
+          c.args.found.now c.args.thread c.sleepers-asleep.result
           c.requires.search trail c.in_ok-enter.ensures.entered
-          (c.sleepers-asleep.ensures ∙ ap (λ (q : Program). mask_after c.args.mode (here q c.args.self.now) c.args.thread) c.program-program.ensures);
+          (c.sleepers-asleep.ensures ∙ ap (λ (q : Program). mask_after c.args.mode
+          (here q c.args.self.now) c.args.thread) c.program-program.ensures);
     }
 
 pub returns-clause-further : goal.returns-clause-further
 returns-clause-further c =
     on_ok_weaker c.arrive.result
-    (λ l. entered_cost c.args.mode c.args.item.now.program c.args.self.now c.enter.new.self c.args.thread _ c.sleepers-asleep.result
+    (λ l. entered_cost c.args.mode c.args.item.now.program c.args.self.now c.enter.new.self
+    c.args.thread _ c.sleepers-asleep.result
     c.requires.search.place c.in_ok-enter.ensures.entered
-    (c.sleepers-asleep.ensures ∙ ap (λ (q : Program). mask_after c.args.mode (here q c.args.self.now) c.args.thread) c.program-program.ensures) l)
+    (c.sleepers-asleep.ensures ∙ ap (λ (q : Program). mask_after c.args.mode
+    (here q c.args.self.now) c.args.thread) c.program-program.ensures) l)
     c.arrive.ensures.falls

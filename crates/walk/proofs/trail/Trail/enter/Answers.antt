@@ -10,31 +10,48 @@ after-self-requires c =
     let t = c.args.self.now in
     let w = t.steps.items in
     let few = reaches_few c.args.program.now w _ c.requires.trail.node.reaches in
-    let short = schedule_within c.args.program.now w c.requires.trail.well_formed c.requires.trail.node.reaches.runs in
+    let short = schedule_within c.args.program.now w c.requires.trail.well_formed
+    c.requires.trail.node.reaches.runs in
     omega (arith, few, short)
 
 pub returns-clause-trail : goal.returns-clause-trail
 returns-clause-trail c =
     let t = c.args.self.now in
     let S : List Frame = c.make_frame.new.frames.items in
-    let f : Frame = record { node = t.node; thread = c.args.thread; undo = c.step_into-enabled.new.undo } in
+    let f : Frame = record {
+      node = t.node;
+      thread = c.args.thread;
+      undo = c.step_into-enabled.new.undo;
+    } in
     let count : c.len-depth.result ≡ length t.steps.items = c.len-depth.ensures ∙ t.steps.ok.0 in
-    (trail_entered c.args.program.now t _ S c.args.thread c.step_into-enabled.new.undo c.step_into-enabled.result c.args.asleep
-    c.requires.trail c.requires.enabled (subst (λ (n : ℕ). n < length S) count c.in_ok-make_frame.ensures.there)
+    (trail_entered c.args.program.now t _ S c.args.thread c.step_into-enabled.new.undo
+    c.step_into-enabled.result c.args.asleep
+    c.requires.trail c.requires.enabled (subst (λ (n : ℕ). n < length S) count
+    c.in_ok-make_frame.ensures.there)
     (subst (λ (n : ℕ). take n S ≡ take n t.frames.items) count c.in_ok-make_frame.ensures.same)
-    c.in_ok-push.ensures.items (ap (λ (n : ℕ). set S n f) count) c.step_into-enabled.ensures.value c.step_into-enabled.ensures.of
-    c.step_into-enabled.ensures.record c.step_into-enabled.ensures.back (c.step_into-enabled.ensures.mask c.requires.trail.node.enabled)
+    c.in_ok-push.ensures.items (ap (λ (n : ℕ). set S n f) count) c.step_into-enabled.ensures.value
+    c.step_into-enabled.ensures.of
+    c.step_into-enabled.ensures.record c.step_into-enabled.ensures.back
+    (c.step_into-enabled.ensures.mask c.requires.trail.node.enabled)
     c.after-self.ensures refl).0
 
 pub returns-clause-entered : goal.returns-clause-entered
 returns-clause-entered c =
     let t = c.args.self.now in
     let S : List Frame = c.make_frame.new.frames.items in
-    let f : Frame = record { node = t.node; thread = c.args.thread; undo = c.step_into-enabled.new.undo } in
+    let f : Frame = record {
+      node = t.node;
+      thread = c.args.thread;
+      undo = c.step_into-enabled.new.undo;
+    } in
     let count : c.len-depth.result ≡ length t.steps.items = c.len-depth.ensures ∙ t.steps.ok.0 in
-    (trail_entered c.args.program.now t _ S c.args.thread c.step_into-enabled.new.undo c.step_into-enabled.result c.args.asleep
-    c.requires.trail c.requires.enabled (subst (λ (n : ℕ). n < length S) count c.in_ok-make_frame.ensures.there)
+    (trail_entered c.args.program.now t _ S c.args.thread c.step_into-enabled.new.undo
+    c.step_into-enabled.result c.args.asleep
+    c.requires.trail c.requires.enabled (subst (λ (n : ℕ). n < length S) count
+    c.in_ok-make_frame.ensures.there)
     (subst (λ (n : ℕ). take n S ≡ take n t.frames.items) count c.in_ok-make_frame.ensures.same)
-    c.in_ok-push.ensures.items (ap (λ (n : ℕ). set S n f) count) c.step_into-enabled.ensures.value c.step_into-enabled.ensures.of
-    c.step_into-enabled.ensures.record c.step_into-enabled.ensures.back (c.step_into-enabled.ensures.mask c.requires.trail.node.enabled)
+    c.in_ok-push.ensures.items (ap (λ (n : ℕ). set S n f) count) c.step_into-enabled.ensures.value
+    c.step_into-enabled.ensures.of
+    c.step_into-enabled.ensures.record c.step_into-enabled.ensures.back
+    (c.step_into-enabled.ensures.mask c.requires.trail.node.enabled)
     c.after-self.ensures refl).1

@@ -8,7 +8,8 @@ abbrev pub invariant-loop-going : goal.invariant-loop-going
 invariant-loop-going l = record {
   place : IsPlace l.item.program l.self;
   items : All IsItem (still_open l.mode l.item.program l.self);
-  rest : (l.rest.items ++ still_open l.mode l.item.program l.self) ≡ still_open l.mode l.item.program l.initial.self;
+  rest : (l.rest.items ++ still_open l.mode l.item.program l.self)
+      ≡ still_open l.mode l.item.program l.initial.self;
   over : l.going ≡ false → still_open l.mode l.item.program l.self ≡ [];
 }
 

@@ -14,14 +14,17 @@ pub returns-in_ok-push-in-Some-clause-items : goal.returns-in_ok-push-in-Some-cl
 returns-in_ok-push-in-Some-clause-items c =
     let p = c.args.item.now.program in
     let t = c.args.self.now in
-    All-tail IsItem _ _ (subst (λ (ts : List ℕ). All IsItem (children_of c.args.mode (here p t) ts ++ left_above c.args.mode p t)) c.without_first-self.ensures c.requires.items)
+    All-tail IsItem _ _ (subst (λ (ts : List ℕ). All IsItem
+    (children_of c.args.mode (here p t) ts ++ left_above c.args.mode p t))
+    c.without_first-self.ensures c.requires.items)
 
 pub returns-in_ok-push-in-Some-clause-further : goal.returns-in_ok-push-in-Some-clause-further
 unfolding turns_left
 returns-in_ok-push-in-Some-clause-further c =
     let p = c.args.item.now.program in
     let t = c.args.self.now in
-    let e = ap (λ (ts : List ℕ). costs (children_of c.args.mode (here p t) ts ++ left_above c.args.mode p t)) c.without_first-self.ensures in
+    let e = ap (λ (ts : List ℕ). costs (children_of c.args.mode (here p t) ts
+    ++ left_above c.args.mode p t)) c.without_first-self.ensures in
     let two = cost_two (child_of c.args.mode (here p t) c.in-Some.thread) in
     λ h. omega (arith, e, two)
 
@@ -29,13 +32,19 @@ pub sleepers-asleep-requires-clause-enabled : goal.sleepers-asleep-requires-clau
 sleepers-asleep-requires-clause-enabled c =
     let p = c.args.item.now.program in
     let t = c.args.self.now in
-    subst (λ (q : Program). is_enabled q t.state c.in-Some.thread ≡ _) (sym c.program-in-Some.ensures)
+    subst (λ (q : Program). is_enabled q t.state c.in-Some.thread ≡ _)
+    (sym c.program-in-Some.ensures)
     (child_enabled c.args.mode p t c.in-Some.thread c.requires.place.trail
-    (All-head IsItem _ _ (subst (λ (ts : List ℕ). All IsItem (children_of c.args.mode (here p t) ts ++ left_above c.args.mode p t)) c.without_first-self.ensures c.requires.items)))
+    (All-head IsItem _ _ (subst (λ (ts : List ℕ). All IsItem
+    (children_of c.args.mode (here p t) ts ++ left_above c.args.mode p t))
+    c.without_first-self.ensures c.requires.items)))
 
 pub further-requires : goal.further-requires
 further-requires c =
     let p = c.args.item.now.program in
     let t = c.args.self.now in
-    subst (λ (w : List ℕ). runs p (start p) (w ++ c.in-Some.thread ∷ []) ≡ _) (sym c.as_slice.ensures.value)
-    (All-head IsItem _ _ (subst (λ (ts : List ℕ). All IsItem (children_of c.args.mode (here p t) ts ++ left_above c.args.mode p t)) c.without_first-self.ensures c.requires.items))
+    subst (λ (w : List ℕ). runs p (start p) (w ++ c.in-Some.thread ∷ []) ≡ _)
+    (sym c.as_slice.ensures.value)
+    (All-head IsItem _ _ (subst (λ (ts : List ℕ). All IsItem
+    (children_of c.args.mode (here p t) ts ++ left_above c.args.mode p t))
+    c.without_first-self.ensures c.requires.items))

@@ -10,5 +10,6 @@ enter-requires-clause-enabled c =
     let w = c.args.schedule.now in
     let there : c.loop-place.place < length w = search rules in
     subst (λ (z : Snapshot). is_enabled p z (get_or w c.loop-place.place 0) ≡ true)
-    (sym (c.loop-place.invariant.trail.node.reaches.state ∙ ap (state_after p (start p)) c.loop-place.invariant.steps))
+    (sym (c.loop-place.invariant.trail.node.reaches.state ∙ ap (state_after p (start p))
+    c.loop-place.invariant.steps))
     (runs_at p (start p) w c.loop-place.place c.requires.runs there)

@@ -9,13 +9,17 @@ pub new-requires-then-is_past : goal.new-requires-then-is_past
 new-requires-then-is_past c =
     let i = c.args.item.now in
     let t = c.stand_at.new.self in
-    let w = walked_past c.args.mode i.program t.steps.items t.state t.node i c.in_ok-stand_at.ensures.trail.node c.in_ok-stand_at.ensures.item (sym c.is_past.ensures ∙ c.if-is_past.true) in
+    let w = walked_past c.args.mode i.program t.steps.items t.state t.node i
+    c.in_ok-stand_at.ensures.trail.node c.in_ok-stand_at.ensures.item
+    (sym c.is_past.ensures ∙ c.if-is_past.true) in
     subst IsWalked (λ k. record {
       mode = c.args.mode;
       item = sym c.in_ok-try_clone.ensures k;
-      part = sym (c.set_beyond.ensures ∙ ap (λ (s : SummaryView). with_beyond s true) c.new-found.ensures.part) k;
+      part = sym (c.set_beyond.ensures ∙ ap (λ (s : SummaryView). with_beyond s true)
+          c.new-found.ensures.part) k;
       rest = sym c.new.ensures.items k;
-      deferred = map (item_at (sym c.in_ok-try_clone.ensures k).program) (sym c.new-found.ensures.deferred k);
+      deferred = map (item_at (sym c.in_ok-try_clone.ensures k).program)
+          (sym c.new-found.ensures.deferred k);
     }) w
 
 pub arrive-requires : goal.arrive-requires
@@ -23,9 +27,12 @@ arrive-requires c =
     let i = c.args.item.now in
     let t = c.stand_at.new.self in
     record {
-      search = search_begun c.args.mode i t c.new-found.result c.in_ok-stand_at.ensures.place c.in_ok-stand_at.ensures.item c.in_ok-stand_at.ensures.base
-          (sym c.is_past.ensures ∙ c.if-is_past.false) c.new-found.ensures.part c.new-found.ensures.deferred c.new-found.ensures.shared;
+      search = search_begun c.args.mode i t c.new-found.result c.in_ok-stand_at.ensures.place
+          c.in_ok-stand_at.ensures.item c.in_ok-stand_at.ensures.base
+          (sym c.is_past.ensures ∙ c.if-is_past.false) c.new-found.ensures.part
+          c.new-found.ensures.deferred c.new-found.ensures.shared;
     }
 
 pub give_all_back-requires-clause-items : goal.give_all_back-requires-clause-items
-give_all_back-requires-clause-items c = items_run c.args.mode c.args.item.now _ _ _ c.in_ok-search.ensures.search.walked
+give_all_back-requires-clause-items c = items_run c.args.mode c.args.item.now _ _ _
+    c.in_ok-search.ensures.search.walked
