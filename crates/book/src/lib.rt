@@ -1,13 +1,13 @@
 //! The book of a search: the summary of what is finished, the items that are still open, and those
 //! that wait for the next bound.
 //!
-//! - A [`books::Book`] splits all schedules of a program: its type keeps that the program's summary is
-//!   what is finished joined with the sums of the open items, that nothing is counted that was not
-//!   tried, and that no schedule lies under two items.
+//! - A [`books::Book`] splits all schedules of a program: its type keeps that the program's summary
+//!   is what is finished joined with the sums of the open items, that nothing is counted that was
+//!   not tried, and that no schedule lies under two items.
 //! - [`books::Book::settle`] takes a walk of an open item, [`books::Book::raise`] goes to the next
 //!   bound, [`books::Book::closed`] answers the summary where nothing is left to walk.
-//! - A quick book may drop open items that can't hold the first bad schedule; what it finds is bounded
-//!   by the program's summary, and has the same first bad schedule.
+//! - A quick book may drop open items that can't hold the first bad schedule; what it finds is
+//!   bounded by the program's summary, and has the same first bad schedule.
 //!
 //! [`laws`] says what a book's type means for the schedules of its program.
 #![tactic(auto)]
