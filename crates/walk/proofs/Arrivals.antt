@@ -1,33 +1,30 @@
 -- What arriving at a node does to a walk: the node gives way to its children, or is tried.
-use Rattle.std.proofs.Common.{◌≡◌, ℕ, zero, suc, ◌+◌, ◌-◌, ◌<◌, ◌≤◌, ◌^◌, Bool, true, false, ◌&&◌, ◌||◌, not, List, [], ◌∷◌, ◌++◌, length, map, refl, ap, ◌∙◌, sym, arith, subst, min, take, reverse}
-use Rattle.std.specs.List.{All, filter}
+use Rattle.std.proofs.Common.{◌≡◌, ℕ, ◌+◌, ◌-◌, ◌<◌, ◌≤◌, true, false, ◌&&◌, ◌||◌, not, List, [], ◌∷◌, ◌++◌, length, map, ap, ◌∙◌, sym, arith, subst, min, take, reverse}
+use Rattle.std.specs.List.{filter}
 use Rattle.std.proofs.lemmas.List.{length_push}
-use Rattle.std.proofs.lemmas.List.Elements.{All-head}
 use Rattle.guest_code.specs.Program.{Program}
 use Rattle.semantics.specs.Reachable.{IsOf}
-use Rattle.semantics.specs.Machine.{Snapshot, is_enabled, start}
+use Rattle.semantics.specs.Machine.{Snapshot, is_enabled}
 use Rattle.semantics.specs.Ends.{is_terminal, is_empty, end_of, view_at}
 use Rattle.semantics.specs.View.{View}
-use Rattle.semantics.specs.Mask.{has, members_from, no_threads}
+use Rattle.semantics.specs.Mask.{has, members_from}
 use Rattle.semantics.specs.declared.mask.Mask.{Mask}
-use Rattle.semantics.specs.Schedules.{runs, enabled, preemptions}
 use Rattle.walk.specs.declared.mode.Mode.{Mode}
 use Rattle.walk.specs.declared.mode.Mode.TheVariants.{Bounded, Reduced}
 use Rattle.walk.specs.declared.trail.Node.{Node}
-use Rattle.walk.specs.declared.trail.Frame.{Frame}
 use Rattle.walk.specs.declared.trail.Trail.{Trail}
 use Rattle.walk.specs.declared.search.Found.{Found}
-use Rattle.walk.specs.Summaries.{SummaryView, with_beyond, cut, greatest_count}
+use Rattle.walk.specs.Summaries.{SummaryView, with_beyond, greatest_count}
 use Rattle.walk.specs.Items.{ItemView, IsItem, item_at}
 use Rattle.walk.specs.Walks.{IsWalked}
 use Rattle.walk.specs.inner.SubtreeInvariant.{added}
 use Rattle.walk.specs.inner.Children.{state_of, IsWithin, is_kept_step, kept_steps, past_steps, passes_bound, child_of, children_of, children, past_children, mask_after, cost_of, costs}
-use Rattle.walk.specs.inner.Paths.{IsNode, IsTrail, IsEntered, above, path, state_at}
-use Rattle.walk.specs.inner.WalkerInvariant.{item_of, here, open_at, open_above, left_above, still_open, turns_left, is_kept_at, is_past_at, IsWithinAt, IsPlace, IsSearch, IsShared}
+use Rattle.walk.specs.inner.Paths.{IsNode, IsTrail, IsEntered}
+use Rattle.walk.specs.inner.WalkerInvariant.{item_of, here, open_above, left_above, still_open, turns_left, is_kept_at, is_past_at, IsWithinAt, IsPlace, IsSearch, IsShared}
 use Rattle.walk.proofs.SharedSteps.{shared_same, shared_kept, shared_entered}
 use Rattle.walk.proofs.TrailSteps.{trail_same}
 use Rattle.walk.proofs.WalkTurns.{step_enabled, open_entered, kept_members, past_members, node_enabled, deferred_are}
-use Rattle.walk.proofs.WalkSteps.{walk_of, first_open, walked_leaf, walked_node, over_none, over_some}
+use Rattle.walk.proofs.WalkSteps.{walk_of, walked_leaf, walked_node, over_none, over_some}
 use Rattle.walk.proofs.Turns.{costs-append, cost_two, children_cost}
 
 -- the node's preemptions are within the bound

@@ -1,6 +1,5 @@
 -- How many items of a list a schedule lies under.
-use Rattle.std.proofs.Common.{◌≡◌, ℕ, zero, suc, ◌+◌, ◌<◌, ◌≤◌, Bool, true, false, cond, ◌&&◌, ◌||◌, nat_eq, nat_lt, List, [], ◌∷◌, ◌++◌, refl, ap, ◌∙◌, sym, arith, inl, inr, ◌⊎◌}
-use Rattle.std.specs.List.{list_any}
+use Rattle.std.proofs.Common.{◌≡◌, ℕ, ◌+◌, ◌<◌, ◌≤◌, Bool, true, false, ◌||◌, List, [], ◌∷◌, ◌++◌, refl, arith}
 use Rattle.semantics.specs.Schedules.{begins_with, one_if}
 use Rattle.walk.specs.Items.{ItemView, covers, is_under}
 use Rattle.std.proofs.lemmas.List.Folds.{list_any-append}

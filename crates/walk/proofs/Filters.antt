@@ -1,10 +1,10 @@
 -- Sums of parts of one list.
-use Rattle.std.proofs.Common.{◌≡◌, ℕ, ◌+◌, ◌<◌, ◌≤◌, Bool, true, false, cond, ◌&&◌, ◌||◌, not, List, [], ◌∷◌, ◌++◌, refl, ap, ◌∙◌, sym, subst, arith, inl, inr, ◌⊎◌}
-use Rattle.std.specs.List.{filter, All}
+use Rattle.std.proofs.Common.{◌≡◌, ℕ, ◌≤◌, Bool, true, false, cond, ◌&&◌, ◌||◌, not, List, [], ◌∷◌, refl, ap, ◌∙◌, sym, subst, arith, inl, inr}
+use Rattle.std.specs.List.{filter}
 use Rattle.guest_code.specs.Program.{Program}
 use Rattle.semantics.specs.Schedules.{begins_with, one_if}
 use Rattle.semantics.specs.Waiters.{In}
-use Rattle.walk.specs.Summaries.{SummaryView, IsSummary, nothing, sum_of, join, with_beyond}
+use Rattle.walk.specs.Summaries.{SummaryView, IsSummary, nothing, sum_of, join}
 use Rattle.walk.specs.Items.{ItemView, covers, is_under}
 use Rattle.walk.specs.Walks.{clear_of}
 use Rattle.walk.proofs.SumsJoin.{sum_of-append, sum_of_none, sum_of-beyond, sum_kept, join_comm, join_assoc, join_nothing}

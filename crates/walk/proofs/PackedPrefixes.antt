@@ -1,6 +1,6 @@
 -- How a stack of schedules grows, shrinks, and goes on top of another.
 use Rattle.std.proofs.Common.{◌≡◌, ℕ, suc, ◌+◌, ◌-◌, ◌^◌, ◌<◌, ◌≤◌, List, [], ◌∷◌, ◌++◌, length, take, drop, refl, sym, ◌∙◌, ap, arith, append_assoc, length-append, length-take, length-drop, zero, inl, inr, Result, Ok, Err, cond, is_ok, OnOk, IsOk, Some, slice_get, slice_index_or, subst, ⊎_elim, min, true, false, nat_lt}
-use Rattle.std.proofs.lemmas.List.{append-nil, take_at, drop_at, length_push, take-append-drop, get_or_push, take_rest, take-take, take_all}
+use Rattle.std.proofs.lemmas.List.{append-nil, take_at, length_push, take-append-drop, get_or_push, take_rest, take-take, take_all}
 use Rattle.std.proofs.lemmas.Bool.{cases_lt}
 use Rattle.walk.specs.inner.Packed.{Way, IsPacked, way_bytes, ways_bytes, first_by, AreWays, IsStack, back, listed, before, below_of, tail_of, start_of, end_of, dropped_of, head_of, common_length}
 use Rattle.walk.specs.PrefixLists.{last_of}

@@ -1,20 +1,18 @@
 -- What one step down or back does to the way from the start.
-use Rattle.std.proofs.Common.{◌≡◌, ℕ, zero, suc, ◌+◌, ◌-◌, ◌<◌, ◌≤◌, Bool, true, false, ◌&&◌, nat_eq, not, List, [], ◌∷◌, ◌++◌, length, Option, Some, None, refl, ap, ◌∙◌, sym, arith, subst, reverse, take, set, get_or, length-set, vec_len, inl, inr}
+use Rattle.std.proofs.Common.{◌≡◌, ℕ, ◌+◌, ◌<◌, ◌≤◌, true, ◌&&◌, nat_eq, not, List, [], ◌∷◌, ◌++◌, length, Option, Some, None, refl, ap, ◌∙◌, sym, arith, subst, reverse, take, set, get_or, length-set, inl, inr}
 use Rattle.std.proofs.lemmas.Bool.{cases_lt, false≢true}
 use Rattle.semantics.proofs.WorkFalls.{disabled_past}
 use Rattle.std.proofs.lemmas.List.{reverse-append, length_push, take_more, take_more_set, take_at}
-use Rattle.std.specs.declared.vec.Vec.{Vec}
-use Rattle.std.specs.declared.alloc.Global.{Global}
 use Rattle.guest_code.specs.Program.{Program}
 use Rattle.semantics.specs.Reachable.{IsOf}
 use Rattle.semantics.specs.Machine.{Snapshot, is_enabled, start, step}
-use Rattle.semantics.specs.Mask.{has, no_threads, HasEnabled}
-use Rattle.semantics.specs.Schedules.{preempts, one_if, state_after}
+use Rattle.semantics.specs.Mask.{HasEnabled}
+use Rattle.semantics.specs.Schedules.{preempts, one_if}
 use Rattle.semantics.specs.Undoing.{undone, IsRecordOf}
-use Rattle.semantics.specs.Execution.{Reaches, ExecutionView}
+use Rattle.semantics.specs.Execution.{Reaches}
 use Rattle.semantics.specs.declared.mask.Mask.{Mask}
 use Rattle.semantics.specs.declared.undo.Undo.{Undo}
-use Rattle.semantics.proofs.Executions.{reaches_parts, reaches_few}
+use Rattle.semantics.proofs.Executions.{reaches_parts}
 use Rattle.semantics.proofs.UnfoldingUnderPrefix.{state_after-push}
 use Rattle.walk.specs.declared.trail.Node.{Node}
 use Rattle.walk.specs.declared.trail.Frame.{Frame}

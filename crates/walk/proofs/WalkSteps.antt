@@ -1,26 +1,24 @@
 -- What a turn does to the walk of an item: the first open item gives way to its children, or is
 -- tried.
-use Rattle.std.proofs.Common.{◌≡◌, ℕ, zero, suc, ◌+◌, ◌-◌, ◌<◌, ◌≤◌, ◌^◌, Bool, true, false, ◌||◌, not, List, [], ◌∷◌, ◌++◌, length, map, refl, ap, ◌∙◌, sym, arith, subst, min}
-use Rattle.std.specs.List.{All}
+use Rattle.std.proofs.Common.{◌≡◌, ℕ, ◌≤◌, true, false, ◌||◌, List, [], ◌∷◌, ◌++◌, ap, subst}
 use Rattle.std.proofs.lemmas.List.{append-nil}
 use Rattle.std.proofs.lemmas.List.Elements.{All-head}
 use Rattle.guest_code.specs.Program.{Program}
 use Rattle.semantics.specs.Reachable.{IsOf}
-use Rattle.semantics.specs.Machine.{Snapshot, is_enabled, start}
+use Rattle.semantics.specs.Machine.{Snapshot}
 use Rattle.semantics.specs.Ends.{is_terminal, is_empty, end_of}
 use Rattle.semantics.specs.Schedules.{enabled, preemptions}
 use Rattle.walk.specs.declared.mode.Mode.{Mode}
 use Rattle.walk.specs.declared.mode.Mode.TheVariants.{Bounded, Reduced}
 use Rattle.walk.specs.Summaries.{SummaryView, IsSummary, nothing, sum_of, join, with_beyond}
-use Rattle.walk.specs.Items.{ItemView, IsItem, schedules_of}
-use Rattle.walk.specs.Walks.{WalkView, IsWalked, IsBelow, IsSplit, IsCut, IsCutAt, IsPruned}
+use Rattle.walk.specs.Items.{ItemView, IsItem}
+use Rattle.walk.specs.Walks.{WalkView, IsWalked, IsBelow, IsCut}
 use Rattle.walk.specs.inner.SubtreeInvariant.{added}
-use Rattle.walk.specs.inner.Children.{state_of, IsWithin, passes_bound, children, past_children, cost_of, costs}
+use Rattle.walk.specs.inner.Children.{state_of, IsWithin, passes_bound, children, past_children}
 use Rattle.walk.proofs.Splits.{split_kept}
 use Rattle.walk.proofs.WalkedFurther.{walked_further}
 use Rattle.walk.proofs.ItemsWalked.{leaf_walked, node_walked}
 use Rattle.walk.proofs.PartsJoin.{join_past, join_leaf}
-use Rattle.walk.proofs.Turns.{costs-append, cost_two, children_cost}
 
 -- a walk of these parts
 abbrev pub walk_of : Mode → ItemView → SummaryView → List ItemView → List ItemView → WalkView

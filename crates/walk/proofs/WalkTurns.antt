@@ -1,30 +1,28 @@
 -- What is still open after one turn of a walk.
-use Rattle.std.proofs.Common.{◌≡◌, ℕ, zero, suc, ◌+◌, ◌-◌, ◌<◌, ◌≤◌, Bool, true, false, ◌&&◌, not, List, [], ◌∷◌, ◌++◌, length, map, Option, Some, None, refl, ap, ◌∙◌, sym, arith, subst, cond, take, get_or, nat_le, nat_lt}
-use Rattle.std.specs.List.{filter, All}
+use Rattle.std.proofs.Common.{◌≡◌, ℕ, suc, ◌+◌, ◌-◌, ◌<◌, Bool, true, false, ◌&&◌, List, [], ◌∷◌, ◌++◌, length, map, refl, ap, ◌∙◌, sym, arith, subst, cond, take, nat_le, nat_lt}
+use Rattle.std.specs.List.{filter}
 use Rattle.std.proofs.lemmas.List.{length_push, take_at, get_or_at, map-append}
-use Rattle.std.proofs.lemmas.List.Elements.{All-head}
 use Rattle.guest_code.specs.Program.{Program}
-use Rattle.semantics.specs.Machine.{Snapshot, is_enabled, start, step}
+use Rattle.semantics.specs.Machine.{Snapshot, is_enabled, start}
 use Rattle.semantics.specs.Mask.{has, members_from}
 use Rattle.guest_code.specs.declared.limits.TheConstants.{THREADS}
 use Rattle.semantics.specs.Reachable.{IsOf}
 use Rattle.semantics.specs.declared.mask.Mask.{Mask}
-use Rattle.semantics.specs.Schedules.{runs, state_after, enabled, one_if, preempts, preemptions, up_from}
+use Rattle.semantics.specs.Schedules.{runs, enabled, one_if, preempts, preemptions, up_from}
 use Rattle.semantics.proofs.Masks.{members_enabled}
 use Rattle.semantics.proofs.WorkFalls.{disabled_past}
 use Rattle.semantics.proofs.UnfoldingUnderPrefix.{preemptions-push}
 use Rattle.semantics.proofs.Executions.{runs_at}
 use Rattle.walk.specs.declared.mode.Mode.{Mode}
 use Rattle.walk.specs.declared.trail.Node.{Node}
-use Rattle.walk.specs.declared.trail.Frame.{Frame}
 use Rattle.walk.specs.declared.trail.Trail.{Trail}
 use Rattle.walk.specs.declared.mode.Mode.TheVariants.{Bounded, Reduced}
-use Rattle.walk.specs.Items.{ItemView, IsItem, item_at}
+use Rattle.walk.specs.Items.{ItemView, item_at}
 use Rattle.walk.proofs.TrailSteps.{leaves_is}
 use Rattle.walk.proofs.Children.{reduced_past}
-use Rattle.walk.specs.inner.Children.{child_of, children_of, past_children, kept_steps, past_steps, is_kept_step, is_past_step, cost_of, costs}
-use Rattle.walk.specs.inner.Paths.{leaves, IsNode, path, above, state_at, IsTrail, IsEntered, IsLeft}
-use Rattle.walk.specs.inner.WalkerInvariant.{item_of, here, open_at, open_above, left_above, still_open, turns_left, is_kept_at, is_past_at, IsPlace, IsSearch}
+use Rattle.walk.specs.inner.Children.{child_of, children_of, past_children, kept_steps, past_steps, is_kept_step, is_past_step}
+use Rattle.walk.specs.inner.Paths.{leaves, IsNode, state_at, IsTrail, IsEntered, IsLeft}
+use Rattle.walk.specs.inner.WalkerInvariant.{item_of, here, open_at, open_above, left_above, still_open, is_kept_at, is_past_at, IsPlace}
 
 -- the step of an item that is one step further is one of an enabled thread
 pub step_enabled : (p : Program) (w : List ℕ) (s : Snapshot) (t : ℕ)

@@ -1,6 +1,6 @@
 -- A walk of the first of the rest, put in that item's place, makes a walk of a walk.
-use Rattle.std.proofs.Common.{◌≡◌, ℕ, ◌+◌, ◌≤◌, Bool, true, false, not, ◌||◌, ◌&&◌, List, [], ◌∷◌, ◌++◌, refl, ap, ◌∙◌, sym, subst, arith, inl, inr, append_assoc}
-use Rattle.std.specs.List.{filter, flat_map, list_any, All, Contains}
+use Rattle.std.proofs.Common.{◌≡◌, ℕ, ◌≤◌, Bool, true, false, not, ◌||◌, List, [], ◌∷◌, ◌++◌, refl, ap, ◌∙◌, sym, subst, arith, append_assoc}
+use Rattle.std.specs.List.{filter, flat_map, list_any, All}
 use Rattle.std.proofs.lemmas.Bool.{or_right}
 use Rattle.std.proofs.lemmas.List.{append-nil}
 use Rattle.std.proofs.lemmas.List.Elements.{All-append, All-head, All-tail, filter-append}
@@ -13,7 +13,7 @@ use Rattle.walk.specs.declared.mode.Mode.{Mode}
 use Rattle.walk.specs.declared.mode.Mode.TheVariants.{Bounded, Reduced}
 use Rattle.walk.specs.Summaries.{SummaryView, sum_of, join, with_beyond}
 use Rattle.walk.specs.Items.{ItemView, schedules_of, goes_beyond, covers, is_under}
-use Rattle.walk.specs.Walks.{HasItsOf, WalkView, IsWalked, IsBelow, IsCut, IsSplit, clear_of}
+use Rattle.walk.specs.Walks.{HasItsOf, IsWalked, IsBelow, IsCut, IsSplit, clear_of}
 use Rattle.walk.proofs.Covers.{covers-append, under-append, under_counts, at_most_one}
 use Rattle.walk.proofs.Filters.{filter_same, filter_all, filter_none}
 use Rattle.walk.proofs.ListParts.{all_left, all_right}

@@ -10,7 +10,7 @@ use Rattle.std.proofs.lemmas.List.Kept.{AllPairs-filter}
 use Rattle.guest_code.specs.Program.{Program}
 use Rattle.semantics.specs.Machine.{Snapshot, start}
 use Rattle.semantics.specs.Mask.{has, no_threads}
-use Rattle.semantics.specs.Schedules.{state_after, begins_with, one_if, preemptions, complete_schedules, schedules_under, schedules_within, exceeds_bound}
+use Rattle.semantics.specs.Schedules.{state_after, begins_with, preemptions, complete_schedules, schedules_under, schedules_within, exceeds_bound}
 use Rattle.semantics.specs.Order.{precedes}
 use Rattle.semantics.specs.Sleep.{reduced_schedules, is_kept, none_asleep}
 use Rattle.semantics.specs.Waiters.{In}

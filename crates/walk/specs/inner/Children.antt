@@ -4,8 +4,7 @@ use Rattle.std.specs.Prelude.{ℕ, zero, suc, ◌+◌, ◌*◌, ◌≤◌, Bool,
 use Rattle.guest_code.specs.declared.limits.TheConstants.{THREADS}
 use Rattle.semantics.specs.declared.mask.Mask.{Mask}
 use Rattle.semantics.specs.Mask.{no_threads, has, mask_of}
-use Rattle.semantics.specs.Machine.{Snapshot, start}
-use Rattle.semantics.specs.Schedules.{enabled, state_after, preemptions, work}
+use Rattle.semantics.specs.Schedules.{enabled, preemptions, work}
 use Rattle.semantics.specs.Sleep.{next_sleep_set}
 use Rattle.semantics.specs.Ends.{is_empty}
 use Rattle.walk.specs.declared.mode.Mode.{Mode}

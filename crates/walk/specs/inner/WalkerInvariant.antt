@@ -1,7 +1,6 @@
 -- What holds while a walk goes over the schedules of an item.
-use Rattle.std.specs.Prelude.{◌≡◌, ℕ, zero, suc, ◌+◌, ◌-◌, ◌≤◌, Bool, false, not, ◌&&◌, nat_le, nat_lt, List, [], ◌∷◌, ◌++◌, length, take, map, All}
+use Rattle.std.specs.Prelude.{◌≡◌, ℕ, zero, suc, ◌+◌, ◌-◌, ◌≤◌, Bool, false, not, nat_le, nat_lt, List, [], ◌∷◌, ◌++◌, length, take, map}
 use Rattle.guest_code.specs.Program.{Program}
-use Rattle.semantics.specs.declared.mask.Mask.{Mask}
 use Rattle.semantics.specs.Mask.{has, members_from}
 use Rattle.semantics.specs.Schedules.{one_if}
 use Rattle.walk.specs.declared.mode.Mode.{Mode}
@@ -10,10 +9,10 @@ use Rattle.walk.specs.declared.trail.Node.{Node}
 use Rattle.walk.specs.declared.trail.Frame.{Frame}
 use Rattle.walk.specs.declared.trail.Trail.{Trail}
 use Rattle.walk.specs.declared.search.Found.{Found}
-use Rattle.walk.specs.Items.{ItemView, IsItem, item_at}
+use Rattle.walk.specs.Items.{ItemView, item_at}
 use Rattle.walk.specs.PrefixLists.{last_of}
-use Rattle.walk.specs.Walks.{WalkView, IsWalked}
-use Rattle.walk.specs.inner.Children.{children_of, child_of, cost_of, costs}
+use Rattle.walk.specs.Walks.{IsWalked}
+use Rattle.walk.specs.inner.Children.{children_of, costs}
 use Rattle.walk.specs.inner.Paths.{leaves, path, above, IsTrail}
 
 -- the item of a node, to which these steps lead

@@ -1,8 +1,7 @@
-use Rattle.std.proofs.Common.{◌≡◌, Bool, true, false, ◌||◌, ap, sym, subst, ◌∙◌}
+use Rattle.std.proofs.Common.{◌≡◌, false, ◌||◌, ap, sym, subst, ◌∙◌}
 use Rattle.std.specs.List.{list_any}
 use Rattle.std.proofs.lemmas.Bool.{or_parts}
 use Rattle.walk.specs.declared.mode.Mode.{Mode}
-use Rattle.walk.specs.declared.mode.Mode.TheVariants.{Reduced}
 use Rattle.walk.specs.Items.{goes_beyond}
 use Rattle.walk.specs.Walks.{IsCut}
 use Rattle.walk.proofs.laws.pruned_walks_put_off_nothing.Goals as goal

@@ -1,5 +1,5 @@
-use Rattle.std.proofs.Common.{◌≡◌, ◌<◌, length, refl, ap, arith}
-use Rattle.walk.specs.inner.Packed.{before, below_of}
+use Rattle.std.proofs.Common.{◌≡◌, ◌<◌, length, ap, arith}
+use Rattle.walk.specs.inner.Packed.{before}
 use Rattle.walk.proofs.PackedPrefixes.{went_well, packed_pop, packed_before, view_pop, length-listed}
 use Rattle.walk.proofs.prefixes.LastFirst.advance.Goals as goal
 

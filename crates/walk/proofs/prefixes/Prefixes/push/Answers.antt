@@ -1,4 +1,4 @@
-use Rattle.std.proofs.Common.{◌≡◌, ◌++◌, ◌∷◌, [], take, refl, sym, ◌∙◌, ap, arith}
+use Rattle.std.proofs.Common.{◌≡◌, [], take, sym, ◌∙◌, ap, arith}
 use Rattle.walk.specs.PrefixLists.{last_of}
 use Rattle.walk.proofs.PackedPrefixes.{none_listed, taken_after, last_of_listed}
 use Rattle.walk.proofs.prefixes.Prefixes.push.Goals as goal

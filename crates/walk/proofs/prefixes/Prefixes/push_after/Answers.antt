@@ -1,5 +1,5 @@
 use Rattle.std.proofs.lemmas.List.{take_rest}
-use Rattle.std.proofs.Common.{◌≡◌, ◌+◌, ◌-◌, ◌^◌, ◌<◌, ◌≤◌, [], ◌∷◌, ◌++◌, length, take, drop, min, vec_len, vec_capacity, refl, sym, ◌∙◌, ap, arith, inr, length-append, length-drop, length-take}
+use Rattle.std.proofs.Common.{◌≡◌, ◌+◌, ◌-◌, ◌^◌, ◌<◌, ◌≤◌, [], ◌∷◌, ◌++◌, length, take, drop, min, vec_len, vec_capacity, refl, sym, ◌∙◌, ap, arith, inr, length-drop}
 use Rattle.walk.specs.inner.Packed.{way_bytes, listed}
 use Rattle.walk.specs.PrefixLists.{last_of}
 use Rattle.walk.proofs.PackedPrefixes.{if_ok, packed_stack, none_listed, stack_count, pushed, Grown, last_of_listed, after_none, take_within}

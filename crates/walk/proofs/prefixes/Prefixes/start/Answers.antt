@@ -1,4 +1,4 @@
-use Rattle.std.proofs.Common.{◌≡◌, ◌∷◌, ◌∙◌, arith, inl, inr, refl}
+use Rattle.std.proofs.Common.{◌≡◌, ◌∙◌, arith, inl, inr, refl}
 use Rattle.walk.proofs.PackedPrefixes.{if_ok, no_count, listed_one, stack_one}
 use Rattle.walk.proofs.prefixes.Prefixes.start.Goals as goal
 

@@ -1,4 +1,4 @@
-use Rattle.std.proofs.Common.{rules, ◌≡◌, ◌<◌, ◌^◌, ◌∙◌, sym, true, false, inl, inr}
+use Rattle.std.proofs.Common.{rules, ◌<◌, ◌^◌, ◌∙◌, sym, inl, inr}
 use Rattle.std.proofs.lemmas.Bool.{cases_lt, false≢true}
 use Rattle.semantics.proofs.Masks.{has-above}
 use Rattle.walk.proofs.trail.Node.past.Goals as goal

@@ -1,10 +1,9 @@
-use Rattle.std.proofs.Common.{rules, ◌≡◌, ◌∙◌, ◌+◌, ◌≤◌, ℕ, List, arith, ap, refl, sym, subst}
+use Rattle.std.proofs.Common.{◌∙◌, ◌+◌, ◌≤◌, ap, refl, sym, subst}
 use Rattle.semantics.specs.Mask.{members_from}
 use Rattle.walk.specs.declared.trail.Node.{Node}
-use Rattle.walk.specs.declared.trail.Trail.{Trail}
 use Rattle.walk.specs.inner.WalkerInvariant.{here, left_above}
 use Rattle.walk.proofs.WalkSteps.{first_open}
-use Rattle.walk.proofs.Arrivals.{within_at, IsOpened, place_opened, arrived_node, arrived_leaf, falls_node, falls_leaf, tried_added}
+use Rattle.walk.proofs.Arrivals.{within_at, arrived_node, arrived_leaf, falls_node, falls_leaf, tried_added}
 use Rattle.walk.proofs.trail.Trail.arrive.Goals as goal
 
 pub open-past-requires : goal.open-past-requires

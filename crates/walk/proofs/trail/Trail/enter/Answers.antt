@@ -1,4 +1,4 @@
-use Rattle.std.proofs.Common.{rules, ◌≡◌, ◌∙◌, ◌+◌, ◌<◌, ℕ, List, arith, ap, refl, sym, subst, length, take, set}
+use Rattle.std.proofs.Common.{◌≡◌, ◌∙◌, ◌<◌, ℕ, List, arith, ap, refl, subst, length, take, set}
 use Rattle.semantics.proofs.Executions.{reaches_few}
 use Rattle.semantics.proofs.ScheduleLengths.{schedule_within}
 use Rattle.walk.specs.declared.trail.Frame.{Frame}

@@ -1,12 +1,12 @@
-use Rattle.std.proofs.Common.{rules, [], ◌≡◌, ◌∙◌, ◌+◌, ◌<◌, ◌++◌, ◌∷◌, ℕ, List, arith, ap, refl, sym, subst, length, All}
+use Rattle.std.proofs.Common.{[], ◌≡◌, ◌++◌, ◌∷◌, ℕ, List, arith, ap, sym, subst, All}
 use Rattle.std.proofs.lemmas.List.Elements.{All-tail, All-head}
 use Rattle.guest_code.specs.Program.{Program}
 use Rattle.semantics.specs.Machine.{start, is_enabled}
 use Rattle.semantics.specs.Schedules.{runs}
 use Rattle.walk.proofs.Arrivals.{child_enabled}
-use Rattle.walk.specs.Items.{ItemView, IsItem}
-use Rattle.walk.specs.inner.Children.{children_of, child_of, costs, cost_of}
-use Rattle.walk.specs.inner.WalkerInvariant.{here, left_above, still_open, turns_left}
+use Rattle.walk.specs.Items.{IsItem}
+use Rattle.walk.specs.inner.Children.{children_of, child_of, costs}
+use Rattle.walk.specs.inner.WalkerInvariant.{here, left_above, turns_left}
 use Rattle.walk.proofs.Turns.{cost_two}
 use Rattle.walk.proofs.trail.Trail.give_back.Goals as goal
 

@@ -1,4 +1,4 @@
-use Rattle.std.proofs.Common.{rules, ◌≡◌, ◌∙◌, ◌<◌, ◌≤◌, ℕ, true, arith, ap, sym, subst, length, get_or}
+use Rattle.std.proofs.Common.{rules, ◌≡◌, ◌∙◌, ◌<◌, true, ap, sym, subst, length, get_or}
 use Rattle.semantics.specs.Machine.{Snapshot, start, is_enabled}
 use Rattle.semantics.specs.Schedules.{state_after}
 use Rattle.semantics.proofs.Executions.{runs_at}

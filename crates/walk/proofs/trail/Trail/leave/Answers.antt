@@ -1,5 +1,4 @@
 use Rattle.std.proofs.Common.{◌≡◌, ◌∙◌, ◌-◌, ◌+◌, ℕ, arith, ap, refl, sym, length, take}
-use Rattle.walk.specs.declared.trail.Frame.{Frame}
 use Rattle.walk.proofs.TrailSteps.{lowest, record_left, trail_left}
 use Rattle.walk.proofs.trail.Trail.leave.Goals as goal
 

@@ -1,6 +1,5 @@
-use Rattle.std.proofs.Common.{◌≡◌, ◌∙◌, ◌<◌, ◌+◌, ℕ, List, arith, ap, sym, length}
+use Rattle.std.proofs.Common.{◌≡◌, ◌∙◌, arith, ap, sym, length}
 use Rattle.std.proofs.lemmas.List.{length_push}
-use Rattle.walk.specs.Items.{ItemView}
 use Rattle.walk.specs.inner.Children.{costs}
 use Rattle.walk.specs.inner.WalkerInvariant.{still_open, turns_left}
 use Rattle.walk.proofs.WalkTurns.{open_left, open_done}

@@ -1,4 +1,4 @@
-use Rattle.std.proofs.Common.{◌≡◌, ◌+◌, ◌<◌, ◌++◌, ℕ, List, arith, ap}
+use Rattle.std.proofs.Common.{◌++◌, ℕ, List, arith, ap}
 use Rattle.walk.specs.inner.Children.{children_of, costs}
 use Rattle.walk.specs.inner.WalkerInvariant.{here, left_above, turns_left}
 use Rattle.walk.proofs.trail.Trail.turn.Goals as goal

@@ -1,4 +1,4 @@
-use Rattle.std.proofs.Common.{rules, ◌≡◌, ◌∙◌, ◌∷◌, [], ℕ, List, arith, ap, refl, sym, subst, map, true}
+use Rattle.std.proofs.Common.{◌∙◌, ap, sym, subst, map, true}
 use Rattle.walk.specs.Items.{item_at}
 use Rattle.walk.specs.Summaries.{SummaryView, with_beyond}
 use Rattle.walk.specs.Walks.{IsWalked}
