@@ -8,7 +8,8 @@
 # test     the gate: every proof from scratch, the must-fail edits, the tests, then `shown` and
 #          refused memory
 # shown    runs the documents' commands by build/ctxbound
-# bench    how fast a subtree is walked
+# bench    how fast a subtree is walked and, where the program is built, how much sooner several
+#          workers end a search
 .PHONY: run try build install check test shown bench clean
 
 PREFIX ?= /usr/local
@@ -84,6 +85,7 @@ bench:
 	@mkdir -p build
 	@cd crates/walk_bench && rt run -- data/race.guest 1 > ../../build/log 2>&1 || { cat ../../build/log; exit 1; }
 	@python3 bench/walk.py
+	@test ! -x build/ctxbound || python3 bench/workers.py build/ctxbound
 
 clean:
 	rm -rf build crates/*/out

@@ -53,6 +53,9 @@ RUNS = [
     ("explore", "unknown", "--workers 2", 2),
     ("unbounded", "late", "--workers 1", 1), ("unbounded", "late", "--workers 2", 1),
     ("unbounded", "updates", "--workers 1", 0), ("unbounded", "updates", "--workers 2", 0),
+    ("unbounded", "locks", "--workers 1", 1), ("unbounded", "locks", "--workers 2", 1),
+    ("unbounded", "waits", "--workers 1", 1), ("unbounded", "waits", "--workers 2", 1),
+    ("unbounded", "two", "--workers 1", 0), ("unbounded", "two", "--workers 2", 0),
 ]
 # A guest and a mode: the walk ends with status 0.
 WALKS = [("race", "1"), ("locks", "1"), ("waits", "0"), ("two", "1"),
@@ -66,7 +69,8 @@ def run(binary, words, library=None, fail_at=0):
     if library:
         env.update(LD_PRELOAD=library, FAIL_AT=str(fail_at), REFUSED_FD=str(tells))
     try:
-        done = subprocess.run([binary] + words, env=env, capture_output=True, timeout=SECONDS, pass_fds=[tells])
+        done = subprocess.run([binary] + words, env=env, capture_output=True, timeout=SECONDS,
+                              pass_fds=[tells])
         answer = done.stdout, done.stderr, done.returncode
     except subprocess.TimeoutExpired:
         answer = b"", b"no end after %d seconds" % SECONDS, None

@@ -13,6 +13,8 @@ In examples/*.guest the same stands in comments; there, a line that is no commen
 one, ends what a command prints. `build/ctxbound` means the same as `ctxbound`, and every command
 finds the folder `examples`. It fails where an output or a status differs, where a program is
 shown that no command runs, and where nothing was run at all.
+
+Each search that is shown is made again by several workers, and must print the same.
 """
 import shlex
 import subprocess
@@ -22,6 +24,9 @@ from pathlib import Path
 
 ROOT = Path(__file__).resolve().parent.parent
 SECONDS = 60  # a replay takes a moment; one that takes this long counts as failed
+WORKERS = (2, 8)
+# What such a search prints may depend on the workers, or says how many they are.
+DEPENDS = {"--limit", "--quick", "--workers"}
 
 
 def fenced_blocks(text):
@@ -84,6 +89,14 @@ def run(binary, folder, command):
     return lines + ["[status %d]" % done.returncode] if done.returncode else lines
 
 
+def by_workers(command):
+    """The same search by several workers, if the command is a search whose output is theirs, too."""
+    words = shlex.split(command)
+    if words[1:2] not in (["explore"], ["unbounded"]) or DEPENDS.intersection(words):
+        return []
+    return ["%s --workers %d" % (command, workers) for workers in WORKERS]
+
+
 class Checker:
     def __init__(self, binary):
         self.binary, self.passed, self.failed = binary, 0, 0
@@ -94,12 +107,13 @@ class Checker:
 
     def compare(self, path, folder, shown):
         number, command, expected = shown
-        printed = run(self.binary, folder, command)
-        if printed == expected:
-            self.passed += 1
-        else:
-            self.complain("%s:%d: $ %s" % (path.name, number, command),
-                          ["-- shown:"] + expected + ["-- printed:"] + printed)
+        for asked in [command] + by_workers(command):
+            printed = run(self.binary, folder, asked)
+            if printed == expected:
+                self.passed += 1
+            else:
+                self.complain("%s:%d: $ %s" % (path.name, number, asked),
+                              ["-- shown:"] + expected + ["-- printed:"] + printed)
 
     def document(self, path, folder):
         unused = {}

@@ -10,6 +10,6 @@ pub const WORKERS: u32 = 16;
 
 /// A round of as many items as one can have is a small one where it tried fewer schedules than
 /// this. The next one like it is walked by one thread: to make more takes longer than they save.
-/// Measured: 64 items of 2 to 6 schedules each take up to twice as long with a thread for each
+/// Measured: 64 items of some ten schedules each take up to a third longer with a thread for each
 /// worker.
-pub const SMALL_ROUND: u64 = 512;
+pub const SMALL_ROUND: u64 = 2048;
