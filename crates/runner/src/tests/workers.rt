@@ -29,6 +29,23 @@ const LOST: &str =
 const PRUNED: &str =
     r#"{"all":true,"bound":null,"ends":[{"kind":"done","vars":[1]},{"kind":"done","vars":[2]}],"failed":0,"stuck":0,"tried":4,"verdict":"clean"}"#;
 
+/// A thread that waits, and one that signals, perhaps too early.
+const WAITS: &str =
+    "mutex m; cond c; thread A { lock m; wait c m; unlock m; } thread B { lock m; signal c; unlock m; }";
+
+const LOST_SIGNAL: &str =
+    r#"{"bound":0,"ends":[{"kind":"done","vars":[]},{"kind":"stuck","vars":[]}],"failed":0,"kind":"stuck","preemptions":0,"schedule":"1x3,0x2","stuck":1,"tried":2,"verdict":"bad"}"#;
+
+/// A program whose failure is pruned where sleep sets are used within a bound.
+const LATE: &str =
+    "var x; var y; thread A { store y 1; load r x; assert r == 0; } thread B { store x 1; }";
+
+const LATE_FAILS: &str =
+    r#"{"bound":0,"ends":[{"kind":"done","vars":[1,1]},{"kind":"failed","vars":[1,1]}],"failed":1,"kind":"failed","preemptions":0,"schedule":"1,0x2","stuck":0,"tried":2,"verdict":"bad"}"#;
+
+const LATE_FAILS_PRUNED: &str =
+    r#"{"bound":null,"ends":[{"kind":"done","vars":[1,1]},{"kind":"failed","vars":[1,1]}],"failed":1,"kind":"failed","preemptions":1,"schedule":"0,1,0","stuck":0,"tried":2,"verdict":"bad"}"#;
+
 /// Three threads of which the first fails.
 const FAILING: &str =
     "var x; var y; var z; thread A { store x 1; assert 0; } thread B { store y 1; } thread C { store z 1; }";
@@ -101,6 +118,21 @@ fn lost_updates_are_found(rt: HostRuntime) -> Result<(), Fail> {
 #[test]
 fn lost_updates_are_found_without_a_bound(rt: HostRuntime) -> Result<(), Fail> {
     all_quotas_report(&rt, UPDATES, Search::Unbounded, PRUNED)
+}
+
+#[test]
+fn lost_signals_are_found(rt: HostRuntime) -> Result<(), Fail> {
+    all_quotas_report(&rt, WAITS, Search::UpTo(2), LOST_SIGNAL)
+}
+
+#[test]
+fn late_failures_are_found(rt: HostRuntime) -> Result<(), Fail> {
+    all_quotas_report(&rt, LATE, Search::UpTo(2), LATE_FAILS)
+}
+
+#[test]
+fn late_failures_are_found_without_a_bound(rt: HostRuntime) -> Result<(), Fail> {
+    all_quotas_report(&rt, LATE, Search::Unbounded, LATE_FAILS_PRUNED)
 }
 
 #[test]
