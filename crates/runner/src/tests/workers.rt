@@ -29,6 +29,9 @@ const LOST: &str =
 const PRUNED: &str =
     r#"{"all":true,"bound":null,"ends":[{"kind":"done","vars":[1]},{"kind":"done","vars":[2]}],"failed":0,"stuck":0,"tried":4,"verdict":"clean"}"#;
 
+const QUICK_LOST: &str =
+    r#"{"all":true,"bound":2,"ends":[{"kind":"done","vars":[1]},{"kind":"done","vars":[2]}],"failed":0,"quick":true,"stuck":0,"tried":6,"verdict":"clean"}"#;
+
 /// A thread that waits, and one that signals, perhaps too early.
 const WAITS: &str =
     "mutex m; cond c; thread A { lock m; wait c m; unlock m; } thread B { lock m; signal c; unlock m; }";
@@ -42,6 +45,9 @@ const LATE: &str =
 
 const LATE_FAILS: &str =
     r#"{"bound":0,"ends":[{"kind":"done","vars":[1,1]},{"kind":"failed","vars":[1,1]}],"failed":1,"kind":"failed","preemptions":0,"schedule":"1,0x2","stuck":0,"tried":2,"verdict":"bad"}"#;
+
+const QUICK_LATE_FAILS: &str =
+    r#"{"bound":0,"ends":[{"kind":"done","vars":[1,1]},{"kind":"failed","vars":[1,1]}],"failed":1,"kind":"failed","preemptions":0,"quick":true,"schedule":"1,0x2","stuck":0,"tried":2,"verdict":"bad"}"#;
 
 const LATE_FAILS_PRUNED: &str =
     r#"{"bound":null,"ends":[{"kind":"done","vars":[1,1]},{"kind":"failed","vars":[1,1]}],"failed":1,"kind":"failed","preemptions":1,"schedule":"0,1,0","stuck":0,"tried":2,"verdict":"bad"}"#;
@@ -133,6 +139,24 @@ fn late_failures_are_found(rt: HostRuntime) -> Result<(), Fail> {
 #[test]
 fn late_failures_are_found_without_a_bound(rt: HostRuntime) -> Result<(), Fail> {
     all_quotas_report(&rt, LATE, Search::Unbounded, LATE_FAILS_PRUNED)
+}
+
+#[test]
+fn quick_searches_try_all_of_a_clean_program(rt: HostRuntime) -> Result<(), Fail> {
+    let options = Options {
+        quick: true,
+        ..Options::new(Search::UpTo(2))
+    };
+    all_report(&rt, UPDATES, options, QUICK_LOST)
+}
+
+#[test]
+fn quick_searches_try_all_before_a_late_failure(rt: HostRuntime) -> Result<(), Fail> {
+    let options = Options {
+        quick: true,
+        ..Options::new(Search::UpTo(2))
+    };
+    all_report(&rt, LATE, options, QUICK_LATE_FAILS)
 }
 
 #[test]
