@@ -4,7 +4,8 @@
 //!   bound that a bad schedule is within; or without a bound, where sleep sets prune. Its contract
 //!   says what the report means of all complete schedules of the program.
 //! - [`explore`] does it by several workers, each in a thread of its own, who ask a [`Gate`]. Its
-//!   report is the same, whatever their number, unless the search was cut short.
+//!   report is the same, whatever their number, unless the search was cut short; of a quick one
+//!   the counts and end views may be others.
 //! - [`explore_text_alone`] and [`explore_text`] do the same from the bytes of a text on, or say
 //!   what is wrong with it.
 //! - [`report_text`] prints a report: its text is the defined one, byte for byte.
