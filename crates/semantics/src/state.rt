@@ -9,10 +9,10 @@ ghost use Rattle.semantics.specs.Reachable.{IsOf, IsValidAction, StandsInCode, I
 ghost use Rattle.semantics.specs.Ends.{is_terminal, kind_of, view_of, final_kind, is_stopped, is_ended, stop_of};
 ghost use Rattle.semantics.specs.Mask.{has, HasEnabled};
 ghost use Rattle.semantics.specs.Undoing.{undone, restored, IsRecordOf};
-ghost use Rattle.semantics.specs.inner.Recording.{HasBegun, HasObject, Changes, others_after};
+ghost use Rattle.semantics.specs.inner.Recording.{HasBegun, HasObject, HasStepped, Changes, is_access, others_after};
 ghost use Rattle.semantics.specs.declared.state.Action.TheVariants.{OnVariable, OnMutex, Wait as Waits, OnCondition, OnSemaphore};
 
-use crate::action::{Others, action_at, owns};
+use crate::action::{Others, action_at, action_of, owns, retake_of};
 use crate::local::{access, operand_at, resume};
 use crate::mask::Mask;
 use crate::opening::{opening_counts, opening_threads, opening_values};
@@ -420,18 +420,177 @@ impl State {
     fn step_recorded(&mut self, program: &Program, thread: u8, undo: &mut Undo) -> Others
         requires of { IsOf program.now self.old }
         requires enabled { IsTrue (is_enabled program.now self.old thread) }
-        ensures value { self.new ≡ step program.now self.old thread }
-        ensures of { IsOf program.now self.new }
-        ensures record { IsRecordOf undo.new self.new }
-        ensures back { undone undo.new self.new ≡ self.old }
-        ensures others { Changes result program.now self.old thread self.new }
+        ensures { HasStepped program.now self.old thread undo.new self.new result }
     {
-        if let Some(action) = self.next(program, thread) {
-            let others = self.others_after(program, thread, action);
-            self.execute(program, thread, action, undo);
-            return others;
+        let runner = &self.threads[thread as usize];
+        let instruction = &program.code(thread)[runner.pc];
+        match runner.status {
+            Status::Woken => self.step_woken(program, thread, instruction, undo),
+            _ => self.step_visible(program, thread, instruction, undo),
         }
-        Others::Same
+    }
+
+    // The step of a woken thread at this instruction.
+    #[inline(always)]
+    fn step_woken(
+        &mut self,
+        program: &Program,
+        thread: u8,
+        instruction: &Instruction,
+        undo: &mut Undo,
+    ) -> Others
+        requires of { IsOf program.now self.old }
+        requires enabled { IsTrue (is_enabled program.now self.old thread) }
+        requires pc { StandsInCode program.now self.old thread }
+        requires fine { IsValid program.now instruction.now }
+        requires next { next_of program.now self.old thread ≡ retake_of instruction.now }
+        ensures { HasStepped program.now self.old thread undo.new self.new result }
+    {
+        match retake_of(instruction) {
+            Some(action) => self.act(program, thread, action, undo),
+            None => Others::Same,
+        }
+    }
+
+    // The step of a running thread at this instruction.
+    #[inline(always)]
+    fn step_visible(
+        &mut self,
+        program: &Program,
+        thread: u8,
+        instruction: &Instruction,
+        undo: &mut Undo,
+    ) -> Others
+        requires of { IsOf program.now self.old }
+        requires enabled { IsTrue (is_enabled program.now self.old thread) }
+        requires pc { StandsInCode program.now self.old thread }
+        requires fine { IsValid program.now instruction.now }
+        requires next { next_of program.now self.old thread ≡ action_of instruction.now }
+        ensures { HasStepped program.now self.old thread undo.new self.new result }
+    {
+        match instruction {
+            Instruction::Load { .. }
+            | Instruction::Store { .. }
+            | Instruction::Add { .. }
+            | Instruction::Cas { .. } => self.step_access(program, thread, instruction, undo),
+            Instruction::Lock(m) => {
+                self.act(
+                    program,
+                    thread,
+                    Action::OnMutex(*m, MutexAction::Lock),
+                    undo,
+                )
+            }
+            Instruction::Unlock(m) => {
+                self.act(
+                    program,
+                    thread,
+                    Action::OnMutex(*m, MutexAction::Unlock),
+                    undo,
+                )
+            }
+            Instruction::Wait { condition, mutex } => {
+                self.act(program, thread, Action::Wait(*condition, *mutex), undo)
+            }
+            Instruction::Signal(c) => {
+                self.act(
+                    program,
+                    thread,
+                    Action::OnCondition(*c, ConditionAction::Signal),
+                    undo,
+                )
+            }
+            Instruction::Broadcast(c) => {
+                self.act(
+                    program,
+                    thread,
+                    Action::OnCondition(*c, ConditionAction::Broadcast),
+                    undo,
+                )
+            }
+            Instruction::Acquire(k) => {
+                self.act(
+                    program,
+                    thread,
+                    Action::OnSemaphore(*k, SemaphoreAction::Acquire),
+                    undo,
+                )
+            }
+            Instruction::Release(k) => {
+                self.act(
+                    program,
+                    thread,
+                    Action::OnSemaphore(*k, SemaphoreAction::Release),
+                    undo,
+                )
+            }
+            Instruction::Set { .. }
+            | Instruction::Assert(_)
+            | Instruction::SkipIfZero(_, _)
+            | Instruction::Skip(_) => Others::Same,
+        }
+    }
+
+    // The step of a running thread at this instruction, which is on a variable.
+    #[inline(always)]
+    fn step_access(
+        &mut self,
+        program: &Program,
+        thread: u8,
+        instruction: &Instruction,
+        undo: &mut Undo,
+    ) -> Others
+        requires of { IsOf program.now self.old }
+        requires enabled { IsTrue (is_enabled program.now self.old thread) }
+        requires pc { StandsInCode program.now self.old thread }
+        requires fine { IsValid program.now instruction.now }
+        requires next { next_of program.now self.old thread ≡ action_of instruction.now }
+        requires access { IsTrue (is_access instruction.now) }
+        ensures { HasStepped program.now self.old thread undo.new self.new result }
+    {
+        match instruction {
+            Instruction::Load { local, variable } => {
+                let access = VariableAction::Load(*local);
+                self.act(program, thread, Action::OnVariable(*variable, access), undo)
+            }
+            Instruction::Store { variable, value } => {
+                let access = VariableAction::Store(*value);
+                self.act(program, thread, Action::OnVariable(*variable, access), undo)
+            }
+            Instruction::Add {
+                local,
+                variable,
+                value,
+            } => {
+                let access = VariableAction::Add(*local, *value);
+                self.act(program, thread, Action::OnVariable(*variable, access), undo)
+            }
+            Instruction::Cas {
+                local,
+                variable,
+                expected,
+                new,
+            } => {
+                let access = VariableAction::Cas(*local, *expected, *new);
+                self.act(program, thread, Action::OnVariable(*variable, access), undo)
+            }
+            _ => Others::Same,
+        }
+    }
+
+    // The step of an enabled thread which is about to do this.
+    #[inline(always)]
+    fn act(&mut self, program: &Program, thread: u8, action: Action, undo: &mut Undo) -> Others
+        requires of { IsOf program.now self.old }
+        requires enabled { IsTrue (is_enabled program.now self.old thread) }
+        requires pc { StandsInCode program.now self.old thread }
+        requires fine { IsValidAction program.now action }
+        requires next { next_of program.now self.old thread ≡ Some action }
+        ensures { HasStepped program.now self.old thread undo.new self.new result }
+    {
+        let others = self.others_after(program, thread, action);
+        self.execute(program, thread, action, undo);
+        others
     }
 
     // What the step that a thread is about to take does to which other threads are enabled.
@@ -727,10 +886,10 @@ fn all_ended(threads: &[Thread]) -> bool
 fn final_kind(threads: &[Thread]) -> Kind
     ensures { result ≡ final_kind threads.now }
 {
-    if some_stopped(threads) {
-        Kind::Failed
-    } else if all_ended(threads) {
+    if all_ended(threads) {
         Kind::Done
+    } else if some_stopped(threads) {
+        Kind::Failed
     } else {
         Kind::Stuck
     }
