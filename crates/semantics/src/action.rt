@@ -88,3 +88,12 @@ pub enum Others {
     /// None is disabled that wasn't.
     More,
 }
+
+/// What a step does to which threads are enabled.
+#[derive(Clone, Copy, Debug)]
+pub struct After {
+    pub others: Others,
+    /// Its own thread is enabled after it, whatever the objects are. One that isn't free may be
+    /// enabled, too.
+    pub free: bool,
+}

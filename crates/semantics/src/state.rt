@@ -1,6 +1,6 @@
 //! States of a program, and their steps.
 
-ghost use Rattle.std.specs.Prelude.{◌≡◌, ◌≢◌, ◌<◌, ◌≤◌, ℕ, Some, None, length, slice_get, All, IfOk, IfSome, IsTrue, if◌then◌else◌};
+ghost use Rattle.std.specs.Prelude.{◌≡◌, ◌≢◌, ◌<◌, ◌≤◌, ℕ, true, Some, None, length, slice_get, All, IfOk, IfSome, IsTrue, if◌then◌else◌};
 ghost use Rattle.std.specs.List.{list_any, list_all};
 ghost use Rattle.guest_code.specs.declared.program.Instruction.{Instruction};
 ghost use Rattle.guest_code.specs.Program.{Program, code_of, IsValid, IsValidValue};
@@ -9,10 +9,10 @@ ghost use Rattle.semantics.specs.Reachable.{IsOf, IsValidAction, StandsInCode, I
 ghost use Rattle.semantics.specs.Ends.{is_terminal, kind_of, view_of, final_kind, is_stopped, is_ended, stop_of};
 ghost use Rattle.semantics.specs.Mask.{has, HasEnabled};
 ghost use Rattle.semantics.specs.Undoing.{undone, restored, IsRecordOf};
-ghost use Rattle.semantics.specs.inner.Recording.{HasBegun, HasObject, HasStepped, Changes, is_access, others_after};
+ghost use Rattle.semantics.specs.inner.Recording.{HasBegun, HasObject, HasStepped, Changes, IsFree, is_access, others_after};
 ghost use Rattle.semantics.specs.declared.state.Action.TheVariants.{OnVariable, OnMutex, Wait as Waits, OnCondition, OnSemaphore};
 
-use crate::action::{Others, action_at, action_of, owns, retake_of};
+use crate::action::{After, Others, action_at, action_of, owns, retake_of};
 use crate::local::{access, operand_at, resume};
 use crate::mask::Mask;
 use crate::opening::{opening_counts, opening_threads, opening_values};
@@ -375,24 +375,40 @@ impl State {
         ensures mask { HasEnabled mask program.now self.old →
             HasEnabled result program.now self.new }
     {
-        let others = self.step_recorded(program, thread, undo);
-        self.renew(program, thread, mask, others)
+        let after = self.step_recorded(program, thread, undo);
+        self.renew(program, thread, mask, after)
     }
 
     // The threads that are enabled now, after a step of this one, where these were before it.
     #[inline(always)]
-    fn renew(&self, program: &Program, thread: u8, mask: Mask, others: Others) -> Mask
+    fn renew(&self, program: &Program, thread: u8, mask: Mask, after: After) -> Mask
         requires of { IsOf program.now self.now }
         requires thread { thread < length program.now.threads }
+        requires free { IsTrue after.free → is_enabled program.now self.now thread ≡ true }
         ensures { (s : Snapshot) → IsOf program.now s → HasEnabled mask program.now s →
-            Changes others program.now s thread self.now →
+            Changes after.others program.now s thread self.now →
             HasEnabled result program.now self.now }
     {
-        match others {
-            Others::Same => mask.with(thread, self.is_enabled(program, thread)),
-            Others::Fewer => self.test_again(program, mask, mask.with(thread, true)),
-            Others::More => { self.test_again(program, mask, mask.complement().with(thread, true)) }
+        let on = self.is_on(program, thread, after.free);
+        let near = mask.with(thread, on);
+        match after.others {
+            Others::Same => near,
+            Others::Fewer => self.test_again(program, near, mask.with(thread, false)),
+            Others::More => {
+                self.test_again(program, near, mask.complement().with(thread, false))
+            }
         }
+    }
+
+    // Whether a thread can take a step, where that may be known.
+    #[inline(always)]
+    fn is_on(&self, program: &Program, thread: u8, free: bool) -> bool
+        requires of { IsOf program.now self.now }
+        requires thread { thread < length program.now.threads }
+        requires free { IsTrue free → is_enabled program.now self.now thread ≡ true }
+        ensures { result ≡ is_enabled program.now self.now thread }
+    {
+        free || self.is_enabled(program, thread)
     }
 
     // The mask, where it is tested again for some threads whether they are enabled.
@@ -415,9 +431,9 @@ impl State {
         mask
     }
 
-    // A step, with its record, and what it does to which other threads are enabled.
+    // A step, with its record, and what it does to which threads are enabled.
     #[inline(always)]
-    fn step_recorded(&mut self, program: &Program, thread: u8, undo: &mut Undo) -> Others
+    fn step_recorded(&mut self, program: &Program, thread: u8, undo: &mut Undo) -> After
         requires of { IsOf program.now self.old }
         requires enabled { IsTrue (is_enabled program.now self.old thread) }
         ensures { HasStepped program.now self.old thread undo.new self.new result }
@@ -438,7 +454,7 @@ impl State {
         thread: u8,
         instruction: &Instruction,
         undo: &mut Undo,
-    ) -> Others
+    ) -> After
         requires of { IsOf program.now self.old }
         requires enabled { IsTrue (is_enabled program.now self.old thread) }
         requires pc { StandsInCode program.now self.old thread }
@@ -448,7 +464,10 @@ impl State {
     {
         match retake_of(instruction) {
             Some(action) => self.act(program, thread, action, undo),
-            None => Others::Same,
+            None => After {
+                others: Others::Same,
+                free: false,
+            },
         }
     }
 
@@ -460,7 +479,7 @@ impl State {
         thread: u8,
         instruction: &Instruction,
         undo: &mut Undo,
-    ) -> Others
+    ) -> After
         requires of { IsOf program.now self.old }
         requires enabled { IsTrue (is_enabled program.now self.old thread) }
         requires pc { StandsInCode program.now self.old thread }
@@ -527,7 +546,10 @@ impl State {
             Instruction::Set { .. }
             | Instruction::Assert(_)
             | Instruction::SkipIfZero(_, _)
-            | Instruction::Skip(_) => Others::Same,
+            | Instruction::Skip(_) => After {
+                others: Others::Same,
+                free: false,
+            },
         }
     }
 
@@ -539,7 +561,7 @@ impl State {
         thread: u8,
         instruction: &Instruction,
         undo: &mut Undo,
-    ) -> Others
+    ) -> After
         requires of { IsOf program.now self.old }
         requires enabled { IsTrue (is_enabled program.now self.old thread) }
         requires pc { StandsInCode program.now self.old thread }
@@ -574,13 +596,16 @@ impl State {
                 let access = VariableAction::Cas(*local, *expected, *new);
                 self.act(program, thread, Action::OnVariable(*variable, access), undo)
             }
-            _ => Others::Same,
+            _ => After {
+                others: Others::Same,
+                free: false,
+            },
         }
     }
 
     // The step of an enabled thread which is about to do this.
     #[inline(always)]
-    fn act(&mut self, program: &Program, thread: u8, action: Action, undo: &mut Undo) -> Others
+    fn act(&mut self, program: &Program, thread: u8, action: Action, undo: &mut Undo) -> After
         requires of { IsOf program.now self.old }
         requires enabled { IsTrue (is_enabled program.now self.old thread) }
         requires pc { StandsInCode program.now self.old thread }
@@ -589,8 +614,8 @@ impl State {
         ensures { HasStepped program.now self.old thread undo.new self.new result }
     {
         let others = self.others_after(program, thread, action);
-        self.execute(program, thread, action, undo);
-        others
+        let free = self.execute(program, thread, action, undo);
+        After { others, free }
     }
 
     // What the step that a thread is about to take does to which other threads are enabled.
@@ -640,7 +665,7 @@ impl State {
 
     // What the thread is about to do.
     #[inline(always)]
-    fn execute(&mut self, program: &Program, thread: u8, action: Action, undo: &mut Undo)
+    fn execute(&mut self, program: &Program, thread: u8, action: Action, undo: &mut Undo) -> bool
         requires { IsReady program.now self.old thread action }
         ensures value { self.new ≡ performed program.now self.old thread action }
         ensures begun { HasBegun undo.new thread (thread_at self.old thread) }
@@ -648,6 +673,8 @@ impl State {
         ensures object { HasObject undo.new self.old action }
         ensures locals { restored undo.new.saved (thread_at self.new thread).locals
             ≡ (thread_at self.old thread).locals }
+        ensures free { IsTrue result →
+            IsFree (code_of program.now thread) (thread_at self.new thread) }
     {
         match action {
             Action::OnVariable(x, action) => self.step_variable(program, thread, x, action, undo),
@@ -667,7 +694,7 @@ impl State {
         x: usize,
         action: VariableAction,
         undo: &mut Undo,
-    )
+    ) -> bool
         requires { IsReady program.now self.old thread (OnVariable x action) }
         ensures value { self.new ≡ performed program.now self.old thread (OnVariable x action) }
         ensures begun { HasBegun undo.new thread (thread_at self.old thread) }
@@ -675,6 +702,8 @@ impl State {
         ensures object { HasObject undo.new self.old (OnVariable x action) }
         ensures locals { restored undo.new.saved (thread_at self.new thread).locals
             ≡ (thread_at self.old thread).locals }
+        ensures free { IsTrue result →
+            IsFree (code_of program.now thread) (thread_at self.new thread) }
     {
         let runner = &mut self.threads[thread as usize];
         undo.begin(thread, runner);
@@ -682,7 +711,7 @@ impl State {
         undo.object = x;
         undo.value = self.variables[x];
         access(&mut self.variables[x], runner, &mut undo.saved, action);
-        resume(program.code(thread), runner, &mut undo.saved);
+        resume(program.code(thread), runner, &mut undo.saved)
     }
 
     // A step on a mutex alone.
@@ -694,7 +723,7 @@ impl State {
         m: usize,
         action: MutexAction,
         undo: &mut Undo,
-    )
+    ) -> bool
         requires { IsReady program.now self.old thread (OnMutex m action) }
         ensures value { self.new ≡ performed program.now self.old thread (OnMutex m action) }
         ensures begun { HasBegun undo.new thread (thread_at self.old thread) }
@@ -702,6 +731,8 @@ impl State {
         ensures object { HasObject undo.new self.old (OnMutex m action) }
         ensures locals { restored undo.new.saved (thread_at self.new thread).locals
             ≡ (thread_at self.old thread).locals }
+        ensures free { IsTrue result →
+            IsFree (code_of program.now thread) (thread_at self.new thread) }
     {
         let runner = &mut self.threads[thread as usize];
         undo.begin(thread, runner);
@@ -713,17 +744,24 @@ impl State {
             MutexAction::Unlock => {
                 if !owns(thread, self.owners[m]) {
                     runner.status = Status::Stopped(Stop::NotHeld);
-                    return;
+                    return false;
                 }
                 self.owners[m] = None;
             }
         }
-        resume(program.code(thread), runner, &mut undo.saved);
+        resume(program.code(thread), runner, &mut undo.saved)
     }
 
     // The first step of a `wait`.
     #[inline(always)]
-    fn begin_wait(&mut self, program: &Program, thread: u8, c: usize, m: usize, undo: &mut Undo)
+    fn begin_wait(
+        &mut self,
+        program: &Program,
+        thread: u8,
+        c: usize,
+        m: usize,
+        undo: &mut Undo,
+    ) -> bool
         requires { IsReady program.now self.old thread (Waits c m) }
         ensures value { self.new ≡ performed program.now self.old thread (Waits c m) }
         ensures begun { HasBegun undo.new thread (thread_at self.old thread) }
@@ -731,6 +769,8 @@ impl State {
         ensures object { HasObject undo.new self.old (Waits c m) }
         ensures locals { restored undo.new.saved (thread_at self.new thread).locals
             ≡ (thread_at self.old thread).locals }
+        ensures free { IsTrue result →
+            IsFree (code_of program.now thread) (thread_at self.new thread) }
     {
         let runner = &mut self.threads[thread as usize];
         undo.begin(thread, runner);
@@ -748,6 +788,7 @@ impl State {
         } else {
             runner.status = Status::Stopped(Stop::NotHeld);
         }
+        false
     }
 
     // A step on a condition alone.
@@ -759,7 +800,7 @@ impl State {
         c: usize,
         action: ConditionAction,
         undo: &mut Undo,
-    )
+    ) -> bool
         requires { IsReady program.now self.old thread (OnCondition c action) }
         ensures value { self.new ≡ performed program.now self.old thread (OnCondition c action) }
         ensures begun { HasBegun undo.new thread (thread_at self.old thread) }
@@ -767,6 +808,8 @@ impl State {
         ensures object { HasObject undo.new self.old (OnCondition c action) }
         ensures locals { restored undo.new.saved (thread_at self.new thread).locals
             ≡ (thread_at self.old thread).locals }
+        ensures free { IsTrue result →
+            IsFree (code_of program.now thread) (thread_at self.new thread) }
     {
         undo.begin(thread, &self.threads[thread as usize]);
         undo.change = Change::Call;
@@ -776,7 +819,7 @@ impl State {
         undo.length = length;
         call(&mut self.queues[c], self.threads.as_mut_slice(), c, action);
         let runner = &mut self.threads[thread as usize];
-        resume(program.code(thread), runner, &mut undo.saved);
+        resume(program.code(thread), runner, &mut undo.saved)
     }
 
     // A step on a semaphore.
@@ -788,7 +831,7 @@ impl State {
         k: usize,
         action: SemaphoreAction,
         undo: &mut Undo,
-    )
+    ) -> bool
         requires { IsReady program.now self.old thread (OnSemaphore k action) }
         ensures value { self.new ≡ performed program.now self.old thread (OnSemaphore k action) }
         ensures begun { HasBegun undo.new thread (thread_at self.old thread) }
@@ -796,6 +839,8 @@ impl State {
         ensures object { HasObject undo.new self.old (OnSemaphore k action) }
         ensures locals { restored undo.new.saved (thread_at self.new thread).locals
             ≡ (thread_at self.old thread).locals }
+        ensures free { IsTrue result →
+            IsFree (code_of program.now thread) (thread_at self.new thread) }
     {
         let runner = &mut self.threads[thread as usize];
         undo.begin(thread, runner);
@@ -807,12 +852,12 @@ impl State {
             SemaphoreAction::Release => {
                 if self.counts[k] == COUNT {
                     runner.status = Status::Stopped(Stop::SemFull);
-                    return;
+                    return false;
                 }
                 self.counts[k] += 1;
             }
         }
-        resume(program.code(thread), runner, &mut undo.saved);
+        resume(program.code(thread), runner, &mut undo.saved)
     }
 
     /// How a complete schedule to this state ends.

@@ -1,10 +1,11 @@
 -- What a step writes into its record.
-use Rattle.std.specs.Prelude.{◌≡◌, ◌≢◌, ℕ, ◌≤◌, Bool, true, false, nat_eq, nat_lt, length, if◌then◌else◌}
+use Rattle.std.specs.Prelude.{◌≡◌, ◌≢◌, ℕ, ◌≤◌, Bool, true, false, nat_eq, nat_lt, List, length, slice_get, IsTrue, if◌then◌else◌}
 use Rattle.guest_code.specs.declared.limits.TheConstants.{THREADS}
 use Rattle.guest_code.specs.declared.program.Instruction.{Instruction}
 use Rattle.guest_code.specs.declared.program.Instruction.TheVariants.{Load, Store, Add, Cas, Lock, Unlock, Wait as WaitFor, Signal, Broadcast, Acquire, Release, Set, Assert, SkipIfZero, Skip}
 use Rattle.guest_code.specs.Program.{Program}
 use Rattle.semantics.specs.declared.state.Thread.{Thread}
+use Rattle.semantics.specs.declared.action.After.{After}
 use Rattle.semantics.specs.declared.action.Others.{Others}
 use Rattle.semantics.specs.declared.action.Others.TheVariants.{Same, Fewer, More}
 use Rattle.semantics.specs.declared.state.MutexAction.TheVariants.{Lock as Locks, Unlock as Unlocks, Retake as Retakes}
@@ -13,7 +14,7 @@ use Rattle.semantics.specs.declared.state.Action.{Action}
 use Rattle.semantics.specs.declared.state.Action.TheVariants.{OnVariable, OnMutex, Wait as Waits, OnCondition, OnSemaphore}
 use Rattle.semantics.specs.declared.undo.Undo.{Undo}
 use Rattle.semantics.specs.declared.undo.Change.TheVariants.{Variable, Owner, Count, Wait, Call}
-use Rattle.semantics.specs.Machine.{Snapshot, is_enabled, step, value_of, owner_of, queue_of, count_of}
+use Rattle.semantics.specs.Machine.{Snapshot, action_at, can_do, is_enabled, step, value_of, owner_of, queue_of, count_of}
 use Rattle.semantics.specs.Reachable.{IsOf}
 use Rattle.semantics.specs.Undoing.{old_queue, undone, IsRecordOf}
 
@@ -64,15 +65,20 @@ others_after s (OnCondition c d) = if nat_eq (length (queue_of s c)) 0 then Same
 others_after s (OnSemaphore k Acquires) = if nat_lt 1 (count_of s k) then Same else Fewer
 others_after s (OnSemaphore k Releases) = if nat_lt 0 (count_of s k) then Same else More
 
+-- a thread that may take its next step, whatever the objects are
+abbrev pub IsFree : List Instruction → Thread → Type 0
+IsFree code th = (s : Snapshot) → can_do s (action_at th.status (slice_get code th.pc)) ≡ true
+
 -- a step of thread t led from the first state to the second one: its record, and what it did to
--- which other threads are enabled
+-- which threads are enabled
 pub record HasStepped (p : Program) (s : Snapshot) (t : ℕ) (u : Undo) (new : Snapshot)
-    (others : Others) : Type 0 where
+    (after : After) : Type 0 where
   pub value : new ≡ step p s t
   pub of : IsOf p new
   pub kept : IsRecordOf u new
   pub back : undone u new ≡ s
-  pub changes : Changes others p s t new
+  pub changes : Changes after.others p s t new
+  pub free : IsTrue after.free → is_enabled p new t ≡ true
 
 -- the instruction is on a variable
 abbrev pub is_access : Instruction → Bool
