@@ -447,7 +447,7 @@ impl State {
     }
 
     // The step of a woken thread at this instruction.
-    #[inline(always)]
+    #[inline(never)]
     fn step_woken(
         &mut self,
         program: &Program,
@@ -753,7 +753,7 @@ impl State {
     }
 
     // The first step of a `wait`.
-    #[inline(always)]
+    #[inline(never)]
     fn begin_wait(
         &mut self,
         program: &Program,
@@ -792,7 +792,7 @@ impl State {
     }
 
     // A step on a condition alone.
-    #[inline(always)]
+    #[inline(never)]
     fn step_condition(
         &mut self,
         program: &Program,
