@@ -224,47 +224,53 @@ renew_same p s new t mask result old c at others u = elim (same_or_not u t) [
   | inr ne ↦ others u ne ∙ (old u ∙ sym (c u ne))
 ]
 
--- where only some were tested
-renew : (p : Program) (s new : Snapshot) (mask some result : Mask) → IsOf p s → IsOf p new
-    → HasEnabled mask p s → ((u : ℕ) → u < length p.threads
-    → has result u ≡ cond (has some u) (is_enabled p new u) (has mask u))
-    → ((u : ℕ) → length p.threads ≤ u → has result u ≡ has mask u)
-    → ((u : ℕ) → u < length p.threads → has some u ≡ false → has mask u ≡ is_enabled p new u)
+-- where only some of the others were tested
+renew : (p : Program) (s new : Snapshot) (t : ℕ) (mask near some result : Mask) → IsOf p s
+    → IsOf p new → t < length p.threads → HasEnabled mask p s → has near t ≡ is_enabled p new t
+    → ((u : ℕ) → u ≢ t → has near u ≡ has mask u) → ((u : ℕ) → u < length p.threads
+    → has result u ≡ cond (has some u) (is_enabled p new u) (has near u))
+    → ((u : ℕ) → length p.threads ≤ u → has result u ≡ has near u)
+    → ((u : ℕ) → u < length p.threads → u ≢ t → has some u ≡ false
+    → has mask u ≡ is_enabled p new u)
     → HasEnabled result p new
-renew p s new mask some result of of' old below above untested u =
+renew p s new t mask near some result of of' it old on others below above untested u =
     elim (cases_lt u (length p.threads)) [
       | inl l ↦ below u l ∙ at l (has some u) refl
-      | inr g ↦ above u g ∙ (old u ∙ (disabled_past p s u (omega (arith, g, of.threads)) ∙ sym
-          (disabled_past p new u (omega (arith, g, of'.threads)))))
+      | inr g ↦ above u g ∙ (others u (λ e. absurd (omega (arith, g, it, e)))
+          ∙ (old u ∙ (disabled_past p s u (omega (arith, g, of.threads)) ∙ sym
+          (disabled_past p new u (omega (arith, g, of'.threads))))))
     ]
   where
     at : u < length p.threads → (b : Bool) → has some u ≡ b
-        → cond b (is_enabled p new u) (has mask u) ≡ is_enabled p new u
+        → cond b (is_enabled p new u) (has near u) ≡ is_enabled p new u
     at l true e = refl
-    at l false e = untested u l e
+    at l false e = elim (same_or_not u t) [
+      | inl k ↦ subst (λ v. has near v ≡ is_enabled p new v) (sym k) on
+      | inr ne ↦ others u ne ∙ untested u l ne e
+    ]
 
-pub renew_fewer : (p : Program) (s new : Snapshot) (t : ℕ) (mask some result : Mask) → IsOf p s
-    → IsOf p new → HasEnabled mask p s → KeepsDisabled p s t new → has some t ≡ true
+pub renew_fewer : (p : Program) (s new : Snapshot) (t : ℕ) (mask near some result : Mask)
+    → IsOf p s → IsOf p new → t < length p.threads → HasEnabled mask p s → KeepsDisabled p s t new
+    → has near t ≡ is_enabled p new t → ((u : ℕ) → u ≢ t → has near u ≡ has mask u)
     → ((u : ℕ) → u ≢ t → has some u ≡ has mask u)
     → ((u : ℕ) → u < length p.threads → has result u
-    ≡ cond (has some u) (is_enabled p new u) (has mask u))
-    → ((u : ℕ) → length p.threads ≤ u → has result u ≡ has mask u) → HasEnabled result p new
-renew_fewer p s new t mask some result of of' old c on others below above =
-    renew p s new mask some result of of' old below above (λ u l off.
-    let ne : u ≢ t = λ e. (let k : true ≡ false = sym on ∙ (ap (has some) (sym e) ∙ off) in cc) in
-    let z : has mask u ≡ false = sym (others u ne) ∙ off in
+    ≡ cond (has some u) (is_enabled p new u) (has near u))
+    → ((u : ℕ) → length p.threads ≤ u → has result u ≡ has near u) → HasEnabled result p new
+renew_fewer p s new t mask near some result of of' it old c on others asked below above =
+    renew p s new t mask near some result of of' it old on others below above (λ u l ne off.
+    let z : has mask u ≡ false = sym (asked u ne) ∙ off in
     z ∙ sym (c u ne (sym (old u) ∙ z)))
 
-pub renew_more : (p : Program) (s new : Snapshot) (t : ℕ) (mask some result : Mask) → IsOf p s
-    → IsOf p new → HasEnabled mask p s → KeepsEnabled p s t new → has some t ≡ true
+pub renew_more : (p : Program) (s new : Snapshot) (t : ℕ) (mask near some result : Mask)
+    → IsOf p s → IsOf p new → t < length p.threads → HasEnabled mask p s → KeepsEnabled p s t new
+    → has near t ≡ is_enabled p new t → ((u : ℕ) → u ≢ t → has near u ≡ has mask u)
     → ((u : ℕ) → u ≢ t → u < length p.threads → has some u ≡ not (has mask u))
     → ((u : ℕ) → u < length p.threads → has result u
-    ≡ cond (has some u) (is_enabled p new u) (has mask u))
-    → ((u : ℕ) → length p.threads ≤ u → has result u ≡ has mask u) → HasEnabled result p new
-renew_more p s new t mask some result of of' old c on others below above =
-    renew p s new mask some result of of' old below above (λ u l off.
-    let ne : u ≢ t = λ e. (let k : true ≡ false = sym on ∙ (ap (has some) (sym e) ∙ off) in cc) in
-    let z : has mask u ≡ true = is_on (has mask u) (sym (others u ne l) ∙ off) in
+    ≡ cond (has some u) (is_enabled p new u) (has near u))
+    → ((u : ℕ) → length p.threads ≤ u → has result u ≡ has near u) → HasEnabled result p new
+renew_more p s new t mask near some result of of' it old c on others asked below above =
+    renew p s new t mask near some result of of' it old on others below above (λ u l ne off.
+    let z : has mask u ≡ true = is_on (has mask u) (sym (asked u ne l) ∙ off) in
     z ∙ sym (c u ne (sym (old u) ∙ z)))
   where
     is_on : (b : Bool) → not b ≡ false → b ≡ true

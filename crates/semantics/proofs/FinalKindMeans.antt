@@ -49,7 +49,7 @@ some_stopped : (threads : List Thread) → SomeStopped threads → list_any stop
 some_stopped threads a =
     list_any-from_Any stopped_test threads (a.0, a.1, a.2, a.3, ap is_stopped a.4.1)
 
-ended_all : (threads : List Thread) → list_all ended_test threads ≡ true → AllEnded threads
+pub ended_all : (threads : List Thread) → list_all ended_test threads ≡ true → AllEnded threads
 ended_all [] h k d l = absurd (omega arith)
 ended_all (th ∷ threads) h zero d l = has_ended th.status (and_parts (is_ended th.status) _ h).0
 ended_all (th ∷ threads) h (suc k) d l =

@@ -6,9 +6,9 @@ ghost use Rattle.semantics.specs.Machine.{action_of, retake_of, action_at, owns}
 use crate::state::{Action, ConditionAction, MutexAction, SemaphoreAction, Status, VariableAction};
 use guest_code::program::Instruction;
 
-// The step of a visible statement.
+/// The step of a visible statement.
 #[inline(always)]
-fn action_of(instruction: &Instruction) -> Option<Action>
+pub fn action_of(instruction: &Instruction) -> Option<Action>
     ensures { result ≡ action_of instruction.now }
 {
     match instruction {
@@ -45,9 +45,9 @@ fn action_of(instruction: &Instruction) -> Option<Action>
     }
 }
 
-// The step of a woken thread, which takes the mutex of its `wait` again.
+/// The step of a woken thread, which takes the mutex of its `wait` again.
 #[inline(always)]
-fn retake_of(instruction: &Instruction) -> Option<Action>
+pub fn retake_of(instruction: &Instruction) -> Option<Action>
     ensures { result ≡ retake_of instruction.now }
 {
     match instruction {
@@ -87,4 +87,13 @@ pub enum Others {
     Fewer,
     /// None is disabled that wasn't.
     More,
+}
+
+/// What a step does to which threads are enabled.
+#[derive(Clone, Copy, Debug)]
+pub struct After {
+    pub others: Others,
+    /// Its own thread is enabled after it, whatever the objects are. One that isn't free may be
+    /// enabled, too.
+    pub free: bool,
 }

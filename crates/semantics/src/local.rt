@@ -5,6 +5,7 @@ ghost use Rattle.guest_code.specs.Program.{Program, IsValidCode, IsValidValue, I
 ghost use Rattle.semantics.specs.Machine.{value_of_operand, of_both, value_of_expression, is_zero, run_from, run_past, resumed, var_after, reader_after, is_expected};
 ghost use Rattle.semantics.specs.Reachable.{IsValidAccess};
 ghost use Rattle.semantics.specs.Undoing.{restored};
+ghost use Rattle.semantics.specs.inner.Recording.{IsFree};
 ghost use Rattle.semantics.specs.declared.state.VariableAction.TheVariants.{Add as Adds, Cas as Swaps};
 
 use crate::state::{Status, Stop, Thread, VariableAction};
@@ -194,23 +195,6 @@ fn turn(code: &[Instruction], thread: &mut Thread, saved: &mut Saved) -> bool
     }
 }
 
-// Whether a thread is at a visible statement: its local run is over then.
-#[inline(always)]
-fn is_visible(code: &[Instruction], thread: &Thread) -> bool
-    ensures { IsTrue result → run_from code.now thread.now ≡ thread.now }
-{
-    match code.get(thread.pc) {
-        Some(
-            Instruction::Set { .. }
-            | Instruction::Assert(_)
-            | Instruction::SkipIfZero(_, _)
-            | Instruction::Skip(_),
-        )
-        | None => false,
-        Some(_) => true,
-    }
-}
-
 /// Runs a thread's own instructions, up to a visible statement, the end or a failed assertion.
 #[inline(never)]
 pub fn run_on(code: &[Instruction], thread: &mut Thread, saved: &mut Saved)
@@ -227,19 +211,41 @@ pub fn run_on(code: &[Instruction], thread: &mut Thread, saved: &mut Saved)
     }
 }
 
-/// After its visible statement a thread runs on.
+/// After its visible statement a thread runs on. The answer is true where it is at a statement then
+/// that no object holds up.
 #[inline(always)]
-pub fn resume(code: &[Instruction], thread: &mut Thread, saved: &mut Saved)
+pub fn resume(code: &[Instruction], thread: &mut Thread, saved: &mut Saved) -> bool
     requires fine { (p : Program) × IsValidCode p code.now }
     requires pc { thread.old.pc < length code.now }
     requires few { saved.old.count ≤ LOCALS }
     ensures value { thread.new ≡ resumed code.now thread.old }
     ensures few { saved.new.count ≤ LOCALS }
     ensures kept { restored saved.new thread.new.locals ≡ restored saved.old thread.old.locals }
+    ensures free { IsTrue result → IsFree code.now thread.new }
 {
     thread.pc += 1;
+    if thread.pc == code.len() {
+        thread.status = Status::Ended;
+        return false;
+    }
     thread.status = Status::Running;
-    if !is_visible(code, thread) {
-        run_on(code, thread, saved);
+    match &code[thread.pc] {
+        Instruction::Load { .. }
+        | Instruction::Store { .. }
+        | Instruction::Add { .. }
+        | Instruction::Cas { .. }
+        | Instruction::Unlock(_)
+        | Instruction::Wait { .. }
+        | Instruction::Signal(_)
+        | Instruction::Broadcast(_)
+        | Instruction::Release(_) => true,
+        Instruction::Lock(_) | Instruction::Acquire(_) => false,
+        Instruction::Set { .. }
+        | Instruction::Assert(_)
+        | Instruction::SkipIfZero(_, _)
+        | Instruction::Skip(_) => {
+            run_on(code, thread, saved);
+            false
+        }
     }
 }

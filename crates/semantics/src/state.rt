@@ -1,6 +1,6 @@
 //! States of a program, and their steps.
 
-ghost use Rattle.std.specs.Prelude.{◌≡◌, ◌≢◌, ◌<◌, ◌≤◌, ℕ, Some, None, length, slice_get, All, IfOk, IfSome, IsTrue, if◌then◌else◌};
+ghost use Rattle.std.specs.Prelude.{◌≡◌, ◌≢◌, ◌<◌, ◌≤◌, ℕ, true, Some, None, length, slice_get, All, IfOk, IfSome, IsTrue, if◌then◌else◌};
 ghost use Rattle.std.specs.List.{list_any, list_all};
 ghost use Rattle.guest_code.specs.declared.program.Instruction.{Instruction};
 ghost use Rattle.guest_code.specs.Program.{Program, code_of, IsValid, IsValidValue};
@@ -9,10 +9,10 @@ ghost use Rattle.semantics.specs.Reachable.{IsOf, IsValidAction, StandsInCode, I
 ghost use Rattle.semantics.specs.Ends.{is_terminal, kind_of, view_of, final_kind, is_stopped, is_ended, stop_of};
 ghost use Rattle.semantics.specs.Mask.{has, HasEnabled};
 ghost use Rattle.semantics.specs.Undoing.{undone, restored, IsRecordOf};
-ghost use Rattle.semantics.specs.inner.Recording.{HasBegun, HasObject, Changes, others_after};
+ghost use Rattle.semantics.specs.inner.Recording.{HasBegun, HasObject, HasStepped, Changes, IsFree, is_access, others_after};
 ghost use Rattle.semantics.specs.declared.state.Action.TheVariants.{OnVariable, OnMutex, Wait as Waits, OnCondition, OnSemaphore};
 
-use crate::action::{Others, action_at, owns};
+use crate::action::{After, Others, action_at, action_of, owns, retake_of};
 use crate::local::{access, operand_at, resume};
 use crate::mask::Mask;
 use crate::opening::{opening_counts, opening_threads, opening_values};
@@ -375,24 +375,40 @@ impl State {
         ensures mask { HasEnabled mask program.now self.old →
             HasEnabled result program.now self.new }
     {
-        let others = self.step_recorded(program, thread, undo);
-        self.renew(program, thread, mask, others)
+        let after = self.step_recorded(program, thread, undo);
+        self.renew(program, thread, mask, after)
     }
 
     // The threads that are enabled now, after a step of this one, where these were before it.
     #[inline(always)]
-    fn renew(&self, program: &Program, thread: u8, mask: Mask, others: Others) -> Mask
+    fn renew(&self, program: &Program, thread: u8, mask: Mask, after: After) -> Mask
         requires of { IsOf program.now self.now }
         requires thread { thread < length program.now.threads }
+        requires free { IsTrue after.free → is_enabled program.now self.now thread ≡ true }
         ensures { (s : Snapshot) → IsOf program.now s → HasEnabled mask program.now s →
-            Changes others program.now s thread self.now →
+            Changes after.others program.now s thread self.now →
             HasEnabled result program.now self.now }
     {
-        match others {
-            Others::Same => mask.with(thread, self.is_enabled(program, thread)),
-            Others::Fewer => self.test_again(program, mask, mask.with(thread, true)),
-            Others::More => { self.test_again(program, mask, mask.complement().with(thread, true)) }
+        let on = self.is_on(program, thread, after.free);
+        let near = mask.with(thread, on);
+        match after.others {
+            Others::Same => near,
+            Others::Fewer => self.test_again(program, near, mask.with(thread, false)),
+            Others::More => {
+                self.test_again(program, near, mask.complement().with(thread, false))
+            }
         }
+    }
+
+    // Whether a thread can take a step, where that may be known.
+    #[inline(always)]
+    fn is_on(&self, program: &Program, thread: u8, free: bool) -> bool
+        requires of { IsOf program.now self.now }
+        requires thread { thread < length program.now.threads }
+        requires free { IsTrue free → is_enabled program.now self.now thread ≡ true }
+        ensures { result ≡ is_enabled program.now self.now thread }
+    {
+        free || self.is_enabled(program, thread)
     }
 
     // The mask, where it is tested again for some threads whether they are enabled.
@@ -415,23 +431,191 @@ impl State {
         mask
     }
 
-    // A step, with its record, and what it does to which other threads are enabled.
+    // A step, with its record, and what it does to which threads are enabled.
     #[inline(always)]
-    fn step_recorded(&mut self, program: &Program, thread: u8, undo: &mut Undo) -> Others
+    fn step_recorded(&mut self, program: &Program, thread: u8, undo: &mut Undo) -> After
         requires of { IsOf program.now self.old }
         requires enabled { IsTrue (is_enabled program.now self.old thread) }
-        ensures value { self.new ≡ step program.now self.old thread }
-        ensures of { IsOf program.now self.new }
-        ensures record { IsRecordOf undo.new self.new }
-        ensures back { undone undo.new self.new ≡ self.old }
-        ensures others { Changes result program.now self.old thread self.new }
+        ensures { HasStepped program.now self.old thread undo.new self.new result }
     {
-        if let Some(action) = self.next(program, thread) {
-            let others = self.others_after(program, thread, action);
-            self.execute(program, thread, action, undo);
-            return others;
+        let runner = &self.threads[thread as usize];
+        let instruction = &program.code(thread)[runner.pc];
+        match runner.status {
+            Status::Woken => self.step_woken(program, thread, instruction, undo),
+            _ => self.step_visible(program, thread, instruction, undo),
         }
-        Others::Same
+    }
+
+    // The step of a woken thread at this instruction.
+    #[inline(never)]
+    fn step_woken(
+        &mut self,
+        program: &Program,
+        thread: u8,
+        instruction: &Instruction,
+        undo: &mut Undo,
+    ) -> After
+        requires of { IsOf program.now self.old }
+        requires enabled { IsTrue (is_enabled program.now self.old thread) }
+        requires pc { StandsInCode program.now self.old thread }
+        requires fine { IsValid program.now instruction.now }
+        requires next { next_of program.now self.old thread ≡ retake_of instruction.now }
+        ensures { HasStepped program.now self.old thread undo.new self.new result }
+    {
+        match retake_of(instruction) {
+            Some(action) => self.act(program, thread, action, undo),
+            None => After {
+                others: Others::Same,
+                free: false,
+            },
+        }
+    }
+
+    // The step of a running thread at this instruction.
+    #[inline(always)]
+    fn step_visible(
+        &mut self,
+        program: &Program,
+        thread: u8,
+        instruction: &Instruction,
+        undo: &mut Undo,
+    ) -> After
+        requires of { IsOf program.now self.old }
+        requires enabled { IsTrue (is_enabled program.now self.old thread) }
+        requires pc { StandsInCode program.now self.old thread }
+        requires fine { IsValid program.now instruction.now }
+        requires next { next_of program.now self.old thread ≡ action_of instruction.now }
+        ensures { HasStepped program.now self.old thread undo.new self.new result }
+    {
+        match instruction {
+            Instruction::Load { .. }
+            | Instruction::Store { .. }
+            | Instruction::Add { .. }
+            | Instruction::Cas { .. } => self.step_access(program, thread, instruction, undo),
+            Instruction::Lock(m) => {
+                self.act(
+                    program,
+                    thread,
+                    Action::OnMutex(*m, MutexAction::Lock),
+                    undo,
+                )
+            }
+            Instruction::Unlock(m) => {
+                self.act(
+                    program,
+                    thread,
+                    Action::OnMutex(*m, MutexAction::Unlock),
+                    undo,
+                )
+            }
+            Instruction::Wait { condition, mutex } => {
+                self.act(program, thread, Action::Wait(*condition, *mutex), undo)
+            }
+            Instruction::Signal(c) => {
+                self.act(
+                    program,
+                    thread,
+                    Action::OnCondition(*c, ConditionAction::Signal),
+                    undo,
+                )
+            }
+            Instruction::Broadcast(c) => {
+                self.act(
+                    program,
+                    thread,
+                    Action::OnCondition(*c, ConditionAction::Broadcast),
+                    undo,
+                )
+            }
+            Instruction::Acquire(k) => {
+                self.act(
+                    program,
+                    thread,
+                    Action::OnSemaphore(*k, SemaphoreAction::Acquire),
+                    undo,
+                )
+            }
+            Instruction::Release(k) => {
+                self.act(
+                    program,
+                    thread,
+                    Action::OnSemaphore(*k, SemaphoreAction::Release),
+                    undo,
+                )
+            }
+            Instruction::Set { .. }
+            | Instruction::Assert(_)
+            | Instruction::SkipIfZero(_, _)
+            | Instruction::Skip(_) => After {
+                others: Others::Same,
+                free: false,
+            },
+        }
+    }
+
+    // The step of a running thread at this instruction, which is on a variable.
+    #[inline(always)]
+    fn step_access(
+        &mut self,
+        program: &Program,
+        thread: u8,
+        instruction: &Instruction,
+        undo: &mut Undo,
+    ) -> After
+        requires of { IsOf program.now self.old }
+        requires enabled { IsTrue (is_enabled program.now self.old thread) }
+        requires pc { StandsInCode program.now self.old thread }
+        requires fine { IsValid program.now instruction.now }
+        requires next { next_of program.now self.old thread ≡ action_of instruction.now }
+        requires access { IsTrue (is_access instruction.now) }
+        ensures { HasStepped program.now self.old thread undo.new self.new result }
+    {
+        match instruction {
+            Instruction::Load { local, variable } => {
+                let access = VariableAction::Load(*local);
+                self.act(program, thread, Action::OnVariable(*variable, access), undo)
+            }
+            Instruction::Store { variable, value } => {
+                let access = VariableAction::Store(*value);
+                self.act(program, thread, Action::OnVariable(*variable, access), undo)
+            }
+            Instruction::Add {
+                local,
+                variable,
+                value,
+            } => {
+                let access = VariableAction::Add(*local, *value);
+                self.act(program, thread, Action::OnVariable(*variable, access), undo)
+            }
+            Instruction::Cas {
+                local,
+                variable,
+                expected,
+                new,
+            } => {
+                let access = VariableAction::Cas(*local, *expected, *new);
+                self.act(program, thread, Action::OnVariable(*variable, access), undo)
+            }
+            _ => After {
+                others: Others::Same,
+                free: false,
+            },
+        }
+    }
+
+    // The step of an enabled thread which is about to do this.
+    #[inline(always)]
+    fn act(&mut self, program: &Program, thread: u8, action: Action, undo: &mut Undo) -> After
+        requires of { IsOf program.now self.old }
+        requires enabled { IsTrue (is_enabled program.now self.old thread) }
+        requires pc { StandsInCode program.now self.old thread }
+        requires fine { IsValidAction program.now action }
+        requires next { next_of program.now self.old thread ≡ Some action }
+        ensures { HasStepped program.now self.old thread undo.new self.new result }
+    {
+        let others = self.others_after(program, thread, action);
+        let free = self.execute(program, thread, action, undo);
+        After { others, free }
     }
 
     // What the step that a thread is about to take does to which other threads are enabled.
@@ -481,7 +665,7 @@ impl State {
 
     // What the thread is about to do.
     #[inline(always)]
-    fn execute(&mut self, program: &Program, thread: u8, action: Action, undo: &mut Undo)
+    fn execute(&mut self, program: &Program, thread: u8, action: Action, undo: &mut Undo) -> bool
         requires { IsReady program.now self.old thread action }
         ensures value { self.new ≡ performed program.now self.old thread action }
         ensures begun { HasBegun undo.new thread (thread_at self.old thread) }
@@ -489,6 +673,8 @@ impl State {
         ensures object { HasObject undo.new self.old action }
         ensures locals { restored undo.new.saved (thread_at self.new thread).locals
             ≡ (thread_at self.old thread).locals }
+        ensures free { IsTrue result →
+            IsFree (code_of program.now thread) (thread_at self.new thread) }
     {
         match action {
             Action::OnVariable(x, action) => self.step_variable(program, thread, x, action, undo),
@@ -508,7 +694,7 @@ impl State {
         x: usize,
         action: VariableAction,
         undo: &mut Undo,
-    )
+    ) -> bool
         requires { IsReady program.now self.old thread (OnVariable x action) }
         ensures value { self.new ≡ performed program.now self.old thread (OnVariable x action) }
         ensures begun { HasBegun undo.new thread (thread_at self.old thread) }
@@ -516,6 +702,8 @@ impl State {
         ensures object { HasObject undo.new self.old (OnVariable x action) }
         ensures locals { restored undo.new.saved (thread_at self.new thread).locals
             ≡ (thread_at self.old thread).locals }
+        ensures free { IsTrue result →
+            IsFree (code_of program.now thread) (thread_at self.new thread) }
     {
         let runner = &mut self.threads[thread as usize];
         undo.begin(thread, runner);
@@ -523,7 +711,7 @@ impl State {
         undo.object = x;
         undo.value = self.variables[x];
         access(&mut self.variables[x], runner, &mut undo.saved, action);
-        resume(program.code(thread), runner, &mut undo.saved);
+        resume(program.code(thread), runner, &mut undo.saved)
     }
 
     // A step on a mutex alone.
@@ -535,7 +723,7 @@ impl State {
         m: usize,
         action: MutexAction,
         undo: &mut Undo,
-    )
+    ) -> bool
         requires { IsReady program.now self.old thread (OnMutex m action) }
         ensures value { self.new ≡ performed program.now self.old thread (OnMutex m action) }
         ensures begun { HasBegun undo.new thread (thread_at self.old thread) }
@@ -543,6 +731,8 @@ impl State {
         ensures object { HasObject undo.new self.old (OnMutex m action) }
         ensures locals { restored undo.new.saved (thread_at self.new thread).locals
             ≡ (thread_at self.old thread).locals }
+        ensures free { IsTrue result →
+            IsFree (code_of program.now thread) (thread_at self.new thread) }
     {
         let runner = &mut self.threads[thread as usize];
         undo.begin(thread, runner);
@@ -554,17 +744,24 @@ impl State {
             MutexAction::Unlock => {
                 if !owns(thread, self.owners[m]) {
                     runner.status = Status::Stopped(Stop::NotHeld);
-                    return;
+                    return false;
                 }
                 self.owners[m] = None;
             }
         }
-        resume(program.code(thread), runner, &mut undo.saved);
+        resume(program.code(thread), runner, &mut undo.saved)
     }
 
     // The first step of a `wait`.
-    #[inline(always)]
-    fn begin_wait(&mut self, program: &Program, thread: u8, c: usize, m: usize, undo: &mut Undo)
+    #[inline(never)]
+    fn begin_wait(
+        &mut self,
+        program: &Program,
+        thread: u8,
+        c: usize,
+        m: usize,
+        undo: &mut Undo,
+    ) -> bool
         requires { IsReady program.now self.old thread (Waits c m) }
         ensures value { self.new ≡ performed program.now self.old thread (Waits c m) }
         ensures begun { HasBegun undo.new thread (thread_at self.old thread) }
@@ -572,6 +769,8 @@ impl State {
         ensures object { HasObject undo.new self.old (Waits c m) }
         ensures locals { restored undo.new.saved (thread_at self.new thread).locals
             ≡ (thread_at self.old thread).locals }
+        ensures free { IsTrue result →
+            IsFree (code_of program.now thread) (thread_at self.new thread) }
     {
         let runner = &mut self.threads[thread as usize];
         undo.begin(thread, runner);
@@ -589,10 +788,11 @@ impl State {
         } else {
             runner.status = Status::Stopped(Stop::NotHeld);
         }
+        false
     }
 
     // A step on a condition alone.
-    #[inline(always)]
+    #[inline(never)]
     fn step_condition(
         &mut self,
         program: &Program,
@@ -600,7 +800,7 @@ impl State {
         c: usize,
         action: ConditionAction,
         undo: &mut Undo,
-    )
+    ) -> bool
         requires { IsReady program.now self.old thread (OnCondition c action) }
         ensures value { self.new ≡ performed program.now self.old thread (OnCondition c action) }
         ensures begun { HasBegun undo.new thread (thread_at self.old thread) }
@@ -608,6 +808,8 @@ impl State {
         ensures object { HasObject undo.new self.old (OnCondition c action) }
         ensures locals { restored undo.new.saved (thread_at self.new thread).locals
             ≡ (thread_at self.old thread).locals }
+        ensures free { IsTrue result →
+            IsFree (code_of program.now thread) (thread_at self.new thread) }
     {
         undo.begin(thread, &self.threads[thread as usize]);
         undo.change = Change::Call;
@@ -617,7 +819,7 @@ impl State {
         undo.length = length;
         call(&mut self.queues[c], self.threads.as_mut_slice(), c, action);
         let runner = &mut self.threads[thread as usize];
-        resume(program.code(thread), runner, &mut undo.saved);
+        resume(program.code(thread), runner, &mut undo.saved)
     }
 
     // A step on a semaphore.
@@ -629,7 +831,7 @@ impl State {
         k: usize,
         action: SemaphoreAction,
         undo: &mut Undo,
-    )
+    ) -> bool
         requires { IsReady program.now self.old thread (OnSemaphore k action) }
         ensures value { self.new ≡ performed program.now self.old thread (OnSemaphore k action) }
         ensures begun { HasBegun undo.new thread (thread_at self.old thread) }
@@ -637,6 +839,8 @@ impl State {
         ensures object { HasObject undo.new self.old (OnSemaphore k action) }
         ensures locals { restored undo.new.saved (thread_at self.new thread).locals
             ≡ (thread_at self.old thread).locals }
+        ensures free { IsTrue result →
+            IsFree (code_of program.now thread) (thread_at self.new thread) }
     {
         let runner = &mut self.threads[thread as usize];
         undo.begin(thread, runner);
@@ -648,12 +852,12 @@ impl State {
             SemaphoreAction::Release => {
                 if self.counts[k] == COUNT {
                     runner.status = Status::Stopped(Stop::SemFull);
-                    return;
+                    return false;
                 }
                 self.counts[k] += 1;
             }
         }
-        resume(program.code(thread), runner, &mut undo.saved);
+        resume(program.code(thread), runner, &mut undo.saved)
     }
 
     /// How a complete schedule to this state ends.
@@ -727,10 +931,10 @@ fn all_ended(threads: &[Thread]) -> bool
 fn final_kind(threads: &[Thread]) -> Kind
     ensures { result ≡ final_kind threads.now }
 {
-    if some_stopped(threads) {
-        Kind::Failed
-    } else if all_ended(threads) {
+    if all_ended(threads) {
         Kind::Done
+    } else if some_stopped(threads) {
+        Kind::Failed
     } else {
         Kind::Stuck
     }

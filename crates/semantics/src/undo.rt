@@ -120,8 +120,30 @@ pub fn put(thread: &mut Thread, saved: &mut Saved, local: usize, value: i64)
     thread.locals[local] = value;
 }
 
-/// The locals get back the values that were kept.
+/// The locals get back the values that were kept, which are few as a rule.
+#[inline(always)]
 pub fn restore(locals: &mut [i64; LOCALS], saved: &Saved)
+    requires { saved.now.count ≤ LOCALS }
+    ensures { locals.new ≡ restored saved.now locals.old }
+{
+    if saved.count == 0 {
+        return;
+    }
+    if saved.count == 1 {
+        locals[0] = saved.locals[0];
+        return;
+    }
+    if saved.count == 2 {
+        locals[0] = saved.locals[0];
+        locals[1] = saved.locals[1];
+        return;
+    }
+    restore_many(locals, saved);
+}
+
+// The same, however many they are.
+#[inline(never)]
+fn restore_many(locals: &mut [i64; LOCALS], saved: &Saved)
     requires { saved.now.count ≤ LOCALS }
     ensures { locals.new ≡ restored saved.now locals.old }
 {

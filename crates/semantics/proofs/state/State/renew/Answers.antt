@@ -7,27 +7,27 @@ use Rattle.semantics.proofs.state.State.renew.Goals as goal
 
 pub returns-in-Same : goal.returns-in-Same
 returns-in-Same c = λ s of' old change.
-    renew_same c.args.program.now s c.args.self.now c.args.thread c.args.mask c.with.result old
+    renew_same c.args.program.now s c.args.self.now c.args.thread c.args.mask c.with-near.result old
     (subst (λ (o : Others). Changes o c.args.program.now s c.args.thread c.args.self.now)
     c.in-Same.is change)
-    (c.with.ensures.same ∙ c.is_enabled.ensures) c.with.ensures.others
+    (c.with-near.ensures.same ∙ c.is_on-on.ensures) c.with-near.ensures.others
 
 pub returns-in-Fewer : goal.returns-in-Fewer
 returns-in-Fewer c = λ s of' old change.
-    renew_fewer c.args.program.now s c.args.self.now c.args.thread c.args.mask
-    c.with-in-Fewer.result c.test_again.result of' c.requires.of old
+    renew_fewer c.args.program.now s c.args.self.now c.args.thread c.args.mask c.with-near.result
+    c.with.result c.test_again.result of' c.requires.of c.requires.thread old
     (subst (λ (o : Others). Changes o c.args.program.now s c.args.thread c.args.self.now)
     c.in-Fewer.is change)
-    c.with-in-Fewer.ensures.same c.with-in-Fewer.ensures.others c.test_again.ensures.below
-    c.test_again.ensures.above
+    (c.with-near.ensures.same ∙ c.is_on-on.ensures) c.with-near.ensures.others
+    c.with.ensures.others c.test_again.ensures.below c.test_again.ensures.above
 
 pub returns-in-More : goal.returns-in-More
 returns-in-More c = λ s of' old change.
-    renew_more c.args.program.now s c.args.self.now c.args.thread c.args.mask c.with-in-More.result
-    c.test_again-in-More.result of' c.requires.of old
+    renew_more c.args.program.now s c.args.self.now c.args.thread c.args.mask c.with-near.result
+    c.with-in-More.result c.test_again-in-More.result of' c.requires.of c.requires.thread old
     (subst (λ (o : Others). Changes o c.args.program.now s c.args.thread c.args.self.now)
     c.in-More.is change)
-    c.with-in-More.ensures.same
+    (c.with-near.ensures.same ∙ c.is_on-on.ensures) c.with-near.ensures.others
     (λ u ne l. let few : u < THREADS = omega (arith, l, c.requires.of.few, c.requires.of.threads)
     in c.with-in-More.ensures.others u ne ∙ c.complement.ensures u few)
     c.test_again-in-More.ensures.below c.test_again-in-More.ensures.above

@@ -2,7 +2,7 @@ use Rattle.std.proofs.Common.{rules, arith, ◌≡◌, ◌∙◌, ◌+◌, ◌<�
 use Rattle.std.proofs.lemmas.Int.{to_z-of_z}
 use Rattle.guest_code.specs.declared.limits.TheConstants.{LOCALS}
 use Rattle.semantics.proofs.Undone.{restore_step}
-use Rattle.semantics.proofs.undo.restore.Goals as goal
+use Rattle.semantics.proofs.undo.restore_many.Goals as goal
 
 pub loop-i-preserved : goal.loop-i-preserved
 loop-i-preserved c =
