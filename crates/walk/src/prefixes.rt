@@ -18,6 +18,10 @@ use std::alloc::{AllocError, Global};
 use std::marker::Model;
 use std::mem;
 
+// What ends the way back from a prefix to one that differs in its last step: one step to take away,
+// one to put back.
+const LAST_REPLACED: u8 = 17;
+
 /// A list of prefixes. Contracts see `List (List ℕ)`.
 #[derive(Drop)]
 pub struct Prefixes {
@@ -156,6 +160,24 @@ impl Prefixes {
         self.last.truncate(shared);
         let _ = self.last.extend_from_slice(rest);
         self.longest = self.longest.max(self.last.len());
+        self.count += 1;
+        Ok(())
+    }
+
+    // Puts a prefix after the others that begins as the last one does, so many steps, and then goes
+    // on with one step. Mostly that step takes the place of the last prefix's last one.
+    #[inline(always)]
+    pub(crate) fn push_step(&mut self, shared: usize, step: u8) -> Result<(), AllocError>
+        ensures { self.new ≡ (if is_ok result
+            then self.old ++ (take shared (last_of self.old) ++ step ∷ []) ∷ [] else self.old) }
+    {
+        let len = self.last.len();
+        if self.count == 0 || len <= shared || len - shared != 1 {
+            return self.push_after(shared, &[step]);
+        }
+        self.bytes
+            .extend_from_slice(&[self.last[shared], LAST_REPLACED])?;
+        self.last[shared] = step;
         self.count += 1;
         Ok(())
     }

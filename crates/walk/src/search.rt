@@ -46,7 +46,23 @@ impl Found {
         }
     }
 
-    // Puts off the step of a thread after the others, by what they share with the last one put off.
+    // Puts the prefix of these steps and one of a thread after the others, by what they share with
+    // the last one put off.
+    #[inline(always)]
+    fn put_in(&mut self, steps: &mut Vec<u8>, thread: u8) -> Result<(), AllocError>
+        requires { IsShared steps.old.items self.old }
+        ensures steps { steps.new.items ≡ steps.old.items }
+        ensures same { self.new ≡ record self.old { deferred = self.new.deferred } }
+        ensures deferred { OnOk result (self.new.deferred
+            ≡ self.old.deferred ++ (steps.old.items ++ thread ∷ []) ∷ []) }
+    {
+        steps.push(thread)?;
+        let pushed = self.deferred.push_after(self.shared, &steps[self.shared..]);
+        steps.pop();
+        pushed
+    }
+
+    // Puts off the step of a thread after the others.
     fn put_off(&mut self, steps: &mut Vec<u8>, thread: u8) -> Result<(), AllocError>
         requires { IsShared steps.old.items self.old }
         ensures steps { steps.new.items ≡ steps.old.items }
@@ -55,10 +71,11 @@ impl Found {
             ≡ self.old.deferred ++ (steps.old.items ++ thread ∷ []) ∷ []) }
         ensures shared { OnOk result (IsShared steps.old.items self.new) }
     {
-        steps.push(thread)?;
-        let pushed = self.deferred.push_after(self.shared, &steps[self.shared..]);
-        steps.pop();
-        pushed?;
+        if self.shared == steps.len() {
+            self.deferred.push_step(self.shared, thread)?;
+        } else {
+            self.put_in(steps, thread)?;
+        }
         self.part.set_beyond();
         self.shared = steps.len();
         Ok(())
