@@ -12,7 +12,7 @@ mod tests;
 ghost use Rattle.std.specs.Prelude.{◌≡◌, ℕ, ◌-◌, ◌^◌, ◌<◌, ◌≤◌, ◌==◌, List, [], ◌∷◌, ◌++◌, length, take, is_ok, IfOk, IfSome, IfNone, All, Some, if◌then◌else◌, option_copied, slice_get, slice_index_or, vec_capacity};
 ghost use Rattle.walk.specs.PrefixLists.{last_of};
 
-use crate::prefixes::bytes::{put_way, shared_length, step_back, top};
+use crate::prefixes::bytes::{put_few, put_way, shared_length, step_back, top};
 use crate::prefixes::seeker::Seeker;
 use std::alloc::{AllocError, Global};
 use std::marker::Model;
@@ -158,7 +158,7 @@ impl Prefixes {
         self.last.reserve(rest.len())?;
         put_way(&mut self.bytes, rest.len(), &self.last[shared..])?;
         self.last.truncate(shared);
-        let _ = self.last.extend_from_slice(rest);
+        let _ = put_few(&mut self.last, rest);
         self.longest = self.longest.max(self.last.len());
         self.count += 1;
         Ok(())
