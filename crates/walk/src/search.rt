@@ -136,6 +136,17 @@ fn without_first(set: Mask, first: u8) -> Mask
     set.with(first, false)
 }
 
+// Whether a set is empty.
+#[inline(always)]
+fn has_none(set: Mask) -> bool
+    ensures { IsTrue result → members_from set 0 ≡ [] }
+{
+    match set.first_from(0) {
+        None => true,
+        Some(_) => false,
+    }
+}
+
 impl Node {
     // The threads whose step from here passes the bound.
     #[inline(always)]
@@ -265,7 +276,7 @@ impl Trail {
         self.arrive(alloc, found, item, mode)
     }
 
-    // Goes back to the node above, where the walk was there. False where it wasn't.
+    // Goes back over the nodes where no child is open, one at least. False where it can't.
     #[inline(always)]
     fn retreat(&mut self, program: &Program, _mode: Mode) -> bool
         requires place { IsPlace program.now self.old }
@@ -284,7 +295,11 @@ impl Trail {
         if self.steps.len() == self.base {
             return false;
         }
-        self.leave(program);
+        let mut going = true;
+        while going {
+            self.leave(program);
+            going = self.steps.len() > self.base && has_none(self.node.todo);
+        }
         true
     }
 
