@@ -8,7 +8,7 @@ ghost use Rattle.semantics.specs.Mask.{has, members_from};
 ghost use Rattle.walk.specs.Items.{IsItem};
 ghost use Rattle.walk.specs.Summaries.{nothing, with_beyond};
 ghost use Rattle.walk.specs.inner.Children.{child_of, mask_after, cost_of, costs};
-ghost use Rattle.walk.specs.inner.Paths.{leaves, IsTrail};
+ghost use Rattle.walk.specs.inner.Paths.{HasSwitches, IsTrail};
 ghost use Rattle.walk.specs.Walks.{IsWalked, IsPastBound, walk_past_bound};
 ghost use Rattle.walk.specs.inner.WalkerInvariant.{IsPlace, IsSearch, here, left_above, still_open, turns_left, is_kept_at, is_past_at, is_past_here, IsWithinAt, IsShared};
 
@@ -151,28 +151,22 @@ impl Node {
     // The threads whose step from here passes the bound.
     #[inline(always)]
     fn past(self, bound: u32) -> Mask
-        requires { self.used ≤ bound }
+        requires within { self.used ≤ bound }
+        requires switches { HasSwitches self.switches self.last self.enabled }
         ensures { (t : ℕ) → has result t
             ≡ (has self.enabled t && is_past_at (Mode.Bounded bound) self t) }
     {
         if self.used < bound {
-            return Mask::empty();
-        }
-        match self.last {
-            Some(last) => {
-                if self.enabled.has(last) {
-                    self.enabled.with(last, false)
-                } else {
-                    Mask::empty()
-                }
-            }
-            None => Mask::empty(),
+            Mask::empty()
+        } else {
+            self.switches
         }
     }
 
     // The steps that are kept from here on are to be tried; those that pass the bound.
     fn open(&mut self, mode: Mode) -> Mask
-        requires { IsWithinAt mode self.old }
+        requires within { IsWithinAt mode self.old }
+        requires switches { HasSwitches self.old.switches self.old.last self.old.enabled }
         ensures kept { (t : ℕ) → has self.new.todo t
             ≡ (has self.old.enabled t && is_kept_at mode self.old t) }
         ensures past { (t : ℕ) → has result t
