@@ -47,7 +47,7 @@ node_opened : (p : Program) (w : List ℕ) (s : Snapshot) (n m : Node) (todo : M
     →
     m ≡ record n { todo = todo } → IsNode p w s m
 node_opened p w s n m todo h e = subst (IsNode p w s) (sym e)
-    (record { reaches = h.reaches; enabled = h.enabled })
+    (record { reaches = h.reaches; enabled = h.enabled; switches = h.switches })
 
 pub place_opened : (p : Program) (old new : Trail) → IsPlace p old → IsOpened old new
     → IsPlace p new

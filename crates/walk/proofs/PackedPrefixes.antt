@@ -1,6 +1,6 @@
 -- How a stack of schedules grows, shrinks, and goes on top of another.
-use Rattle.std.proofs.Common.{◌≡◌, ℕ, suc, ◌+◌, ◌-◌, ◌^◌, ◌<◌, ◌≤◌, List, [], ◌∷◌, ◌++◌, length, take, drop, refl, sym, ◌∙◌, ap, arith, append_assoc, length-append, length-take, length-drop, zero, inl, inr, Result, Ok, Err, cond, is_ok, OnOk, IsOk, Some, slice_get, slice_index_or, subst, ⊎_elim, min, true, false, nat_lt}
-use Rattle.std.proofs.lemmas.List.{append-nil, take_at, length_push, take-append-drop, get_or_push, take_rest, take-take, take_all}
+use Rattle.std.proofs.Common.{◌≡◌, ℕ, suc, ◌+◌, ◌-◌, ◌^◌, ◌<◌, ◌≤◌, List, [], ◌∷◌, ◌++◌, length, take, drop, refl, sym, ◌∙◌, ap, arith, append_assoc, length-append, length-take, length-drop, zero, inl, inr, Result, Ok, Err, cond, is_ok, OnOk, IsOk, Some, slice_get, slice_index_or, subst, ⊎_elim, min, true, false, nat_lt, set, get_or, length-set}
+use Rattle.std.proofs.lemmas.List.{append-nil, take_at, length_push, take-append-drop, get_or_push, take_rest, take-take, take_all, take_more, take_more_set, drop_at}
 use Rattle.std.proofs.lemmas.Bool.{cases_lt}
 use Rattle.walk.specs.inner.Packed.{Way, IsPacked, way_bytes, ways_bytes, first_by, AreWays, IsStack, back, listed, before, below_of, tail_of, start_of, end_of, dropped_of, head_of, common_length}
 use Rattle.walk.specs.PrefixLists.{last_of}
@@ -298,6 +298,38 @@ pushed n b last first l rest c top t k m stack le fits fit e f g room short =
           (omega (arith, ap length g, short)) fits fit leads;
       view = listed_push n b t (length rest) last s fits fit leads;
     })
+
+-- all steps but the last, and the last
+last_step : (w : List ℕ) (k x : ℕ) → length w ≡ k + 1 → x ≡ get_or w k x → drop k w ≡ x ∷ []
+last_step w k x one read =
+    let parts : w ≡ take k w ++ x ∷ [] =
+    sym (take_all (k + 1) w (omega (arith, one)))
+    ∙ (take_more w k x (omega (arith, one)) ∙ ap (λ (y : ℕ). take k w ++ y ∷ []) (sym read)) in
+    ap (drop k) parts
+    ∙ drop_at (take k w) (x ∷ []) k (omega (arith, one, length-take k w))
+
+set_last : (w : List ℕ) (k x : ℕ) → length w ≡ k + 1 → set w k x ≡ take k w ++ x ∷ []
+set_last w k x one =
+    sym (take_all (k + 1) (set w k x) (omega (arith, one, length-set w k x)))
+    ∙ take_more_set w k x (omega (arith, one))
+
+-- the way back to a schedule that differs in its last step
+small_bytes : (x : ℕ) → x ∷ 17 ∷ [] ≡ way_bytes 1 (x ∷ [])
+unfolding way_bytes
+small_bytes x = refl
+
+-- a schedule that differs from the last in its last step goes on top
+pub replaced : (n : ℕ) (b last first : List ℕ) (l k x t : ℕ) (c : List ℕ)
+    → IsStack n b last first l → length last ≡ k + 1 → x ≡ get_or last k x
+    → c ≡ b ++ x ∷ 17 ∷ []
+    → Grown (n + 1) c (set last k t) first l (listed n b last ++ (take k last ++ t ∷ []) ∷ [])
+replaced n b last first l k x t c stack one read wrote =
+    let top = set_last last k t one in
+    let short = stack_short n b last first l stack in
+    pushed n b last first l (t ∷ []) c (set last k t) (x ∷ []) k l stack (omega (arith, one))
+    (omega arith) (omega arith) (sym (last_step last k x one read))
+    (wrote ∙ ap (λ (y : List ℕ). b ++ y) (small_bytes x)) top (omega arith)
+    (omega (arith, short, one, length-set last k t))
 
 -- a stack goes on top
 pub appended : (n k : ℕ) (b c last first end start : List ℕ) (l j : ℕ) (mid both top t : List ℕ)

@@ -17,7 +17,7 @@ use Rattle.semantics.proofs.UnfoldingUnderPrefix.{state_after-push}
 use Rattle.walk.specs.declared.trail.Node.{Node}
 use Rattle.walk.specs.declared.trail.Frame.{Frame}
 use Rattle.walk.specs.declared.trail.Trail.{Trail}
-use Rattle.walk.specs.inner.Paths.{leaves, leaves_last, after, path, state_at, IsNode, IsFrame, AreFrames, above, IsTrail, IsEntered, IsLeft}
+use Rattle.walk.specs.inner.Paths.{leaves, leaves_last, after, path, state_at, HasSwitches, IsNode, IsFrame, AreFrames, above, IsTrail, IsEntered, IsLeft}
 
 pub reversed : (S T : List Frame) (f : Frame) → S ≡ T ++ f ∷ [] → reverse S ≡ f ∷ reverse T
 reversed S T f e = ap reverse e ∙ reverse-append T (f ∷ [])
@@ -47,17 +47,18 @@ node_same p v w s z m n h a b c = subst (λ (x : List ℕ). IsNode p x s m) (sym
 
 -- the node one step further
 pub node_entered : (p : Program) (w v : List ℕ) (s z : Snapshot) (n : Node) (t : ℕ)
-    (enabled asleep : Mask) →
+    (enabled asleep switches : Mask) →
     IsNode p w s n → is_enabled p s t ≡ true → z ≡ step p s t → v ≡ w ++ t ∷ []
-    → HasEnabled enabled p z →
-    IsNode p v z (after n t enabled asleep)
-node_entered p w v s z n t enabled asleep h on stepped items masked = record {
+    → HasEnabled enabled p z → HasSwitches switches (Some t) enabled →
+    IsNode p v z (after n t enabled asleep switches)
+node_entered p w v s z n t enabled asleep switches h on stepped items masked leaving = record {
   reaches = subst (λ (x : List ℕ). Reaches p x
       (record { state = z; last = Some t; preemptions = n.used + one_if (leaves n t) })) (sym items)
       (reaches_parts p w (record { state = s; last = n.last; preemptions = n.used }) t z
       (n.used + one_if (leaves n t)) h.reaches on stepped
       (ap (λ b. n.used + one_if b) (leaves_is p s n.enabled n.last t h.enabled)));
   enabled = masked;
+  switches = leaving;
 }
 
 -- the frame of a node whose thread has taken a step
@@ -164,7 +165,7 @@ trail_left p old new n f h one read items frames back node base =
 
 -- one step down
 pub trail_entered : (p : Program) (old new : Trail) (S : List Frame) (t : ℕ) (u : Undo)
-    (enabled asleep : Mask) →
+    (enabled asleep switches : Mask) →
     IsTrail p old → is_enabled p old.state t ≡ true → length old.steps.items < length S →
     take (length old.steps.items) S ≡ take (length old.steps.items) old.frames.items →
     new.steps.items ≡ old.steps.items ++ t ∷ [] →
@@ -172,11 +173,11 @@ pub trail_entered : (p : Program) (old new : Trail) (S : List Frame) (t : ℕ) (
     (record { node = old.node; thread = t; undo = u }) →
     new.state ≡ step p old.state t → IsOf p new.state → IsRecordOf u new.state
     → undone u new.state ≡ old.state →
-    HasEnabled enabled p new.state → new.node ≡ after old.node t enabled asleep
-    → new.base ≡ old.base →
+    HasEnabled enabled p new.state → HasSwitches switches (Some t) enabled
+    → new.node ≡ after old.node t enabled asleep switches → new.base ≡ old.base →
     IsTrail p new × IsEntered old new t asleep
-trail_entered p old new S t u enabled asleep h on there same items frames stepped of' r back masked
-    node base =
+trail_entered p old new S t u enabled asleep switches h on there same items frames stepped of' r
+    back masked leaving node base =
     let f : Frame = record { node = old.node; thread = t; undo = u } in
     let up : above new ≡ f ∷ above old =
     (λ i. reverse (take (length (items i)) (frames i)))
@@ -187,7 +188,7 @@ trail_entered p old new S t u enabled asleep h on there same items frames steppe
         well_formed = h.well_formed;
         node = subst (IsNode p new.steps.items new.state) (sym node)
             (node_entered p old.steps.items new.steps.items old.state new.state old.node t enabled
-            asleep h.node on stepped items masked);
+            asleep switches h.node on stepped items masked leaving);
         state = of';
         frames = subst (AreFrames p) (sym up) (frame, h.frames);
         steps = items ∙ (ap (λ (x : List ℕ). x ++ t ∷ []) h.steps ∙ ap path (sym up));

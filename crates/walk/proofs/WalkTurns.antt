@@ -1,7 +1,7 @@
 -- What is still open after one turn of a walk.
-use Rattle.std.proofs.Common.{◌≡◌, ℕ, suc, ◌+◌, ◌-◌, ◌<◌, Bool, true, false, ◌&&◌, List, [], ◌∷◌, ◌++◌, length, map, refl, ap, ◌∙◌, sym, arith, subst, cond, take, nat_le, nat_lt}
+use Rattle.std.proofs.Common.{◌≡◌, ℕ, suc, ◌+◌, ◌-◌, ◌<◌, Bool, true, false, ◌&&◌, List, [], ◌∷◌, ◌++◌, length, map, refl, ap, ◌∙◌, sym, arith, subst, cond, take, length-take, ◌≤◌, nat_le, nat_lt}
 use Rattle.std.specs.List.{filter}
-use Rattle.std.proofs.lemmas.List.{length_push, take_at, get_or_at, map-append}
+use Rattle.std.proofs.lemmas.List.{length_push, take_at, take_all, take-take, get_or_at, map-append}
 use Rattle.guest_code.specs.Program.{Program}
 use Rattle.semantics.specs.Machine.{Snapshot, is_enabled, start}
 use Rattle.semantics.specs.Mask.{has, members_from}
@@ -65,6 +65,44 @@ open_left mode p old new l h e =
 pub open_done : (mode : Mode) (p : Program) (t : Trail) → members_from t.node.todo 0 ≡ [] →
     still_open mode p t ≡ left_above mode p t
 open_done mode p t e = ap (λ (ts : List ℕ). children_of mode (here p t) ts ++ left_above mode p t) e
+
+-- a walk went back from one place to another, and nothing was open between them
+pub record IsBack (mode : Mode) (p : Program) (old new : Trail) : Type 0 where
+  pub place : IsPlace p new
+  pub same : still_open mode p new ≡ still_open mode p old
+  pub steps : new.steps.items ≡ take (length new.steps.items) old.steps.items
+
+pub back_none : (mode : Mode) (p : Program) (t : Trail) → IsPlace p t → IsBack mode p t t
+back_none mode p t h = record {
+  place = h;
+  same = refl;
+  steps = sym (take_all (length t.steps.items) t.steps.items (omega arith));
+}
+
+-- one step further back
+pub back_further : (mode : Mode) (p : Program) (first old new : Trail) → IsPlace p old
+    → IsBack mode p first old → members_from old.node.todo 0 ≡ [] → old.base < length old.steps.items
+    → IsTrail p new → IsLeft old new
+    → IsBack mode p first new × (length new.steps.items < length first.steps.items)
+back_further mode p first old new place h done below trail left =
+    let w : List ℕ = old.steps.items in
+    let v : List ℕ = new.steps.items in
+    let one : length w ≡ length v + 1 = ap length left.steps ∙ length_push v left.frame.thread in
+    let few : length w ≤ length first.steps.items =
+    omega (arith, ap length h.steps, length-take (length w) first.steps.items) in
+    let cut : v ≡ take (length v) w =
+    sym (ap (take (length v)) left.steps ∙ take_at v (left.frame.thread ∷ []) (length v) refl) in (
+      record {
+        place = record {
+          trail = trail;
+          base = let b = left.base in omega (arith, b, below, one);
+        };
+        same = sym (open_done mode p old done ∙ open_left mode p old new below trail left) ∙ h.same;
+        steps = cut ∙ (ap (take (length v)) h.steps
+            ∙ take-take (length v) (length w) first.steps.items (omega (arith, one)));
+      },
+      omega (arith, one, few),
+    )
 
 -- filters by two tests, one after the other
 filter_both : (f g : ℕ → Bool) (xs : List ℕ) → filter (λ t. g t && f t) xs ≡ filter f (filter g xs)

@@ -12,11 +12,15 @@ mod tests;
 ghost use Rattle.std.specs.Prelude.{◌≡◌, ℕ, ◌-◌, ◌^◌, ◌<◌, ◌≤◌, ◌==◌, List, [], ◌∷◌, ◌++◌, length, take, is_ok, IfOk, IfSome, IfNone, All, Some, if◌then◌else◌, option_copied, slice_get, slice_index_or, vec_capacity};
 ghost use Rattle.walk.specs.PrefixLists.{last_of};
 
-use crate::prefixes::bytes::{put_way, shared_length, step_back, top};
+use crate::prefixes::bytes::{put_few, put_way, shared_length, step_back, top};
 use crate::prefixes::seeker::Seeker;
 use std::alloc::{AllocError, Global};
 use std::marker::Model;
 use std::mem;
+
+// What ends the way back from a prefix to one that differs in its last step: one step to take away,
+// one to put back.
+const LAST_REPLACED: u8 = 17;
 
 /// A list of prefixes. Contracts see `List (List ℕ)`.
 #[derive(Drop)]
@@ -154,8 +158,26 @@ impl Prefixes {
         self.last.reserve(rest.len())?;
         put_way(&mut self.bytes, rest.len(), &self.last[shared..])?;
         self.last.truncate(shared);
-        let _ = self.last.extend_from_slice(rest);
+        let _ = put_few(&mut self.last, rest);
         self.longest = self.longest.max(self.last.len());
+        self.count += 1;
+        Ok(())
+    }
+
+    // Puts a prefix after the others that begins as the last one does, so many steps, and then goes
+    // on with one step. Mostly that step takes the place of the last prefix's last one.
+    #[inline(always)]
+    pub(crate) fn push_step(&mut self, shared: usize, step: u8) -> Result<(), AllocError>
+        ensures { self.new ≡ (if is_ok result
+            then self.old ++ (take shared (last_of self.old) ++ step ∷ []) ∷ [] else self.old) }
+    {
+        let len = self.last.len();
+        if self.count == 0 || len <= shared || len - shared != 1 {
+            return self.push_after(shared, &[step]);
+        }
+        self.bytes
+            .extend_from_slice(&[self.last[shared], LAST_REPLACED])?;
+        self.last[shared] = step;
         self.count += 1;
         Ok(())
     }

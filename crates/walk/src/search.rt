@@ -8,7 +8,7 @@ ghost use Rattle.semantics.specs.Mask.{has, members_from};
 ghost use Rattle.walk.specs.Items.{IsItem};
 ghost use Rattle.walk.specs.Summaries.{nothing, with_beyond};
 ghost use Rattle.walk.specs.inner.Children.{child_of, mask_after, cost_of, costs};
-ghost use Rattle.walk.specs.inner.Paths.{leaves, IsTrail};
+ghost use Rattle.walk.specs.inner.Paths.{HasSwitches, IsTrail};
 ghost use Rattle.walk.specs.Walks.{IsWalked, IsPastBound, walk_past_bound};
 ghost use Rattle.walk.specs.inner.WalkerInvariant.{IsPlace, IsSearch, here, left_above, still_open, turns_left, is_kept_at, is_past_at, is_past_here, IsWithinAt, IsShared};
 
@@ -46,7 +46,23 @@ impl Found {
         }
     }
 
-    // Puts off the step of a thread after the others, by what they share with the last one put off.
+    // Puts the prefix of these steps and one of a thread after the others, by what they share with
+    // the last one put off.
+    #[inline(always)]
+    fn put_in(&mut self, steps: &mut Vec<u8>, thread: u8) -> Result<(), AllocError>
+        requires { IsShared steps.old.items self.old }
+        ensures steps { steps.new.items ≡ steps.old.items }
+        ensures same { self.new ≡ record self.old { deferred = self.new.deferred } }
+        ensures deferred { OnOk result (self.new.deferred
+            ≡ self.old.deferred ++ (steps.old.items ++ thread ∷ []) ∷ []) }
+    {
+        steps.push(thread)?;
+        let pushed = self.deferred.push_after(self.shared, &steps[self.shared..]);
+        steps.pop();
+        pushed
+    }
+
+    // Puts off the step of a thread after the others.
     fn put_off(&mut self, steps: &mut Vec<u8>, thread: u8) -> Result<(), AllocError>
         requires { IsShared steps.old.items self.old }
         ensures steps { steps.new.items ≡ steps.old.items }
@@ -55,10 +71,11 @@ impl Found {
             ≡ self.old.deferred ++ (steps.old.items ++ thread ∷ []) ∷ []) }
         ensures shared { OnOk result (IsShared steps.old.items self.new) }
     {
-        steps.push(thread)?;
-        let pushed = self.deferred.push_after(self.shared, &steps[self.shared..]);
-        steps.pop();
-        pushed?;
+        if self.shared == steps.len() {
+            self.deferred.push_step(self.shared, thread)?;
+        } else {
+            self.put_in(steps, thread)?;
+        }
         self.part.set_beyond();
         self.shared = steps.len();
         Ok(())
@@ -119,32 +136,37 @@ fn without_first(set: Mask, first: u8) -> Mask
     set.with(first, false)
 }
 
+// Whether a set is empty.
+#[inline(always)]
+fn has_none(set: Mask) -> bool
+    ensures { IsTrue result → members_from set 0 ≡ [] }
+{
+    match set.first_from(0) {
+        None => true,
+        Some(_) => false,
+    }
+}
+
 impl Node {
     // The threads whose step from here passes the bound.
     #[inline(always)]
     fn past(self, bound: u32) -> Mask
-        requires { self.used ≤ bound }
+        requires within { self.used ≤ bound }
+        requires switches { HasSwitches self.switches self.last self.enabled }
         ensures { (t : ℕ) → has result t
             ≡ (has self.enabled t && is_past_at (Mode.Bounded bound) self t) }
     {
         if self.used < bound {
-            return Mask::empty();
-        }
-        match self.last {
-            Some(last) => {
-                if self.enabled.has(last) {
-                    self.enabled.with(last, false)
-                } else {
-                    Mask::empty()
-                }
-            }
-            None => Mask::empty(),
+            Mask::empty()
+        } else {
+            self.switches
         }
     }
 
     // The steps that are kept from here on are to be tried; those that pass the bound.
     fn open(&mut self, mode: Mode) -> Mask
-        requires { IsWithinAt mode self.old }
+        requires within { IsWithinAt mode self.old }
+        requires switches { HasSwitches self.old.switches self.old.last self.old.enabled }
         ensures kept { (t : ℕ) → has self.new.todo t
             ≡ (has self.old.enabled t && is_kept_at mode self.old t) }
         ensures past { (t : ℕ) → has result t
@@ -248,7 +270,7 @@ impl Trail {
         self.arrive(alloc, found, item, mode)
     }
 
-    // Goes back to the node above, where the walk was there. False where it wasn't.
+    // Goes back over the nodes where no child is open, one at least. False where it can't.
     #[inline(always)]
     fn retreat(&mut self, program: &Program, _mode: Mode) -> bool
         requires place { IsPlace program.now self.old }
@@ -267,7 +289,11 @@ impl Trail {
         if self.steps.len() == self.base {
             return false;
         }
-        self.leave(program);
+        let mut going = true;
+        while going {
+            self.leave(program);
+            going = self.steps.len() > self.base && has_none(self.node.todo);
+        }
         true
     }
 

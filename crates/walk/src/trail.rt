@@ -1,9 +1,10 @@
 //! The way from the start of a program to where a walk stands, with what takes each step back.
 
-ghost use Rattle.std.specs.Prelude.{◌≡◌, ◌+◌, ◌-◌, ◌++◌, ◌∷◌, ◌<◌, ◌≤◌, ◌^◌, [], ℕ, true, IfOk, OnOk, IsTrue, length, take};
+ghost use Rattle.std.specs.Prelude.{◌≡◌, ◌+◌, ◌-◌, ◌++◌, ◌∷◌, ◌<◌, ◌≤◌, ◌^◌, [], ℕ, true, Some, IfOk, OnOk, IsTrue, length, take};
 ghost use Rattle.semantics.specs.Machine.{start, is_enabled};
+ghost use Rattle.semantics.specs.Mask.{has};
 ghost use Rattle.semantics.specs.Schedules.{runs};
-ghost use Rattle.walk.specs.inner.Paths.{IsTrail, IsEntered, IsLeft, leaves, after};
+ghost use Rattle.walk.specs.inner.Paths.{IsTrail, IsEntered, IsLeft, leaves, after, HasSwitches};
 
 use crate::hints::EndHints;
 use guest_code::laws::programs_are_well_formed;
@@ -23,6 +24,8 @@ pub struct Node {
     pub asleep: Mask,
     /// The threads whose steps are still to be tried.
     pub todo: Mask,
+    /// The enabled threads whose step is a preempting switch.
+    pub switches: Mask,
     /// The preemptions so far.
     pub used: u32,
 }
@@ -51,30 +54,45 @@ pub struct Trail {
 }
 
 impl Node {
-    // Whether a step of a thread is a preempting switch.
+    // Whether a step of an enabled thread is a preempting switch.
     #[inline(always)]
     fn leaves(&self, thread: u8) -> bool
+        requires enabled { has self.now.enabled thread ≡ true }
+        requires switches { HasSwitches self.now.switches self.now.last self.now.enabled }
         ensures { result ≡ leaves self.now thread }
     {
-        match self.last {
-            Some(last) => self.enabled.has(last) && last != thread,
-            None => false,
-        }
+        self.switches.has(thread)
     }
 
-    // The node after a step of a thread, where these are enabled and these sleep.
+    // The node after a step of an enabled thread, where these are enabled and these sleep.
     #[inline(always)]
     fn after(&self, thread: u8, enabled: Mask, asleep: Mask) -> Node
-        requires { self.now.used + 1 < 2 ^ 32 }
-        ensures { result ≡ after self.now thread enabled asleep }
+        requires few { self.now.used + 1 < 2 ^ 32 }
+        requires enabled { has self.now.enabled thread ≡ true }
+        requires switches { HasSwitches self.now.switches self.now.last self.now.enabled }
+        ensures node { result ≡ after self.now thread enabled asleep result.switches }
+        ensures switches { HasSwitches result.switches (Some thread) enabled }
     {
         Node {
             enabled,
             asleep,
             todo: Mask::empty(),
+            switches: switches_after(enabled, thread),
             last: Some(thread),
             used: self.used + u32::from(self.leaves(thread)),
         }
+    }
+}
+
+// The enabled threads whose step is a preempting switch, after a step of this thread.
+#[inline(always)]
+fn switches_after(enabled: Mask, thread: u8) -> Mask
+    ensures { HasSwitches result (Some thread) enabled }
+{
+    if enabled.has(thread) {
+        enabled.with(thread, false)
+    } else {
+        Mask::empty()
     }
 }
 
@@ -86,6 +104,7 @@ impl Frame {
                 enabled: Mask::empty(),
                 asleep: Mask::empty(),
                 todo: Mask::empty(),
+                switches: Mask::empty(),
                 last: None,
                 used: 0,
             },
@@ -138,6 +157,7 @@ impl Trail {
             enabled,
             asleep: Mask::empty(),
             todo: Mask::empty(),
+            switches: Mask::empty(),
             last: None,
             used: 0,
         };

@@ -21,12 +21,19 @@ leaves_last (Some last) enabled t = has enabled last && not (nat_eq last t)
 abbrev pub leaves : Node → ℕ → Bool
 leaves n t = leaves_last n.last n.enabled t
 
--- the node after a step of a thread, where these are enabled and these sleep
-abbrev pub after : Node → ℕ → Mask → Mask → Node
-after n t enabled asleep = record {
+-- the enabled threads whose step is a preempting switch, after a step of this thread
+abbrev pub HasSwitches : Mask → Option ℕ → Mask → Type 0
+HasSwitches switches last enabled =
+    (t : ℕ) → has switches t ≡ (has enabled t && leaves_last last enabled t)
+
+-- the node after a step of a thread, where these are enabled, these sleep, and a step of these is a
+-- preempting switch
+abbrev pub after : Node → ℕ → Mask → Mask → Mask → Node
+after n t enabled asleep switches = record {
   enabled = enabled;
   asleep = asleep;
   todo = no_threads;
+  switches = switches;
   last = Some t;
   used = n.used + one_if (leaves n t);
 }
@@ -44,6 +51,7 @@ state_at p w = state_after p (start p) w
 pub record IsNode (p : Program) (w : List ℕ) (s : Snapshot) (n : Node) : Type 0 where
   pub reaches : Reaches p w (record { state = s; last = n.last; preemptions = n.used })
   pub enabled : HasEnabled n.enabled p s
+  pub switches : HasSwitches n.switches n.last n.enabled
 
 -- what is known of a node above, to which these steps lead
 pub record IsFrame (p : Program) (w : List ℕ) (f : Frame) : Type 0 where

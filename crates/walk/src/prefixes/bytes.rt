@@ -22,15 +22,34 @@ pub fn shared_length(a: &[u8], b: &[u8]) -> usize
     n
 }
 
+// Puts bytes after the others: a few one by one, which takes less than one call for all.
+#[inline(always)]
+pub fn put_few(bytes: &mut Vec<u8>, more: &[u8]) -> Result<(), AllocError>
+    ensures items { OnOk result (bytes.new.items ≡ bytes.old.items ++ more.now) }
+    ensures kept { take (length bytes.old.items) bytes.new.items ≡ bytes.old.items }
+    ensures room { vec_capacity bytes.old ≤ vec_capacity bytes.new }
+    ensures succeeds { vec_len bytes.old + length more.now ≤ vec_capacity bytes.old
+        → IsOk result }
+{
+    if more.len() >= 16 {
+        return bytes.extend_from_slice(more);
+    }
+    for byte in more {
+        bytes.push(*byte)?;
+    }
+    Ok(())
+}
+
 fn write_way(bytes: &mut Vec<u8>, dropped: usize, tail: &[u8]) -> Result<(), AllocError>
     ensures done { OnOk result (bytes.new.items ≡ bytes.old.items ++ way_bytes dropped tail.now) }
     ensures kept { take (length bytes.old.items) bytes.new.items ≡ bytes.old.items }
 {
-    bytes.extend_from_slice(tail)?;
     let steps = tail.len();
     if dropped < 15 && steps < 16 {
+        put_few(bytes, tail)?;
         bytes.push((dropped * 16 + steps) as u8)?;
     } else {
+        bytes.extend_from_slice(tail)?;
         bytes.extend_from_slice(&dropped.to_le_bytes())?;
         bytes.extend_from_slice(&steps.to_le_bytes())?;
         bytes.push(255)?;

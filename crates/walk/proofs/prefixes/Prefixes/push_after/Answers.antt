@@ -2,7 +2,7 @@ use Rattle.std.proofs.lemmas.List.{take_rest}
 use Rattle.std.proofs.Common.{◌≡◌, ◌+◌, ◌-◌, ◌^◌, ◌<◌, ◌≤◌, [], ◌∷◌, ◌++◌, length, take, drop, min, vec_len, vec_capacity, refl, sym, ◌∙◌, ap, arith, inr, length-drop}
 use Rattle.walk.specs.inner.Packed.{way_bytes, listed}
 use Rattle.walk.specs.PrefixLists.{last_of}
-use Rattle.walk.proofs.PackedPrefixes.{if_ok, packed_stack, none_listed, stack_count, pushed, Grown, last_of_listed, after_none, take_within}
+use Rattle.walk.proofs.PackedPrefixes.{went_well, packed_stack, none_listed, stack_count, pushed, Grown, last_of_listed, after_none, take_within}
 use Rattle.walk.proofs.prefixes.Prefixes.push_after.Goals as goal
 
 pub start-requires : goal.start-requires
@@ -28,7 +28,7 @@ overflow_add-self c =
 
 -- the last prefix after the push
 made : (c : goal.After-self-2-1)
-    → c.extend_from_slice.new.self.items ≡ take c.min-shared.result c.self.inside.last.items
+    → c.put_few.new.bytes.items ≡ take c.min-shared.result c.self.inside.last.items
     ++ c.args.rest.now
 made c =
     let k = c.min-shared.result in
@@ -44,12 +44,11 @@ made c =
       c.truncate.ensures.capacity,
       c.truncate.ensures.len,
     ) in
-    if_ok c.extend_from_slice.result _ _ _ (c.extend_from_slice.ensures.succeeds fits)
-    c.extend_from_slice.ensures.items
+    went_well c.put_few.result _ _ (c.put_few.ensures.succeeds fits) c.put_few.ensures.items
     ∙ ap (λ x. x ++ c.args.rest.now) cut
 
 grown : (c : goal.After-self-2-1)
-    → Grown (c.self.inside.count + 1) c.put_way.new.bytes.items c.extend_from_slice.new.self.items
+    → Grown (c.self.inside.count + 1) c.put_way.new.bytes.items c.put_few.new.bytes.items
     c.self.inside.first.items c.max-self-inside.result
     (listed c.self.inside.count c.self.inside.bytes.items c.self.inside.last.items
     ++ (take c.min-shared.result c.self.inside.last.items ++ c.args.rest.now) ∷ [])
@@ -78,7 +77,7 @@ grown c =
     pushed i.count i.bytes.items last i.first.items i.longest rest _ _ t k _ stack low long short
     tail wrote (made c)
     (omega (arith, c.max-self-inside.ensures))
-    (omega (arith, c.max-self-inside.ensures, c.len-2.ensures, c.extend_from_slice.new.self.ok.0))
+    (omega (arith, c.max-self-inside.ensures, c.len-2.ensures, c.put_few.new.bytes.ok.0))
 
 pub invariant_of-self-2 : goal.invariant_of-self-2
 invariant_of-self-2 c = (
@@ -87,8 +86,8 @@ invariant_of-self-2 c = (
     c.self.invariant.0,
     c.max-self-inside.ensures,
     c.len-2.ensures,
-    c.extend_from_slice.new.self.ok.1,
-    c.extend_from_slice.ensures.capacity,
+    c.put_few.new.bytes.ok.1,
+    c.put_few.ensures.room,
     c.truncate.ensures.capacity,
     c.reserve.ensures.capacity,
   ),

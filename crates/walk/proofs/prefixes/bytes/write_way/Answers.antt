@@ -4,8 +4,8 @@ use Rattle.walk.proofs.prefixes.bytes.write_way.Goals as goal
 
 pub returns-in_ok-push-clause-done : goal.returns-in_ok-push-clause-done
 returns-in_ok-push-clause-done c = small_way c.args.bytes.now.items c.args.tail.now
-    c.extend_from_slice.new.self.items _ c.args.dropped _ c.if-dropped-lt15.true
-    c.if-steps-lt16.true c.in_ok-extend_from_slice.ensures.items refl c.in_ok-push.ensures.items
+    c.put_few.new.bytes.items _ c.args.dropped _ c.if-dropped-lt15.true
+    c.if-steps-lt16.true c.in_ok-put_few.ensures.items refl c.in_ok-push.ensures.items
 
 pub returns-in_ok-push-2-clause-done : goal.returns-in_ok-push-2-clause-done
 returns-in_ok-push-2-clause-done c =

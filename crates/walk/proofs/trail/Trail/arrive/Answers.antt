@@ -6,8 +6,8 @@ use Rattle.walk.proofs.WalkSteps.{first_open}
 use Rattle.walk.proofs.Arrivals.{within_at, arrived_node, arrived_leaf, falls_node, falls_leaf, tried_added}
 use Rattle.walk.proofs.trail.Trail.arrive.Goals as goal
 
-pub open-past-requires : goal.open-past-requires
-open-past-requires c =
+pub open-past-requires-clause-within : goal.open-past-requires-clause-within
+open-past-requires-clause-within c =
     let p = c.args.item.now.program in
     let t = c.args.self.now in
     within_at c.args.mode p t.steps.items t.state t.node c.requires.search.place.trail.node

@@ -5,8 +5,11 @@ use Rattle.walk.specs.declared.trail.Frame.{Frame}
 use Rattle.walk.proofs.TrailSteps.{trail_entered}
 use Rattle.walk.proofs.trail.Trail.enter.Goals as goal
 
-pub after-self-requires : goal.after-self-requires
-after-self-requires c =
+pub after-self-requires-clause-enabled : goal.after-self-requires-clause-enabled
+after-self-requires-clause-enabled c = c.requires.trail.node.enabled c.args.thread ∙ c.requires.enabled
+
+pub after-self-requires-clause-few : goal.after-self-requires-clause-few
+after-self-requires-clause-few c =
     let t = c.args.self.now in
     let w = t.steps.items in
     let few = reaches_few c.args.program.now w _ c.requires.trail.node.reaches in
@@ -25,7 +28,7 @@ returns-clause-trail c =
     } in
     let count : c.len-depth.result ≡ length t.steps.items = c.len-depth.ensures ∙ t.steps.ok.0 in
     (trail_entered c.args.program.now t _ S c.args.thread c.step_into-enabled.new.undo
-    c.step_into-enabled.result c.args.asleep
+    c.step_into-enabled.result c.args.asleep c.after-self.result.switches
     c.requires.trail c.requires.enabled (subst (λ (n : ℕ). n < length S) count
     c.in_ok-make_frame.ensures.there)
     (subst (λ (n : ℕ). take n S ≡ take n t.frames.items) count c.in_ok-make_frame.ensures.same)
@@ -33,7 +36,7 @@ returns-clause-trail c =
     c.step_into-enabled.ensures.of
     c.step_into-enabled.ensures.record c.step_into-enabled.ensures.back
     (c.step_into-enabled.ensures.mask c.requires.trail.node.enabled)
-    c.after-self.ensures refl).0
+    c.after-self.ensures.switches c.after-self.ensures.node refl).0
 
 pub returns-clause-entered : goal.returns-clause-entered
 returns-clause-entered c =
@@ -46,7 +49,7 @@ returns-clause-entered c =
     } in
     let count : c.len-depth.result ≡ length t.steps.items = c.len-depth.ensures ∙ t.steps.ok.0 in
     (trail_entered c.args.program.now t _ S c.args.thread c.step_into-enabled.new.undo
-    c.step_into-enabled.result c.args.asleep
+    c.step_into-enabled.result c.args.asleep c.after-self.result.switches
     c.requires.trail c.requires.enabled (subst (λ (n : ℕ). n < length S) count
     c.in_ok-make_frame.ensures.there)
     (subst (λ (n : ℕ). take n S ≡ take n t.frames.items) count c.in_ok-make_frame.ensures.same)
@@ -54,4 +57,4 @@ returns-clause-entered c =
     c.step_into-enabled.ensures.of
     c.step_into-enabled.ensures.record c.step_into-enabled.ensures.back
     (c.step_into-enabled.ensures.mask c.requires.trail.node.enabled)
-    c.after-self.ensures refl).1
+    c.after-self.ensures.switches c.after-self.ensures.node refl).1
