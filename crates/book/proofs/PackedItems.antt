@@ -44,6 +44,17 @@ one_back p r read x all some is h =
     ∙ ap (items_at p) (sym (last_apart r some)))
     ∙ h)))
 
+-- the last of the packed ones is taken out
+pub one_unpacked : (p : Program) (ws : List (List ℕ)) (loose : List ItemView) (x : ItemView) →
+    0 < length ws → x ≡ item_at p (last_of ws) →
+    items_at p (take (length ws - 1) ws) ++ x ∷ loose ≡ items_at p ws ++ loose
+one_unpacked p ws loose x some e =
+    (λ k. items_at p (take (length ws - 1) ws) ++ e k ∷ loose)
+    ∙ (sym (append_assoc (items_at p (take (length ws - 1) ws)) (item_at p (last_of ws) ∷ []) loose)
+    ∙ ap (λ is. is ++ loose)
+    (sym (items_of_both p (take (length ws - 1) ws) (last_of ws ∷ []))
+    ∙ ap (items_at p) (sym (last_apart ws some))))
+
 -- those still to be read run, where all do
 pub still_run : (p : Program) (r : List (List ℕ)) (read all : List ItemView) →
     items_at p r ++ read ≡ all → All IsItem all → All IsItem (items_at p r)
@@ -212,6 +223,10 @@ item_there items k x item h is e =
     let f : Some (get_or items k x) ≡ Some item = sym (got-or items k x h) ∙ e in
     let g : get_or items k x ≡ item = cc in
     is ∙ g
+
+-- none of the items from one place to another is this one
+pub record NotBetween (first end : ℕ) (items : List ItemView) (item : ItemView) : Type 0 where
+  pub none : (j : ℕ) (d : ItemView) → first ≤ j → j < end → get_or items j d ≡ item → ⊥
 
 -- the item is none of these
 

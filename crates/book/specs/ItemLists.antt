@@ -1,7 +1,7 @@
 -- How a book holds its items.
 use Rattle.std.specs.Prelude.{◌≡◌, ℕ, Bool, true, List, [], ◌++◌, Option, None}
 use Rattle.std.specs.declared.alloc.Global.{Global}
-use Rattle.std.specs.declared.vec.Vec.{Vec}
+use Rattle.std.specs.declared.collections.VecDeque.{VecDeque}
 use Rattle.guest_code.specs.Program.{Program}
 use Rattle.walk.specs.Items.{ItemView}
 use Rattle.walk.specs.Walks.{items_at}
@@ -13,7 +13,7 @@ pub record ListView : Type 0 where
   pub loose : List ItemView
 
 -- what contracts see of a list of these parts
-abbrev pub list_view : List (List ℕ) → Vec ItemView Global → ListView
+abbrev pub list_view : List (List ℕ) → VecDeque ItemView Global → ListView
 list_view packed loose = record { packed = packed; loose = loose.items }
 
 -- the items of a list, which are of this program

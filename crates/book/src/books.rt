@@ -194,6 +194,29 @@ impl Book {
         self.open_items.last(alloc, &self.program, ROUND)
     }
 
+    /// The same, for a caller that settles their walks next: the items are unpacked for it. No
+    /// contract sees that.
+    ///
+    /// # Errors
+    ///
+    /// `AllocError` where memory runs out.
+    pub fn next_round(&mut self, alloc: Global) -> Result<Vec<Item>, AllocError>
+        ensures items { IfOk result (λ v. v.items
+            ≡ drop (length self.old.open_items - ROUND) self.old.open_items) }
+        ensures book { self.new ≡ self.old }
+    {
+        self.prepare_round(alloc)?;
+        self.round(alloc)
+    }
+
+    // Unpacks the last open items, at most `ROUND`.
+    fn prepare_round(&mut self, alloc: Global) -> Result<(), AllocError>
+        ensures { self.new ≡ self.old }
+    {
+        let first = self.open_items.length().saturating_sub(ROUND);
+        self.open_items.unpack_from(alloc, &self.program, first)
+    }
+
     /// The summary of the whole program in its mode, where nothing is open and program and mode are
     /// equal to these by value. None of a quick book.
     pub fn closed(&self, program: &Program, mode: Mode) -> Option<&Summary>

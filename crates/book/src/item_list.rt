@@ -1,6 +1,6 @@
 // Lists of a book's items.
 
-ghost use Rattle.std.specs.Prelude.{◌≡◌, ℕ, ◌+◌, ◌-◌, ◌<◌, ◌≤◌, ◌↔◌, List, [], ◌∷◌, ◌++◌, false, not, length, take, drop, filter, count_by, is_ok, if◌then◌else◌, IfOk, OnOk, IfSome, IfNone, IsTrue, Some, slice_get, All};
+ghost use Rattle.std.specs.Prelude.{◌≡◌, ℕ, ◌+◌, ◌-◌, ◌<◌, ◌≤◌, ◌↔◌, List, [], ◌∷◌, ◌++◌, false, not, length, take, drop, filter, count_by, is_ok, if◌then◌else◌, IfOk, OnOk, IfSome, IfNone, IsTrue, Some, slice_get, slice_index_or, All};
 ghost use Rattle.std.specs.Arc.{arc_value};
 ghost use Rattle.std.specs.List.{remove};
 ghost use Rattle.guest_code.specs.Program.{Program};
@@ -9,24 +9,23 @@ ghost use Rattle.walk.specs.Walks.{items_at};
 ghost use Rattle.book.specs.Quick.{is_later};
 ghost use Rattle.book.specs.ItemLists.{all_of};
 
-use crate::limits::ROUND;
-use crate::packed::{last_item, last_items};
+use crate::packed::{last_item, last_items, last_packed};
 use guest_code::program::Program;
 use semantics::mask::Mask;
 use std::alloc::{AllocError, Global};
+use std::collections::VecDeque;
 use std::marker::Model;
-use std::mem;
 use std::sync::Arc;
 use walk::item::Item;
 use walk::prefixes::Prefixes;
 
 /// A list of items of one program, which its holder knows: prefixes after which no thread sleeps
 /// are packed, a few bytes each, and items that came later or were asked for stand after them as
-/// they are.
+/// they are, in a queue: those of a round leave it at its front.
 #[derive(Drop)]
 pub(crate) struct ItemList {
     packed: Prefixes,
-    loose: Vec<Item>,
+    loose: VecDeque<Item>,
     // The place in `loose` at which an item is looked for first.
     hint: usize,
 }
@@ -47,7 +46,7 @@ impl ItemList {
     {
         ItemList {
             packed: Prefixes::new(alloc),
-            loose: Vec::new(alloc),
+            loose: VecDeque::new(alloc),
             hint: 0,
         }
     }
@@ -96,7 +95,7 @@ impl ItemList {
         let loose = self.loose.len();
         let count = most.saturating_sub(loose).min(self.packed.length());
         let mut items = last_items(alloc, program, &self.packed, count)?;
-        push_copies(alloc, &mut items, &self.loose[loose.saturating_sub(most)..])?;
+        push_copies(alloc, &mut items, &self.loose, loose.saturating_sub(most))?;
         Ok(items)
     }
 
@@ -109,7 +108,7 @@ impl ItemList {
         ensures none { IfNone result
             (All (λ i. i ≡ item.now → ⊥) (all_of item.now.program self.now)) }
     {
-        match find(self.loose.as_slice(), self.hint, item) {
+        match find(&self.loose, self.hint, item) {
             Some(place) => Some(self.packed.length() + place),
             None => self.packed_place_of(item),
         }
@@ -128,7 +127,7 @@ impl ItemList {
         self.packed.position(item.prefix())
     }
 
-    // Takes the items from a place on out of the packed ones.
+    // Takes the items from a place on out of the packed ones, and looks there first from now on.
     pub(crate) fn unpack_from(
         &mut self,
         alloc: Global,
@@ -141,15 +140,29 @@ impl ItemList {
         ensures loose { OnOk result (length self.new.packed ≤ place) }
         ensures none { self.old.packed ≡ [] → self.new.packed ≡ [] }
     {
-        let packed = self.packed.length();
-        if packed <= place {
-            return Ok(());
+        while place < self.packed.length() {
+            self.unpack_last(alloc, program)?;
         }
-        let first = place.min(packed.saturating_sub(ROUND));
-        let mut items = last_items(alloc, program, &self.packed, packed - first)?;
-        items.append(&mut self.loose)?;
-        self.packed.truncate(first);
-        self.loose = items;
+        Ok(())
+    }
+
+    // Takes the last of the packed items out.
+    //
+    // # Errors
+    //
+    // `AllocError` where memory runs out; the list is then as before.
+    fn unpack_last(&mut self, alloc: Global, program: &Arc<Program>) -> Result<(), AllocError>
+        requires some { 0 < length self.old.packed }
+        requires run { All IsItem (items_at (arc_value program.now) self.old.packed) }
+        ensures same { all_of (arc_value program.now) self.new ≡
+            all_of (arc_value program.now) self.old }
+        ensures packed { self.new.packed ≡ (if is_ok result
+            then take (length self.old.packed - 1) self.old.packed else self.old.packed) }
+    {
+        let item = last_packed(alloc, program, &self.packed)?;
+        self.loose.push_front(item)?;
+        self.packed.pop();
+        self.hint = 0;
         Ok(())
     }
 
@@ -162,7 +175,9 @@ impl ItemList {
         ensures packed { self.new.packed ≡ self.old.packed }
     {
         let place = place - self.packed.length();
-        drop(self.loose.remove(place));
+        let Some(_item) = self.loose.remove(place) else {
+            unreachable!()
+        };
         self.hint = place;
     }
 
@@ -171,11 +186,12 @@ impl ItemList {
     // # Errors
     //
     // `AllocError` where memory runs out; the list is then as before.
-    pub(crate) fn append(&mut self, mut items: Vec<Item>) -> Result<(), AllocError>
+    pub(crate) fn append(&mut self, items: Vec<Item>) -> Result<(), AllocError>
         ensures packed { self.new.packed ≡ self.old.packed }
         ensures loose { self.new.loose ≡
             (if is_ok result then self.old.loose ++ items.items else self.old.loose) }
     {
+        let mut items = VecDeque::from_vec(items);
         self.loose.append(&mut items)
     }
 
@@ -201,8 +217,8 @@ impl ItemList {
         if packs && self.loose.is_empty() {
             return self.packed.append(&mut prefixes);
         }
-        let mut items = last_items(alloc, program, &prefixes, prefixes.length())?;
-        self.loose.append(&mut items)
+        let items = last_items(alloc, program, &prefixes, prefixes.length())?;
+        self.append(items)
     }
 
     // Keeps so many items at most, the first of them.
@@ -228,28 +244,49 @@ impl ItemList {
     }
 }
 
-// Puts copies of items after others.
-fn push_copies(alloc: Global, items: &mut Vec<Item>, more: &[Item]) -> Result<(), AllocError>
-    ensures { OnOk result (items.new.items ≡ items.old.items ++ more.now) }
+// Puts copies of the items from a place on after others.
+fn push_copies(
+    alloc: Global,
+    items: &mut Vec<Item>,
+    more: &VecDeque<Item>,
+    first: usize,
+) -> Result<(), AllocError>
+    requires { first ≤ length more.now.items }
+    ensures { OnOk result (items.new.items ≡ items.old.items ++ drop first more.now.items) }
 {
-    for item in more {
-        items.push(item.try_clone(alloc)?)?;
+    for place in first..more.len() {
+        items.push(more[place].try_clone(alloc)?)?;
     }
     Ok(())
 }
 
-// Where an item stands among others of its program: at this place, or else looked for from the last
-// one on.
-fn find(items: &[Item], hint: usize, item: &Item) -> Option<usize>
-    requires { All (λ i. i.program ≡ item.now.program) items.now }
+// Where an item stands among others of its program: looked for from this place on, and else in the
+// places before it from the last one on.
+fn find(items: &VecDeque<Item>, first: usize, item: &Item) -> Option<usize>
+    requires { All (λ i. i.program ≡ item.now.program) items.now.items }
     ensures some { IfSome result (λ k.
-        (k < length items.now) × (slice_get items.now k ≡ Some item.now)) }
-    ensures none { IfNone result (All (λ i. i ≡ item.now → ⊥) items.now) }
+        (k < length items.now.items) × (slice_get items.now.items k ≡ Some item.now)) }
+    ensures none { IfNone result (All (λ i. i ≡ item.now → ⊥) items.now.items) }
 {
-    if hint < items.len() && is_at(items, hint, item) {
-        return Some(hint);
+    let start = first.min(items.len());
+    for place in start..items.len() {
+        if is_at(items, place, item) {
+            return Some(place);
+        }
     }
-    let mut place = items.len();
+    find_before(items, start, item)
+}
+
+// Where an item stands among others of its program before a place.
+fn find_before(items: &VecDeque<Item>, end: usize, item: &Item) -> Option<usize>
+    requires program { All (λ i. i.program ≡ item.now.program) items.now.items }
+    requires end { end ≤ length items.now.items }
+    ensures some { IfSome result (λ k.
+        (k < length items.now.items) × (slice_get items.now.items k ≡ Some item.now)) }
+    ensures none { IfNone result ((j : ℕ) (d : ItemView) → j < end →
+        slice_index_or items.now.items j d ≡ item.now → ⊥) }
+{
+    let mut place = end;
     while 0 < place {
         place -= 1;
         if is_at(items, place, item) {
@@ -260,10 +297,10 @@ fn find(items: &[Item], hint: usize, item: &Item) -> Option<usize>
 }
 
 // Whether an item stands at a place among others of its program. Their programs aren't compared.
-fn is_at(items: &[Item], place: usize, item: &Item) -> bool
-    requires program { All (λ i. i.program ≡ item.now.program) items.now }
-    requires place { place < length items.now }
-    ensures { IsTrue result ↔ (slice_get items.now place ≡ Some item.now) }
+fn is_at(items: &VecDeque<Item>, place: usize, item: &Item) -> bool
+    requires program { All (λ i. i.program ≡ item.now.program) items.now.items }
+    requires place { place < length items.now.items }
+    ensures { IsTrue result ↔ (slice_get items.now.items place ≡ Some item.now) }
 {
     let other = &items[place];
     same_steps(other.prefix(), item.prefix()) && same_masks(other.mask(), item.mask())
@@ -296,7 +333,7 @@ pub(crate) fn is_later(schedule: &[u8], prefix: &[u8]) -> bool
 }
 
 // Drops the items whose schedules all come after this one, and answers how many.
-fn drop_later(items: &mut Vec<Item>, schedule: &[u8]) -> u64
+fn drop_later(items: &mut VecDeque<Item>, schedule: &[u8]) -> u64
     ensures items { items.new.items ≡
         filter (λ i. not (is_later schedule.now i.prefix)) items.old.items }
     ensures number { result ≡

@@ -52,3 +52,19 @@ pub(crate) fn last_item(
     };
     Item::running(alloc, Arc::try_clone(program)?, prefix)
 }
+
+// The item of the last of a list's prefixes.
+pub(crate) fn last_packed(
+    alloc: Global,
+    program: &Arc<Program>,
+    prefixes: &Prefixes,
+) -> Result<Item, AllocError>
+    requires some { 0 < length prefixes.now }
+    requires run { All IsItem (items_at (arc_value program.now) prefixes.now) }
+    ensures { IfOk result (λ i. i ≡ item_at (arc_value program.now) (last_of prefixes.now)) }
+{
+    let Some(prefix) = prefixes.last() else {
+        unreachable!()
+    };
+    Item::running(alloc, Arc::try_clone(program)?, prefix)
+}

@@ -95,7 +95,7 @@ fn walk_round(
     ensures error { IfErr result (λ e. e ≡ OutOfMemory) }
 {
     let _open = book.open_length();
-    let items = book.round(alloc)?;
+    let items = book.next_round(alloc)?;
     for item in &items {
         walk_item(alloc, book, walker, item, quota)?;
     }

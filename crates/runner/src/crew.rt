@@ -203,8 +203,8 @@ impl Crew {
         ensures stopped { IfOk result (λ l. l.ending ≡ Stopped → G.stops gate.now ≡ true) }
         ensures error { IfErr result (λ e. e ≡ OutOfMemory) }
     {
-        let items = book.round(alloc)?;
         let _open = book.open_length();
+        let items = book.next_round(alloc)?;
         let (count, seats) = (items.len() as u32, self.walkers.len() as u32);
         let Ok((board, seats)) = Board::new(alloc, count, seats) else {
             let walker = &mut self.walkers[0];

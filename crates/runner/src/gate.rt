@@ -8,7 +8,7 @@ ghost use Rattle.runner.specs.declared.gate.Answer.TheVariants.{Stop};
 pub enum Answer {
     /// The item is walked.
     Go,
-    /// The worker works no more in this round, and the item stays open.
+    /// The worker walks no more in this round, and the item stays open.
     Stop,
 }
 

@@ -1,10 +1,12 @@
 //! The workers of a round, each in a thread of its own.
 
-ghost use Rattle.std.specs.Prelude.{◌≡◌, ◌<◌, true, vec_len, IfOk, IfErr};
+ghost use Rattle.std.specs.Prelude.{◌≡◌, ◌<◌, ◌↔◌, true, vec_len, IfOk, IfErr, IsTrue};
 ghost use Rattle.std.specs.List.{All, Any};
+ghost use Rattle.std.specs.Arc.{arc_value};
+ghost use Rattle.book.specs.Books.{IsWalkOf};
 ghost use Rattle.runner.specs.declared.error.ExploreError.TheVariants as explore;
 ghost use Rattle.runner.specs.declared.worker.Ending.TheVariants.{Stopped};
-ghost use Rattle.runner.specs.inner.Rounds.{IsRound, IsSeated};
+ghost use Rattle.runner.specs.inner.Rounds.{IsRound, IsSeated, IsWalkIn};
 
 use crate::error::ExploreError;
 use crate::gate::{Answer, Gate};
@@ -12,12 +14,13 @@ use board::{Board, NONE_TOLD, Seat};
 use book::books::Book;
 use book::errors::SettleError;
 use guest_code::program::Program;
-use std::alloc::Global;
+use std::alloc::{AllocError, Global};
 use std::sync::{Arc, Mutex, Wait};
 use std::thread;
 use std::thread::Threads;
 use walk::item::Item;
 use walk::mode::Mode;
+use walk::walked::Walked;
 use walk::walker::Walker;
 
 /// What the workers of a round share: the items, the board that their numbers are drawn from, and
@@ -85,23 +88,75 @@ impl Worker {
         least != NONE_TOLD && rank_of(round.items.as_slice(), item) > least
     }
 
-    // Tells the other workers that an item has a bad schedule, where the search is a quick one.
+    // Tells the other workers that an item has a bad schedule.
     fn tells_of(&mut self, round: &Round, item: &Item)
         requires { IsSeated round.now self.old }
         ensures { IsSeated round.now self.new }
     {
-        if round.quick {
-            let rank = rank_of(round.items.as_slice(), item);
-            round.board.tell(&mut self.seat, rank);
-        }
+        let rank = rank_of(round.items.as_slice(), item);
+        round.board.tell(&mut self.seat, rank);
     }
 
-    // Draws items, walks them and settles the walks, until all are drawn, the gate stops it or
-    // memory runs out.
+    // Works until all items are drawn, the gate stops it or memory runs out, and then settles what
+    // it has walked.
     fn work<G: Gate, R: Wait>(&mut self, rt: &R, alloc: Global, gate: &G, round: &Round) -> Ending
         requires round { IsRound round.now }
         requires seated { IsSeated round.now self.old }
         ensures seated { IsSeated round.now self.new }
+        ensures stopped { result ≡ Stopped → G.stops gate.now ≡ true }
+    {
+        let Ok(mut walks) = Vec::with_capacity(alloc, round.items.len()) else {
+            return Ending::OutOfMemory;
+        };
+        let ending = self.walk_items(rt, alloc, gate, round, &mut walks);
+        match settle_all(rt, alloc, round, walks) {
+            Ok(()) => ending,
+            Err(AllocError) => Ending::OutOfMemory,
+        }
+    }
+
+    // Settles a walk that found a bad schedule, and tells the other workers of its item.
+    //
+    // # Errors
+    //
+    // `AllocError` where memory runs out.
+    fn settle_bad<R: Wait>(
+        &mut self,
+        rt: &R,
+        alloc: Global,
+        round: &Round,
+        item: &Item,
+        walked: Walked,
+    ) -> Result<(), AllocError>
+        requires { IsSeated round.now self.old }
+        ensures { IsSeated round.now self.new }
+    {
+        let settled = round.book.lock(rt).settle(alloc, walked);
+        match settled {
+            Ok(()) => self.tells_of(round, item),
+            Err(SettleError::OutOfMemory) => return Err(AllocError),
+            _ => {}
+        }
+        Ok(())
+    }
+
+    // Draws items and walks them, until all are drawn, the gate stops it or memory runs out. A
+    // quick search settles a walk that found a bad schedule at once; the others are kept.
+    fn walk_items<G: Gate, R: Wait>(
+        &mut self,
+        rt: &R,
+        alloc: Global,
+        gate: &G,
+        round: &Round,
+        walks: &mut Vec<Walked>,
+    ) -> Ending
+        requires round { IsRound round.now }
+        requires seated { IsSeated round.now self.old }
+        requires walks { All (IsWalkIn (arc_value round.now.program) round.now.mode)
+            walks.old.items }
+        ensures seated { IsSeated round.now self.new }
+        ensures walks { All (IsWalkIn (arc_value round.now.program) round.now.mode)
+            walks.new.items }
         ensures stopped { result ≡ Stopped → G.stops gate.now ≡ true }
     {
         for _ in rt.forever() {
@@ -119,16 +174,79 @@ impl Worker {
                 return Ending::OutOfMemory;
             };
             gate.walked(self.number, k);
-            let is_bad = walked.part().first_bad().is_some();
-            let settled = round.book.lock(rt).settle(alloc, walked);
-            match settled {
-                Ok(()) if is_bad => self.tells_of(round, item),
-                Err(SettleError::OutOfMemory) => return Ending::OutOfMemory,
-                _ => {}
+            let is_told = round.quick && walked.part().first_bad().is_some();
+            let is_kept = if is_told {
+                self.settle_bad(rt, alloc, round, item, walked).is_ok()
+            } else {
+                walks.push(walked).is_ok()
+            };
+            if !is_kept {
+                return Ending::OutOfMemory;
             }
         }
         unreachable!()
     }
+}
+
+// Settles walks of a round under one lock, in their order.
+//
+// # Errors
+//
+// `AllocError` where memory runs out; the walks that are left then are given up.
+fn settle_all<R: Wait>(
+    rt: &R,
+    alloc: Global,
+    round: &Round,
+    walks: Vec<Walked>,
+) -> Result<(), AllocError>
+    requires { All (IsWalkIn (arc_value round.now.program) round.now.mode) walks.items }
+{
+    if walks.is_empty() {
+        return Ok(());
+    }
+    let mut book = round.book.lock(rt);
+    settle_in(alloc, &mut book, &round.program, round.mode, walks)
+}
+
+// Settles walks in a book, in their order. They are given up where the book is of another program
+// or mode, and so is one whose item isn't open.
+fn settle_in(
+    alloc: Global,
+    book: &mut Book,
+    program: &Program,
+    mode: Mode,
+    walks: Vec<Walked>,
+) -> Result<(), AllocError>
+    requires { All (IsWalkIn program.now mode) walks.items }
+{
+    if !is_in(book, program, mode) {
+        return Ok(());
+    }
+    for walked in walks {
+        settle_own(alloc, book, walked)?;
+    }
+    Ok(())
+}
+
+// Settles a walk in a book of its program and mode. It is given up where its item isn't open.
+fn settle_own(alloc: Global, book: &mut Book, walked: Walked) -> Result<(), AllocError>
+    requires { IsWalkOf book.old walked }
+    ensures program { book.new.program ≡ book.old.program }
+    ensures mode { book.new.mode ≡ book.old.mode }
+{
+    match book.settle_own(alloc, walked) {
+        Err(SettleError::OutOfMemory) => Err(AllocError),
+        Err(SettleError::NotOpen) => Ok(()),
+        Err(SettleError::Stranger) => Ok(()),
+        Ok(()) => Ok(()),
+    }
+}
+
+// Whether a book is of this program and mode.
+fn is_in(book: &Book, program: &Program, mode: Mode) -> bool
+    ensures { IsTrue result ↔ (book.now.program ≡ program.now) × (book.now.mode ≡ mode) }
+{
+    book.mode() == mode && book.program().is_same(program)
 }
 
 // How many items of a round come before one of them, in the order of schedules.

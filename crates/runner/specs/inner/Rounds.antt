@@ -3,6 +3,8 @@ use Rattle.std.specs.Prelude.{◌≡◌, ◌≤◌, ◌<◌, Bool, All, vec_len}
 use Rattle.std.specs.Arc.{arc_value}
 use Rattle.guest_code.specs.Program.{Program}
 use Rattle.board.specs.Board.{BoardId}
+use Rattle.walk.specs.declared.mode.Mode.{Mode}
+use Rattle.walk.specs.Walks.{WalkView}
 use Rattle.book.specs.Books.{BookView}
 use Rattle.runner.specs.declared.limits.TheConstants.{WORKERS}
 use Rattle.runner.specs.declared.options.Options.{Options}
@@ -28,6 +30,11 @@ pub record IsOn (board : BoardId) (p : Program) (w : Worker) : Type 0 where
 -- the worker takes part in the round
 abbrev pub IsSeated : Round → Worker → Type 0
 IsSeated r w = IsOn r.board.id (arc_value r.program) w
+
+-- the walk is of this program, in this mode
+pub record IsWalkIn (p : Program) (m : Mode) (w : WalkView) : Type 0 where
+  pub program : w.item.program ≡ p
+  pub mode : w.mode ≡ m
 
 -- as many workers as a search may have, each with a walker of the program
 pub record IsCrewOf (p : Program) (c : Crew) : Type 0 where

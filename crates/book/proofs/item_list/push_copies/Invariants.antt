@@ -1,5 +1,9 @@
-use Rattle.std.proofs.Common.{◌≡◌, ◌++◌, take}
+use Rattle.std.proofs.Common.{◌≡◌, ◌≤◌, ◌-◌, ◌++◌, take, drop}
 use Rattle.book.proofs.item_list.push_copies.Given as goal
 
-abbrev pub invariant-loop-item : goal.invariant-loop-item
-invariant-loop-item l = l.items.items ≡ l.initial.items.items ++ take l.item-index l.more
+abbrev pub invariant-loop-place : goal.invariant-loop-place
+invariant-loop-place l = record {
+  from : l.first ≤ l.place;
+  items : l.items.items
+      ≡ l.initial.items.items ++ take (l.place - l.first) (drop l.first l.more.items);
+}

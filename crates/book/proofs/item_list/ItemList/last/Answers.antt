@@ -1,6 +1,6 @@
-use Rattle.std.proofs.Common.{◌≡◌, ◌-◌, ◌∙◌, ◌++◌, ap, arith, length, drop, take, sym, min}
+use Rattle.std.proofs.Common.{◌≡◌, ◌-◌, ◌∙◌, ◌++◌, ap, arith, length, drop, sym, min}
 use Rattle.std.specs.Arc.{arc_value}
-use Rattle.std.proofs.lemmas.List.{length-map, take_rest}
+use Rattle.std.proofs.lemmas.List.{length-map}
 use Rattle.walk.specs.Items.{item_at}
 use Rattle.walk.specs.Walks.{items_at}
 use Rattle.book.specs.ItemLists.{all_of}
@@ -24,11 +24,9 @@ returns c =
     ) in
     let e : c.saturating_sub-2.result ≡ length i.loose.items - most =
     omega (arith, c.saturating_sub-2.ensures, c.len-loose.ensures, i.loose.ok.0) in
-    let d : take (length c.deref.result.now - c.saturating_sub-2.result)
-    (drop c.saturating_sub-2.result c.deref.result.now)
+    let d : drop c.saturating_sub-2.result i.loose.items
     ≡ drop (length i.loose.items - most) i.loose.items =
-    take_rest c.deref.result.now c.saturating_sub-2.result
-    ∙ (λ k. drop (e k) (c.deref.ensures.value k)) in
+    ap (λ k. drop k i.loose.items) e in
     c.in_ok-push_copies.ensures
     ∙ ((λ k. c.in_ok-items.ensures k ++ d k)
     ∙ (last_of_both (items_at p i.packed) i.loose.items (length i.packed) most c.min-count.result

@@ -14,7 +14,7 @@ returns-clause-items c = λ p.
     let v = ap (λ l. length l.packed) c.self.view_is in
     let e : c.args.place - c.length.result ≡ c.args.place - length (items_at p i.packed) =
     omega (arith, n, c.length.ensures.length) in
-    ap (λ is. items_at p i.packed ++ is) (c.remove.ensures.items ∙ ap (remove i.loose.items) e)
+    ap (λ is. items_at p i.packed ++ is) (c.in-Some.ensures.items ∙ ap (remove i.loose.items) e)
     ∙ (removed-loose (items_at p i.packed) i.loose.items c.args.place
     (omega (arith, n, v, c.requires.loose))
     ∙ ap (λ l. remove (all_of p l) c.args.place) c.self.view_is)

@@ -15,7 +15,7 @@ walk_in_order-ending-requires-clause-items g c κs within =
     subst (λ (p : Program). All (λ (i : ItemView). i.program ≡ p) c.as_slice.result.now)
     (sym walker)
     (All-same (λ (i : ItemView). i.program ≡ b.program) _ _
-    (c.as_slice.ensures.value ∙ c.in_ok-items.ensures) all)
+    (c.as_slice.ensures.value ∙ c.in_ok-items.ensures.items) all)
 
 pub walk_by_all-requires-clause-round : goal.walk_by_all-requires-clause-round
 walk_by_all-requires-clause-round g c κs within =
@@ -27,7 +27,7 @@ walk_by_all-requires-clause-round g c κs within =
       items = subst
           (λ (p : Program). All (λ (i : ItemView). i.program ≡ p) c.in_ok-items.items.items)
           (sym program)
-          (All-same (λ (i : ItemView). i.program ≡ b.program) _ _ c.in_ok-items.ensures all);
+          (All-same (λ (i : ItemView). i.program ≡ b.program) _ _ c.in_ok-items.ensures.items all);
       quota = c.requires.quota;
     }
 

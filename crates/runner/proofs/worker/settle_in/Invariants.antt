@@ -1,0 +1,11 @@
+use Rattle.std.proofs.Common.{◌≡◌}
+use Rattle.std.specs.List.{All}
+use Rattle.runner.specs.inner.Rounds.{IsWalkIn}
+use Rattle.runner.proofs.worker.settle_in.Given as goal
+
+abbrev pub invariant-loop-walked : goal.invariant-loop-walked
+invariant-loop-walked l = record {
+  program : l.book.program ≡ l.fn.program;
+  mode : l.book.mode ≡ l.fn.mode;
+  left : All (IsWalkIn l.fn.program l.fn.mode) l.walked-iterator.rest.items;
+}
