@@ -492,63 +492,12 @@ impl State {
             | Instruction::Store { .. }
             | Instruction::Add { .. }
             | Instruction::Cas { .. } => self.step_access(program, thread, instruction, undo),
-            Instruction::Lock(m) => {
-                self.act(
-                    program,
-                    thread,
-                    Action::OnMutex(*m, MutexAction::Lock),
-                    undo,
-                )
-            }
-            Instruction::Unlock(m) => {
-                self.act(
-                    program,
-                    thread,
-                    Action::OnMutex(*m, MutexAction::Unlock),
-                    undo,
-                )
-            }
-            Instruction::Wait { condition, mutex } => {
-                self.act(program, thread, Action::Wait(*condition, *mutex), undo)
-            }
-            Instruction::Signal(c) => {
-                self.act(
-                    program,
-                    thread,
-                    Action::OnCondition(*c, ConditionAction::Signal),
-                    undo,
-                )
-            }
-            Instruction::Broadcast(c) => {
-                self.act(
-                    program,
-                    thread,
-                    Action::OnCondition(*c, ConditionAction::Broadcast),
-                    undo,
-                )
-            }
-            Instruction::Acquire(k) => {
-                self.act(
-                    program,
-                    thread,
-                    Action::OnSemaphore(*k, SemaphoreAction::Acquire),
-                    undo,
-                )
-            }
-            Instruction::Release(k) => {
-                self.act(
-                    program,
-                    thread,
-                    Action::OnSemaphore(*k, SemaphoreAction::Release),
-                    undo,
-                )
-            }
-            Instruction::Set { .. }
-            | Instruction::Assert(_)
-            | Instruction::SkipIfZero(_, _)
-            | Instruction::Skip(_) => After {
-                others: Others::Same,
-                free: false,
+            _ => match action_of(instruction) {
+                Some(action) => self.act(program, thread, action, undo),
+                None => After {
+                    others: Others::Same,
+                    free: false,
+                },
             },
         }
     }
@@ -573,11 +522,11 @@ impl State {
         match instruction {
             Instruction::Load { local, variable } => {
                 let access = VariableAction::Load(*local);
-                self.act(program, thread, Action::OnVariable(*variable, access), undo)
+                self.act_on_variable(program, thread, *variable, access, undo)
             }
             Instruction::Store { variable, value } => {
                 let access = VariableAction::Store(*value);
-                self.act(program, thread, Action::OnVariable(*variable, access), undo)
+                self.act_on_variable(program, thread, *variable, access, undo)
             }
             Instruction::Add {
                 local,
@@ -585,7 +534,7 @@ impl State {
                 value,
             } => {
                 let access = VariableAction::Add(*local, *value);
-                self.act(program, thread, Action::OnVariable(*variable, access), undo)
+                self.act_on_variable(program, thread, *variable, access, undo)
             }
             Instruction::Cas {
                 local,
@@ -594,12 +543,36 @@ impl State {
                 new,
             } => {
                 let access = VariableAction::Cas(*local, *expected, *new);
-                self.act(program, thread, Action::OnVariable(*variable, access), undo)
+                self.act_on_variable(program, thread, *variable, access, undo)
             }
             _ => After {
                 others: Others::Same,
                 free: false,
             },
+        }
+    }
+
+    // The step of an enabled thread which is about to do this with a variable.
+    #[inline(always)]
+    fn act_on_variable(
+        &mut self,
+        program: &Program,
+        thread: u8,
+        x: usize,
+        action: VariableAction,
+        undo: &mut Undo,
+    ) -> After
+        requires of { IsOf program.now self.old }
+        requires enabled { IsTrue (is_enabled program.now self.old thread) }
+        requires pc { StandsInCode program.now self.old thread }
+        requires fine { IsValidAction program.now (OnVariable x action) }
+        requires next { next_of program.now self.old thread ≡ Some (OnVariable x action) }
+        ensures { HasStepped program.now self.old thread undo.new self.new result }
+    {
+        let free = self.step_variable(program, thread, x, action, undo);
+        After {
+            others: Others::Same,
+            free,
         }
     }
 
