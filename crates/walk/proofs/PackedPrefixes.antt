@@ -331,6 +331,23 @@ replaced n b last first l k x t c stack one read wrote =
     (wrote ∙ ap (λ (y : List ℕ). b ++ y) (small_bytes x)) top (omega arith)
     (omega (arith, short, one, length-set last k t))
 
+-- the way back to a schedule that differs in its last step, from one that is a step longer
+long_bytes : (x : ℕ) → x ∷ 33 ∷ [] ≡ way_bytes 2 (x ∷ [])
+unfolding way_bytes
+long_bytes x = refl
+
+-- such a schedule goes on top
+pub replaced_by_two : (n : ℕ) (b last first : List ℕ) (l m k x t u : ℕ) (c top : List ℕ)
+    → IsStack n b last first l → length last ≡ k + 1 → x ≡ get_or last k x
+    → c ≡ b ++ x ∷ 33 ∷ [] → top ≡ set last k t ++ u ∷ [] → l ≤ m → length top ≤ m
+    → Grown (n + 1) c top first m (listed n b last ++ (take k last ++ t ∷ u ∷ []) ∷ [])
+replaced_by_two n b last first l m k x t u c top stack one read wrote made more short =
+    pushed n b last first l (t ∷ u ∷ []) c top (x ∷ []) k m stack (omega (arith, one))
+    (omega arith) (omega arith) (sym (last_step last k x one read))
+    (wrote ∙ ap (λ (y : List ℕ). b ++ y) (long_bytes x))
+    (made ∙ (ap (λ (w : List ℕ). w ++ u ∷ []) (set_last last k t one)
+    ∙ append_assoc (take k last) (t ∷ []) (u ∷ []))) more short
+
 -- a stack goes on top
 pub appended : (n k : ℕ) (b c last first end start : List ℕ) (l j : ℕ) (mid both top t : List ℕ)
     (i m : ℕ) → IsStack n b last first l → IsStack k c end start j → i ≤ length last

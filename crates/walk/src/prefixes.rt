@@ -22,6 +22,9 @@ use std::mem;
 // one to put back.
 const LAST_REPLACED: u8 = 17;
 
+// The same for one that is a step longer: two to take away, one to put back.
+const ONE_FOR_TWO: u8 = 33;
+
 /// A list of prefixes. Contracts see `List (List ℕ)`.
 #[derive(Drop)]
 pub struct Prefixes {
@@ -178,6 +181,27 @@ impl Prefixes {
         self.bytes
             .extend_from_slice(&[self.last[shared], LAST_REPLACED])?;
         self.last[shared] = step;
+        self.count += 1;
+        Ok(())
+    }
+
+    // The same with two steps: mostly the first takes the place of the last prefix's last one.
+    #[inline(always)]
+    pub(crate) fn push_two(&mut self, shared: usize, step: u8, next: u8) -> Result<(), AllocError>
+        ensures { self.new ≡ (if is_ok result
+            then self.old ++ (take shared (last_of self.old) ++ step ∷ next ∷ []) ∷ []
+            else self.old) }
+    {
+        let len = self.last.len();
+        if self.count == 0 || len <= shared || len - shared != 1 {
+            return self.push_after(shared, &[step, next]);
+        }
+        self.last.reserve(1)?;
+        self.bytes
+            .extend_from_slice(&[self.last[shared], ONE_FOR_TWO])?;
+        self.last[shared] = step;
+        let _ = self.last.push(next);
+        self.longest = self.longest.max(self.last.len());
         self.count += 1;
         Ok(())
     }

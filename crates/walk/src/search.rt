@@ -71,10 +71,12 @@ impl Found {
             ≡ self.old.deferred ++ (steps.old.items ++ thread ∷ []) ∷ []) }
         ensures shared { OnOk result (IsShared steps.old.items self.new) }
     {
-        if self.shared == steps.len() {
-            self.deferred.push_step(self.shared, thread)?;
-        } else {
-            self.put_in(steps, thread)?;
+        match steps.len() - self.shared {
+            0 => self.deferred.push_step(self.shared, thread)?,
+            1 => self
+                .deferred
+                .push_two(self.shared, steps[self.shared], thread)?,
+            _ => self.put_in(steps, thread)?,
         }
         self.part.set_beyond();
         self.shared = steps.len();
