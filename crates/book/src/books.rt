@@ -17,6 +17,7 @@ use std::alloc::{AllocError, Global};
 use std::marker::Model;
 use std::mem;
 use std::sync::Arc;
+use walk::hints::EndHints;
 use walk::item::Item;
 use walk::limits::BOUND;
 use walk::mode::Mode;
@@ -41,6 +42,8 @@ pub struct Book {
     dropped: bool,
     // Nothing that is open is to be dropped.
     swept: bool,
+    // Where end views were found in the finished summary, for the next look-up.
+    hints: EndHints,
 }
 
 impl Model for Book {
@@ -104,6 +107,7 @@ impl Book {
             quick,
             dropped: false,
             swept: false,
+            hints: EndHints::new(),
         })
     }
 
@@ -363,7 +367,7 @@ impl Book {
             self.open_items.truncate(open_length);
             return Err(error);
         }
-        if let Err(error) = self.finished.join_in(part) {
+        if let Err(error) = self.finished.join_in_by(&mut self.hints, part) {
             self.open_items.truncate(open_length);
             self.deferred.truncate(deferred_length);
             return Err(error);

@@ -143,8 +143,20 @@ impl Summary {
     /// # Errors
     ///
     /// `AllocError` where memory runs out; the summary is then as before.
-    #[tactic(auto, unfolding(crate::specs::Summaries::join))]
     pub fn join_in(&mut self, other: Summary) -> Result<(), AllocError>
+        ensures { self.new ≡ (if is_ok result then join self.old other else self.old) }
+    {
+        self.join_in_by(&mut EndHints::new(), other)
+    }
+
+    /// The same, where hints tell at which index an end view was found in earlier joins. They may be
+    /// wrong.
+    ///
+    /// # Errors
+    ///
+    /// `AllocError` where memory runs out; the summary is then as before.
+    #[tactic(auto, unfolding(crate::specs::Summaries::join))]
+    pub fn join_in_by(&mut self, hints: &mut EndHints, other: Summary) -> Result<(), AllocError>
         ensures { self.new ≡ (if is_ok result then join self.old other else self.old) }
     {
         let Summary {
@@ -155,7 +167,7 @@ impl Summary {
             first_bad,
             ends,
         } = other;
-        join_views(&mut self.ends, ends)?;
+        join_views(&mut self.ends, hints, ends)?;
         take_lesser(&mut self.first_bad, first_bad);
         increase(&mut self.tried, tried);
         increase(&mut self.failed, failed);
@@ -422,12 +434,12 @@ fn insert_view(ends: &mut Vec<EndView>, view: EndView) -> Result<(), AllocError>
 }
 
 // Whether each of these views is in a sorted list.
-fn has_all(ends: &[EndView], views: &[EndView]) -> bool
+fn has_all(ends: &[EndView], hints: &mut EndHints, views: &[EndView]) -> bool
     requires { IsStrictlySortedBy view_cmp ends.now }
     ensures { IsTrue result → sorted_views (ends.now ++ views.now) ≡ ends.now }
 {
     for view in views {
-        match search_view(ends, view.kind(), view.vars()) {
+        match find_view(ends, hints, view.kind(), view.vars()) {
             Ok(_) => {}
             Err(_) => return false,
         }
@@ -436,12 +448,16 @@ fn has_all(ends: &[EndView], views: &[EndView]) -> bool
 }
 
 // Puts views into a sorted list: sorted, each once.
-fn join_views(ends: &mut Vec<EndView>, mut views: Vec<EndView>) -> Result<(), AllocError>
+fn join_views(
+    ends: &mut Vec<EndView>,
+    hints: &mut EndHints,
+    mut views: Vec<EndView>,
+) -> Result<(), AllocError>
     requires { IsStrictlySortedBy view_cmp ends.old.items }
     ensures { ends.new.items ≡ (if is_ok result
         then sorted_views (ends.old.items ++ views.items) else ends.old.items) }
 {
-    if has_all(ends.as_slice(), views.as_slice()) {
+    if has_all(ends.as_slice(), hints, views.as_slice()) {
         return Ok(());
     }
     ends.reserve(views.len())?;

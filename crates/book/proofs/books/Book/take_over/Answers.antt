@@ -91,8 +91,8 @@ returns-in-Err c =
     (c.in-Err.ensures.all ∙ c.unpack_from-2.ensures.same) in
     same ∙ c.self.view_is
 
-pub invariant_of-self-in-Err-join_in : goal.invariant_of-self-in-Err-join_in
-invariant_of-self-in-Err-join_in c =
+pub invariant_of-self-in-Err-join_in_by : goal.invariant_of-self-in-Err-join_in_by
+invariant_of-self-in-Err-join_in_by c =
     let is_packed : c.is_packed-packs.result ≡ true → c.self.inside.quick ≡ true →
     (c.self.inside.finished.first_bad ≡ None) × (c.args.walked.part.first_bad ≡ None) =
     λ h q. let e = c.is_packed-packs.ensures h q in
@@ -104,29 +104,29 @@ invariant_of-self-in-Err-join_in c =
     let more : all_of p c.append.new.self ≡ all_of p c.unpack_from.new.self ++ rest =
     grown p c.unpack_from.new.self c.append.new.self rest c.in_ok-append.ensures.packed
     c.in_ok-append.ensures.loose in
-    let left : all_of p c.truncate-in-Err-join_in.new.self ≡ b.open_items =
+    let left : all_of p c.truncate-in-Err-join_in_by.new.self ≡ b.open_items =
     taken_back (all_of p c.unpack_from.new.self) rest (all_of p c.append.new.self)
-    (all_of p c.truncate-in-Err-join_in.new.self) c.length-open_length.result more
+    (all_of p c.truncate-in-Err-join_in_by.new.self) c.length-open_length.result more
     (c.length-open_length.ensures p)
-    (c.truncate-in-Err-join_in.ensures.items p)
+    (c.truncate-in-Err-join_in_by.ensures.items p)
     ∙ c.unpack_from.ensures.same in
-    let later : all_of p c.truncate-in-Err-join_in-2.new.self ≡ b.deferred =
+    let later : all_of p c.truncate-in-Err-join_in_by-2.new.self ≡ b.deferred =
     taken_back b.deferred (items_at p c.into_parts-part.result.deferred)
-    (all_of p c.append_prefixes.new.self) (all_of p c.truncate-in-Err-join_in-2.new.self)
+    (all_of p c.append_prefixes.new.self) (all_of p c.truncate-in-Err-join_in_by-2.new.self)
     c.length-deferred_length.result
     (c.in_default.ensures.all
     ∙ ap (λ is. is ++ items_at p c.into_parts-part.result.deferred) c.unpack_from-2.ensures.same)
-    (c.length-deferred_length.ensures p) (c.truncate-in-Err-join_in-2.ensures.items p) in
-    let same = same_book b c.join_in.new.self (all_of p c.truncate-in-Err-join_in.new.self)
-    (all_of p c.truncate-in-Err-join_in-2.new.self) c.in-Err-join_in.ensures left later in (
+    (c.length-deferred_length.ensures p) (c.truncate-in-Err-join_in_by-2.ensures.items p) in
+    let same = same_book b c.join_in_by.new.self (all_of p c.truncate-in-Err-join_in_by.new.self)
+    (all_of p c.truncate-in-Err-join_in_by-2.new.self) c.in-Err-join_in_by.ensures left later in (
       subst Keeps (sym same) c.self.invariant.0,
       subst (IsSwept c.self.inside.swept) (sym same) c.self.invariant.1,
       λ q k. let bad : c.self.inside.finished.first_bad ≡ None → ⊥ =
-          λ e. k (ap (λ (z : SummaryView). z.first_bad) c.in-Err-join_in.ensures ∙ e) in (
-            c.truncate-in-Err-join_in.ensures.none
+          λ e. k (ap (λ (z : SummaryView). z.first_bad) c.in-Err-join_in_by.ensures ∙ e) in (
+            c.truncate-in-Err-join_in_by.ensures.none
                 (c.in_ok-append.ensures.packed ∙ c.unpack_from.ensures.none
                 (c.self.invariant.2 q bad).0),
-            c.truncate-in-Err-join_in-2.ensures.none
+            c.truncate-in-Err-join_in_by-2.ensures.none
                 (c.append_prefixes.ensures.packed (packs_none c.is_packed-packs.result
                 c.self.inside.quick
                 c.self.inside.finished.first_bad c.args.walked.part.first_bad is_packed q bad)
@@ -134,8 +134,8 @@ invariant_of-self-in-Err-join_in c =
           ),
     )
 
-pub returns-in-Err-join_in : goal.returns-in-Err-join_in
-returns-in-Err-join_in c =
+pub returns-in-Err-join_in_by : goal.returns-in-Err-join_in_by
+returns-in-Err-join_in_by c =
     let b : BookView = book_view c.self.inside.program c.self.inside.mode c.self.inside.finished
     c.self.inside.open_items c.self.inside.deferred c.self.inside.quick c.self.inside.dropped in
     let p = arc_value c.self.inside.program in
@@ -143,21 +143,21 @@ returns-in-Err-join_in c =
     let more : all_of p c.append.new.self ≡ all_of p c.unpack_from.new.self ++ rest =
     grown p c.unpack_from.new.self c.append.new.self rest c.in_ok-append.ensures.packed
     c.in_ok-append.ensures.loose in
-    let left : all_of p c.truncate-in-Err-join_in.new.self ≡ b.open_items =
+    let left : all_of p c.truncate-in-Err-join_in_by.new.self ≡ b.open_items =
     taken_back (all_of p c.unpack_from.new.self) rest (all_of p c.append.new.self)
-    (all_of p c.truncate-in-Err-join_in.new.self) c.length-open_length.result more
+    (all_of p c.truncate-in-Err-join_in_by.new.self) c.length-open_length.result more
     (c.length-open_length.ensures p)
-    (c.truncate-in-Err-join_in.ensures.items p)
+    (c.truncate-in-Err-join_in_by.ensures.items p)
     ∙ c.unpack_from.ensures.same in
-    let later : all_of p c.truncate-in-Err-join_in-2.new.self ≡ b.deferred =
+    let later : all_of p c.truncate-in-Err-join_in_by-2.new.self ≡ b.deferred =
     taken_back b.deferred (items_at p c.into_parts-part.result.deferred)
-    (all_of p c.append_prefixes.new.self) (all_of p c.truncate-in-Err-join_in-2.new.self)
+    (all_of p c.append_prefixes.new.self) (all_of p c.truncate-in-Err-join_in_by-2.new.self)
     c.length-deferred_length.result
     (c.in_default.ensures.all
     ∙ ap (λ is. is ++ items_at p c.into_parts-part.result.deferred) c.unpack_from-2.ensures.same)
-    (c.length-deferred_length.ensures p) (c.truncate-in-Err-join_in-2.ensures.items p) in
-    let same = same_book b c.join_in.new.self (all_of p c.truncate-in-Err-join_in.new.self)
-    (all_of p c.truncate-in-Err-join_in-2.new.self) c.in-Err-join_in.ensures left later in
+    (c.length-deferred_length.ensures p) (c.truncate-in-Err-join_in_by-2.ensures.items p) in
+    let same = same_book b c.join_in_by.new.self (all_of p c.truncate-in-Err-join_in_by.new.self)
+    (all_of p c.truncate-in-Err-join_in_by-2.new.self) c.in-Err-join_in_by.ensures left later in
     same ∙ c.self.view_is
 
 pub remove-requires-clause-place : goal.remove-requires-clause-place
@@ -196,8 +196,8 @@ invariant_of-self-2 c =
     subst (λ (z : BookView). IsWalkOf z w) (sym c.self.view_is) c.requires.of in
     let at : IsOpenAt b w.item place =
     subst (λ (z : BookView). IsOpenAt z w.item place) (sym c.self.view_is) c.requires.is_open in
-    let fin : c.join_in.new.self ≡ join b.finished w.part =
-    c.in_default-join_in.ensures ∙ ap (join b.finished) c.into_parts-part.ensures.part in
+    let fin : c.join_in_by.new.self ≡ join b.finished w.part =
+    c.in_default-join_in_by.ensures ∙ ap (join b.finished) c.into_parts-part.ensures.part in
     let lt : place < length (all_of p c.unpack_from.new.self) =
     subst (λ (is : List ItemView). place < length is) (sym c.unpack_from.ensures.same) at.0 in
     let items : all_of p c.remove.new.self ≡ remove b.open_items place ++ w.rest =
@@ -210,7 +210,7 @@ invariant_of-self-2 c =
     let later : all_of p c.append_prefixes.new.self ≡ b.deferred ++ w.deferred =
     c.in_default.ensures.all ∙ (λ k. c.unpack_from-2.ensures.same k ++ own k) in
     let new : BookView = record b {
-      finished = c.join_in.new.self;
+      finished = c.join_in_by.new.self;
       open_items = all_of p c.remove.new.self;
       deferred = all_of p c.append_prefixes.new.self;
     } in
@@ -223,7 +223,7 @@ invariant_of-self-2 c =
           (settled_swept c.self.inside.swept c.is_quiet-quiet.result b w place c.self.invariant.1
           c.is_quiet-quiet.ensures at)),
       loose_after c.is_packed-packs.result c.self.inside.quick c.self.inside.finished.first_bad
-          w.part.first_bad c.join_in.new.self.first_bad c.remove.new.self.packed
+          w.part.first_bad c.join_in_by.new.self.first_bad c.remove.new.self.packed
           c.append_prefixes.new.self.packed is_packed
           (λ n. (
             c.remove.ensures.packed ∙ (c.in_ok-append.ensures.packed
@@ -251,8 +251,8 @@ returns c =
     subst (λ (z : BookView). IsWalkOf z w) (sym c.self.view_is) c.requires.of in
     let at : IsOpenAt b w.item place =
     subst (λ (z : BookView). IsOpenAt z w.item place) (sym c.self.view_is) c.requires.is_open in
-    let fin : c.join_in.new.self ≡ join b.finished w.part =
-    c.in_default-join_in.ensures ∙ ap (join b.finished) c.into_parts-part.ensures.part in
+    let fin : c.join_in_by.new.self ≡ join b.finished w.part =
+    c.in_default-join_in_by.ensures ∙ ap (join b.finished) c.into_parts-part.ensures.part in
     let lt : place < length (all_of p c.unpack_from.new.self) =
     subst (λ (is : List ItemView). place < length is) (sym c.unpack_from.ensures.same) at.0 in
     let items : all_of p c.remove.new.self ≡ remove b.open_items place ++ w.rest =
@@ -265,7 +265,7 @@ returns c =
     let later : all_of p c.append_prefixes.new.self ≡ b.deferred ++ w.deferred =
     c.in_default.ensures.all ∙ (λ k. c.unpack_from-2.ensures.same k ++ own k) in
     let new : BookView = record b {
-      finished = c.join_in.new.self;
+      finished = c.join_in_by.new.self;
       open_items = all_of p c.remove.new.self;
       deferred = all_of p c.append_prefixes.new.self;
     } in

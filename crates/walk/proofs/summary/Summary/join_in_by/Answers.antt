@@ -1,5 +1,5 @@
 use Rattle.walk.proofs.SumsJoin.{parts_joined}
-use Rattle.walk.proofs.summary.Summary.join_in.Goals as goal
+use Rattle.walk.proofs.summary.Summary.join_in_by.Goals as goal
 
 pub invariant_of-self-2 : goal.invariant_of-self-2
 invariant_of-self-2 c =
