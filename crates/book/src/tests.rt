@@ -203,3 +203,17 @@ fn a_quick_book_drops_what_comes_later(rt: HostRuntime) -> Result<(), Fail> {
     assert_eq!(rt; raised(alloc, &mut book)?.as_str(), "book B6 Dropped");
     Ok(())
 }
+
+#[test]
+fn walks_of_its_own_are_settled(rt: HostRuntime) -> Result<(), Fail> {
+    let alloc = rt.alloc();
+    let program = program_of(alloc, COUNTERS)?;
+    let mut book = Book::open(alloc, Arc::try_clone(&program)?, FIRST)?;
+    let root = Item::root(alloc, Arc::try_clone(&program)?)?;
+    assert!(&rt; !book.drops(&root) && book.mode() == FIRST && book.program().is_same(&program));
+    let walked = walk(alloc, &root, FIRST, 256)?;
+    book.settle_own(alloc, walked)?;
+    let line = shown(alloc, &book)?;
+    assert_eq!(rt; line.as_str(), "2 true deferred [0, 1] deferred [1, 0]");
+    Ok(())
+}

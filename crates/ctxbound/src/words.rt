@@ -1,6 +1,7 @@
 //! The command words, read by `clap`.
 
-ghost use Rattle.std.specs.Prelude.{◌≡◌};
+ghost use Rattle.std.specs.Prelude.{◌≡◌, ◌↔◌, codes};
+ghost use Rattle.runner.specs.declared.options.Search.TheVariants.{Unbounded};
 ghost use Rattle.runner.specs.Promises.{IsSearch};
 ghost use Rattle.ctxbound.specs.Words.{words_status};
 
@@ -199,7 +200,8 @@ fn command<'a>(alloc: Global) -> Result<Command<'a>, AllocError> {
 
 /// How far the search of a command goes.
 fn search_of(name: &str, given: &ArgMatches<'_>) -> Search
-    ensures { IsSearch result }
+    ensures search { IsSearch result }
+    ensures unbounded { result ≡ Unbounded ↔ name.now ≡ codes "unbounded" }
 {
     if name == "unbounded" {
         return Search::Unbounded;

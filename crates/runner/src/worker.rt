@@ -5,7 +5,7 @@ ghost use Rattle.std.specs.List.{All, Any};
 ghost use Rattle.std.specs.Arc.{arc_value};
 ghost use Rattle.book.specs.Books.{IsWalkOf};
 ghost use Rattle.runner.specs.declared.error.ExploreError.TheVariants as explore;
-ghost use Rattle.runner.specs.declared.worker.Ending.TheVariants.{Stopped};
+ghost use Rattle.runner.specs.declared.worker.Ending.TheVariants.{Drawn, Stopped, OutOfMemory};
 ghost use Rattle.runner.specs.inner.Rounds.{IsRound, IsSeated, IsWalkIn};
 
 use crate::error::ExploreError;
@@ -55,6 +55,9 @@ impl Ending {
     /// `OutOfMemory` where memory ran out.
     pub fn is_stopped(self) -> Result<bool, ExploreError>
         ensures stopped { IfOk result (λ b. b ≡ true → self ≡ Stopped) }
+        ensures told { IfOk result (λ b. self ≡ Stopped → b ≡ true) }
+        ensures memory { IfOk result (λ _. self ≡ OutOfMemory → ⊥) }
+        ensures refused { IfErr result (λ _. self ≡ OutOfMemory) }
         ensures error { IfErr result (λ e. e ≡ explore.OutOfMemory) }
     {
         match self {
@@ -282,7 +285,9 @@ pub(crate) fn work_all<G: Gate, R: Threads + Wait + Sync>(
 /// How the workers ended a round together: out of memory where one of them was, else stopped where
 /// one of them was.
 pub(crate) fn ending_of(workers: &[Worker]) -> Ending
-    ensures { result ≡ Stopped → Any (λ w. w.ending ≡ Stopped) workers.now }
+    ensures stopped { result ≡ Stopped → Any (λ w. w.ending ≡ Stopped) workers.now }
+    ensures memory { result ≡ OutOfMemory → Any (λ w. w.ending ≡ OutOfMemory) workers.now }
+    ensures drawn { result ≡ Drawn → All (λ w. w.ending ≡ Drawn) workers.now }
 {
     if workers.iter().any(|w| w.ending == Ending::OutOfMemory) {
         Ending::OutOfMemory
