@@ -13,3 +13,7 @@ pub const WORKERS: u32 = 16;
 /// Measured: 64 items of some ten schedules each take up to a third longer with a thread for each
 /// worker.
 pub const SMALL_ROUND: u64 = 2048;
+
+/// How many walks a worker keeps at most before it settles them under one lock, for which programs
+/// are compared once. Measured: if all walks of a round are kept, the allocator takes as much longer.
+pub const KEPT_WALKS: usize = 8;

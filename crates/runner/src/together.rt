@@ -75,10 +75,10 @@ fn after_round(
 
 /// The report of a search of a program by several workers, from 1 to [`WORKERS`](crate::WORKERS).
 ///
-/// The search goes by rounds. The workers of a round draw its items one by one; each asks the gate
-/// and walks the item while it holds no lock. One that draws no more settles what it has walked in
-/// the one book that all share. The report is that of [`explore_alone`], whatever the workers and
-/// the quota, but for the numbers of an incomplete one, and for what a quick search leaves out.
+/// The search goes by rounds. The workers of a round draw its items one by one; each asks the gate,
+/// walks the item while it holds no lock, and settles some walks at a time in the one book that all
+/// share. The report is that of [`explore_alone`], whatever the workers and the quota, but for the
+/// numbers of an incomplete one, and for what a quick search leaves out.
 ///
 /// A worker that the gate stops walks no more in its round. Where the search has no answer then, it
 /// is cut short. A single worker asks no gate.

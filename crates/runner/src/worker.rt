@@ -10,11 +10,13 @@ ghost use Rattle.runner.specs.inner.Rounds.{IsRound, IsSeated, IsWalkIn};
 
 use crate::error::ExploreError;
 use crate::gate::{Answer, Gate};
+use crate::limits::KEPT_WALKS;
 use board::{Board, NONE_TOLD, Seat};
 use book::books::Book;
 use book::errors::SettleError;
 use guest_code::program::Program;
 use std::alloc::{AllocError, Global};
+use std::collections::VecDeque;
 use std::sync::{Arc, Mutex, Wait};
 use std::thread;
 use std::thread::Threads;
@@ -101,18 +103,16 @@ impl Worker {
     }
 
     // Works until all items are drawn, the gate stops it or memory runs out, and then settles what
-    // it has walked.
+    // it has walked and not settled yet.
     fn work<G: Gate, R: Wait>(&mut self, rt: &R, alloc: Global, gate: &G, round: &Round) -> Ending
         requires round { IsRound round.now }
         requires seated { IsSeated round.now self.old }
         ensures seated { IsSeated round.now self.new }
         ensures stopped { result ≡ Stopped → G.stops gate.now ≡ true }
     {
-        let Ok(mut walks) = Vec::with_capacity(alloc, round.items.len()) else {
-            return Ending::OutOfMemory;
-        };
+        let mut walks = VecDeque::new(alloc);
         let ending = self.walk_items(rt, alloc, gate, round, &mut walks);
-        match settle_all(rt, alloc, round, walks) {
+        match settle_all(rt, alloc, round, &mut walks) {
             Ok(()) => ending,
             Err(AllocError) => Ending::OutOfMemory,
         }
@@ -144,14 +144,14 @@ impl Worker {
     }
 
     // Draws items and walks them, until all are drawn, the gate stops it or memory runs out. A
-    // quick search settles a walk that found a bad schedule at once; the others are kept.
+    // quick search settles a walk that found a bad schedule at once; of the others some are kept.
     fn walk_items<G: Gate, R: Wait>(
         &mut self,
         rt: &R,
         alloc: Global,
         gate: &G,
         round: &Round,
-        walks: &mut Vec<Walked>,
+        walks: &mut VecDeque<Walked>,
     ) -> Ending
         requires round { IsRound round.now }
         requires seated { IsSeated round.now self.old }
@@ -181,7 +181,7 @@ impl Worker {
             let is_kept = if is_told {
                 self.settle_bad(rt, alloc, round, item, walked).is_ok()
             } else {
-                walks.push(walked).is_ok()
+                keep(rt, alloc, round, walks, walked).is_ok()
             };
             if !is_kept {
                 return Ending::OutOfMemory;
@@ -191,18 +191,42 @@ impl Worker {
     }
 }
 
+// Keeps a walk to be settled with others, which are as many as are kept at most.
+//
+// # Errors
+//
+// `AllocError` where memory runs out.
+fn keep<R: Wait>(
+    rt: &R,
+    alloc: Global,
+    round: &Round,
+    walks: &mut VecDeque<Walked>,
+    walked: Walked,
+) -> Result<(), AllocError>
+    requires walks { All (IsWalkIn (arc_value round.now.program) round.now.mode) walks.old.items }
+    requires walked { IsWalkIn (arc_value round.now.program) round.now.mode walked }
+    ensures { All (IsWalkIn (arc_value round.now.program) round.now.mode) walks.new.items }
+{
+    walks.push_back(walked)?;
+    if walks.len() < KEPT_WALKS {
+        return Ok(());
+    }
+    settle_all(rt, alloc, round, walks)
+}
+
 // Settles walks of a round under one lock, in their order.
 //
 // # Errors
 //
-// `AllocError` where memory runs out; the walks that are left then are given up.
+// `AllocError` where memory runs out; some of the walks are given up then.
 fn settle_all<R: Wait>(
     rt: &R,
     alloc: Global,
     round: &Round,
-    walks: Vec<Walked>,
+    walks: &mut VecDeque<Walked>,
 ) -> Result<(), AllocError>
-    requires { All (IsWalkIn (arc_value round.now.program) round.now.mode) walks.items }
+    requires { All (IsWalkIn (arc_value round.now.program) round.now.mode) walks.old.items }
+    ensures { All (IsWalkIn (arc_value round.now.program) round.now.mode) walks.new.items }
 {
     if walks.is_empty() {
         return Ok(());
@@ -218,17 +242,26 @@ fn settle_in(
     book: &mut Book,
     program: &Program,
     mode: Mode,
-    walks: Vec<Walked>,
+    walks: &mut VecDeque<Walked>,
 ) -> Result<(), AllocError>
-    requires { All (IsWalkIn program.now mode) walks.items }
+    requires { All (IsWalkIn program.now mode) walks.old.items }
+    ensures { All (IsWalkIn program.now mode) walks.new.items }
 {
     if !is_in(book, program, mode) {
+        walks.clear();
         return Ok(());
     }
-    for walked in walks {
+    while let Some(walked) = walks.pop_front() {
         settle_own(alloc, book, walked)?;
     }
     Ok(())
+}
+
+// Whether a book is of this program and mode.
+fn is_in(book: &Book, program: &Program, mode: Mode) -> bool
+    ensures { IsTrue result ↔ (book.now.program ≡ program.now) × (book.now.mode ≡ mode) }
+{
+    book.mode() == mode && book.program().is_same(program)
 }
 
 // Settles a walk in a book of its program and mode. It is given up where its item isn't open.
@@ -243,13 +276,6 @@ fn settle_own(alloc: Global, book: &mut Book, walked: Walked) -> Result<(), Allo
         Err(SettleError::Stranger) => Ok(()),
         Ok(()) => Ok(()),
     }
-}
-
-// Whether a book is of this program and mode.
-fn is_in(book: &Book, program: &Program, mode: Mode) -> bool
-    ensures { IsTrue result ↔ (book.now.program ≡ program.now) × (book.now.mode ≡ mode) }
-{
-    book.mode() == mode && book.program().is_same(program)
 }
 
 // How many items of a round come before one of them, in the order of schedules.
