@@ -25,6 +25,12 @@ const LAST_REPLACED: u8 = 17;
 // The same for one that is a step longer: two to take away, one to put back.
 const ONE_FOR_TWO: u8 = 33;
 
+// A list begins with room for prefixes that are so much longer than the first, and for some ways
+// back, so that a short one seldom grows.
+const MORE_STEPS: usize = 32;
+
+const MORE_BYTES: usize = 128;
+
 /// A list of prefixes. Contracts see `List (List ℕ)`.
 #[derive(Drop)]
 pub struct Prefixes {
@@ -211,7 +217,8 @@ impl Prefixes {
         requires { self.old ≡ [] }
         ensures { self.new ≡ (if is_ok result then prefix.now ∷ [] else []) }
     {
-        self.last.reserve(prefix.len())?;
+        self.last.reserve(prefix.len().saturating_add(MORE_STEPS))?;
+        self.bytes.reserve(MORE_BYTES)?;
         self.first.clear();
         self.first.extend_from_slice(prefix)?;
         self.last.clear();
