@@ -29,7 +29,7 @@ const ONE_FOR_TWO: u8 = 33;
 // back, so that a short one seldom grows.
 const MORE_STEPS: usize = 32;
 
-const MORE_BYTES: usize = 128;
+const MORE_BYTES: usize = 96;
 
 /// A list of prefixes. Contracts see `List (List ℕ)`.
 #[derive(Drop)]

@@ -15,6 +15,9 @@ use std::alloc::{AllocError, Global};
 use std::cmp::Ordering;
 use std::marker::Model;
 
+// A summary begins with room for so many end views: that of a small item has one to three.
+const FEW_ENDS: usize = 3;
+
 /// What is known of a list of complete schedules. Counts stop at the greatest `u64`.
 #[derive(Drop)]
 pub struct Summary {
@@ -409,6 +412,9 @@ fn add_view(
     match find_view(ends.as_slice(), hints, kind, values) {
         Ok(_) => Ok(()),
         Err(index) => {
+            if ends.is_empty() {
+                ends.reserve_exact(FEW_ENDS)?;
+            }
             ends.insert(index, EndView::new(kind, values.to_vec(alloc)?))?;
             Ok(())
         }
