@@ -8,7 +8,7 @@ use crate::queue::Queue;
 use crate::state::{ConditionAction, Status, Thread};
 
 // The thread is woken where it waits for the condition.
-fn wake_one(condition: usize, thread: &mut Thread)
+fn wake_one(condition: u8, thread: &mut Thread)
     ensures { thread.new ≡ woken condition thread.old }
 {
     if thread.status == Status::Waiting(condition) {
@@ -17,7 +17,7 @@ fn wake_one(condition: usize, thread: &mut Thread)
 }
 
 // These threads are woken.
-fn wake(threads: &mut [Thread], condition: usize, threads_to_wake: &[u8])
+fn wake(threads: &mut [Thread], condition: u8, threads_to_wake: &[u8])
     requires { All (λ u. u < length threads.old) threads_to_wake.now }
     ensures { threads.new ≡ wake condition threads_to_wake.now threads.old }
 {
@@ -27,7 +27,7 @@ fn wake(threads: &mut [Thread], condition: usize, threads_to_wake: &[u8])
 }
 
 /// Takes those whom a step on the condition calls out of its queue, and wakes them.
-pub fn call(queue: &mut Queue, threads: &mut [Thread], condition: usize, action: ConditionAction)
+pub fn call(queue: &mut Queue, threads: &mut [Thread], condition: u8, action: ConditionAction)
     requires { All (λ u. u < length threads.old) queue.old }
     ensures queue { queue.new ≡ queue_after action queue.old }
     ensures threads { threads.new ≡ wake condition (threads_to_wake action queue.old) threads.old }
@@ -46,7 +46,7 @@ pub fn call(queue: &mut Queue, threads: &mut [Thread], condition: usize, action:
 }
 
 /// These threads wait for the condition again.
-pub fn wait_again(threads: &mut [Thread], condition: usize, waiting: &[u8])
+pub fn wait_again(threads: &mut [Thread], condition: u8, waiting: &[u8])
     requires { All (λ u. u < length threads.old) waiting.now }
     ensures { threads.new ≡ waiting_again condition waiting.now threads.old }
 {

@@ -44,7 +44,7 @@ pub enum Status {
     /// It was called, and has to take its mutex again.
     Woken,
     /// It is in the queue of the condition of this number.
-    Waiting(usize),
+    Waiting(u8),
     /// It ran to the end of its code.
     Ended,
     /// It takes no further step, and keeps the mutexes that it owns.
@@ -620,16 +620,17 @@ impl State {
         runner.pc = undo.pc;
         runner.status = undo.status;
         restore(&mut runner.locals, &undo.saved);
+        let object = undo.object as usize;
         match undo.change {
-            Change::Variable => self.variables[undo.object] = undo.value,
-            Change::Owner => self.owners[undo.object] = undo.owner,
-            Change::Count => self.counts[undo.object] = undo.count,
+            Change::Variable => self.variables[object] = undo.value,
+            Change::Owner => self.owners[object] = undo.owner,
+            Change::Count => self.counts[object] = undo.count,
             Change::Wait => {
-                self.owners[undo.mutex] = undo.owner;
-                self.queues[undo.object].refill(&undo.queue, undo.length);
+                self.owners[undo.mutex as usize] = undo.owner;
+                self.queues[object].refill(&undo.queue, undo.length);
             }
             Change::Call => {
-                self.queues[undo.object].refill(&undo.queue, undo.length);
+                self.queues[object].refill(&undo.queue, undo.length);
                 let waiting = &undo.queue[..undo.length];
                 wait_again(self.threads.as_mut_slice(), undo.object, waiting);
             }
@@ -680,10 +681,12 @@ impl State {
     {
         let runner = &mut self.threads[thread as usize];
         undo.begin(thread, runner);
+        program.keeps_limits();
         undo.change = Change::Variable;
-        undo.object = x;
-        undo.value = self.variables[x];
-        access(&mut self.variables[x], runner, &mut undo.saved, action);
+        undo.object = x as u8;
+        let cell = &mut self.variables[x];
+        undo.value = *cell;
+        access(cell, runner, &mut undo.saved, action);
         resume(program.code(thread), runner, &mut undo.saved)
     }
 
@@ -709,8 +712,9 @@ impl State {
     {
         let runner = &mut self.threads[thread as usize];
         undo.begin(thread, runner);
+        program.keeps_limits();
         undo.change = Change::Owner;
-        undo.object = m;
+        undo.object = m as u8;
         undo.owner = self.owners[m];
         match action {
             MutexAction::Lock | MutexAction::Retake => self.owners[m] = Some(thread),
@@ -747,9 +751,10 @@ impl State {
     {
         let runner = &mut self.threads[thread as usize];
         undo.begin(thread, runner);
+        program.keeps_limits();
         undo.change = Change::Wait;
-        undo.object = c;
-        undo.mutex = m;
+        undo.object = c as u8;
+        undo.mutex = m as u8;
         undo.owner = self.owners[m];
         let (queue, length) = self.queues[c].parts();
         undo.queue = *queue;
@@ -757,7 +762,7 @@ impl State {
         if owns(thread, self.owners[m]) {
             self.owners[m] = None;
             self.queues[c].join(thread);
-            runner.status = Status::Waiting(c);
+            runner.status = Status::Waiting(c as u8);
         } else {
             runner.status = Status::Stopped(Stop::NotHeld);
         }
@@ -785,12 +790,18 @@ impl State {
             IsFree (code_of program.now thread) (thread_at self.new thread) }
     {
         undo.begin(thread, &self.threads[thread as usize]);
+        program.keeps_limits();
         undo.change = Change::Call;
-        undo.object = c;
+        undo.object = c as u8;
         let (queue, length) = self.queues[c].parts();
         undo.queue = *queue;
         undo.length = length;
-        call(&mut self.queues[c], self.threads.as_mut_slice(), c, action);
+        call(
+            &mut self.queues[c],
+            self.threads.as_mut_slice(),
+            c as u8,
+            action,
+        );
         let runner = &mut self.threads[thread as usize];
         resume(program.code(thread), runner, &mut undo.saved)
     }
@@ -817,8 +828,9 @@ impl State {
     {
         let runner = &mut self.threads[thread as usize];
         undo.begin(thread, runner);
+        program.keeps_limits();
         undo.change = Change::Count;
-        undo.object = k;
+        undo.object = k as u8;
         undo.count = self.counts[k];
         match action {
             SemaphoreAction::Acquire => self.counts[k] -= 1,
