@@ -1,6 +1,6 @@
 //! The search of one thread.
 
-ghost use Rattle.std.specs.Prelude.{◌≡◌, ◌≤◌, ◌+◌, false, IfOk, IfErr, OnOk};
+ghost use Rattle.std.specs.Prelude.{◌≡◌, ◌≤◌, false, IfOk, IfErr, OnOk};
 ghost use Rattle.std.specs.Arc.{arc_value};
 ghost use Rattle.book.specs.Books.{opening};
 ghost use Rattle.runner.specs.declared.error.ExploreError.TheVariants.{OutOfMemory};

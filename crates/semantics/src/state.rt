@@ -1,6 +1,6 @@
 //! States of a program, and their steps.
 
-ghost use Rattle.std.specs.Prelude.{◌≡◌, ◌≢◌, ◌<◌, ◌≤◌, ℕ, true, Some, None, length, slice_get, All, IfOk, IfSome, IsTrue, if◌then◌else◌};
+ghost use Rattle.std.specs.Prelude.{◌≡◌, ◌<◌, ◌≤◌, ℕ, true, Some, None, length, slice_get, All, IfOk, IfSome, IsTrue, if◌then◌else◌};
 ghost use Rattle.std.specs.List.{list_any, list_all};
 ghost use Rattle.guest_code.specs.declared.program.Instruction.{Instruction};
 ghost use Rattle.guest_code.specs.Program.{Program, code_of, IsValid, IsValidValue};

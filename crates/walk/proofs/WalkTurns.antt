@@ -81,8 +81,8 @@ back_none mode p t h = record {
 
 -- one step further back
 pub back_further : (mode : Mode) (p : Program) (first old new : Trail) → IsPlace p old
-    → IsBack mode p first old → members_from old.node.todo 0 ≡ [] → old.base < length old.steps.items
-    → IsTrail p new → IsLeft old new
+    → IsBack mode p first old → members_from old.node.todo 0 ≡ []
+    → old.base < length old.steps.items → IsTrail p new → IsLeft old new
     → IsBack mode p first new × (length new.steps.items < length first.steps.items)
 back_further mode p first old new place h done below trail left =
     let w : List ℕ = old.steps.items in

@@ -9,7 +9,7 @@ mod seeker;
 #[cfg(test)]
 mod tests;
 
-ghost use Rattle.std.specs.Prelude.{◌≡◌, ℕ, ◌-◌, ◌^◌, ◌<◌, ◌≤◌, ◌==◌, List, [], ◌∷◌, ◌++◌, length, take, is_ok, IfOk, IfSome, IfNone, All, Some, if◌then◌else◌, option_copied, slice_get, slice_index_or, vec_capacity};
+ghost use Rattle.std.specs.Prelude.{◌≡◌, ℕ, ◌-◌, ◌^◌, ◌<◌, ◌≤◌, ◌==◌, List, [], ◌∷◌, ◌++◌, length, take, is_ok, IfOk, IfSome, IfNone, All, Some, if◌then◌else◌, option_copied, slice_get, vec_capacity};
 ghost use Rattle.walk.specs.PrefixLists.{last_of};
 
 use crate::prefixes::bytes::{put_few, put_way, shared_length, step_back, top};

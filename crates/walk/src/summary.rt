@@ -152,8 +152,8 @@ impl Summary {
         self.join_in_by(&mut EndHints::new(), other)
     }
 
-    /// The same, where hints tell at which index an end view was found in earlier joins. They may be
-    /// wrong.
+    /// The same, where hints tell at which index an end view was found in earlier joins. They may
+    /// be wrong.
     ///
     /// # Errors
     ///

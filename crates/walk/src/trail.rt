@@ -1,6 +1,6 @@
 //! The way from the start of a program to where a walk stands, with what takes each step back.
 
-ghost use Rattle.std.specs.Prelude.{◌≡◌, ◌+◌, ◌-◌, ◌++◌, ◌∷◌, ◌<◌, ◌≤◌, ◌^◌, [], ℕ, true, Some, IfOk, OnOk, IsTrue, length, take};
+ghost use Rattle.std.specs.Prelude.{◌≡◌, ◌+◌, ◌-◌, ◌<◌, ◌≤◌, ◌^◌, true, Some, IfOk, OnOk, IsTrue, length, take};
 ghost use Rattle.semantics.specs.Machine.{start, is_enabled};
 ghost use Rattle.semantics.specs.Mask.{has};
 ghost use Rattle.semantics.specs.Schedules.{runs};

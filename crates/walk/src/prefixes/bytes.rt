@@ -1,5 +1,5 @@
 // The bytes of ways back, from a prefix to the one before it in a list.
-ghost use Rattle.std.specs.Prelude.{◌≡◌, ℕ, ◌+◌, ◌-◌, ◌^◌, ◌<◌, ◌≤◌, List, ◌++◌, length, take, drop, is_ok, OnOk, if◌then◌else◌, vec_len, vec_capacity, IsOk};
+ghost use Rattle.std.specs.Prelude.{◌≡◌, ◌+◌, ◌-◌, ◌<◌, ◌≤◌, ◌++◌, length, take, drop, is_ok, OnOk, if◌then◌else◌, vec_len, vec_capacity, IsOk};
 ghost use Rattle.walk.specs.inner.Packed.{way_bytes, dropped_of, start_of, end_of, number_at, before, head_of, common_length};
 
 use std::alloc::AllocError;

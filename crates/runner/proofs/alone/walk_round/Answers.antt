@@ -12,7 +12,8 @@ walk_item-requires-clause-item c =
     let at : item ≡ get_or items j item = search rules in
     let lt : j < length items = search rules in
     let l =
-    last_at b.open_items items (length b.open_items - 64) j item c.in_ok-items.ensures.items lt at in
+    last_at b.open_items items (length b.open_items - 64) j item c.in_ok-items.ensures.items
+    lt at in
     of_book b c.open_length-open.ensures.kept (length b.open_items - 64 + j) item l.0 l.1
     ∙ c.requires.book ∙ sym c.loop-item.invariant.walker
 
@@ -25,7 +26,8 @@ loop-item-preserved c =
     let at : item ≡ get_or items j item = search rules in
     let lt : j < length items = search rules in
     let l =
-    last_at b.open_items items (length b.open_items - 64) j item c.in_ok-items.ensures.items lt at in
+    last_at b.open_items items (length b.open_items - 64) j item c.in_ok-items.ensures.items
+    lt at in
     let less =
     round_less b c.loop-item.book c.walk_item.new.book item j c.loop-item.invariant.start
     c.loop-item.invariant.less c.in_ok-walk_item.ensures.book

@@ -6,7 +6,8 @@ use Rattle.walk.proofs.TrailSteps.{trail_entered}
 use Rattle.walk.proofs.trail.Trail.enter.Goals as goal
 
 pub after-self-requires-clause-enabled : goal.after-self-requires-clause-enabled
-after-self-requires-clause-enabled c = c.requires.trail.node.enabled c.args.thread ∙ c.requires.enabled
+after-self-requires-clause-enabled c =
+    c.requires.trail.node.enabled c.args.thread ∙ c.requires.enabled
 
 pub after-self-requires-clause-few : goal.after-self-requires-clause-few
 after-self-requires-clause-few c =

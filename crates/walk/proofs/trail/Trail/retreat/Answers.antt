@@ -9,8 +9,13 @@ pub loop-going-init : goal.loop-going-init
 loop-going-init c = record {
   back = back_none c.args._mode c.args.program.now c.args.self.now c.requires.place;
   done = λ e. c.requires.done;
-  below = λ e. omega
-      (arith, c.len.ensures, c.if-len-self.false, c.requires.place.base, c.args.self.now.steps.ok.0);
+  below = λ e. omega (
+    arith,
+    c.len.ensures,
+    c.if-len-self.false,
+    c.requires.place.base,
+    c.args.self.now.steps.ok.0,
+  );
   further = λ e. absurd (cc);
 }
 
