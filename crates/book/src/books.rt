@@ -21,6 +21,7 @@ use walk::hints::EndHints;
 use walk::item::Item;
 use walk::limits::BOUND;
 use walk::mode::Mode;
+use walk::spare::Spare;
 use walk::summary::Summary;
 use walk::walked::{Parts, Walked};
 
@@ -316,16 +317,17 @@ impl Book {
         if !same_modes(self.mode, walked.mode()) || !self.program.is_same(walked.program()) {
             return Err(SettleError::Stranger);
         }
-        self.settle_own(alloc, walked)
+        let _spare = self.settle_own(alloc, walked)?;
+        Ok(())
     }
 
     /// The same where the walk is known to be of the book's program and mode: no program is
-    /// compared.
+    /// compared. Answers the walk's memory, for a later walk.
     ///
     /// # Errors
     ///
     /// As those of `settle`, but for `Stranger`.
-    pub fn settle_own(&mut self, alloc: Global, walked: Walked) -> Result<(), SettleError>
+    pub fn settle_own(&mut self, alloc: Global, walked: Walked) -> Result<Spare, SettleError>
         requires { IsWalkOf self.old walked }
         ensures ok { OnOk result (Settles self.old walked self.new) }
         ensures err { IfErr result (λ e. (self.new ≡ self.old) × IsRefused self.old walked e) }
@@ -334,14 +336,19 @@ impl Book {
             return Err(SettleError::NotOpen);
         };
         match self.take_over(alloc, walked, place) {
-            Ok(()) => Ok(()),
+            Ok(spare) => Ok(spare),
             Err(AllocError) => Err(SettleError::OutOfMemory),
         }
     }
 
     // The same where the item is at a place among the open ones. The lists grow first; then the
     // part is joined, which is the last that can be refused, and the item is taken out.
-    fn take_over(&mut self, alloc: Global, walked: Walked, place: usize) -> Result<(), AllocError>
+    fn take_over(
+        &mut self,
+        alloc: Global,
+        walked: Walked,
+        place: usize,
+    ) -> Result<Spare, AllocError>
         requires of { IsWalkOf self.old walked }
         requires is_open { IsOpenAt self.old walked.item place }
         ensures { self.new ≡ (if is_ok result then settled self.old walked place else self.old) }
@@ -356,25 +363,28 @@ impl Book {
         let Parts {
             part,
             rest,
-            deferred,
+            mut deferred,
         } = walked.into_parts();
         let open_length = self.open_items.length();
         self.open_items.append(rest)?;
         if let Err(error) = self
             .deferred
-            .append_prefixes(alloc, &self.program, deferred, packs)
+            .append_prefixes(alloc, &self.program, &mut deferred, packs)
         {
             self.open_items.truncate(open_length);
             return Err(error);
         }
-        if let Err(error) = self.finished.join_in_by(&mut self.hints, part) {
-            self.open_items.truncate(open_length);
-            self.deferred.truncate(deferred_length);
-            return Err(error);
-        }
+        let ends = match self.finished.join_in_by(&mut self.hints, part) {
+            Ok(ends) => ends,
+            Err(error) => {
+                self.open_items.truncate(open_length);
+                self.deferred.truncate(deferred_length);
+                return Err(error);
+            }
+        };
         self.open_items.remove(place);
         self.swept = both(self.swept, quiet);
-        Ok(())
+        Ok(Spare { ends, deferred })
     }
 
     /// Goes from a bound to the next: what is finished stays, `beyond` aside, and the items that

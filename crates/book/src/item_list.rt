@@ -195,7 +195,8 @@ impl ItemList {
         self.loose.append(&mut items)
     }
 
-    // Puts the items of prefixes after the others, packed or as they are.
+    // Puts the items of prefixes after the others, packed or as they are. The list of prefixes may
+    // be left with any of them.
     //
     // # Errors
     //
@@ -204,20 +205,20 @@ impl ItemList {
         &mut self,
         alloc: Global,
         program: &Arc<Program>,
-        mut prefixes: Prefixes,
+        prefixes: &mut Prefixes,
         packs: bool,
     ) -> Result<(), AllocError>
-        requires { All IsItem (items_at (arc_value program.now) prefixes) }
+        requires { All IsItem (items_at (arc_value program.now) prefixes.old) }
         ensures all { all_of (arc_value program.now) self.new ≡ (if is_ok result
             then all_of (arc_value program.now) self.old
-            ++ items_at (arc_value program.now) prefixes
+            ++ items_at (arc_value program.now) prefixes.old
             else all_of (arc_value program.now) self.old) }
         ensures packed { packs ≡ false → self.new.packed ≡ self.old.packed }
     {
         if packs && self.loose.is_empty() {
-            return self.packed.append(&mut prefixes);
+            return self.packed.append(prefixes);
         }
-        let items = last_items(alloc, program, &prefixes, prefixes.length())?;
+        let items = last_items(alloc, program, prefixes, prefixes.length())?;
         self.append(items)
     }
 

@@ -71,7 +71,8 @@ fn walk_item(
     }
     let walked = walker.walk(alloc, item, book.mode(), quota)?;
     match book.settle_own(alloc, walked) {
-        Ok(()) => {
+        Ok(spare) => {
+            walker.reuse(spare);
             let _number = book.drop_later();
             Ok(())
         }

@@ -22,6 +22,7 @@ use std::thread;
 use std::thread::Threads;
 use walk::item::Item;
 use walk::mode::Mode;
+use walk::spare::Spare;
 use walk::walked::Walked;
 use walk::walker::Walker;
 
@@ -79,6 +80,13 @@ pub(crate) struct Worker {
     pub ending: Ending,
 }
 
+/// The walks of a worker that are not settled yet, and the memory of some that are.
+#[derive(Drop)]
+struct Kept {
+    walks: VecDeque<Walked>,
+    spares: Vec<Spare>,
+}
+
 impl Worker {
     // Whether a quick search leaves an item out for now: one that comes before it, in the order of
     // schedules, has a bad schedule.
@@ -110,11 +118,25 @@ impl Worker {
         ensures seated { IsSeated round.now self.new }
         ensures stopped { result ≡ Stopped → G.stops gate.now ≡ true }
     {
-        let mut walks = VecDeque::new(alloc);
-        let ending = self.walk_items(rt, alloc, gate, round, &mut walks);
-        match settle_all(rt, alloc, round, &mut walks) {
+        let mut kept = Kept {
+            walks: VecDeque::new(alloc),
+            spares: Vec::new(alloc),
+        };
+        let ending = self.walk_items(rt, alloc, gate, round, &mut kept);
+        let settled = settle_all(rt, alloc, round, &mut kept);
+        self.take_back(&mut kept.spares);
+        match settled {
             Ok(()) => ending,
             Err(AllocError) => Ending::OutOfMemory,
+        }
+    }
+
+    // Takes the memory of settled walks back, for later ones.
+    fn take_back(&mut self, spares: &mut Vec<Spare>)
+        ensures { self.new ≡ self.old }
+    {
+        while let Some(spare) = spares.pop() {
+            self.walker.reuse(spare);
         }
     }
 
@@ -151,15 +173,15 @@ impl Worker {
         alloc: Global,
         gate: &G,
         round: &Round,
-        walks: &mut VecDeque<Walked>,
+        kept: &mut Kept,
     ) -> Ending
         requires round { IsRound round.now }
         requires seated { IsSeated round.now self.old }
         requires walks { All (IsWalkIn (arc_value round.now.program) round.now.mode)
-            walks.old.items }
+            kept.old.walks.items }
         ensures seated { IsSeated round.now self.new }
         ensures walks { All (IsWalkIn (arc_value round.now.program) round.now.mode)
-            walks.new.items }
+            kept.new.walks.items }
         ensures stopped { result ≡ Stopped → G.stops gate.now ≡ true }
     {
         for _ in rt.forever() {
@@ -173,6 +195,7 @@ impl Worker {
             if gate.before(self.number, k) == Answer::Stop {
                 return Ending::Stopped;
             }
+            self.take_back(&mut kept.spares);
             let Ok(walked) = self.walker.walk(alloc, item, round.mode, round.quota) else {
                 return Ending::OutOfMemory;
             };
@@ -181,7 +204,7 @@ impl Worker {
             let is_kept = if is_told {
                 self.settle_bad(rt, alloc, round, item, walked).is_ok()
             } else {
-                keep(rt, alloc, round, walks, walked).is_ok()
+                keep(rt, alloc, round, kept, walked).is_ok()
             };
             if !is_kept {
                 return Ending::OutOfMemory;
@@ -200,18 +223,19 @@ fn keep<R: Wait>(
     rt: &R,
     alloc: Global,
     round: &Round,
-    walks: &mut VecDeque<Walked>,
+    kept: &mut Kept,
     walked: Walked,
 ) -> Result<(), AllocError>
-    requires walks { All (IsWalkIn (arc_value round.now.program) round.now.mode) walks.old.items }
+    requires walks { All (IsWalkIn (arc_value round.now.program) round.now.mode)
+        kept.old.walks.items }
     requires walked { IsWalkIn (arc_value round.now.program) round.now.mode walked }
-    ensures { All (IsWalkIn (arc_value round.now.program) round.now.mode) walks.new.items }
+    ensures { All (IsWalkIn (arc_value round.now.program) round.now.mode) kept.new.walks.items }
 {
-    walks.push_back(walked)?;
-    if walks.len() < KEPT_WALKS {
+    kept.walks.push_back(walked)?;
+    if kept.walks.len() < KEPT_WALKS {
         return Ok(());
     }
-    settle_all(rt, alloc, round, walks)
+    settle_all(rt, alloc, round, kept)
 }
 
 // Settles walks of a round under one lock, in their order.
@@ -223,16 +247,16 @@ fn settle_all<R: Wait>(
     rt: &R,
     alloc: Global,
     round: &Round,
-    walks: &mut VecDeque<Walked>,
+    kept: &mut Kept,
 ) -> Result<(), AllocError>
-    requires { All (IsWalkIn (arc_value round.now.program) round.now.mode) walks.old.items }
-    ensures { All (IsWalkIn (arc_value round.now.program) round.now.mode) walks.new.items }
+    requires { All (IsWalkIn (arc_value round.now.program) round.now.mode) kept.old.walks.items }
+    ensures { All (IsWalkIn (arc_value round.now.program) round.now.mode) kept.new.walks.items }
 {
-    if walks.is_empty() {
+    if kept.walks.is_empty() {
         return Ok(());
     }
     let mut book = round.book.lock(rt);
-    settle_in(alloc, &mut book, &round.program, round.mode, walks)
+    settle_in(alloc, &mut book, &round.program, round.mode, kept)
 }
 
 // Settles walks in a book, in their order. They are given up where the book is of another program
@@ -242,17 +266,17 @@ fn settle_in(
     book: &mut Book,
     program: &Program,
     mode: Mode,
-    walks: &mut VecDeque<Walked>,
+    kept: &mut Kept,
 ) -> Result<(), AllocError>
-    requires { All (IsWalkIn program.now mode) walks.old.items }
-    ensures { All (IsWalkIn program.now mode) walks.new.items }
+    requires { All (IsWalkIn program.now mode) kept.old.walks.items }
+    ensures { All (IsWalkIn program.now mode) kept.new.walks.items }
 {
     if !is_in(book, program, mode) {
-        walks.clear();
+        kept.walks.clear();
         return Ok(());
     }
-    while let Some(walked) = walks.pop_front() {
-        settle_own(alloc, book, walked)?;
+    while let Some(walked) = kept.walks.pop_front() {
+        settle_own(alloc, book, &mut kept.spares, walked)?;
     }
     Ok(())
 }
@@ -264,8 +288,14 @@ fn is_in(book: &Book, program: &Program, mode: Mode) -> bool
     book.mode() == mode && book.program().is_same(program)
 }
 
-// Settles a walk in a book of its program and mode. It is given up where its item isn't open.
-fn settle_own(alloc: Global, book: &mut Book, walked: Walked) -> Result<(), AllocError>
+// Settles a walk in a book of its program and mode, and keeps its memory. It is given up where its
+// item isn't open.
+fn settle_own(
+    alloc: Global,
+    book: &mut Book,
+    spares: &mut Vec<Spare>,
+    walked: Walked,
+) -> Result<(), AllocError>
     requires { IsWalkOf book.old walked }
     ensures program { book.new.program ≡ book.old.program }
     ensures mode { book.new.mode ≡ book.old.mode }
@@ -274,7 +304,10 @@ fn settle_own(alloc: Global, book: &mut Book, walked: Walked) -> Result<(), Allo
         Err(SettleError::OutOfMemory) => Err(AllocError),
         Err(SettleError::NotOpen) => Ok(()),
         Err(SettleError::Stranger) => Ok(()),
-        Ok(()) => Ok(()),
+        Ok(spare) => {
+            let _ = spares.push(spare);
+            Ok(())
+        }
     }
 }
 

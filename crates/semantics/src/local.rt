@@ -1,11 +1,14 @@
 //! Expressions, and the instructions that a thread runs by itself.
 
-ghost use Rattle.std.specs.Prelude.{◌≡◌, ◌<◌, ◌≤◌, ◌+◌, length, IsTrue, IsFalse};
+ghost use Rattle.std.specs.Prelude.{◌≡◌, ◌<◌, ◌≤◌, ◌+◌, ℕ, length, IsTrue};
 ghost use Rattle.guest_code.specs.Program.{Program, IsValidCode, IsValidValue, IsValidExpression};
 ghost use Rattle.semantics.specs.Machine.{value_of_operand, of_both, value_of_expression, is_zero, run_from, run_past, resumed, var_after, reader_after, is_expected};
 ghost use Rattle.semantics.specs.Reachable.{IsValidAccess};
 ghost use Rattle.semantics.specs.Undoing.{restored};
-ghost use Rattle.semantics.specs.inner.Recording.{IsFree};
+ghost use Rattle.semantics.specs.inner.Recording.{IsFree, HasRun};
+ghost use Rattle.semantics.specs.declared.local.Turn.TheVariants.{On};
+ghost use Rattle.semantics.specs.declared.state.Status.TheVariants.{Running};
+ghost use Rattle.semantics.specs.declared.state.Thread.{Thread};
 ghost use Rattle.semantics.specs.declared.state.VariableAction.TheVariants.{Add as Adds, Cas as Swaps};
 
 use crate::state::{Status, Stop, Thread, VariableAction};
@@ -128,87 +131,104 @@ fn is_zero_at(locals: &[i64; LOCALS], expression: &Expression) -> bool
     expression_at(locals, expression) == 0
 }
 
-// Passes the instruction where the thread is, and so many after it, if so many are left.
-fn pass(code: &[Instruction], thread: &mut Thread, skip: usize)
-    requires pc { thread.old.pc < length code.now }
-    ensures pc { thread.new.pc ≤ length code.now }
-    ensures further { thread.old.pc < thread.new.pc }
-    ensures locals { thread.new.locals ≡ thread.old.locals }
-    ensures run { run_from code.now thread.new ≡ run_past code.now thread.old skip }
+// The instruction after this one and so many more, or the end of the code where fewer are left.
+#[inline(always)]
+fn passed(code: &[Instruction], pc: usize, skip: usize) -> usize
+    requires { pc < length code.now }
+    ensures pc { result ≤ length code.now }
+    ensures further { pc < result }
+    ensures run { (th : Thread) → run_from code.now (record th { pc = result })
+        ≡ run_past code.now (record th { pc = pc }) skip }
 {
-    let next = thread.pc + 1;
-    thread.pc = next + skip.min(code.len() - next);
+    let next = pc + 1;
+    next + skip.min(code.len() - next)
 }
 
-// One instruction of a local run. False where the run is over.
+/// How an instruction leaves a local run.
+#[derive(Clone, Copy, Debug, PartialEq, Eq)]
+pub enum Turn {
+    /// The run goes on at the instruction of this number.
+    On(usize),
+    /// The thread is at a visible statement that no object holds up.
+    Free,
+    /// It is at one that an object may hold up, or its run is over.
+    Over,
+}
+
+// A local run comes to this instruction, and carries it out where it is the thread's own.
 #[inline(always)]
-fn turn(code: &[Instruction], thread: &mut Thread, saved: &mut Saved) -> bool
+fn take_turn(code: &[Instruction], pc: usize, thread: &mut Thread, saved: &mut Saved) -> Turn
     requires fine { (p : Program) × IsValidCode p code.now }
-    requires pc { thread.old.pc ≤ length code.now }
+    requires pc { pc ≤ length code.now }
+    requires running { thread.old.status ≡ Running }
     requires few { saved.old.count ≤ LOCALS }
-    ensures pc { thread.new.pc ≤ length code.now }
-    ensures further { IsTrue result → thread.old.pc < thread.new.pc }
-    ensures same { IsTrue result → run_from code.now thread.new ≡ run_from code.now thread.old }
-    ensures over { IsFalse result → thread.new ≡ run_from code.now thread.old }
+    ensures run { HasRun result code.now (run_from code.now (record thread.old { pc = pc }))
+        thread.new }
+    ensures further { (n : ℕ) → result ≡ On n → pc < n }
     ensures few { saved.new.count ≤ LOCALS }
     ensures kept { restored saved.new thread.new.locals ≡ restored saved.old thread.old.locals }
 {
-    if thread.pc >= code.len() {
+    if pc >= code.len() {
+        thread.pc = pc;
         thread.status = Status::Ended;
-        return false;
+        return Turn::Over;
     }
-    match &code[thread.pc] {
+    match &code[pc] {
         Instruction::Set { local, value } => {
             let value = expression_at(&thread.locals, value);
             put(thread, saved, *local, value);
-            thread.pc += 1;
-            true
+            Turn::On(pc + 1)
         }
         Instruction::Assert(e) => {
             if is_zero_at(&thread.locals, e) {
+                thread.pc = pc;
                 thread.status = Status::Stopped(Stop::Assert);
-                return false;
+                return Turn::Over;
             }
-            thread.pc += 1;
-            true
+            Turn::On(pc + 1)
         }
         Instruction::SkipIfZero(e, n) => {
             let skip = if is_zero_at(&thread.locals, e) { *n } else { 0 };
-            pass(code, thread, skip);
-            true
+            Turn::On(passed(code, pc, skip))
         }
-        Instruction::Skip(n) => {
-            pass(code, thread, *n);
-            true
+        Instruction::Skip(n) => Turn::On(passed(code, pc, *n)),
+        Instruction::Lock(_) | Instruction::Acquire(_) => {
+            thread.pc = pc;
+            Turn::Over
         }
         Instruction::Load { .. }
         | Instruction::Store { .. }
         | Instruction::Add { .. }
         | Instruction::Cas { .. }
-        | Instruction::Lock(_)
         | Instruction::Unlock(_)
         | Instruction::Wait { .. }
         | Instruction::Signal(_)
         | Instruction::Broadcast(_)
-        | Instruction::Acquire(_)
-        | Instruction::Release(_) => false,
+        | Instruction::Release(_) => {
+            thread.pc = pc;
+            Turn::Free
+        }
     }
 }
 
-/// Runs a thread's own instructions, up to a visible statement, the end or a failed assertion.
+/// Runs a thread's own instructions, up to a visible statement, the end or a failed assertion. The
+/// answer is true where it is at a statement then that no object holds up.
 #[inline(never)]
-pub fn run_on(code: &[Instruction], thread: &mut Thread, saved: &mut Saved)
+pub fn run_on(code: &[Instruction], thread: &mut Thread, saved: &mut Saved) -> bool
     requires fine { (p : Program) × IsValidCode p code.now }
     requires pc { thread.old.pc ≤ length code.now }
+    requires running { thread.old.status ≡ Running }
     requires few { saved.old.count ≤ LOCALS }
     ensures value { thread.new ≡ run_from code.now thread.old }
     ensures few { saved.new.count ≤ LOCALS }
     ensures kept { restored saved.new thread.new.locals ≡ restored saved.old thread.old.locals }
+    ensures free { IsTrue result → IsFree code.now thread.new }
 {
-    let mut running = true;
-    while running {
-        running = turn(code, thread, saved);
+    let mut turned = Turn::On(thread.pc);
+    while let Turn::On(pc) = turned {
+        turned = take_turn(code, pc, thread, saved);
     }
+    turned == Turn::Free
 }
 
 /// After its visible statement a thread runs on. The answer is true where it is at a statement then
@@ -243,9 +263,6 @@ pub fn resume(code: &[Instruction], thread: &mut Thread, saved: &mut Saved) -> b
         Instruction::Set { .. }
         | Instruction::Assert(_)
         | Instruction::SkipIfZero(_, _)
-        | Instruction::Skip(_) => {
-            run_on(code, thread, saved);
-            false
-        }
+        | Instruction::Skip(_) => run_on(code, thread, saved),
     }
 }

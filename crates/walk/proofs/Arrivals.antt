@@ -1,5 +1,5 @@
 -- What arriving at a node does to a walk: the node gives way to its children, or is tried.
-use Rattle.std.proofs.Common.{◌≡◌, ℕ, ◌+◌, ◌-◌, ◌<◌, ◌≤◌, true, false, ◌&&◌, ◌||◌, not, List, [], ◌∷◌, ◌++◌, length, map, ap, ◌∙◌, sym, arith, subst, min, take, reverse}
+use Rattle.std.proofs.Common.{◌≡◌, ℕ, ◌+◌, ◌-◌, ◌≤◌, true, false, ◌&&◌, ◌||◌, not, List, [], ◌∷◌, ◌++◌, length, map, ap, ◌∙◌, sym, arith, subst, min, take, reverse}
 use Rattle.std.specs.List.{filter}
 use Rattle.std.proofs.lemmas.List.{length_push}
 use Rattle.guest_code.specs.Program.{Program}
@@ -20,7 +20,7 @@ use Rattle.walk.specs.Walks.{IsWalked}
 use Rattle.walk.specs.inner.SubtreeInvariant.{added}
 use Rattle.walk.specs.inner.Children.{state_of, IsWithin, is_kept_step, kept_steps, past_steps, passes_bound, child_of, children_of, children, past_children, mask_after, cost_of, costs}
 use Rattle.walk.specs.inner.Paths.{IsNode, IsTrail, IsEntered}
-use Rattle.walk.specs.inner.WalkerInvariant.{item_of, here, open_above, left_above, still_open, turns_left, is_kept_at, is_past_at, IsWithinAt, IsPlace, IsSearch, IsShared}
+use Rattle.walk.specs.inner.WalkerInvariant.{item_of, here, open_above, left_above, still_open, turns_left, turns_from, is_kept_at, is_past_at, IsWithinAt, IsPlace, IsSearch, IsShared}
 use Rattle.walk.proofs.SharedSteps.{shared_same, shared_kept, shared_entered}
 use Rattle.walk.proofs.TrailSteps.{trail_same}
 use Rattle.walk.proofs.WalkTurns.{step_enabled, open_entered, kept_members, past_members, node_enabled, deferred_are}
@@ -76,7 +76,7 @@ open_opened mode p old new h o kept =
 state_here : (p : Program) (t : Trail) → IsTrail p t → t.state ≡ state_of (here p t)
 state_here p t h = h.node.reaches.state
 
-here_of : (p : Program) (t : Trail) → IsTrail p t → IsOf p (state_of (here p t))
+pub here_of : (p : Program) (t : Trail) → IsTrail p t → IsOf p (state_of (here p t))
 here_of p t h = subst (IsOf p) (state_here p t h) h.state
 
 -- something is enabled, or nothing is
@@ -98,7 +98,39 @@ none_kept mode p t h e =
     ap (λ (ts : List ℕ). children_of mode (here p t) (filter (is_kept_step mode (here p t)) ts))
     (sym (node_enabled p t.steps.items t.state t.node h.node h.state) ∙ e)
 
--- a node where something is enabled
+-- a node where something is enabled gives way to its children
+pub put_off : (mode : Mode) (i : ItemView) (t : Trail) (f g : Found) (past : Mask) →
+    IsSearch mode i t f (here i.program t ∷ left_above mode i.program t) →
+    is_terminal i.program (state_of (here i.program t)) ≡ false →
+    ((u : ℕ) → has past u ≡ (has t.node.enabled u && is_past_at mode t.node u)) →
+    g.part ≡ with_beyond f.part (f.part.beyond || not (is_empty (members_from past 0))) →
+    g.deferred ≡ f.deferred ++ map (λ u. t.steps.items ++ u ∷ []) (members_from past 0) →
+    IsWalked (walk_of mode i g.part
+    (children mode (here i.program t) ++ left_above mode i.program t)
+    (map (item_at i.program) g.deferred))
+put_off mode i t f g past h more passed part deferred =
+    let p : Program = i.program in
+    let c : ItemView = here p t in
+    let members : members_from past 0 ≡ past_steps mode c =
+    past_members mode p t.steps.items t.state t.node past h.place.trail.node
+    h.place.trail.state passed in
+    let walked = walked_node mode i c f.part (left_above mode p t) (map (item_at p) f.deferred)
+    (here_of p t h.place.trail) more h.walked in
+    let part_is : g.part ≡ with_beyond f.part (f.part.beyond || passes_bound mode c) =
+    part ∙ ap (λ (ts : List ℕ). with_beyond f.part (f.part.beyond || not (is_empty ts))) members in
+    let deferred_is : map (item_at p) g.deferred
+    ≡ map (item_at p) f.deferred ++ past_children mode c =
+    ap (map (item_at p)) (deferred ∙ ap (λ (ts : List ℕ). f.deferred
+    ++ map (λ u. t.steps.items ++ u ∷ []) ts) members)
+    ∙ deferred_are mode c f.deferred in
+    subst (λ (s : SummaryView). IsWalked
+    (walk_of mode i s (children mode c ++ left_above mode p t) (map (item_at p) g.deferred)))
+    (sym part_is)
+    (subst (λ (ds : List ItemView). IsWalked
+    (walk_of mode i (with_beyond f.part (f.part.beyond || passes_bound mode c))
+    (children mode c ++ left_above mode p t) ds))
+    (sym deferred_is) walked)
+
 pub arrived_node : (mode : Mode) (i : ItemView) (old new : Trail) (f g : Found) (past : Mask)
     (u : ℕ) (us : List ℕ) →
     IsSearch mode i old f (here i.program old ∷ left_above mode i.program old) → IsOpened old new →
@@ -110,31 +142,13 @@ pub arrived_node : (mode : Mode) (i : ItemView) (old new : Trail) (f g : Found) 
     IsShared old.steps.items g → IsSearch mode i new g (still_open mode i.program new)
 arrived_node mode i old new f g past u us h o kept passed e part deferred shared =
     let p : Program = i.program in
-    let c : ItemView = here p old in
-    let members : members_from past 0 ≡ past_steps mode c =
-    past_members mode p old.steps.items old.state old.node past h.place.trail.node
-    h.place.trail.state passed in
-    let walked = walked_node mode i c f.part (left_above mode p old) (map (item_at p) f.deferred)
-    (here_of p old h.place.trail) (here_goes_on p old u us h.place.trail e) h.walked in
-    let part_is : g.part ≡ with_beyond f.part (f.part.beyond || passes_bound mode c) =
-    part ∙ ap (λ (ts : List ℕ). with_beyond f.part (f.part.beyond || not (is_empty ts))) members in
-    let deferred_is : map (item_at p) g.deferred
-    ≡ map (item_at p) f.deferred ++ past_children mode c =
-    ap (map (item_at p)) (deferred ∙ ap (λ (ts : List ℕ). f.deferred
-    ++ map (λ t. old.steps.items ++ t ∷ []) ts) members)
-    ∙ deferred_are mode c f.deferred in
     record {
       place = place_opened p old new h.place o;
-      walked = subst (λ (s : SummaryView). IsWalked
-          (walk_of mode i s (still_open mode p new) (map (item_at p) g.deferred))) (sym part_is)
-          (subst (λ (rs : List ItemView). IsWalked
-          (walk_of mode i (with_beyond f.part (f.part.beyond || passes_bound mode c)) rs
-          (map (item_at p) g.deferred)))
+      walked = subst (λ (rs : List ItemView). IsWalked
+          (walk_of mode i g.part rs (map (item_at p) g.deferred)))
           (sym (open_opened mode p old new h.place o kept))
-          (subst (λ (ds : List ItemView). IsWalked
-          (walk_of mode i (with_beyond f.part (f.part.beyond || passes_bound mode c))
-          (children mode c ++ left_above mode p old) ds))
-          (sym deferred_is) walked));
+          (put_off mode i old f g past h (here_goes_on p old u us h.place.trail e) passed part
+          deferred);
       shared = shared_same old.steps.items new.steps.items g shared o.steps;
     }
 
@@ -176,9 +190,8 @@ pub falls_node : (mode : Mode) (p : Program) (old new : Trail) (u : ℕ) (us : L
     → IsPlace p old → IsOpened old new →
     ((t : ℕ) → has new.node.todo t ≡ (has old.node.enabled t && is_kept_at mode old.node t)) →
     members_from old.node.enabled 0 ≡ u ∷ us →
-    turns_left mode p new + 2 ≤ cost_of (here p old) + costs (left_above mode p old) + length
-    old.steps.items
-unfolding turns_left
+    turns_left mode p new + 2 ≤ turns_from mode p old
+unfolding turns_left turns_from
 falls_node mode p old new u us h o kept e =
     let a = ap costs (open_opened mode p old new h o kept) ∙ costs-append
     (children mode (here p old)) (left_above mode p old) in
@@ -190,9 +203,8 @@ falls_node mode p old new u us h o kept e =
 pub falls_leaf : (mode : Mode) (p : Program) (old new : Trail) → IsPlace p old → IsOpened old new →
     ((t : ℕ) → has new.node.todo t ≡ (has old.node.enabled t && is_kept_at mode old.node t)) →
     members_from old.node.enabled 0 ≡ [] →
-    turns_left mode p new + 2 ≤ cost_of (here p old) + costs (left_above mode p old) + length
-    old.steps.items
-unfolding turns_left
+    turns_left mode p new + 2 ≤ turns_from mode p old
+unfolding turns_left turns_from
 falls_leaf mode p old new h o kept e =
     let a = ap costs (open_opened mode p old new h o kept ∙
     ap (λ (cs : List ItemView). cs ++ left_above mode p old) (none_kept mode p old h.trail e))
@@ -241,17 +253,16 @@ entered_search mode i old new f u asleep h trail e mask =
       shared = shared_entered old.steps.items new.steps.items u f h.shared e.steps;
     }
 
--- how far there was to go
-pub entered_cost : (mode : Mode) (p : Program) (old new : Trail) (u n : ℕ) (asleep : Mask)
+-- how far there is to go from there
+pub entered_turns : (mode : Mode) (p : Program) (old new : Trail) (u : ℕ) (asleep : Mask)
     → IsPlace p old →
     IsEntered old new u asleep → asleep ≡ mask_after mode (here p old) u →
-    n + 2 ≤ cost_of (here p new) + costs (left_above mode p new) + length new.steps.items →
-    n < cost_of (child_of mode (here p old) u) + turns_left mode p old
-unfolding turns_left
-entered_cost mode p old new u n asleep h e mask l =
+    turns_from mode p new ≡ cost_of (child_of mode (here p old) u) + turns_left mode p old + 1
+unfolding turns_left turns_from
+entered_turns mode p old new u asleep h e mask =
     let same : here p new ≡ child_of mode (here p old) u =
     λ k. record { program = p; prefix = e.steps k; mask = (e.sleepers ∙ mask) k } in
     let a = ap cost_of same in
     let b = ap costs (open_entered mode p old new u asleep h e) in
     let k = ap length e.steps ∙ length_push old.steps.items u in
-    omega (arith, l, a, b, k)
+    omega (arith, a, b, k)

@@ -21,4 +21,5 @@ pub mod WalkedFurther
 pub mod WalkTurns
 pub mod WalkSteps
 pub mod Arrivals
+pub mod LoneSteps
 pub mod Walks

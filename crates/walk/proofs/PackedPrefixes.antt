@@ -1,6 +1,6 @@
 -- How a stack of schedules grows, shrinks, and goes on top of another.
 use Rattle.std.proofs.Common.{◌≡◌, ℕ, suc, ◌+◌, ◌-◌, ◌^◌, ◌<◌, ◌≤◌, List, [], ◌∷◌, ◌++◌, length, take, drop, refl, sym, ◌∙◌, ap, arith, append_assoc, length-append, length-take, length-drop, zero, inl, inr, Result, Ok, Err, cond, is_ok, OnOk, IsOk, Some, slice_get, slice_index_or, subst, ⊎_elim, min, true, false, nat_lt, set, get_or, length-set}
-use Rattle.std.proofs.lemmas.List.{append-nil, take_at, length_push, take-append-drop, get_or_push, take_rest, take-take, take_all, take_more, take_more_set, drop_at}
+use Rattle.std.proofs.lemmas.List.{append-nil, take_at, length_push, take-append-drop, get_or_push, take_rest, take-take, take_all, take_more, take_more_set, drop_at, drop_all, drop-take, drop-append-le, take-append-le}
 use Rattle.std.proofs.lemmas.Bool.{cases_lt}
 use Rattle.walk.specs.inner.Packed.{Way, IsPacked, way_bytes, ways_bytes, first_by, AreWays, IsStack, back, listed, before, below_of, tail_of, start_of, end_of, dropped_of, head_of, common_length}
 use Rattle.walk.specs.PrefixLists.{last_of}
@@ -313,6 +313,12 @@ set_last w k x one =
     sym (take_all (k + 1) (set w k x) (omega (arith, one, length-set w k x)))
     ∙ take_more_set w k x (omega (arith, one))
 
+-- two bytes, one after the other
+pub pushed_two : (b : List ℕ) (x y : ℕ) (c d : List ℕ) → c ≡ b ++ x ∷ [] → d ≡ c ++ y ∷ []
+    → d ≡ b ++ x ∷ y ∷ []
+pushed_two b x y c d e f =
+    f ∙ (ap (λ (w : List ℕ). w ++ y ∷ []) e ∙ append_assoc b (x ∷ []) (y ∷ []))
+
 -- the way back to a schedule that differs in its last step
 small_bytes : (x : ℕ) → x ∷ 17 ∷ [] ≡ way_bytes 1 (x ∷ [])
 unfolding way_bytes
@@ -374,10 +380,6 @@ last_of_listed n b last more =
     rw (listed_more n b last more)
     (get_or_push (listed (n - 1) (below_of b) (before b last)) last [] _
     (omega (arith, length_push (listed (n - 1) (below_of b) (before b last)) last)))
-
--- a list that has none counts none
-pub no_count : (n : ℕ) (b last : List ℕ) → listed n b last ≡ [] → n ≡ 0
-no_count n b last e = omega (arith, length-listed n b last, ap length e)
 
 -- a prefix is what it shares with the last one, and what comes after
 pub taken_after : (p : List (List ℕ)) (last prefix : List ℕ) (k : ℕ) → last_of p ≡ last
@@ -577,3 +579,74 @@ pub packed_few : (n : ℕ) (b last first : List ℕ) (l : ℕ) → IsPacked n b 
     n ≤ length b + 1
 packed_few n b last first l (inl e) = omega (arith, e)
 packed_few n b last first l (inr s) = stack_count n b last first l s
+
+-- the list that bytes, of which so many at the front are the first prefix, and the last prefix hold
+pub record Holds (n front : ℕ) (bytes last : List ℕ) (l : ℕ) (all : List (List ℕ)) : Type 0 where
+  pub within : front ≤ length bytes
+  pub packed : IsPacked n (drop front bytes) last (take front bytes) l
+  pub view : listed n (drop front bytes) last ≡ all
+
+pub counted_few : (n front : ℕ) (bytes last : List ℕ) (l : ℕ) →
+    IsPacked n (drop front bytes) last (take front bytes) l → n ≤ length bytes + 1
+counted_few n front bytes last l packed =
+    omega (
+      arith,
+      packed_few n (drop front bytes) last (take front bytes) l packed,
+      length-drop front bytes,
+    )
+
+-- bytes after the others leave the first prefix as it is
+pub grown_after : (n front : ℕ) (b w c top : List ℕ) (m : ℕ) (all : List (List ℕ)) →
+    front ≤ length b → c ≡ b ++ w →
+    ((d : List ℕ) → d ≡ drop front b ++ w → Grown n d top (take front b) m all) →
+    Holds n front c top m all
+grown_after n front b w c top m all le wrote grown =
+    let more : drop front c ≡ drop front b ++ w =
+    ap (drop front) wrote ∙ drop-append-le front b w le in
+    let same : take front c ≡ take front b =
+    ap (take front) wrote ∙ take-append-le front b w le in
+    let g = grown (drop front c) more in
+    record {
+      within = omega (arith, ap length wrote, length-append b w);
+      packed = inr (subst (λ (f : List ℕ). IsStack n (drop front c) top f m) (sym same) g.stack);
+      view = g.view;
+    }
+
+-- the first prefix
+pub started_with : (front : ℕ) (b p last : List ℕ) (l : ℕ) → front ≡ length p → b ≡ p → last ≡ p →
+    length p ≤ l → Holds 1 front b last l (p ∷ [])
+started_with front b p last l e f g short =
+    let none : drop front b ≡ [] = ap (drop front) f ∙ drop_all front p (omega arith) in
+    let whole : take front b ≡ p = ap (take front) f ∙ take_all front p (omega arith) in
+    record {
+      within = omega (arith, ap length f);
+      packed = inr (rw (none, whole, g) (stack_one p l short));
+      view = rw (none, g) (listed_one [] p);
+    }
+
+-- the last prefix comes off
+pub popped : (n front : ℕ) (b last : List ℕ) (l : ℕ) (c top : List ℕ) → 0 < n →
+    front ≤ length b → IsPacked n (drop front b) last (take front b) l →
+    start_of (drop front b) ≤ length (drop front b) →
+    c ≡ take (front + start_of (drop front b)) b → top ≡ before (drop front b) last →
+    Holds (n - 1) front c top l
+    (take (length (listed n (drop front b) last) - 1) (listed n (drop front b) last))
+popped n front b last l c top more le packed start cut back =
+    let below : drop front c ≡ below_of (drop front b) =
+    ap (drop front) cut ∙ drop-take front (start_of (drop front b)) b in
+    let same : take front c ≡ take front b =
+    ap (take front) cut
+    ∙ take-take front (front + start_of (drop front b)) b (omega arith) in
+    record {
+      within = omega (
+        arith,
+        ap length cut,
+        length-take (front + start_of (drop front b)) b,
+        length-drop front b,
+        start,
+        le,
+      );
+      packed = rw (below, same, back) (packed_pop n (drop front b) last (take front b) l packed
+          more);
+      view = rw (below, back) (view_pop n (drop front b) last more);
+    }

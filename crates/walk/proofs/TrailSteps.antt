@@ -17,7 +17,7 @@ use Rattle.semantics.proofs.UnfoldingUnderPrefix.{state_after-push}
 use Rattle.walk.specs.declared.trail.Node.{Node}
 use Rattle.walk.specs.declared.trail.Frame.{Frame}
 use Rattle.walk.specs.declared.trail.Trail.{Trail}
-use Rattle.walk.specs.inner.Paths.{leaves, leaves_last, after, path, state_at, HasSwitches, IsNode, IsFrame, AreFrames, above, IsTrail, IsEntered, IsLeft}
+use Rattle.walk.specs.inner.Paths.{leaves, leaves_last, IsNext, path, state_at, HasSwitches, IsNode, IsFrame, AreFrames, above, IsTrail, IsEntered, IsLeft}
 
 pub reversed : (S T : List Frame) (f : Frame) → S ≡ T ++ f ∷ [] → reverse S ≡ f ∷ reverse T
 reversed S T f e = ap reverse e ∙ reverse-append T (f ∷ [])
@@ -46,19 +46,24 @@ node_same p v w s z m n h a b c = subst (λ (x : List ℕ). IsNode p x s m) (sym
     (subst (λ (x : Snapshot). IsNode p w x m) (sym b) (subst (IsNode p w z) (sym c) h))
 
 -- the node one step further
-pub node_entered : (p : Program) (w v : List ℕ) (s z : Snapshot) (n : Node) (t : ℕ)
-    (enabled asleep switches : Mask) →
-    IsNode p w s n → is_enabled p s t ≡ true → z ≡ step p s t → v ≡ w ++ t ∷ []
+pub node_entered : (p : Program) (w v : List ℕ) (s z : Snapshot) (n next : Node) (t : ℕ)
+    (enabled switches : Mask) →
+    IsNode p w s n → IsNext n t next → is_enabled p s t ≡ true → z ≡ step p s t → v ≡ w ++ t ∷ []
     → HasEnabled enabled p z → HasSwitches switches (Some t) enabled →
-    IsNode p v z (after n t enabled asleep switches)
-node_entered p w v s z n t enabled asleep switches h on stepped items masked leaving = record {
+    IsNode p v z (record next { enabled = enabled; switches = switches })
+node_entered p w v s z n next t enabled switches h after on stepped items masked leaving = record {
   reaches = subst (λ (x : List ℕ). Reaches p x
-      (record { state = z; last = Some t; preemptions = n.used + one_if (leaves n t) })) (sym items)
+      (record { state = z; last = next.last; preemptions = next.used })) (sym items)
+      (subst (Reaches p (w ++ t ∷ [])) (λ k. record {
+        state = z;
+        last = sym after.last k;
+        preemptions = sym after.used k;
+      })
       (reaches_parts p w (record { state = s; last = n.last; preemptions = n.used }) t z
       (n.used + one_if (leaves n t)) h.reaches on stepped
-      (ap (λ b. n.used + one_if b) (leaves_is p s n.enabled n.last t h.enabled)));
+      (ap (λ b. n.used + one_if b) (leaves_is p s n.enabled n.last t h.enabled))));
   enabled = masked;
-  switches = leaving;
+  switches = subst (λ (l : Option ℕ). HasSwitches switches l enabled) (sym after.last) leaving;
 }
 
 -- the frame of a node whose thread has taken a step
@@ -165,8 +170,9 @@ trail_left p old new n f h one read items frames back node base =
 
 -- one step down
 pub trail_entered : (p : Program) (old new : Trail) (S : List Frame) (t : ℕ) (u : Undo)
-    (enabled asleep switches : Mask) →
-    IsTrail p old → is_enabled p old.state t ≡ true → length old.steps.items < length S →
+    (next : Node) (enabled switches : Mask) →
+    IsTrail p old → IsNext old.node t next → is_enabled p old.state t ≡ true →
+    length old.steps.items < length S →
     take (length old.steps.items) S ≡ take (length old.steps.items) old.frames.items →
     new.steps.items ≡ old.steps.items ++ t ∷ [] →
     new.frames.items ≡ set S (length old.steps.items)
@@ -174,9 +180,9 @@ pub trail_entered : (p : Program) (old new : Trail) (S : List Frame) (t : ℕ) (
     new.state ≡ step p old.state t → IsOf p new.state → IsRecordOf u new.state
     → undone u new.state ≡ old.state →
     HasEnabled enabled p new.state → HasSwitches switches (Some t) enabled
-    → new.node ≡ after old.node t enabled asleep switches → new.base ≡ old.base →
-    IsTrail p new × IsEntered old new t asleep
-trail_entered p old new S t u enabled asleep switches h on there same items frames stepped of' r
+    → new.node ≡ record next { enabled = enabled; switches = switches } → new.base ≡ old.base →
+    IsTrail p new × IsEntered old new t next.asleep
+trail_entered p old new S t u next enabled switches h after on there same items frames stepped of' r
     back masked leaving node base =
     let f : Frame = record { node = old.node; thread = t; undo = u } in
     let up : above new ≡ f ∷ above old =
@@ -187,8 +193,8 @@ trail_entered p old new S t u enabled asleep switches h on there same items fram
       record {
         well_formed = h.well_formed;
         node = subst (IsNode p new.steps.items new.state) (sym node)
-            (node_entered p old.steps.items new.steps.items old.state new.state old.node t enabled
-            asleep switches h.node on stepped items masked leaving);
+            (node_entered p old.steps.items new.steps.items old.state new.state old.node next t
+            enabled switches h.node after on stepped items masked leaving);
         state = of';
         frames = subst (AreFrames p) (sym up) (frame, h.frames);
         steps = items ∙ (ap (λ (x : List ℕ). x ++ t ∷ []) h.steps ∙ ap path (sym up));
@@ -203,6 +209,11 @@ trail_entered p old new S t u enabled asleep switches h on there same items fram
         frame = f;
         above = up;
         node = refl;
+        next = record {
+          todo = ap (λ (n : Node). n.todo) node ∙ after.todo;
+          last = ap (λ (n : Node). n.last) node ∙ after.last;
+          used = ap (λ (n : Node). n.used) node ∙ after.used;
+        };
         sleepers = ap (λ (n : Node). n.asleep) node;
         base = base;
       },

@@ -1,5 +1,5 @@
 -- What is still open after one turn of a walk.
-use Rattle.std.proofs.Common.{◌≡◌, ℕ, suc, ◌+◌, ◌-◌, ◌<◌, Bool, true, false, ◌&&◌, List, [], ◌∷◌, ◌++◌, length, map, refl, ap, ◌∙◌, sym, arith, subst, cond, take, length-take, ◌≤◌, nat_le, nat_lt}
+use Rattle.std.proofs.Common.{◌≡◌, ℕ, suc, ◌+◌, ◌-◌, ◌<◌, Bool, true, ◌&&◌, List, [], ◌∷◌, ◌++◌, length, map, refl, ap, ◌∙◌, sym, arith, subst, cond, take, length-take, ◌≤◌, nat_le, nat_lt}
 use Rattle.std.specs.List.{filter}
 use Rattle.std.proofs.lemmas.List.{length_push, take_at, take_all, take-take, get_or_at, map-append}
 use Rattle.guest_code.specs.Program.{Program}
@@ -18,6 +18,7 @@ use Rattle.walk.specs.declared.trail.Node.{Node}
 use Rattle.walk.specs.declared.trail.Trail.{Trail}
 use Rattle.walk.specs.declared.mode.Mode.TheVariants.{Bounded, Reduced}
 use Rattle.walk.specs.Items.{ItemView, item_at}
+use Rattle.walk.proofs.Filters.{filter_twice}
 use Rattle.walk.proofs.TrailSteps.{leaves_is}
 use Rattle.walk.proofs.Children.{reduced_past}
 use Rattle.walk.specs.inner.Children.{child_of, children_of, past_children, kept_steps, past_steps, is_kept_step, is_past_step}
@@ -104,18 +105,9 @@ back_further mode p first old new place h done below trail left =
       omega (arith, one, few),
     )
 
--- filters by two tests, one after the other
-filter_both : (f g : ℕ → Bool) (xs : List ℕ) → filter (λ t. g t && f t) xs ≡ filter f (filter g xs)
-filter_both f g [] = refl
-filter_both f g (x ∷ xs) = elim (g x) as
-    (λ b. cond (b && f x) (x ∷ filter (λ t. g t && f t) xs) (filter (λ t. g t && f t) xs)
-    ≡ filter f (cond b (x ∷ filter g xs) (filter g xs))) [
-      | true ↦ ap (λ (ys : List ℕ). cond (f x) (x ∷ ys) ys) (filter_both f g xs)
-      | false ↦
-          filter_both f g xs
-    ]
-
-filter_alike : (f g : ℕ → Bool) (xs : List ℕ) → ((t : ℕ) → f t ≡ g t) → filter f xs ≡ filter g xs
+-- filters by tests that agree
+pub filter_alike : (f g : ℕ → Bool) (xs : List ℕ) → ((t : ℕ) → f t ≡ g t) →
+    filter f xs ≡ filter g xs
 filter_alike f g [] h = refl
 filter_alike f g (x ∷ xs) h = rw (h x) (ap (λ (ys : List ℕ). cond (g x) (x ∷ ys) ys)
     (filter_alike f g xs h))
@@ -125,8 +117,8 @@ pub members_chosen : (m e : Mask) (f : ℕ → Bool) → ((t : ℕ) → has m t 
     members_from m 0 ≡ filter f (members_from e 0)
 unfolding members_from
 members_chosen m e f h =
-    filter_alike (has m) (λ t. has e t && f t) (up_from 0 (THREADS - 0)) h ∙ filter_both f (has e)
-    (up_from 0 (THREADS - 0))
+    filter_alike (has m) (λ t. has e t && f t) (up_from 0 (THREADS - 0)) h
+    ∙ sym (filter_twice f (has e) (up_from 0 (THREADS - 0)))
 
 -- the threads that are enabled at a node
 pub node_enabled : (p : Program) (w : List ℕ) (s : Snapshot) (n : Node) → IsNode p w s n → IsOf p s
@@ -143,7 +135,7 @@ used_after p w s n t h =
     ∙ ((λ i. preemptions p w + one_if (preempts p (h.reaches.state i) (h.reaches.last i) t)) ∙ sym
     (preemptions-push p w t))
 
-kept_alike : (mode : Mode) (p : Program) (w : List ℕ) (s : Snapshot) (n : Node) → IsNode p w s n
+pub kept_alike : (mode : Mode) (p : Program) (w : List ℕ) (s : Snapshot) (n : Node) → IsNode p w s n
     → (t : ℕ) →
     is_kept_at mode n t ≡ is_kept_step mode (item_of p w n) t
 kept_alike (Bounded bound) p w s n h t = ap (λ (k : ℕ). nat_le k bound) (used_after p w s n t h)

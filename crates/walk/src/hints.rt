@@ -30,7 +30,7 @@ impl EndHints {
         for value in values {
             hash = hash
                 .wrapping_mul(0x9E37_79B9_7F4A_7C15)
-                .wrapping_add(value.unsigned_abs());
+                .wrapping_add(value.cast_unsigned());
         }
         (hash.wrapping_mul(0xBF58_476D_1CE4_E5B9) >> 56) as usize % PLACES
     }

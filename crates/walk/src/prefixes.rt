@@ -12,7 +12,10 @@ mod tests;
 ghost use Rattle.std.specs.Prelude.{◌≡◌, ℕ, ◌-◌, ◌^◌, ◌<◌, ◌≤◌, ◌==◌, List, [], ◌∷◌, ◌++◌, length, take, is_ok, IfOk, IfSome, IfNone, All, Some, if◌then◌else◌, option_copied, slice_get, vec_capacity};
 ghost use Rattle.walk.specs.PrefixLists.{last_of};
 
-use crate::prefixes::bytes::{put_few, put_way, shared_length, step_back, top};
+use crate::prefixes::bytes::{
+    has_room_for_two, is_one_longer, is_short, put_few, put_reserved, put_short_way, put_way,
+    shared_length, step_back, top,
+};
 use crate::prefixes::seeker::Seeker;
 use std::alloc::{AllocError, Global};
 use std::marker::Model;
@@ -31,26 +34,29 @@ const MORE_STEPS: usize = 32;
 
 const MORE_BYTES: usize = 96;
 
-/// A list of prefixes. Contracts see `List (List ℕ)`.
+/// A list of prefixes. Contracts see `List (List ℕ)`. The bytes are the first prefix, which ends at
+/// `front`, and the ways back.
 #[derive(Drop)]
 pub struct Prefixes {
     count: usize,
     bytes: Vec<u8>,
+    front: usize,
     last: Vec<u8>,
-    first: Vec<u8>,
     longest: usize,
 }
 
 impl Model for Prefixes {
-    ghost use Rattle.std.specs.Prelude.{List, ℕ, ◌≤◌, vec_capacity};
+    ghost use Rattle.std.specs.Prelude.{List, ℕ, ◌≤◌, length, take, drop, vec_capacity};
     ghost use Rattle.walk.specs.inner.Packed.{listed, IsPacked};
 
     ghost Value = { List (List ℕ) };
 
-    ghost view = { λ p. listed p.count p.bytes.items p.last.items };
+    ghost view = { λ p. listed p.count (drop p.front p.bytes.items) p.last.items };
 
     ghost invariant = { λ p. (p.longest ≤ vec_capacity p.last)
-        × IsPacked p.count p.bytes.items p.last.items p.first.items p.longest };
+        × (p.front ≤ length p.bytes.items)
+        × IsPacked p.count (drop p.front p.bytes.items) p.last.items
+        (take p.front p.bytes.items) p.longest };
 }
 
 impl Prefixes {
@@ -61,8 +67,8 @@ impl Prefixes {
         Prefixes {
             count: 0,
             bytes: Vec::new(alloc),
+            front: 0,
             last: Vec::new(alloc),
-            first: Vec::new(alloc),
             longest: 0,
         }
     }
@@ -100,7 +106,7 @@ impl Prefixes {
         ensures none { IfNone result (All (λ p. p ≡ prefix.now → ⊥) self.now) }
     {
         let mut seeker = Seeker {
-            bytes: self.bytes.as_slice(),
+            bytes: &self.bytes[self.front..],
             steps: self.last.len(),
             shared: shared_length(self.last.as_slice(), prefix),
         };
@@ -120,9 +126,10 @@ impl Prefixes {
         requires { 0 < length self.old }
         ensures { self.new ≡ take (length self.old - 1) self.old }
     {
-        let top = top(self.bytes.as_slice());
-        let _ = step_back(self.bytes.as_slice(), top, &mut self.last);
-        self.bytes.truncate(top.start);
+        let ways = &self.bytes[self.front..];
+        let top = top(ways);
+        let _ = step_back(ways, top, &mut self.last);
+        self.bytes.truncate(self.front + top.start);
         self.count -= 1;
     }
 
@@ -133,6 +140,13 @@ impl Prefixes {
         while length < self.length() {
             self.pop();
         }
+    }
+
+    /// Takes all prefixes away, and keeps the list's memory.
+    pub fn clear(&mut self)
+        ensures { self.new ≡ [] }
+    {
+        self.count = 0;
     }
 
     /// Puts a prefix after the others.
@@ -160,6 +174,32 @@ impl Prefixes {
         ensures { self.new ≡ (if is_ok result
             then self.old ++ (take shared (last_of self.old) ++ rest.now) ∷ [] else self.old) }
     {
+        self.push_by(shared, rest)
+    }
+
+    // The same, written into its callers. Mostly the way back is short, and there is room.
+    #[inline(always)]
+    fn push_by(&mut self, shared: usize, rest: &[u8]) -> Result<(), AllocError>
+        ensures { self.new ≡ (if is_ok result
+            then self.old ++ (take shared (last_of self.old) ++ rest.now) ∷ [] else self.old) }
+    {
+        if self.count != 0 && is_short(&self.bytes, &self.last, shared, rest) {
+            put_short_way(&mut self.bytes, rest.len(), &self.last[shared..]);
+            self.last.truncate(shared);
+            put_reserved(&mut self.last, rest);
+            self.longest = self.longest.max(self.last.len());
+            self.count += 1;
+            return Ok(());
+        }
+        self.push_long(shared, rest)
+    }
+
+    // The same in every case, out of the way of the usual one.
+    #[inline(never)]
+    fn push_long(&mut self, shared: usize, rest: &[u8]) -> Result<(), AllocError>
+        ensures { self.new ≡ (if is_ok result
+            then self.old ++ (take shared (last_of self.old) ++ rest.now) ∷ [] else self.old) }
+    {
         if self.count == 0 {
             return self.start(rest);
         }
@@ -174,21 +214,30 @@ impl Prefixes {
     }
 
     // Puts a prefix after the others that begins as the last one does, so many steps, and then goes
-    // on with one step. Mostly that step takes the place of the last prefix's last one.
+    // on with one step. Mostly that step takes the place of the last prefix's last one, and there
+    // is room for the way back.
     #[inline(always)]
     pub(crate) fn push_step(&mut self, shared: usize, step: u8) -> Result<(), AllocError>
         ensures { self.new ≡ (if is_ok result
             then self.old ++ (take shared (last_of self.old) ++ step ∷ []) ∷ [] else self.old) }
     {
-        let len = self.last.len();
-        if self.count == 0 || len <= shared || len - shared != 1 {
-            return self.push_after(shared, &[step]);
+        if self.count != 0 && is_one_longer(&self.last, shared) && has_room_for_two(&self.bytes) {
+            self.bytes.push_reserved(self.last[shared]);
+            self.bytes.push_reserved(LAST_REPLACED);
+            self.last[shared] = step;
+            self.count += 1;
+            return Ok(());
         }
-        self.bytes
-            .extend_from_slice(&[self.last[shared], LAST_REPLACED])?;
-        self.last[shared] = step;
-        self.count += 1;
-        Ok(())
+        self.push_any_step(shared, step)
+    }
+
+    // The same in every case, out of the way of the usual one.
+    #[inline(never)]
+    fn push_any_step(&mut self, shared: usize, step: u8) -> Result<(), AllocError>
+        ensures { self.new ≡ (if is_ok result
+            then self.old ++ (take shared (last_of self.old) ++ step ∷ []) ∷ [] else self.old) }
+    {
+        self.push_by(shared, &[step])
     }
 
     // The same with two steps: mostly the first takes the place of the last prefix's last one.
@@ -198,18 +247,30 @@ impl Prefixes {
             then self.old ++ (take shared (last_of self.old) ++ step ∷ next ∷ []) ∷ []
             else self.old) }
     {
-        let len = self.last.len();
-        if self.count == 0 || len <= shared || len - shared != 1 {
-            return self.push_after(shared, &[step, next]);
+        if self.count != 0
+            && is_one_longer(&self.last, shared)
+            && has_room_for_two(&self.bytes)
+            && self.last.len() < self.last.capacity()
+        {
+            self.bytes.push_reserved(self.last[shared]);
+            self.bytes.push_reserved(ONE_FOR_TWO);
+            self.last[shared] = step;
+            self.last.push_reserved(next);
+            self.longest = self.longest.max(self.last.len());
+            self.count += 1;
+            return Ok(());
         }
-        self.last.reserve(1)?;
-        self.bytes
-            .extend_from_slice(&[self.last[shared], ONE_FOR_TWO])?;
-        self.last[shared] = step;
-        let _ = self.last.push(next);
-        self.longest = self.longest.max(self.last.len());
-        self.count += 1;
-        Ok(())
+        self.push_any_two(shared, step, next)
+    }
+
+    // The same in every case, out of the way of the usual one.
+    #[inline(never)]
+    fn push_any_two(&mut self, shared: usize, step: u8, next: u8) -> Result<(), AllocError>
+        ensures { self.new ≡ (if is_ok result
+            then self.old ++ (take shared (last_of self.old) ++ step ∷ next ∷ []) ∷ []
+            else self.old) }
+    {
+        self.push_by(shared, &[step, next])
     }
 
     // Puts the first prefix in.
@@ -218,12 +279,12 @@ impl Prefixes {
         ensures { self.new ≡ (if is_ok result then prefix.now ∷ [] else []) }
     {
         self.last.reserve(prefix.len().saturating_add(MORE_STEPS))?;
-        self.bytes.reserve(MORE_BYTES)?;
-        self.first.clear();
-        self.first.extend_from_slice(prefix)?;
+        self.bytes.reserve(prefix.len().saturating_add(MORE_BYTES))?;
+        self.bytes.clear();
+        let _ = self.bytes.extend_from_slice(prefix);
+        self.front = prefix.len();
         self.last.clear();
         let _ = self.last.extend_from_slice(prefix);
-        self.bytes.clear();
         self.longest = self.longest.max(prefix.len());
         self.count = 1;
         Ok(())
@@ -247,14 +308,10 @@ impl Prefixes {
         }
         self.last
             .reserve(other.longest.saturating_sub(self.last.len()))?;
-        let shared = shared_length(self.last.as_slice(), other.first.as_slice());
+        let shared = shared_length(self.last.as_slice(), &other.bytes[..other.front]);
         let len = self.bytes.len();
-        put_way(
-            &mut self.bytes,
-            other.first.len() - shared,
-            &self.last[shared..],
-        )?;
-        if let Err(error) = self.bytes.append(&mut other.bytes) {
+        put_way(&mut self.bytes, other.front - shared, &self.last[shared..])?;
+        if let Err(error) = self.bytes.extend_from_slice(&other.bytes[other.front..]) {
             self.bytes.truncate(len);
             return Err(error);
         }
@@ -276,12 +333,11 @@ impl Prefixes {
     {
         let bytes = self.bytes.as_slice().to_vec(alloc)?;
         let last = copy_with_room(alloc, self.last.as_slice(), self.longest)?;
-        let first = self.first.as_slice().to_vec(alloc)?;
         Ok(Prefixes {
             count: self.count,
             bytes,
+            front: self.front,
             last,
-            first,
             longest: self.longest,
         })
     }
@@ -297,9 +353,9 @@ impl Prefixes {
         let last = copy_with_room(alloc, self.last.as_slice(), self.longest)?;
         Ok(LastFirst {
             count: self.count,
-            bytes: self.bytes.as_slice(),
+            bytes: &self.bytes[self.front..],
             last,
-            first: self.first.as_slice(),
+            first: &self.bytes[..self.front],
             longest: self.longest,
         })
     }

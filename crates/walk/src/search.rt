@@ -1,20 +1,21 @@
 //! The turns of a walk: down into the next open child, or back to the node above.
 
-ghost use Rattle.std.specs.Prelude.{◌≡◌, ◌+◌, ◌-◌, ◌++◌, ◌∷◌, ◌<◌, ◌≤◌, ◌&&◌, ◌||◌, not, [], ℕ, true, false, map, IfOk, OnOk, IsTrue, IsFalse, length, take, min, All};
+ghost use Rattle.std.specs.Prelude.{◌≡◌, ◌+◌, ◌-◌, ◌++◌, ◌∷◌, ◌<◌, ◌≤◌, ◌&&◌, ◌||◌, not, [], ℕ, true, false, map, IfOk, IfErr, Some, OnOk, IsTrue, IsFalse, length, take, min, All};
 ghost use Rattle.guest_code.specs.declared.limits.TheConstants.{THREADS};
 ghost use Rattle.semantics.specs.Ends.{is_empty};
 ghost use Rattle.semantics.specs.Machine.{is_enabled};
-ghost use Rattle.semantics.specs.Mask.{has, members_from};
+ghost use Rattle.semantics.specs.Mask.{has, members_from, no_threads};
 ghost use Rattle.walk.specs.Items.{IsItem};
 ghost use Rattle.walk.specs.Summaries.{nothing, with_beyond};
-ghost use Rattle.walk.specs.inner.Children.{child_of, mask_after, cost_of, costs};
-ghost use Rattle.walk.specs.inner.Paths.{HasSwitches, IsTrail};
+ghost use Rattle.walk.specs.inner.Children.{child_of, mask_after, cost_of};
+ghost use Rattle.walk.specs.inner.Paths.{HasSwitches, IsTrail, with_node};
 ghost use Rattle.walk.specs.Walks.{IsWalked, IsPastBound, walk_past_bound};
-ghost use Rattle.walk.specs.inner.WalkerInvariant.{IsPlace, IsSearch, here, left_above, still_open, turns_left, is_kept_at, is_past_at, is_past_here, IsWithinAt, IsShared};
+ghost use Rattle.walk.specs.inner.WalkerInvariant.{IsPlace, IsSearch, IsSpent, IsUsedUp, here, left_above, still_open, turns_left, turns_from, is_kept_at, is_past_at, is_past_here, IsWithinAt, IsShared};
 
 use crate::item::Item;
 use crate::mode::Mode;
 use crate::prefixes::Prefixes;
+use crate::spare::Spare;
 use crate::summary::Summary;
 use crate::trail::{Node, Trail};
 use crate::walked::Walked;
@@ -33,15 +34,16 @@ pub struct Found {
 }
 
 impl Found {
-    /// Nothing was found yet.
-    pub fn new(alloc: Global) -> Found
+    /// Nothing was found yet; what is found is kept in this memory.
+    pub fn new(spare: Spare) -> Found
         ensures part { result.part ≡ nothing }
         ensures deferred { result.deferred ≡ [] }
         ensures shared { result.shared ≡ 0 }
     {
+        let (part, deferred) = spare.into_empty();
         Found {
-            part: Summary::empty(alloc),
-            deferred: Prefixes::new(alloc),
+            part,
+            deferred,
             shared: 0,
         }
     }
@@ -209,6 +211,17 @@ impl Trail {
         }
     }
 
+    // Whether the bound is used up.
+    #[inline(always)]
+    fn is_used_up(&self, mode: Mode) -> bool
+        ensures { IsTrue result → IsUsedUp mode self.now.node }
+    {
+        match mode {
+            Mode::Bounded(bound) => self.node.used == bound,
+            Mode::Reduced => false,
+        }
+    }
+
     // The node where it stands gives way to its children; where it has none it is tried.
     #[inline(always)]
     fn arrive(
@@ -224,8 +237,7 @@ impl Trail {
         ensures search { OnOk result (IsSearch mode item.now self.new found.new
             (still_open mode item.now.program self.new)) }
         ensures falls { OnOk result (turns_left mode item.now.program self.new + 2
-            ≤ cost_of (here item.now.program self.old)
-            + costs (left_above mode item.now.program self.old) + length self.old.steps.items) }
+            ≤ turns_from mode item.now.program self.old) }
         ensures tried { OnOk result (found.new.part.tried ≤ found.old.part.tried + 1) }
     {
         let past = self.node.open(mode);
@@ -243,6 +255,116 @@ impl Trail {
             }
         }
         Ok(())
+    }
+
+    // One step further with the thread of the last step, from this node, where the bound is used up
+    // and so the steps of the others are put off. Answers the node that is entered.
+    #[inline(always)]
+    fn follow(
+        &mut self,
+        found: &mut Found,
+        item: &Item,
+        _bound: u32,
+        thread: u8,
+        node: Node,
+    ) -> Result<Node, AllocError>
+        requires search { let t = with_node self.old node in
+            IsSearch (Mode.Bounded _bound) item.now t found.old
+            (here item.now.program t ∷ left_above (Mode.Bounded _bound) item.now.program t) }
+        requires spent { IsSpent _bound node thread }
+        requires on { has node.enabled thread ≡ true }
+        ensures trail { IfErr result (λ _. IsTrail item.now.program (with_node self.new node)) }
+        ensures search { IfOk result (λ n. let t = with_node self.new n in
+            IsSearch (Mode.Bounded _bound) item.now t found.new
+            (here item.now.program t ∷ left_above (Mode.Bounded _bound) item.now.program t)) }
+        ensures spent { IfOk result (λ n. IsSpent _bound n thread) }
+        ensures further { IfOk result (λ n.
+            turns_from (Mode.Bounded _bound) item.now.program (with_node self.new n)
+            < turns_from (Mode.Bounded _bound) item.now.program (with_node self.old node)) }
+        ensures tried { OnOk result (found.new.part.tried ≡ found.old.part.tried) }
+    {
+        found.defer(&mut self.steps, node.switches)?;
+        let next = Node {
+            asleep: Mask::empty(),
+            ..node
+        };
+        let entered = self.step_from(item.program(), thread, node, next)?;
+        Ok(entered)
+    }
+
+    // Goes on with the thread of the last step as long as it can go on, where the bound is used up.
+    // The node where it stands is kept outside the trail meanwhile.
+    #[inline(never)]
+    fn run_alone(&mut self, found: &mut Found, item: &Item, thread: u8) -> Result<(), AllocError>
+        requires search { let mode = Mode.Bounded self.old.node.used in
+            IsSearch mode item.now self.old found.old
+            (here item.now.program self.old ∷ left_above mode item.now.program self.old) }
+        requires spent { IsSpent self.old.node.used self.old.node thread }
+        ensures trail { IsTrail item.now.program self.new }
+        ensures search { let mode = Mode.Bounded self.old.node.used in
+            OnOk result (IsSearch mode item.now self.new found.new
+            (here item.now.program self.new ∷ left_above mode item.now.program self.new)) }
+        ensures further { let mode = Mode.Bounded self.old.node.used in
+            OnOk result (turns_from mode item.now.program self.new
+            ≤ turns_from mode item.now.program self.old) }
+        ensures tried { OnOk result (found.new.part.tried ≡ found.old.part.tried) }
+    {
+        let mut node = self.node;
+        let bound = node.used;
+        while node.enabled.has(thread) {
+            match self.follow(found, item, bound, thread, node) {
+                Ok(next) => node = next,
+                Err(error) => {
+                    self.node = node;
+                    return Err(error);
+                }
+            }
+        }
+        self.node = node;
+        Ok(())
+    }
+
+    // Goes on with the thread of the last step where the bound is used up and it can go on.
+    #[inline(always)]
+    fn run_on(
+        &mut self,
+        found: &mut Found,
+        item: &Item,
+        mode: Mode,
+        thread: u8,
+    ) -> Result<(), AllocError>
+        requires search { IsSearch mode item.now self.old found.old
+            (here item.now.program self.old ∷ left_above mode item.now.program self.old) }
+        requires todo { self.old.node.todo ≡ no_threads }
+        requires last { self.old.node.last ≡ Some thread }
+        ensures trail { IsTrail item.now.program self.new }
+        ensures search { OnOk result (IsSearch mode item.now self.new found.new
+            (here item.now.program self.new ∷ left_above mode item.now.program self.new)) }
+        ensures further { OnOk result (turns_from mode item.now.program self.new
+            ≤ turns_from mode item.now.program self.old) }
+        ensures tried { OnOk result (found.new.part.tried ≡ found.old.part.tried) }
+    {
+        if self.node.enabled.has(thread) && self.is_used_up(mode) {
+            self.run_alone(found, item, thread)
+        } else {
+            Ok(())
+        }
+    }
+
+    // Goes on with the thread of an item's last step, where there is one.
+    fn begin(&mut self, found: &mut Found, item: &Item, mode: Mode) -> Result<(), AllocError>
+        requires search { IsSearch mode item.now self.old found.old
+            (here item.now.program self.old ∷ left_above mode item.now.program self.old) }
+        requires todo { self.old.node.todo ≡ no_threads }
+        ensures trail { IsTrail item.now.program self.new }
+        ensures search { OnOk result (IsSearch mode item.now self.new found.new
+            (here item.now.program self.new ∷ left_above mode item.now.program self.new)) }
+        ensures tried { OnOk result (found.new.part.tried ≡ found.old.part.tried) }
+    {
+        match self.node.last {
+            None => Ok(()),
+            Some(thread) => self.run_on(found, item, mode, thread),
+        }
     }
 
     // Goes into the next open child.
@@ -269,6 +391,7 @@ impl Trail {
         let program = item.program();
         let asleep = self.sleepers(program, mode, thread);
         self.enter(program, thread, asleep)?;
+        self.run_on(found, item, mode, thread)?;
         self.arrive(alloc, found, item, mode)
     }
 
@@ -422,9 +545,11 @@ impl Trail {
         ensures place { OnOk result (IsPlace item.now.program self.new) }
         ensures item { OnOk result (here item.now.program self.new ≡ item.now) }
         ensures base { OnOk result (self.new.base ≡ length self.new.steps.items) }
+        ensures todo { OnOk result (self.new.node.todo ≡ no_threads) }
     {
         self.go_to(item.program(), item.prefix())?;
         self.node.asleep = item.mask();
+        self.node.todo = Mask::empty();
         self.base = self.steps.len();
         Ok(())
     }
@@ -443,11 +568,13 @@ impl Trail {
     pub fn walk(
         &mut self,
         alloc: Global,
+        mut found: Found,
         item: &Item,
         mode: Mode,
         quota: u32,
     ) -> Result<Walked, AllocError>
         requires trail { IsTrail item.now.program self.old }
+        requires found { (found.part ≡ nothing) × (found.deferred ≡ []) × (found.shared ≡ 0) }
         requires quota { 1 ≤ quota }
         ensures trail { IsTrail item.now.program self.new }
         ensures item { IfOk result (λ w. w.item ≡ item.now) }
@@ -459,7 +586,6 @@ impl Trail {
         ensures walked { IfOk result IsWalked }
     {
         self.stand_at(item)?;
-        let mut found = Found::new(alloc);
         if self.is_past(mode) {
             found.part.set_beyond();
             return Ok(Walked::new(
@@ -470,6 +596,7 @@ impl Trail {
                 found.deferred,
             ));
         }
+        self.begin(&mut found, item, mode)?;
         self.arrive(alloc, &mut found, item, mode)?;
         self.search(alloc, &mut found, item, mode, quota)?;
         let rest = self.give_all_back(alloc, item, mode)?;

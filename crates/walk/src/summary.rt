@@ -5,6 +5,7 @@ ghost use Rattle.std.specs.List.Sorted.{IsStrictlySortedBy};
 ghost use Rattle.std.specs.Option.{option_or};
 ghost use Rattle.semantics.specs.Order.{precedes, lesser, is_bad};
 ghost use Rattle.semantics.specs.View.{view_cmp};
+ghost use Rattle.semantics.specs.declared.view.Kind.TheVariants.{Done};
 ghost use Rattle.walk.specs.Summaries.{SummaryView, IsSummary, schedule_view, cut, nothing, is_failed, is_stuck, with_view, sorted_views, join, with_beyond};
 ghost use Rattle.walk.specs.inner.SubtreeInvariant.{added, counted_if, first_bad_with};
 ghost use Rattle.walk.specs.inner.EndPlaces.{end_with, IsPlaceOf};
@@ -45,13 +46,21 @@ impl Summary {
     pub fn empty(alloc: Global) -> Summary
         ensures { result ≡ nothing }
     {
+        Summary::empty_in(Vec::new(alloc))
+    }
+
+    /// The summary of no schedule, in the memory of a list of end views that isn't needed any more.
+    pub fn empty_in(mut ends: Vec<EndView>) -> Summary
+        ensures { result ≡ nothing }
+    {
+        ends.clear();
         Summary {
             tried: 0,
             failed: 0,
             stuck: 0,
             beyond: false,
             first_bad: None,
-            ends: Vec::new(alloc),
+            ends,
         }
     }
 
@@ -149,17 +158,22 @@ impl Summary {
     pub fn join_in(&mut self, other: Summary) -> Result<(), AllocError>
         ensures { self.new ≡ (if is_ok result then join self.old other else self.old) }
     {
-        self.join_in_by(&mut EndHints::new(), other)
+        let _emptied = self.join_in_by(&mut EndHints::new(), other)?;
+        Ok(())
     }
 
     /// The same, where hints tell at which index an end view was found in earlier joins. They may
-    /// be wrong.
+    /// be wrong. Answers the other summary's list of end views, emptied, for [`Summary::empty_in`].
     ///
     /// # Errors
     ///
     /// `AllocError` where memory runs out; the summary is then as before.
     #[tactic(auto, unfolding(crate::specs::Summaries::join))]
-    pub fn join_in_by(&mut self, hints: &mut EndHints, other: Summary) -> Result<(), AllocError>
+    pub fn join_in_by(
+        &mut self,
+        hints: &mut EndHints,
+        other: Summary,
+    ) -> Result<Vec<EndView>, AllocError>
         ensures { self.new ≡ (if is_ok result then join self.old other else self.old) }
     {
         let Summary {
@@ -170,13 +184,13 @@ impl Summary {
             first_bad,
             ends,
         } = other;
-        join_views(&mut self.ends, hints, ends)?;
+        let emptied = join_views(&mut self.ends, hints, ends)?;
         take_lesser(&mut self.first_bad, first_bad);
         increase(&mut self.tried, tried);
         increase(&mut self.failed, failed);
         increase(&mut self.stuck, stuck);
         self.beyond = self.beyond || beyond;
-        Ok(())
+        Ok(emptied)
     }
 
     /// Forgets that some schedule is beyond the bound, for a bound that is raised.
@@ -186,9 +200,30 @@ impl Summary {
         self.beyond = false;
     }
 
-    // Counts one more complete schedule, which ends so, in place.
-    #[tactic(auto, unfolding(crate::specs::inner::SubtreeInvariant::added))]
+    // Counts one more complete schedule, which ends so, in place. Mostly it ends well, and the view
+    // stands where a hint says.
     pub(crate) fn add(
+        &mut self,
+        alloc: Global,
+        hints: &mut EndHints,
+        schedule: &[u8],
+        kind: Kind,
+        values: &[i64],
+    ) -> Result<(), AllocError>
+        ensures { self.new ≡ (if is_ok result
+            then added self.old schedule.now (end_with kind values.now) else self.old) }
+    {
+        if is_done(kind) && is_hinted(self.ends.as_slice(), hints, kind, values) {
+            increase(&mut self.tried, 1);
+            return Ok(());
+        }
+        self.add_any(alloc, hints, schedule, kind, values)
+    }
+
+    // The same in every case, out of the way of the usual one.
+    #[inline(never)]
+    #[tactic(auto, unfolding(crate::specs::inner::SubtreeInvariant::added))]
+    fn add_any(
         &mut self,
         alloc: Global,
         hints: &mut EndHints,
@@ -214,6 +249,12 @@ impl Summary {
     {
         self.beyond = true;
     }
+}
+
+fn is_done(kind: Kind) -> bool
+    ensures { IsTrue result → kind ≡ Done }
+{
+    matches!(kind, Kind::Done)
 }
 
 fn is_failed(kind: Kind) -> bool
@@ -397,6 +438,16 @@ fn stands_at(ends: &[EndView], index: usize, kind: Kind, values: &[i64]) -> bool
     }
 }
 
+// Whether the view of a kind and values stands where its hint says.
+#[inline(always)]
+fn is_hinted(ends: &[EndView], hints: &EndHints, kind: Kind, values: &[i64]) -> bool
+    requires { IsStrictlySortedBy view_cmp ends.now }
+    ensures { IsTrue result → with_view (end_with kind values.now) ends.now ≡ ends.now }
+{
+    let hint = hints.hint(EndHints::place_of(kind, values));
+    stands_at(ends, hint, kind, values)
+}
+
 // Puts the view of a kind and values where it belongs in a sorted list, unless it is there.
 fn add_view(
     alloc: Global,
@@ -453,24 +504,25 @@ fn has_all(ends: &[EndView], hints: &mut EndHints, views: &[EndView]) -> bool
     true
 }
 
-// Puts views into a sorted list: sorted, each once.
+// Puts views into a sorted list: sorted, each once. Answers their own list, emptied.
 fn join_views(
     ends: &mut Vec<EndView>,
     hints: &mut EndHints,
     mut views: Vec<EndView>,
-) -> Result<(), AllocError>
+) -> Result<Vec<EndView>, AllocError>
     requires { IsStrictlySortedBy view_cmp ends.old.items }
     ensures { ends.new.items ≡ (if is_ok result
         then sorted_views (ends.old.items ++ views.items) else ends.old.items) }
 {
     if has_all(ends.as_slice(), hints, views.as_slice()) {
-        return Ok(());
+        views.clear();
+        return Ok(views);
     }
     ends.reserve(views.len())?;
     while let Some(view) = views.pop() {
         let _ = insert_view(ends, view);
     }
-    Ok(())
+    Ok(views)
 }
 
 // Equal views.

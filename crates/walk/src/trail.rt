@@ -1,10 +1,10 @@
 //! The way from the start of a program to where a walk stands, with what takes each step back.
 
-ghost use Rattle.std.specs.Prelude.{◌≡◌, ◌+◌, ◌-◌, ◌<◌, ◌≤◌, ◌^◌, true, Some, IfOk, OnOk, IsTrue, length, take};
+ghost use Rattle.std.specs.Prelude.{◌≡◌, ◌+◌, ◌-◌, ◌<◌, ◌≤◌, ◌^◌, true, Some, IfOk, IfErr, OnOk, IsTrue, length, take};
 ghost use Rattle.semantics.specs.Machine.{start, is_enabled};
 ghost use Rattle.semantics.specs.Mask.{has};
 ghost use Rattle.semantics.specs.Schedules.{runs};
-ghost use Rattle.walk.specs.inner.Paths.{IsTrail, IsEntered, IsLeft, leaves, after, HasSwitches};
+ghost use Rattle.walk.specs.inner.Paths.{IsTrail, IsEntered, IsLeft, IsNext, with_node, leaves, HasSwitches};
 
 use crate::hints::EndHints;
 use guest_code::laws::programs_are_well_formed;
@@ -64,22 +64,36 @@ impl Node {
         self.switches.has(thread)
     }
 
-    // The node after a step of an enabled thread, where these are enabled and these sleep.
+    // The node after a step of an enabled thread, where these sleep, but for who is enabled there.
     #[inline(always)]
-    fn after(&self, thread: u8, enabled: Mask, asleep: Mask) -> Node
+    fn after(&self, thread: u8, asleep: Mask) -> Node
         requires few { self.now.used + 1 < 2 ^ 32 }
         requires enabled { has self.now.enabled thread ≡ true }
         requires switches { HasSwitches self.now.switches self.now.last self.now.enabled }
-        ensures node { result ≡ after self.now thread enabled asleep result.switches }
+        ensures next { IsNext self.now thread result }
+        ensures asleep { result.asleep ≡ asleep }
+    {
+        Node {
+            enabled: Mask::empty(),
+            asleep,
+            todo: Mask::empty(),
+            switches: Mask::empty(),
+            last: Some(thread),
+            used: self.used + u32::from(self.leaves(thread)),
+        }
+    }
+
+    // The same node, where these are enabled.
+    #[inline(always)]
+    fn with_enabled(self, thread: u8, enabled: Mask) -> Node
+        requires { self.last ≡ Some thread }
+        ensures node { result ≡ record self { enabled = enabled; switches = result.switches } }
         ensures switches { HasSwitches result.switches (Some thread) enabled }
     {
         Node {
             enabled,
-            asleep,
-            todo: Mask::empty(),
             switches: switches_after(enabled, thread),
-            last: Some(thread),
-            used: self.used + u32::from(self.leaves(thread)),
+            ..self
         }
     }
 }
@@ -183,17 +197,55 @@ impl Trail {
         ensures trail { IsTrail program.now self.new }
         ensures entered { OnOk result (IsEntered self.old self.new thread asleep) }
     {
+        // Field by field: so they were written, and to read some at once, so soon, would have to
+        // wait for all these writes.
+        let from = Node {
+            last: self.node.last,
+            enabled: self.node.enabled,
+            asleep: self.node.asleep,
+            todo: self.node.todo,
+            switches: self.node.switches,
+            used: self.node.used,
+        };
+        let next = from.after(thread, asleep);
+        let entered = self.step_from(program, thread, from, next)?;
+        self.node = entered;
+        Ok(())
+    }
+
+    /// Takes a step of a thread that is enabled at this node, which is not kept in the trail, and
+    /// answers the node that is entered; that is known but for who is enabled there.
+    ///
+    /// # Errors
+    ///
+    /// `AllocError` where memory runs out; no step is taken then.
+    #[inline(always)]
+    pub fn step_from(
+        &mut self,
+        program: &Program,
+        thread: u8,
+        from: Node,
+        next: Node,
+    ) -> Result<Node, AllocError>
+        requires trail { IsTrail program.now (with_node self.old from) }
+        requires enabled { IsTrue (is_enabled program.now self.old.state thread) }
+        requires next { IsNext from thread next }
+        ensures same { IfErr result (λ _. IsTrail program.now (with_node self.new from)) }
+        ensures trail { IfOk result (λ n. IsTrail program.now (with_node self.new n)) }
+        ensures entered { IfOk result (λ n.
+            IsEntered (with_node self.old from) (with_node self.new n) thread next.asleep) }
+        ensures node { self.new.node ≡ self.old.node }
+    {
         let depth = self.steps.len();
         make_frame(&mut self.frames, depth)?;
         self.steps.push(thread)?;
         let frame = &mut self.frames[depth];
-        frame.node = self.node;
+        frame.node = from;
         frame.thread = thread;
         let enabled = self
             .state
-            .step_into(program, thread, &mut frame.undo, self.node.enabled);
-        self.node = self.node.after(thread, enabled, asleep);
-        Ok(())
+            .step_into(program, thread, &mut frame.undo, from.enabled);
+        Ok(next.with_enabled(thread, enabled))
     }
 
     /// Takes the last step back.

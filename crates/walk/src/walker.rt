@@ -6,6 +6,8 @@ ghost use Rattle.walk.specs.Walks.{IsWalked, IsPastBound, walk_past_bound};
 
 use crate::item::Item;
 use crate::mode::Mode;
+use crate::search::Found;
+use crate::spare::Spare;
 use crate::trail::Trail;
 use crate::walked::Walked;
 use guest_code::program::Program;
@@ -19,6 +21,8 @@ use std::sync::Arc;
 pub struct Walker {
     program: Arc<Program>,
     trail: Trail,
+    // What the next walks keep their results in.
+    spares: Vec<Spare>,
 }
 
 impl Model for Walker {
@@ -43,7 +47,19 @@ impl Walker {
         ensures { IfOk result (λ w. w ≡ arc_value program) }
     {
         let trail = Trail::start(alloc, &program)?;
-        Ok(Walker { program, trail })
+        Ok(Walker {
+            program,
+            trail,
+            spares: Vec::new(alloc),
+        })
+    }
+
+    /// Gives the walker the memory of a walk that was settled, for a later one. Where there is no
+    /// room for it, it is given back to the allocator.
+    pub fn reuse(&mut self, spare: Spare)
+        ensures { self.new ≡ self.old }
+    {
+        let _ = self.spares.push(spare);
     }
 
     /// Tries the first `quota` schedules of an item of the walker's program in a mode, or all where
@@ -70,7 +86,11 @@ impl Walker {
             IsPastBound mode item.now → w ≡ walk_past_bound mode item.now) }
         ensures walked { IfOk result IsWalked }
     {
-        self.trail.walk(alloc, item, mode, quota)
+        let spare = match self.spares.pop() {
+            Some(spare) => spare,
+            None => Spare::none(alloc),
+        };
+        self.trail.walk(alloc, Found::new(spare), item, mode, quota)
     }
 }
 
@@ -96,5 +116,6 @@ pub fn walk(alloc: Global, item: &Item, mode: Mode, quota: u32) -> Result<Walked
     ensures walked { IfOk result IsWalked }
 {
     let mut trail = Trail::start(alloc, item.program())?;
-    trail.walk(alloc, item, mode, quota)
+    let found = Found::new(Spare::none(alloc));
+    trail.walk(alloc, found, item, mode, quota)
 }

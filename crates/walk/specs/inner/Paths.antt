@@ -26,17 +26,11 @@ abbrev pub HasSwitches : Mask → Option ℕ → Mask → Type 0
 HasSwitches switches last enabled =
     (t : ℕ) → has switches t ≡ (has enabled t && leaves_last last enabled t)
 
--- the node after a step of a thread, where these are enabled, these sleep, and a step of these is a
--- preempting switch
-abbrev pub after : Node → ℕ → Mask → Mask → Mask → Node
-after n t enabled asleep switches = record {
-  enabled = enabled;
-  asleep = asleep;
-  todo = no_threads;
-  switches = switches;
-  last = Some t;
-  used = n.used + one_if (leaves n t);
-}
+-- the node after a step of a thread, but for who is enabled and who sleeps there
+pub record IsNext (n : Node) (t : ℕ) (next : Node) : Type 0 where
+  pub todo : next.todo ≡ no_threads
+  pub last : next.last ≡ Some t
+  pub used : next.used ≡ n.used + one_if (leaves n t)
 
 -- the steps to the node below these frames, of which the lowest comes first
 abbrev pub path : List Frame → List ℕ
@@ -77,12 +71,17 @@ pub record IsTrail (p : Program) (t : Trail) : Type 0 where
   pub steps : t.steps.items ≡ path (above t)
   pub room : length t.steps.items ≤ length t.frames.items
 
+-- the same way, where the walk stands at this node
+abbrev pub with_node : Trail → Node → Trail
+with_node t n = record t { node = n }
+
 -- one step of a thread further, after which these sleep
 pub record IsEntered (old new : Trail) (t : ℕ) (asleep : Mask) : Type 0 where
   pub steps : new.steps.items ≡ old.steps.items ++ t ∷ []
   pub frame : Frame
   pub above : above new ≡ frame ∷ above old
   pub node : frame.node ≡ old.node
+  pub next : IsNext old.node t new.node
   pub sleepers : new.node.asleep ≡ asleep
   pub base : new.base ≡ old.base
 

@@ -1,7 +1,7 @@
 -- What holds while a walk goes over the schedules of an item.
-use Rattle.std.specs.Prelude.{◌≡◌, ℕ, zero, suc, ◌+◌, ◌-◌, ◌≤◌, Bool, false, not, nat_le, nat_lt, List, [], ◌∷◌, ◌++◌, length, take, map}
+use Rattle.std.specs.Prelude.{◌≡◌, ℕ, zero, suc, ◌+◌, ◌-◌, ◌≤◌, Bool, false, not, nat_le, nat_lt, List, [], ◌∷◌, ◌++◌, length, take, map, Some}
 use Rattle.guest_code.specs.Program.{Program}
-use Rattle.semantics.specs.Mask.{has, members_from}
+use Rattle.semantics.specs.Mask.{has, no_threads, members_from}
 use Rattle.semantics.specs.Schedules.{one_if}
 use Rattle.walk.specs.declared.mode.Mode.{Mode}
 use Rattle.walk.specs.declared.mode.Mode.TheVariants.{Bounded, Reduced}
@@ -12,7 +12,7 @@ use Rattle.walk.specs.declared.search.Found.{Found}
 use Rattle.walk.specs.Items.{ItemView, item_at}
 use Rattle.walk.specs.PrefixLists.{last_of}
 use Rattle.walk.specs.Walks.{IsWalked}
-use Rattle.walk.specs.inner.Children.{children_of, costs}
+use Rattle.walk.specs.inner.Children.{children_of, cost_of, costs}
 use Rattle.walk.specs.inner.Paths.{leaves, path, above, IsTrail}
 
 -- the item of a node, to which these steps lead
@@ -68,6 +68,22 @@ pub record IsSearch (mode : Mode) (i : ItemView) (t : Trail) (f : Found)
 -- more turns than are still to be taken
 unfoldable pub turns_left : Mode → Program → Trail → ℕ
 turns_left mode p t = costs (still_open mode p t) + length t.steps.items
+
+-- more turns than are to be taken from where it stands on, and for what is open above
+unfoldable pub turns_from : Mode → Program → Trail → ℕ
+turns_from mode p t = cost_of (here p t) + costs (left_above mode p t) + length t.steps.items
+
+-- the thread of the last step has used up the bound, so that its step alone is kept where it can
+-- go on; no step is to be tried yet
+pub record IsSpent (bound : ℕ) (n : Node) (t : ℕ) : Type 0 where
+  pub todo : n.todo ≡ no_threads
+  pub last : n.last ≡ Some t
+  pub used : n.used ≡ bound
+
+-- the node's preemptions use up the bound
+abbrev pub IsUsedUp : Mode → Node → Type 0
+IsUsedUp (Bounded bound) n = n.used ≡ bound
+IsUsedUp Reduced n = ⊥
 
 -- a step of the thread is kept, where the node's own preemptions are within the bound
 abbrev pub is_kept_at : Mode → Node → ℕ → Bool

@@ -1,5 +1,5 @@
 // The bytes of ways back, from a prefix to the one before it in a list.
-ghost use Rattle.std.specs.Prelude.{◌≡◌, ◌+◌, ◌-◌, ◌<◌, ◌≤◌, ◌++◌, length, take, drop, is_ok, OnOk, if◌then◌else◌, vec_len, vec_capacity, IsOk};
+ghost use Rattle.std.specs.Prelude.{◌≡◌, ◌+◌, ◌-◌, ◌<◌, ◌≤◌, ◌++◌, length, take, drop, is_ok, OnOk, if◌then◌else◌, vec_len, vec_capacity, IsOk, IsTrue};
 ghost use Rattle.walk.specs.inner.Packed.{way_bytes, dropped_of, start_of, end_of, number_at, before, head_of, common_length};
 
 use std::alloc::AllocError;
@@ -22,6 +22,35 @@ pub fn shared_length(a: &[u8], b: &[u8]) -> usize
     n
 }
 
+// Whether a prefix has one step more than so many.
+#[inline(always)]
+pub fn is_one_longer(prefix: &Vec<u8>, steps: usize) -> bool
+    ensures { IsTrue result → vec_len prefix.now ≡ steps + 1 }
+{
+    let len = prefix.len();
+    steps < len && len - steps == 1
+}
+
+// Whether there is room for two more bytes.
+#[inline(always)]
+pub fn has_room_for_two(bytes: &Vec<u8>) -> bool
+    ensures { IsTrue result → vec_len bytes.now + 2 ≤ vec_capacity bytes.now }
+{
+    bytes.capacity() - bytes.len() >= 2
+}
+
+// Puts bytes after the others, where there is room.
+#[inline(always)]
+pub fn put_reserved(bytes: &mut Vec<u8>, more: &[u8])
+    requires { vec_len bytes.old + length more.now ≤ vec_capacity bytes.old }
+    ensures items { bytes.new.items ≡ bytes.old.items ++ more.now }
+    ensures room { vec_capacity bytes.new ≡ vec_capacity bytes.old }
+{
+    for byte in more {
+        bytes.push_reserved(*byte);
+    }
+}
+
 // Puts bytes after the others: a few one by one, which takes less than one call for all.
 #[inline(always)]
 pub fn put_few(bytes: &mut Vec<u8>, more: &[u8]) -> Result<(), AllocError>
@@ -31,13 +60,40 @@ pub fn put_few(bytes: &mut Vec<u8>, more: &[u8]) -> Result<(), AllocError>
     ensures succeeds { vec_len bytes.old + length more.now ≤ vec_capacity bytes.old
         → IsOk result }
 {
-    if more.len() >= 16 {
+    if more.len() >= 16 || bytes.capacity() - bytes.len() < more.len() {
         return bytes.extend_from_slice(more);
     }
-    for byte in more {
-        bytes.push(*byte)?;
-    }
+    put_reserved(bytes, more);
     Ok(())
+}
+
+// Whether a prefix that begins as the last one does, so many steps, and then goes on with the rest
+// is put after it by a short way back, and there is room for both.
+#[inline(always)]
+pub fn is_short(bytes: &Vec<u8>, last: &Vec<u8>, shared: usize, rest: &[u8]) -> bool
+    ensures shared { IsTrue result → shared ≤ vec_len last.now }
+    ensures tail { IsTrue result → vec_len last.now < shared + 16 }
+    ensures rest { IsTrue result → length rest.now < 15 }
+    ensures bytes { IsTrue result → vec_len bytes.now + 16 ≤ vec_capacity bytes.now }
+    ensures last { IsTrue result → shared + length rest.now ≤ vec_capacity last.now }
+{
+    shared <= last.len()
+        && last.len() - shared < 16
+        && rest.len() < 15
+        && rest.len() <= last.capacity() - shared
+        && bytes.capacity() - bytes.len() >= 16
+}
+
+// Writes a short way back after the bytes, where there is room.
+#[inline(always)]
+pub fn put_short_way(bytes: &mut Vec<u8>, dropped: usize, tail: &[u8])
+    requires dropped { dropped < 15 }
+    requires tail { length tail.now < 16 }
+    requires room { vec_len bytes.old + 16 ≤ vec_capacity bytes.old }
+    ensures { bytes.new.items ≡ bytes.old.items ++ way_bytes dropped tail.now }
+{
+    put_reserved(bytes, tail);
+    bytes.push_reserved((dropped * 16 + tail.len()) as u8);
 }
 
 fn write_way(bytes: &mut Vec<u8>, dropped: usize, tail: &[u8]) -> Result<(), AllocError>

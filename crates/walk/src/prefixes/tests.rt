@@ -32,3 +32,12 @@ fn prefixes_are_moved(rt: HostRuntime) -> io::Result<()> {
     assert!(&rt; other.is_empty());
     Ok(())
 }
+
+#[test]
+fn prefixes_are_cleared(rt: HostRuntime) -> io::Result<()> {
+    let mut list = Prefixes::new(rt.alloc());
+    list.push(&[0, 0, 1])?;
+    list.clear();
+    assert!(&rt; list.is_empty() && list.last().is_none());
+    Ok(())
+}

@@ -7,8 +7,8 @@ abbrev pub invariant-loop-walked : goal.invariant-loop-walked
 invariant-loop-walked l = record {
   program : l.book.program ≡ l.fn.program;
   mode : l.book.mode ≡ l.fn.mode;
-  left : All (IsWalkIn l.fn.program l.fn.mode) l.walks.items;
+  left : All (IsWalkIn l.fn.program l.fn.mode) l.kept.walks.items;
 }
 
 abbrev pub decreases-loop-walked : goal.decreases-loop-walked
-decreases-loop-walked l = length l.walks.items
+decreases-loop-walked l = length l.kept.walks.items

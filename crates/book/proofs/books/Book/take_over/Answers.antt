@@ -197,7 +197,7 @@ invariant_of-self-2 c =
     let at : IsOpenAt b w.item place =
     subst (λ (z : BookView). IsOpenAt z w.item place) (sym c.self.view_is) c.requires.is_open in
     let fin : c.join_in_by.new.self ≡ join b.finished w.part =
-    c.in_default-join_in_by.ensures ∙ ap (join b.finished) c.into_parts-part.ensures.part in
+    c.in-Ok.ensures ∙ ap (join b.finished) c.into_parts-part.ensures.part in
     let lt : place < length (all_of p c.unpack_from.new.self) =
     subst (λ (is : List ItemView). place < length is) (sym c.unpack_from.ensures.same) at.0 in
     let items : all_of p c.remove.new.self ≡ remove b.open_items place ++ w.rest =
@@ -252,7 +252,7 @@ returns c =
     let at : IsOpenAt b w.item place =
     subst (λ (z : BookView). IsOpenAt z w.item place) (sym c.self.view_is) c.requires.is_open in
     let fin : c.join_in_by.new.self ≡ join b.finished w.part =
-    c.in_default-join_in_by.ensures ∙ ap (join b.finished) c.into_parts-part.ensures.part in
+    c.in-Ok.ensures ∙ ap (join b.finished) c.into_parts-part.ensures.part in
     let lt : place < length (all_of p c.unpack_from.new.self) =
     subst (λ (is : List ItemView). place < length is) (sym c.unpack_from.ensures.same) at.0 in
     let items : all_of p c.remove.new.self ≡ remove b.open_items place ++ w.rest =

@@ -7,4 +7,4 @@ abbrev pub invariant-loop : goal.invariant-loop
 invariant-loop g l =
     (goal.iterator-loop g).can_next l.iterator' × (goal.iterator-loop g).is_finite l.iterator'
     × IsSeated l.round l.self
-    × All (IsWalkIn (arc_value l.round.program) l.round.mode) l.walks.items
+    × All (IsWalkIn (arc_value l.round.program) l.round.mode) l.kept.walks.items

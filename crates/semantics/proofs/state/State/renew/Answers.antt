@@ -2,7 +2,7 @@ use Rattle.std.proofs.Common.{◌<◌, ◌∙◌, arith, subst}
 use Rattle.guest_code.specs.declared.limits.TheConstants.{THREADS}
 use Rattle.semantics.specs.declared.action.Others.{Others}
 use Rattle.semantics.specs.inner.Recording.{Changes}
-use Rattle.semantics.proofs.EnabledAfter.{renew_same, renew_fewer, renew_more}
+use Rattle.semantics.proofs.EnabledAfter.{renew_same, renew_more}
 use Rattle.semantics.proofs.state.State.renew.Goals as goal
 
 pub returns-in-Same : goal.returns-in-Same
@@ -12,22 +12,19 @@ returns-in-Same c = λ s of' old change.
     c.in-Same.is change)
     (c.with-near.ensures.same ∙ c.is_on-on.ensures) c.with-near.ensures.others
 
-pub returns-in-Fewer : goal.returns-in-Fewer
-returns-in-Fewer c = λ s of' old change.
-    renew_fewer c.args.program.now s c.args.self.now c.args.thread c.args.mask c.with-near.result
-    c.with.result c.test_again.result of' c.requires.of c.requires.thread old
+pub returns-in-At : goal.returns-in-At
+returns-in-At c = λ s of' old change. c.renew_at.ensures s of'
+    (λ u ne. c.with-near.ensures.others u ne ∙ old u)
     (subst (λ (o : Others). Changes o c.args.program.now s c.args.thread c.args.self.now)
-    c.in-Fewer.is change)
-    (c.with-near.ensures.same ∙ c.is_on-on.ensures) c.with-near.ensures.others
-    c.with.ensures.others c.test_again.ensures.below c.test_again.ensures.above
+    c.in-At.is change)
 
 pub returns-in-More : goal.returns-in-More
 returns-in-More c = λ s of' old change.
     renew_more c.args.program.now s c.args.self.now c.args.thread c.args.mask c.with-near.result
-    c.with-in-More.result c.test_again-in-More.result of' c.requires.of c.requires.thread old
+    c.with.result c.test_again.result of' c.requires.of c.requires.thread old
     (subst (λ (o : Others). Changes o c.args.program.now s c.args.thread c.args.self.now)
     c.in-More.is change)
     (c.with-near.ensures.same ∙ c.is_on-on.ensures) c.with-near.ensures.others
     (λ u ne l. let few : u < THREADS = omega (arith, l, c.requires.of.few, c.requires.of.threads)
-    in c.with-in-More.ensures.others u ne ∙ c.complement.ensures u few)
-    c.test_again-in-More.ensures.below c.test_again-in-More.ensures.above
+    in c.with.ensures.others u ne ∙ c.complement.ensures u few)
+    c.test_again.ensures.below c.test_again.ensures.above

@@ -1,14 +1,14 @@
 use Rattle.std.proofs.lemmas.List.{append-nil, take_rest}
 use Rattle.walk.proofs.WayBytes.{length-way}
-use Rattle.std.proofs.Common.{◌≡◌, ◌+◌, ◌-◌, ◌^◌, ◌<◌, ◌≤◌, ◌++◌, length, take, drop, vec_len, vec_capacity, refl, sym, ◌∙◌, ap, arith, inr, length-append, length-drop}
+use Rattle.std.proofs.Common.{◌≡◌, ◌+◌, ◌-◌, ◌^◌, ◌<◌, ◌≤◌, ◌++◌, length, take, drop, vec_len, vec_capacity, refl, sym, ◌∙◌, ap, arith, append_assoc, length-append, length-take, length-drop}
 use Rattle.walk.specs.inner.Packed.{way_bytes, listed}
-use Rattle.walk.proofs.PackedPrefixes.{if_ok, packed_stack, listed_none, stack_count, stack_short, appended, Grown}
+use Rattle.walk.proofs.PackedPrefixes.{if_ok, packed_stack, packed_few, counted_few, listed_none, stack_short, appended, Holds, grown_after}
 use Rattle.walk.proofs.prefixes.Prefixes.append.Goals as goal
 
 pub returns-then-other-eq0-clause-moved : goal.returns-then-other-eq0-clause-moved
 returns-then-other-eq0-clause-moved c = let i =
     c.other.inside in rw (← c.other.view_is)
-    (listed_none i.count i.bytes.items i.last.items c.if-other-eq0.true)
+    (listed_none i.count (drop i.front i.bytes.items) i.last.items c.if-other-eq0.true)
 
 pub returns-then-other-eq0-clause-all : goal.returns-then-other-eq0-clause-all
 returns-then-other-eq0-clause-all c = rw (returns-then-other-eq0-clause-moved c)
@@ -17,27 +17,33 @@ returns-then-other-eq0-clause-all c = rw (returns-then-other-eq0-clause-moved c)
 pub returns-then-self-eq0-clause-moved : goal.returns-then-self-eq0-clause-moved
 returns-then-self-eq0-clause-moved c = let i =
     c.self.inside in rw (c.swap.ensures.y_after, ← c.self.view_is)
-    (listed_none i.count i.bytes.items i.last.items c.if-self-eq0.true)
+    (listed_none i.count (drop i.front i.bytes.items) i.last.items c.if-self-eq0.true)
 
 pub returns-then-self-eq0-clause-all : goal.returns-then-self-eq0-clause-all
 returns-then-self-eq0-clause-all c =
     let e = returns-then-self-eq0-clause-moved c in
     rw (← c.swap.ensures.y_after, e, c.swap.ensures.x_after) refl
 
-grown_at : (c : goal.After-other-1) → Grown (c.self.inside.count + c.other.inside.count)
-    c.append.new.self.items c.extend_from_slice.new.self.items c.self.inside.first.items
-    c.max-self-inside.result (listed c.self.inside.count c.self.inside.bytes.items
-    c.self.inside.last.items ++ listed c.other.inside.count c.other.inside.bytes.items
+grown_at : (c : goal.After-other-1) → Holds (c.self.inside.count + c.other.inside.count)
+    c.self.inside.front c.extend_from_slice.new.self.items c.extend_from_slice-2.new.self.items
+    c.max-self-inside.result
+    (listed c.self.inside.count (drop c.self.inside.front c.self.inside.bytes.items)
+    c.self.inside.last.items
+    ++ listed c.other.inside.count (drop c.other.inside.front c.other.inside.bytes.items)
     c.other.inside.last.items)
 grown_at c =
     let i = c.self.inside in
     let j = c.other.inside in
     let last = i.last.items in
-    let start = j.first.items in
+    let b = drop i.front i.bytes.items in
+    let first = take i.front i.bytes.items in
+    let ways = drop j.front j.bytes.items in
+    let start = take j.front j.bytes.items in
     let k = c.shared_length-shared.result in
     let same : c.as_slice.result.now ≡ last = c.as_slice.ensures.value ∙ c.reserve.ensures.items in
-    let whole : c.deref.result.now ≡ last = c.deref.ensures.value ∙ c.reserve.ensures.items in
-    let theirs : c.as_slice-2.result.now ≡ start = c.as_slice-2.ensures.value in
+    let whole : c.deref-2.result.now ≡ last = c.deref-2.ensures.value ∙ c.reserve.ensures.items in
+    let theirs : take j.front c.deref.result.now ≡ start =
+    ap (take j.front) c.deref.ensures.value in
     let alike : take k last ≡ take k start =
     ap (take k) (sym same) ∙ c.shared_length-shared.ensures.alike ∙ ap (take k) theirs in
     let low : k ≤ length last = omega (arith, c.shared_length-shared.ensures.in_a, ap length same)
@@ -47,13 +53,18 @@ grown_at c =
       c.shared_length-shared.ensures.in_b,
       ap length theirs,
     ) in
-    let t = take (length c.deref.result.now - k) (drop k c.deref.result.now) in
-    let tail : t ≡ drop k last = take_rest c.deref.result.now k ∙ ap (drop k) whole in
-    let count : c.len-2.result ≡ length start = omega (arith, c.len-2.ensures, j.first.ok.0) in
-    let wrote : c.put_way.new.bytes.items ≡ i.bytes.items ++ way_bytes (c.len-2.result - k) t =
-    c.in_ok-put_way.ensures in
-    let joined : c.append.new.self.items ≡ c.put_way.new.bytes.items ++ j.bytes.items =
-    c.in_default.ensures.items in
+    let t = take (length c.deref-2.result.now - k) (drop k c.deref-2.result.now) in
+    let tail : t ≡ drop k last = take_rest c.deref-2.result.now k ∙ ap (drop k) whole in
+    let count : j.front ≡ length start =
+    omega (arith, length-take j.front j.bytes.items, c.other.invariant.1) in
+    let way = way_bytes (length start - k) t in
+    let wrote : c.put_way.new.bytes.items ≡ i.bytes.items ++ way =
+    c.in_ok-put_way.ensures ∙ ap (λ n. i.bytes.items ++ way_bytes (n - k) t) count in
+    let D = c.deref-3.result.now in
+    let read : take (length D - j.front) (drop j.front D) ≡ ways =
+    take_rest D j.front ∙ ap (drop j.front) c.deref-3.ensures.value in
+    let joined : c.extend_from_slice.new.self.items ≡ i.bytes.items ++ (way ++ ways) =
+    c.in_default.ensures.items ∙ ((λ x. wrote x ++ read x) ∙ append_assoc i.bytes.items way ways) in
     let room : j.longest ≤ vec_capacity c.reserve.new.self =
     omega (
       arith,
@@ -62,25 +73,25 @@ grown_at c =
       c.saturating_sub.ensures,
       c.len.ensures,
     ) in
-    let stack = packed_stack i.count i.bytes.items last i.first.items i.longest c.self.invariant.1
+    let stack = packed_stack i.count b last first i.longest c.self.invariant.2 (omega arith) in
+    let other = packed_stack j.count ways j.last.items start j.longest c.other.invariant.2
     (omega arith) in
-    let other = packed_stack j.count j.bytes.items j.last.items start j.longest c.other.invariant.1
-    (omega arith) in
-    let fits : vec_len c.clear.new.self + length c.as_slice-3.result.now ≤ vec_capacity
+    let fits : vec_len c.clear.new.self + length c.as_slice-2.result.now ≤ vec_capacity
     c.clear.new.self =
     omega (
       arith,
       room,
       c.clear.ensures.len,
       c.clear.ensures.capacity,
-      ap length c.as_slice-3.ensures.value,
-      stack_short j.count j.bytes.items j.last.items start j.longest other,
+      ap length c.as_slice-2.ensures.value,
+      stack_short j.count ways j.last.items start j.longest other,
     ) in
-    let made : c.extend_from_slice.new.self.items ≡ j.last.items =
-    if_ok c.extend_from_slice.result _ _ _ (c.extend_from_slice.ensures.succeeds fits)
-    c.extend_from_slice.ensures.items ∙ (rw (c.clear.ensures.items, c.as_slice-3.ensures.value)
+    let made : c.extend_from_slice-2.new.self.items ≡ j.last.items =
+    if_ok c.extend_from_slice-2.result _ _ _ (c.extend_from_slice-2.ensures.succeeds fits)
+    c.extend_from_slice-2.ensures.items ∙ (rw (c.clear.ensures.items, c.as_slice-2.ensures.value)
     refl) in
-    let long : length start < 2 ^ 64 = omega (arith, j.first.ok.0, j.first.small) in
+    let long : length start < 2 ^ 64 =
+    omega (arith, count, c.other.invariant.1, j.bytes.ok.0, j.bytes.ok.1, j.bytes.small) in
     let short : length t < 2 ^ 64 = omega (
       arith,
       ap length tail,
@@ -88,26 +99,29 @@ grown_at c =
       i.last.ok.0,
       i.last.small,
     ) in
-    appended i.count j.count i.bytes.items j.bytes.items last i.first.items j.last.items start
-    i.longest j.longest _ _ _ t k _ stack other low within long short alike tail
-    (wrote ∙ ap (λ x. i.bytes.items ++ way_bytes (x - k) t) count) joined made
-    (omega (arith, c.max-self-inside.ensures)) (omega (arith, c.max-self-inside.ensures))
+    grown_after (i.count + j.count) i.front i.bytes.items (way ++ ways) _ _ _ _ c.self.invariant.1
+    joined
+    (λ d e. appended i.count j.count b ways last first j.last.items start i.longest j.longest
+    (b ++ way) d c.extend_from_slice-2.new.self.items t k c.max-self-inside.result stack other low
+    within long short alike tail refl (e ∙ sym (append_assoc b way ways)) made
+    (omega (arith, c.max-self-inside.ensures)) (omega (arith, c.max-self-inside.ensures)))
 
 pub overflow_add-self : goal.overflow_add-self
 overflow_add-self c =
     let i = c.self.inside in
     let j = c.other.inside in
     let k = c.shared_length-shared.result in
-    let n = stack_count i.count i.bytes.items i.last.items i.first.items i.longest
-    (packed_stack i.count i.bytes.items i.last.items i.first.items i.longest c.self.invariant.1
-    (omega arith)) in
-    let m = stack_count j.count j.bytes.items j.last.items j.first.items j.longest
-    (packed_stack j.count j.bytes.items j.last.items j.first.items j.longest
-    c.other.invariant.1 (omega arith)) in
-    let t = take (length c.deref.result.now - k) (drop k c.deref.result.now) in
-    let wrote : c.put_way.new.bytes.items ≡ i.bytes.items ++ way_bytes (c.len-2.result - k) t =
+    let n = counted_few i.count i.front i.bytes.items i.last.items i.longest c.self.invariant.2 in
+    let m = packed_few j.count (drop j.front j.bytes.items) j.last.items
+    (take j.front j.bytes.items) j.longest c.other.invariant.2 in
+    let t = take (length c.deref-2.result.now - k) (drop k c.deref-2.result.now) in
+    let wrote : c.put_way.new.bytes.items ≡ i.bytes.items ++ way_bytes (j.front - k) t =
     c.in_ok-put_way.ensures in
-    let joined : c.append.new.self.items ≡ c.put_way.new.bytes.items ++ j.bytes.items =
+    let D = c.deref-3.result.now in
+    let more = take (length D - j.front) (drop j.front D) in
+    let read : more ≡ drop j.front j.bytes.items =
+    take_rest D j.front ∙ ap (drop j.front) c.deref-3.ensures.value in
+    let joined : c.extend_from_slice.new.self.items ≡ c.put_way.new.bytes.items ++ more =
     c.in_default.ensures.items in
     omega (
       arith,
@@ -115,11 +129,12 @@ overflow_add-self c =
       m,
       ap length wrote,
       ap length joined,
-      length-append i.bytes.items (way_bytes (c.len-2.result - k) t),
-      length-append c.put_way.new.bytes.items j.bytes.items,
-      length-way (c.len-2.result - k) t,
-      c.append.new.self.ok.0,
-      c.append.new.self.small,
+      ap length read,
+      length-append i.bytes.items (way_bytes (j.front - k) t),
+      length-append c.put_way.new.bytes.items more,
+      length-way (j.front - k) t,
+      c.extend_from_slice.new.self.ok.0,
+      c.extend_from_slice.new.self.small,
     )
 
 pub invariant_of-self-2 : goal.invariant_of-self-2
@@ -128,7 +143,7 @@ invariant_of-self-2 c = (
     arith,
     c.self.invariant.0,
     c.max-self-inside.ensures,
-    c.extend_from_slice.ensures.capacity,
+    c.extend_from_slice-2.ensures.capacity,
     c.clear.ensures.capacity,
     c.in_ok-reserve.ensures.ok,
     c.reserve.ensures.len,
@@ -136,11 +151,13 @@ invariant_of-self-2 c = (
     c.saturating_sub.ensures,
     c.len.ensures,
   ),
-  inr (grown_at c).stack,
+  (grown_at c).within,
+  (grown_at c).packed,
 )
 
 pub returns-clause-all : goal.returns-clause-all
 returns-clause-all c = (grown_at c).view ∙ (rw (← c.self.view_is, ← c.other.view_is) refl)
 
 pub returns-clause-moved : goal.returns-clause-moved
-returns-clause-moved c = listed_none 0 c.append.new.other.items c.other.inside.last.items refl
+returns-clause-moved c = let j = c.other.inside in
+    listed_none 0 (drop j.front j.bytes.items) j.last.items refl

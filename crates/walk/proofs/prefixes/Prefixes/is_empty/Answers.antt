@@ -1,10 +1,10 @@
-use Rattle.std.proofs.Common.{refl}
+use Rattle.std.proofs.Common.{drop, refl}
 use Rattle.walk.proofs.PackedPrefixes.{length-listed}
 use Rattle.walk.proofs.prefixes.Prefixes.is_empty.Goals as goal
 
 pub returns : goal.returns
 returns c = rw (
   ← c.self.view_is,
-  length-listed c.self.inside.count c.self.inside.bytes.items
+  length-listed c.self.inside.count (drop c.self.inside.front c.self.inside.bytes.items)
       c.self.inside.last.items,
 ) refl

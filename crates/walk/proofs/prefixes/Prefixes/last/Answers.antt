@@ -1,15 +1,17 @@
-use Rattle.std.proofs.Common.{refl, arith}
+use Rattle.std.proofs.Common.{drop, refl, arith}
 use Rattle.walk.proofs.PackedPrefixes.{listed_none, listed_last}
 use Rattle.walk.proofs.prefixes.Prefixes.last.Goals as goal
 
 pub returns-then-self-eq0 : goal.returns-then-self-eq0
-returns-then-self-eq0 c = rw (
-  ← c.self.view_is,
-  listed_none c.self.inside.count c.self.inside.bytes.items c.self.inside.last.items
-      c.if-self-eq0.true,
-) refl
+returns-then-self-eq0 c =
+    let i = c.self.inside in
+    rw (
+      ← c.self.view_is,
+      listed_none i.count (drop i.front i.bytes.items) i.last.items c.if-self-eq0.true,
+    ) refl
 
 pub returns-else-self-eq0 : goal.returns-else-self-eq0
-returns-else-self-eq0 c = rw (← c.self.view_is, c.as_slice.ensures.value)
-    (listed_last c.self.inside.count c.self.inside.bytes.items c.self.inside.last.items
-    (omega arith))
+returns-else-self-eq0 c =
+    let i = c.self.inside in
+    rw (← c.self.view_is, c.as_slice.ensures.value)
+    (listed_last i.count (drop i.front i.bytes.items) i.last.items (omega arith))

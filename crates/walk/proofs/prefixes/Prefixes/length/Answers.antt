@@ -1,5 +1,5 @@
 use Rattle.std.proofs.Common.{arith, sym}
-use Rattle.walk.proofs.PackedPrefixes.{length-listed, packed_few}
+use Rattle.walk.proofs.PackedPrefixes.{length-listed, counted_few}
 use Rattle.walk.proofs.prefixes.Prefixes.length.Goals as goal
 
 pub returns-clause-length : goal.returns-clause-length
@@ -13,5 +13,5 @@ returns-clause-few c =
       i.bytes.ok.0,
       i.bytes.ok.1,
       i.bytes.small,
-      packed_few i.count i.bytes.items i.last.items i.first.items i.longest c.self.invariant.1,
+      counted_few i.count i.front i.bytes.items i.last.items i.longest c.self.invariant.2,
     )

@@ -1,43 +1,48 @@
-use Rattle.std.proofs.Common.{◌≡◌, ◌<◌, length, refl, ap, arith}
-use Rattle.walk.specs.inner.Packed.{before, below_of}
-use Rattle.walk.proofs.PackedPrefixes.{went_well, packed_pop, packed_before, view_pop, length-listed}
+use Rattle.std.proofs.Common.{◌≡◌, ◌<◌, ◌-◌, length, take, drop, refl, ◌∙◌, ap, arith}
+use Rattle.std.proofs.lemmas.List.{take_rest}
+use Rattle.walk.specs.inner.Packed.{before, listed}
+use Rattle.walk.proofs.PackedPrefixes.{went_well, packed_before, Holds, popped, length-listed}
 use Rattle.walk.proofs.prefixes.Prefixes.pop.Goals as goal
 
 pub overflow_sub-self : goal.overflow_sub-self
-overflow_sub-self c = let i = c.self.inside in omega
-    (arith, length-listed i.count i.bytes.items i.last.items, ap length c.self.view_is)
-
-some : (c : goal.After-self-1) → 0 < c.self.inside.count
-some c = let i = c.self.inside in omega (
-  arith,
-  length-listed i.count i.bytes.items i.last.items,
-  ap length c.self.view_is,
-)
-
-last_is : (c : goal.After-self-1) → c.step_back.new.last.items
-    ≡ before c.self.inside.bytes.items c.self.inside.last.items
-last_is c =
+overflow_sub-self c =
     let i = c.self.inside in
-    let b = c.as_slice-2.ensures.value in
-    let short = packed_before i.count i.bytes.items i.last.items i.first.items i.longest
-    c.self.invariant.1 (some c) in
-    rw (← b) (went_well c.step_back.result _ _
-    (c.step_back.ensures.succeeds (rw b (omega (arith, c.self.invariant.0))))
-    c.step_back.ensures.done)
+    let b = drop i.front i.bytes.items in
+    omega (arith, length-listed i.count b i.last.items, ap length c.self.view_is)
 
-bytes_is : (c : goal.After-self-1) → c.truncate.new.self.items ≡ below_of c.self.inside.bytes.items
-bytes_is c = rw (c.truncate.ensures.items, c.top-top.ensures.start, c.as_slice.ensures.value) refl
+left : (c : goal.After-self-1) → Holds (c.self.inside.count - 1) c.self.inside.front
+    c.truncate.new.self.items c.step_back.new.last.items c.self.inside.longest
+    (take (length (listed c.self.inside.count (drop c.self.inside.front c.self.inside.bytes.items)
+    c.self.inside.last.items) - 1) (listed c.self.inside.count
+    (drop c.self.inside.front c.self.inside.bytes.items) c.self.inside.last.items))
+left c =
+    let i = c.self.inside in
+    let b = drop i.front i.bytes.items in
+    let some : 0 < i.count
+    = omega (arith, length-listed i.count b i.last.items, ap length c.self.view_is) in
+    let ways = take_rest c.deref.result.now i.front ∙ ap (drop i.front) c.deref.ensures.value in
+    let short = packed_before i.count b i.last.items (take i.front i.bytes.items) i.longest
+    c.self.invariant.2 some in
+    let back : c.step_back.new.last.items ≡ before b i.last.items
+    = rw (← ways) (went_well c.step_back.result _ _
+    (c.step_back.ensures.succeeds (rw ways (omega (arith, c.self.invariant.0))))
+    c.step_back.ensures.done) in
+    popped i.count i.front i.bytes.items i.last.items i.longest _ _ some c.self.invariant.1
+    c.self.invariant.2
+    (rw (← ways) (omega (
+      arith,
+      c.top-top.ensures.start,
+      c.top-top.ensures.ordered,
+      c.top-top.ensures.within,
+    )))
+    (rw (c.truncate.ensures.items, c.top-top.ensures.start, ways) refl) back
 
 pub invariant_of-self : goal.invariant_of-self
-invariant_of-self c =
-    let i = c.self.inside in (
-      omega (arith, c.self.invariant.0, c.step_back.ensures.room),
-      rw (last_is c, bytes_is c) (packed_pop i.count i.bytes.items i.last.items i.first.items
-          i.longest c.self.invariant.1 (some c)),
-    )
+invariant_of-self c = (
+  omega (arith, c.self.invariant.0, c.step_back.ensures.room),
+  (left c).within,
+  (left c).packed,
+)
 
 pub returns : goal.returns
-returns c =
-    let i = c.self.inside in
-    rw (last_is c, bytes_is c, ← c.self.view_is)
-    (view_pop i.count i.bytes.items i.last.items (some c))
+returns c = rw (← c.self.view_is) (left c).view

@@ -1,4 +1,5 @@
-use Rattle.std.proofs.Common.{◌≡◌, ◌∙◌, true, false, ap, refl, arith}
+use Rattle.std.proofs.Common.{◌≡◌, ◌-◌, length, take, drop, ◌∙◌, true, false, ap, refl, arith}
+use Rattle.std.proofs.lemmas.List.{take_rest}
 use Rattle.walk.specs.inner.Packed.{common_length}
 use Rattle.walk.proofs.PackedPrefixes.{seek_start, seek_found, seek_before, before_fits}
 use Rattle.walk.proofs.prefixes.Prefixes.position.Goals as goal
@@ -6,13 +7,14 @@ use Rattle.walk.proofs.prefixes.Prefixes.position.Goals as goal
 pub loop-place-init : goal.loop-place-init
 loop-place-init c =
     let i = c.self.inside in
-    seek_start c.args.self.now i.first.items c.args.prefix.now i.longest i.count i.bytes.items
-    c.as_slice.result.now i.last.items _ _ (omega (arith, c.self.invariant.0, i.last.small))
-    c.self.invariant.1
-    c.as_slice.ensures.value c.self.view_is
+    let D = c.deref.result.now in
+    seek_start c.args.self.now (take i.front i.bytes.items) c.args.prefix.now i.longest i.count
+    (drop i.front i.bytes.items) (take (length D - i.front) (drop i.front D)) i.last.items _ _
+    (omega (arith, c.self.invariant.0, i.last.small)) c.self.invariant.2
+    (take_rest D i.front ∙ ap (drop i.front) c.deref.ensures.value) c.self.view_is
     (omega (arith, c.len.ensures, i.last.ok.0))
     (c.shared_length.ensures.all
-    ∙ ap (λ w. common_length w c.args.prefix.now) c.as_slice-2.ensures.value)
+    ∙ ap (λ w. common_length w c.args.prefix.now) c.as_slice.ensures.value)
     c.shared_length.ensures.in_b
 
 pub returns-then-has_found-clause-some : goal.returns-then-has_found-clause-some

@@ -1,64 +1,61 @@
-use Rattle.std.proofs.Common.{◌≡◌, ℕ, List, ◌+◌, ◌<◌, ◌∷◌, [], ◌++◌, take, set, get_or, refl, sym, subst, ◌∙◌, ap, arith, inr, vec_len, vec_capacity}
+use Rattle.std.proofs.Common.{◌≡◌, ◌+◌, ◌≤◌, ◌∷◌, [], ◌++◌, length, take, drop, sym, ◌∙◌, refl, ap, arith}
 use Rattle.walk.specs.inner.Packed.{listed}
 use Rattle.walk.specs.PrefixLists.{last_of}
-use Rattle.walk.proofs.PackedPrefixes.{if_ok, packed_stack, stack_count, Grown, last_of_listed, replaced_by_two}
+use Rattle.walk.proofs.PackedPrefixes.{packed_stack, counted_few, Holds, grown_after, last_of_listed, pushed_two, replaced_by_two}
 use Rattle.walk.proofs.prefixes.Prefixes.push_two.Goals as goal
 
 pub overflow_add-self : goal.overflow_add-self
 overflow_add-self c =
     let i = c.self.inside in
-    let n = stack_count i.count i.bytes.items i.last.items i.first.items i.longest
-    (packed_stack i.count i.bytes.items i.last.items i.first.items i.longest c.self.invariant.1
-    (omega arith)) in
+    let n = counted_few i.count i.front i.bytes.items i.last.items i.longest c.self.invariant.2 in
     omega (arith, n, i.bytes.ok.0, i.bytes.small)
 
--- the last prefix after the push
-made : (c : goal.After-self-3-1)
-    → c.push.new.self.items
-    ≡ set c.self.inside.last.items c.args.shared c.args.step ++ c.args.next ∷ []
-made c =
-    let fits : vec_len c.reserve.new.self < vec_capacity c.reserve.new.self
-    = omega (arith, c.in_ok-reserve.ensures.ok, c.reserve.ensures.len) in
-    if_ok c.push.result _ _ _ (c.push.ensures.succeeds fits) c.push.ensures.items
-    ∙ ap (λ (w : List ℕ). set w c.args.shared c.args.step ++ c.args.next ∷ [])
-    c.reserve.ensures.items
-
-grown : (c : goal.After-self-3-1)
-    → Grown (c.self.inside.count + 1) c.extend_from_slice.new.self.items c.push.new.self.items
-    c.self.inside.first.items c.max-self-inside.result
-    (listed c.self.inside.count c.self.inside.bytes.items c.self.inside.last.items
+grown : (c : goal.After-self-then-len-capacity-2-1)
+    → Holds (c.self.inside.count + 1) c.self.inside.front
+    c.push_reserved-then-len-capacity.new.self.items
+    c.push_reserved-then-len-capacity-2.new.self.items c.max-self-inside.result
+    (listed c.self.inside.count (drop c.self.inside.front c.self.inside.bytes.items)
+    c.self.inside.last.items
     ++ (take c.args.shared c.self.inside.last.items ++ c.args.step ∷ c.args.next ∷ []) ∷ [])
 grown c =
     let i = c.self.inside in
-    let stack = packed_stack i.count i.bytes.items i.last.items i.first.items i.longest
-    c.self.invariant.1 (omega arith) in
-    let read = subst (λ (w : List ℕ). c.index.result.now ≡ get_or w c.args.shared
-    c.index.result.now) c.reserve.ensures.items c.index.ensures in
-    replaced_by_two i.count i.bytes.items i.last.items i.first.items i.longest
-    c.max-self-inside.result c.args.shared c.index.result.now c.args.step c.args.next _ _ stack
-    (omega (arith, c.len-len.ensures, i.last.ok.0)) read
-    c.in_ok-extend_from_slice.ensures.items (made c)
-    (omega (arith, c.max-self-inside.ensures))
-    (omega (arith, c.max-self-inside.ensures, c.len.ensures, c.push.new.self.ok.0))
+    let b = drop i.front i.bytes.items in
+    let first = take i.front i.bytes.items in
+    let stack = packed_stack i.count b i.last.items first i.longest c.self.invariant.2 (omega arith)
+    in
+    let top = c.push_reserved-then-len-capacity-2.new.self in
+    let one : length i.last.items ≡ c.args.shared + 1
+    = omega (arith, c.if-is_one_longer.ensures, i.last.ok.0) in
+    let short : length top.items ≤ c.max-self-inside.result
+    = omega (arith, c.max-self-inside.ensures, c.len-then-len-capacity.ensures, top.ok.0) in
+    grown_after (i.count + 1) i.front i.bytes.items (c.index.result.now ∷ 33 ∷ []) _ _ _ _
+    c.self.invariant.1
+    (pushed_two i.bytes.items c.index.result.now 33 _ _ c.push_reserved.ensures.items
+    c.push_reserved-then-len-capacity.ensures.items)
+    (λ d wrote. replaced_by_two i.count b i.last.items first i.longest c.max-self-inside.result
+    c.args.shared c.index.result.now c.args.step c.args.next d top.items stack one c.index.ensures
+    wrote c.push_reserved-then-len-capacity-2.ensures.items
+    (omega (arith, c.max-self-inside.ensures)) short)
 
-pub invariant_of-self-2 : goal.invariant_of-self-2
-invariant_of-self-2 c = (
+pub invariant_of-self : goal.invariant_of-self
+invariant_of-self c = (
   omega (
     arith,
     c.self.invariant.0,
     c.max-self-inside.ensures,
-    c.len.ensures,
-    c.push.new.self.ok.1,
-    c.push.ensures.capacity,
-    c.reserve.ensures.capacity,
+    c.len-then-len-capacity.ensures,
+    c.push_reserved-then-len-capacity-2.new.self.ok.1,
+    c.push_reserved-then-len-capacity-2.ensures.capacity,
   ),
-  inr (grown c).stack,
+  (grown c).within,
+  (grown c).packed,
 )
 
-pub returns : goal.returns
-returns c =
+pub returns-then-len-capacity : goal.returns-then-len-capacity
+returns-then-len-capacity c =
     let i = c.self.inside in
     let last = i.last.items in
     let is_last : last_of c.args.self.now ≡ last
-    = ap last_of (sym c.self.view_is) ∙ last_of_listed i.count i.bytes.items last (omega arith) in
+    = ap last_of (sym c.self.view_is) ∙ last_of_listed i.count (drop i.front i.bytes.items) last
+    (omega arith) in
     (grown c).view ∙ (rw (c.self.view_is, is_last) refl)

@@ -32,7 +32,9 @@ returns-in_ok-defer-in-Some-clause-search c =
 
 pub returns-in_ok-defer-in-Some-clause-falls : goal.returns-in_ok-defer-in-Some-clause-falls
 returns-in_ok-defer-in-Some-clause-falls c =
-    falls_node c.args.mode c.args.item.now.program c.args.self.now _ _ _ c.requires.search.place
+    falls_node c.args.mode c.args.item.now.program c.args.self.now
+    (record c.args.self.now { steps = c.defer.new.steps; node = c.open-past.new.self }) _ _
+    c.requires.search.place
     (record {
       steps = c.defer.ensures.steps;
       frames = refl;
@@ -61,7 +63,9 @@ returns-in_ok-add-in-None-clause-search c =
 
 pub returns-in_ok-add-in-None-clause-falls : goal.returns-in_ok-add-in-None-clause-falls
 returns-in_ok-add-in-None-clause-falls c =
-    falls_leaf c.args.mode c.args.item.now.program c.args.self.now _ c.requires.search.place
+    falls_leaf c.args.mode c.args.item.now.program c.args.self.now
+    (record c.args.self.now { node = c.open-past.new.self; hints = c.add.new.hints })
+    c.requires.search.place
     (record {
       steps = refl;
       frames = refl;

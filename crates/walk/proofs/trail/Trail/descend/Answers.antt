@@ -1,4 +1,4 @@
-use Rattle.std.proofs.Common.{◌≡◌, ◌∙◌, ap, sym, subst}
+use Rattle.std.proofs.Common.{◌≡◌, ◌∙◌, ap, sym, subst, arith}
 use Rattle.std.proofs.lemmas.Result.{on_ok_weaker}
 use Rattle.guest_code.specs.Program.{Program}
 use Rattle.semantics.specs.Machine.{is_enabled}
@@ -6,7 +6,7 @@ use Rattle.walk.specs.inner.Paths.{IsTrail}
 use Rattle.walk.specs.inner.Children.{child_of, mask_after}
 use Rattle.walk.specs.inner.WalkerInvariant.{here, still_open}
 use Rattle.walk.proofs.WalkSteps.{first_open}
-use Rattle.walk.proofs.Arrivals.{child_enabled, entered_search, entered_cost}
+use Rattle.walk.proofs.Arrivals.{child_enabled, entered_search, entered_turns}
 use Rattle.walk.proofs.trail.Trail.descend.Goals as goal
 
 pub sleepers-asleep-requires-clause-enabled : goal.sleepers-asleep-requires-clause-enabled
@@ -27,8 +27,8 @@ enter-requires-clause-enabled c =
     (first_open c.args.mode c.args.item.now (child_of c.args.mode (here p t) c.args.thread)
     c.args.found.now.part (still_open c.args.mode p t) _ c.requires.search.walked).item)
 
-pub arrive-requires : goal.arrive-requires
-arrive-requires c =
+pub run_on-requires : goal.run_on-requires
+run_on-requires c =
     let trail = subst (λ (q : Program). IsTrail q c.enter.new.self) c.program-program.ensures
     c.enter.ensures.trail in
     record {
@@ -37,14 +37,16 @@ arrive-requires c =
           c.requires.search trail c.in_ok-enter.ensures.entered
           (c.sleepers-asleep.ensures ∙ ap (λ (q : Program). mask_after c.args.mode
           (here q c.args.self.now) c.args.thread) c.program-program.ensures);
+      todo = c.in_ok-enter.ensures.entered.next.todo;
+      last = c.in_ok-enter.ensures.entered.next.last;
     }
 
 pub returns-clause-further : goal.returns-clause-further
 returns-clause-further c =
-    on_ok_weaker c.arrive.result
-    (λ l. entered_cost c.args.mode c.args.item.now.program c.args.self.now c.enter.new.self
-    c.args.thread _ c.sleepers-asleep.result
+    let e = entered_turns c.args.mode c.args.item.now.program c.args.self.now c.enter.new.self
+    c.args.thread c.sleepers-asleep.result
     c.requires.search.place c.in_ok-enter.ensures.entered
     (c.sleepers-asleep.ensures ∙ ap (λ (q : Program). mask_after c.args.mode
-    (here q c.args.self.now) c.args.thread) c.program-program.ensures) l)
-    c.arrive.ensures.falls
+    (here q c.args.self.now) c.args.thread) c.program-program.ensures) in
+    let f = c.in_ok-run_on.ensures.further in
+    on_ok_weaker c.arrive.result (λ l. omega (arith, e, f, l)) c.arrive.ensures.falls

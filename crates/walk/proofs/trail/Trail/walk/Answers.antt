@@ -16,21 +16,22 @@ new-requires-then-is_past c =
       mode = c.args.mode;
       item = sym c.in_ok-try_clone.ensures k;
       part = sym (c.set_beyond.ensures ∙ ap (λ (s : SummaryView). with_beyond s true)
-          c.new-found.ensures.part) k;
+          c.requires.found.0) k;
       rest = sym c.new.ensures.items k;
       deferred = map (item_at (sym c.in_ok-try_clone.ensures k).program)
-          (sym c.new-found.ensures.deferred k);
+          (sym c.requires.found.1 k);
     }) w
 
-pub arrive-requires : goal.arrive-requires
-arrive-requires c =
+pub begin-requires : goal.begin-requires
+begin-requires c =
     let i = c.args.item.now in
     let t = c.stand_at.new.self in
     record {
-      search = search_begun c.args.mode i t c.new-found.result c.in_ok-stand_at.ensures.place
+      search = search_begun c.args.mode i t c.args.found c.in_ok-stand_at.ensures.place
           c.in_ok-stand_at.ensures.item c.in_ok-stand_at.ensures.base
-          (sym c.is_past.ensures ∙ c.if-is_past.false) c.new-found.ensures.part
-          c.new-found.ensures.deferred c.new-found.ensures.shared;
+          (sym c.is_past.ensures ∙ c.if-is_past.false) c.requires.found.0
+          c.requires.found.1 c.requires.found.2;
+      todo = c.in_ok-stand_at.ensures.todo;
     }
 
 pub give_all_back-requires-clause-items : goal.give_all_back-requires-clause-items

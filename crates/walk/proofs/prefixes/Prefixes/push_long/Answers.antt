@@ -1,29 +1,28 @@
 use Rattle.std.proofs.lemmas.List.{take_rest}
-use Rattle.std.proofs.Common.{◌≡◌, ◌+◌, ◌-◌, ◌^◌, ◌<◌, ◌≤◌, [], ◌∷◌, ◌++◌, length, take, drop, min, vec_len, vec_capacity, refl, sym, ◌∙◌, ap, arith, inr, length-drop}
+use Rattle.std.proofs.Common.{◌≡◌, ◌+◌, ◌-◌, ◌^◌, ◌<◌, ◌≤◌, [], ◌∷◌, ◌++◌, length, take, drop, min, vec_len, vec_capacity, refl, sym, ◌∙◌, ap, arith, length-drop}
 use Rattle.walk.specs.inner.Packed.{way_bytes, listed}
 use Rattle.walk.specs.PrefixLists.{last_of}
-use Rattle.walk.proofs.PackedPrefixes.{went_well, packed_stack, none_listed, stack_count, pushed, Grown, last_of_listed, after_none, take_within}
-use Rattle.walk.proofs.prefixes.Prefixes.push_after.Goals as goal
+use Rattle.walk.proofs.PackedPrefixes.{went_well, packed_stack, none_listed, counted_few, pushed, Holds, grown_after, last_of_listed, after_none, take_within}
+use Rattle.walk.proofs.prefixes.Prefixes.push_long.Goals as goal
 
 pub start-requires : goal.start-requires
 start-requires c =
     let i = c.self.inside in
-    none_listed i.count i.bytes.items i.last.items c.args.self.now c.self.view_is c.if-self-eq0.true
+    none_listed i.count (drop i.front i.bytes.items) i.last.items c.args.self.now c.self.view_is
+    c.if-self-eq0.true
 
 pub returns-then-self-eq0 : goal.returns-then-self-eq0
 returns-then-self-eq0 c =
     let i = c.self.inside in
     let none : c.args.self.now ≡ []
-    = none_listed i.count i.bytes.items i.last.items c.args.self.now c.self.view_is
+    = none_listed i.count (drop i.front i.bytes.items) i.last.items c.args.self.now c.self.view_is
     c.if-self-eq0.true in
     rw (after_none c.args.self.now c.args.rest.now c.args.shared none, none) c.start.ensures
 
 pub overflow_add-self : goal.overflow_add-self
 overflow_add-self c =
     let i = c.self.inside in
-    let n = stack_count i.count i.bytes.items i.last.items i.first.items i.longest
-    (packed_stack i.count i.bytes.items i.last.items i.first.items i.longest c.self.invariant.1
-    (omega arith)) in
+    let n = counted_few i.count i.front i.bytes.items i.last.items i.longest c.self.invariant.2 in
     omega (arith, n, i.bytes.ok.0, i.bytes.small)
 
 -- the last prefix after the push
@@ -48,9 +47,10 @@ made c =
     ∙ ap (λ x. x ++ c.args.rest.now) cut
 
 grown : (c : goal.After-self-2-1)
-    → Grown (c.self.inside.count + 1) c.put_way.new.bytes.items c.put_few.new.bytes.items
-    c.self.inside.first.items c.max-self-inside.result
-    (listed c.self.inside.count c.self.inside.bytes.items c.self.inside.last.items
+    → Holds (c.self.inside.count + 1) c.self.inside.front c.put_way.new.bytes.items
+    c.put_few.new.bytes.items c.max-self-inside.result
+    (listed c.self.inside.count (drop c.self.inside.front c.self.inside.bytes.items)
+    c.self.inside.last.items
     ++ (take c.min-shared.result c.self.inside.last.items ++ c.args.rest.now) ∷ [])
 grown c =
     let i = c.self.inside in
@@ -63,8 +63,9 @@ grown c =
     let tail : t ≡ drop k last = take_rest c.deref.result.now k ∙ ap (drop k) whole in
     let wrote : c.put_way.new.bytes.items ≡ i.bytes.items ++ way_bytes (length rest) t =
     c.in_ok-put_way.ensures in
-    let stack = packed_stack i.count i.bytes.items last i.first.items i.longest c.self.invariant.1
-    (omega arith) in
+    let b = drop i.front i.bytes.items in
+    let first = take i.front i.bytes.items in
+    let stack = packed_stack i.count b last first i.longest c.self.invariant.2 (omega arith) in
     let long : length rest < 2 ^ 64 = omega
     (arith, c.in_ok-reserve.ensures.ok, c.reserve.new.self.small) in
     let short : length t < 2 ^ 64 = omega (
@@ -74,10 +75,13 @@ grown c =
       i.last.ok.0,
       i.last.small,
     ) in
-    pushed i.count i.bytes.items last i.first.items i.longest rest _ _ t k _ stack low long short
-    tail wrote (made c)
-    (omega (arith, c.max-self-inside.ensures))
-    (omega (arith, c.max-self-inside.ensures, c.len-2.ensures, c.put_few.new.bytes.ok.0))
+    let fits : length c.put_few.new.bytes.items ≤ c.max-self-inside.result
+    = omega (arith, c.max-self-inside.ensures, c.len-2.ensures, c.put_few.new.bytes.ok.0) in
+    grown_after (i.count + 1) i.front i.bytes.items (way_bytes (length rest) t) _ _ _ _
+    c.self.invariant.1 wrote
+    (λ d w. pushed i.count b last first i.longest rest d c.put_few.new.bytes.items t k
+    c.max-self-inside.result stack low long short tail w (made c)
+    (omega (arith, c.max-self-inside.ensures)) fits)
 
 pub invariant_of-self-2 : goal.invariant_of-self-2
 invariant_of-self-2 c = (
@@ -91,7 +95,8 @@ invariant_of-self-2 c = (
     c.truncate.ensures.capacity,
     c.reserve.ensures.capacity,
   ),
-  inr (grown c).stack,
+  (grown c).within,
+  (grown c).packed,
 )
 
 pub returns : goal.returns
@@ -100,7 +105,8 @@ returns c =
     let last = i.last.items in
     let list = c.args.self.now in
     let is_last : last_of list ≡ last
-    = ap last_of (sym c.self.view_is) ∙ last_of_listed i.count i.bytes.items last (omega arith) in
+    = ap last_of (sym c.self.view_is) ∙ last_of_listed i.count (drop i.front i.bytes.items) last
+    (omega arith) in
     let count : c.min-shared.result ≡ min c.args.shared (length last)
     = omega (arith, c.min-shared.ensures, c.len.ensures, i.last.ok.0) in
     let same : take c.min-shared.result last ≡ take c.args.shared last
