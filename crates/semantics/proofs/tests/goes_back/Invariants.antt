@@ -2,4 +2,4 @@ use Rattle.semantics.specs.Reachable.{IsOf}
 use Rattle.semantics.proofs.tests.goes_back.Given as goal
 
 abbrev pub invariant-loop-t : goal.invariant-loop-t
-invariant-loop-t l = IsOf l.p l.state
+invariant-loop-t g l = IsOf l.p l.state
