@@ -2,12 +2,15 @@
 //! traces are tested through the program.
 
 use crate::{
-    Act, Line, ReplayError, ScheduleError, replay, schedule_from, schedule_text, trace_text,
+    Act, Line, ReplayError, Run, ScheduleError, replay, schedule_from, schedule_text, trace_text,
 };
 use guest_code::lowering::lower;
+use guest_code::program::Program;
 use guest_syntax::parse;
 use semantics::state::Stop;
 use semantics::view::Kind;
+use std::alloc::{AllocError, Global};
+use std::process::Abort;
 use std::test::*;
 
 /// A printed spelling, and the schedule that it spells.
@@ -123,43 +126,84 @@ static ATOMIC: [(&[u8], &[u8], &[u8]); 2] = [
 ];
 
 #[test]
-fn reads_and_writes_schedules(rt: HostRuntime) -> Result<(), Fail> {
+fn writes_schedules(rt: HostRuntime) -> Result<(), Fail> {
     for (text, schedule) in PRINTED.iter() {
-        let read = schedule_from(rt.alloc(), text)?;
-        assert_eq!(rt; read.as_slice(), *schedule);
         let written = schedule_text(rt.alloc(), schedule)?;
         assert_eq!(rt; written.as_slice(), *text);
-    }
-    for (text, schedule) in READ.iter() {
-        let read = schedule_from(rt.alloc(), text)?;
-        assert_eq!(rt; read.as_slice(), *schedule);
-    }
-    for (text, at) in BAD.iter() {
-        match schedule_from(rt.alloc(), text) {
-            Err(ScheduleError::BadSchedule(found)) => assert_eq!(rt; found, *at),
-            _ => return Err(Fail::new("a text with a piece that is none is taken")),
-        }
-    }
-    for (text, at) in LONG.iter() {
-        match schedule_from(rt.alloc(), text) {
-            Err(ScheduleError::TooLong(found)) => assert_eq!(rt; found, *at),
-            _ => return Err(Fail::new("a schedule that is too long is taken")),
-        }
     }
     Ok(())
 }
 
 #[test]
-fn reads_the_longest_schedule_and_writes_long_ones(rt: HostRuntime) -> Result<(), Fail> {
+fn reads_schedules_that_are_written(rt: HostRuntime) -> Result<(), Fail> {
+    for (text, schedule) in PRINTED.iter() {
+        let read = schedule_from(rt.alloc(), text)?;
+        assert_eq!(rt; read.as_slice(), *schedule);
+    }
+    Ok(())
+}
+
+#[test]
+fn reads_schedules_that_are_not_written(rt: HostRuntime) -> Result<(), Fail> {
+    for (text, schedule) in READ.iter() {
+        let read = schedule_from(rt.alloc(), text)?;
+        assert_eq!(rt; read.as_slice(), *schedule);
+    }
+    Ok(())
+}
+
+/// Where a text has the first piece that is none, if that is what is wrong with it.
+fn bad_at(alloc: Global, text: &[u8]) -> Option<usize> {
+    match schedule_from(alloc, text) {
+        Err(ScheduleError::BadSchedule(at)) => Some(at),
+        _ => None,
+    }
+}
+
+#[test]
+fn names_the_first_piece_that_is_none(rt: HostRuntime) {
+    for (text, at) in BAD.iter() {
+        assert_eq!(rt; bad_at(rt.alloc(), text), Some(*at), "{text:?}");
+    }
+}
+
+/// Where a text has the piece with which its schedule is too long, if that is what is wrong.
+fn too_long_at(alloc: Global, text: &[u8]) -> Option<usize> {
+    match schedule_from(alloc, text) {
+        Err(ScheduleError::TooLong(at)) => Some(at),
+        _ => None,
+    }
+}
+
+#[test]
+fn names_the_piece_that_is_too_much(rt: HostRuntime) {
+    for (text, at) in LONG.iter() {
+        assert_eq!(rt; too_long_at(rt.alloc(), text), Some(*at), "{text:?}");
+    }
+}
+
+#[test]
+fn reads_and_writes_the_longest_schedule(rt: HostRuntime) -> Result<(), Fail> {
     let longest = schedule_from(rt.alloc(), b"0x32768")?;
     assert_eq!(rt; longest.len(), 32_768);
     assert!(rt; longest.as_slice().iter().all(|t| *t == 0));
     let written = schedule_text(rt.alloc(), longest.as_slice())?;
     assert_eq!(rt; written.as_slice(), b"0x32768".as_slice());
-    let mut turns = Vec::new(rt.alloc());
+    Ok(())
+}
+
+/// A hundred and fifty times one thread and then another.
+fn turns(alloc: Global) -> Result<Vec<u8>, AllocError> {
+    let mut turns = Vec::new(alloc);
     for _ in 0..150 {
         turns.extend_from_slice(&[0, 1])?;
     }
+    Ok(turns)
+}
+
+#[test]
+fn writes_and_reads_a_long_schedule(rt: HostRuntime) -> Result<(), Fail> {
+    let turns = turns(rt.alloc())?;
     let text = schedule_text(rt.alloc(), turns.as_slice())?;
     assert_eq!(rt; text.len(), 599);
     let read = schedule_from(rt.alloc(), text.as_slice())?;
@@ -167,17 +211,39 @@ fn reads_the_longest_schedule_and_writes_long_ones(rt: HostRuntime) -> Result<()
     Ok(())
 }
 
-#[test]
-fn replays_and_prints(rt: HostRuntime) -> Result<(), Fail> {
-    let tree = parse(rt.alloc(), RACE)?;
-    let program = lower(rt.alloc(), &tree)?;
-    let run = replay(rt.alloc(), &program, &[0, 1, 0])?;
+/// The program that a text spells.
+fn program_of(alloc: Global, text: &[u8]) -> Result<Program, Fail> {
+    let tree = parse(alloc, text)?;
+    Ok(lower(alloc, &tree)?)
+}
+
+/// Replays a schedule of a text's program, and answers its trace.
+fn trace_of(alloc: Global, text: &[u8], schedule: &[u8]) -> Result<Vec<u8>, Fail> {
+    let program = program_of(alloc, text)?;
+    let run = replay(alloc, &program, schedule)?;
+    Ok(trace_text(alloc, &program, &run)?)
+}
+
+/// What the steps `0,1,0` of `RACE` do, and how they end.
+fn check_race(rt: &impl Abort, run: &Run) {
     assert_eq!(rt; run.stopped(), &[2][..]);
     assert_eq!(rt; run.lines(), &LINES[..]);
     assert_eq!(rt; run.preemptions(), 1);
     assert_eq!(rt; run.variables(), &[0][..]);
     assert_eq!(rt; run.kind(), Some(Kind::Failed));
-    let trace = trace_text(rt.alloc(), &program, &run)?;
+}
+
+#[test]
+fn replays(rt: HostRuntime) -> Result<(), Fail> {
+    let program = program_of(rt.alloc(), RACE)?;
+    let run = replay(rt.alloc(), &program, &[0, 1, 0])?;
+    check_race(&rt, &run);
+    Ok(())
+}
+
+#[test]
+fn replays_and_prints(rt: HostRuntime) -> Result<(), Fail> {
+    let trace = trace_of(rt.alloc(), RACE, &[0, 1, 0])?;
     let want =
         b"start C stop assert\n0 A store x 1\n1 B load x 1 preempt stop assert\n2 A store x 0\npreemptions 1\nkind failed\nvars x=0\n";
     assert_eq!(rt; trace.as_slice(), &want[..]);
@@ -186,57 +252,102 @@ fn replays_and_prints(rt: HostRuntime) -> Result<(), Fail> {
 
 #[test]
 fn replays_and_prints_atomic_updates(rt: HostRuntime) -> Result<(), Fail> {
-    for (text, schedule, trace) in ATOMIC.iter() {
-        let tree = parse(rt.alloc(), text)?;
-        let program = lower(rt.alloc(), &tree)?;
-        let run = replay(rt.alloc(), &program, schedule)?;
-        let printed = trace_text(rt.alloc(), &program, &run)?;
-        assert_eq!(rt; printed.as_slice(), *trace);
+    for (text, schedule, want) in ATOMIC.iter() {
+        let trace = trace_of(rt.alloc(), text, schedule)?;
+        assert_eq!(rt; trace.as_slice(), *want);
     }
     Ok(())
 }
 
-#[test]
-fn replays_and_prints_long_schedules(rt: HostRuntime) -> Result<(), Fail> {
-    let text = b"var x; thread A { repeat 100 { store x 1; store x 2; store x 3; } }";
-    let tree = parse(rt.alloc(), text)?;
-    let program = lower(rt.alloc(), &tree)?;
-    let schedule = schedule_from(rt.alloc(), b"0x300")?;
-    let run = replay(rt.alloc(), &program, schedule.as_slice())?;
+/// A thread with three hundred steps.
+const STORES: &[u8] = b"var x; thread A { repeat 100 { store x 1; store x 2; store x 3; } }";
+
+/// All steps of `STORES` were taken.
+fn check_stores(rt: &impl Abort, run: &Run) {
     assert_eq!(rt; run.lines().len(), 300);
     assert_eq!(rt; run.variables(), &[3][..]);
     assert_eq!(rt; run.kind(), Some(Kind::Done));
-    let trace = trace_text(rt.alloc(), &program, &run)?;
+}
+
+#[test]
+fn replays_long_schedules(rt: HostRuntime) -> Result<(), Fail> {
+    let program = program_of(rt.alloc(), STORES)?;
+    let schedule = schedule_from(rt.alloc(), b"0x300")?;
+    let run = replay(rt.alloc(), &program, schedule.as_slice())?;
+    check_stores(&rt, &run);
+    Ok(())
+}
+
+#[test]
+fn prints_long_schedules(rt: HostRuntime) -> Result<(), Fail> {
+    let schedule = schedule_from(rt.alloc(), b"0x300")?;
+    let trace = trace_of(rt.alloc(), STORES, schedule.as_slice())?;
     // The places have 10, 90 and 200 numbers of one, two and three digits; the rest of a line has
     // 13 bytes, and the three lines at the end have 33.
     assert_eq!(rt; trace.len(), 790 + 300 * 13 + 33);
     Ok(())
 }
 
-#[test]
-fn errors_name_the_refusal_and_its_place(rt: HostRuntime) -> Result<(), Fail> {
-    let rows = [
-        (
-            ReplayError::NoSuchThread(0),
-            "schedule P1 NoSuchThread at 0",
-        ),
-        (ReplayError::NotEnabled(1), "schedule P2 NotEnabled at 1"),
-        (ReplayError::NotEnabled(7), "schedule P2 NotEnabled at 7"),
-        (ReplayError::OutOfMemory, "memory"),
-    ];
-    for (error, text) in &rows {
-        assert_eq!(rt; error.to_string(rt.alloc())?.as_str(), *text);
-    }
-    let texts = [
-        (
-            ScheduleError::BadSchedule(2),
-            "schedule Q1 BadSchedule at 2",
-        ),
-        (ScheduleError::TooLong(8), "schedule Q3 TooLong at 8"),
-        (ScheduleError::OutOfMemory, "memory"),
-    ];
-    for (error, text) in &texts {
-        assert_eq!(rt; error.to_string(rt.alloc())?.as_str(), *text);
-    }
+/// A refusal of a replay is printed so.
+fn check_refusal(
+    rt: &impl Abort,
+    alloc: Global,
+    error: &ReplayError,
+    want: &str,
+) -> Result<(), Fail> {
+    let text = error.to_string(alloc)?;
+    assert_eq!(rt; text.as_str(), want);
     Ok(())
+}
+
+#[test]
+fn refusals_are_named_with_their_place(rt: HostRuntime) -> Result<(), Fail> {
+    check_refusal(
+        &rt,
+        rt.alloc(),
+        &ReplayError::NoSuchThread(0),
+        "schedule P1 NoSuchThread at 0",
+    )?;
+    check_refusal(
+        &rt,
+        rt.alloc(),
+        &ReplayError::NotEnabled(1),
+        "schedule P2 NotEnabled at 1",
+    )?;
+    check_refusal(
+        &rt,
+        rt.alloc(),
+        &ReplayError::NotEnabled(7),
+        "schedule P2 NotEnabled at 7",
+    )?;
+    check_refusal(&rt, rt.alloc(), &ReplayError::OutOfMemory, "memory")
+}
+
+/// A fault of a text is printed so.
+fn check_fault(
+    rt: &impl Abort,
+    alloc: Global,
+    error: &ScheduleError,
+    want: &str,
+) -> Result<(), Fail> {
+    let text = error.to_string(alloc)?;
+    assert_eq!(rt; text.as_str(), want);
+    Ok(())
+}
+
+#[test]
+fn faults_are_named_with_their_place(rt: HostRuntime) -> Result<(), Fail> {
+    check_fault(
+        &rt,
+        rt.alloc(),
+        &ScheduleError::BadSchedule(2),
+        "schedule Q1 BadSchedule at 2",
+    )?;
+    check_fault(
+        &rt,
+        rt.alloc(),
+        &ScheduleError::TooLong(8),
+        "schedule Q3 TooLong at 8",
+    )?;
+    check_fault(&rt, rt.alloc(), &ScheduleError::OutOfMemory, "memory")
 }
