@@ -1,11 +1,11 @@
 ghost use Rattle.std.specs.Prelude.{◌≤◌};
 
 use crate::books::Book;
-use crate::errors::{RaiseError, SettleError};
 use guest_code::lowering::lower;
 use guest_code::program::Program;
 use guest_syntax::parse;
-use std::alloc::Global;
+use std::alloc::{Alloc, AllocError, Global};
+use std::process::Abort;
 use std::sync::Arc;
 use std::test::*;
 use walk::item::Item;
@@ -31,121 +31,255 @@ const FIRST: Mode = Mode::Bounded(0);
 /// The program of a text that is well formed.
 fn program_of(alloc: Global, text: &str) -> Result<Arc<Program>, Fail> {
     let tree = parse(alloc, text.as_bytes())?;
-    Ok(Arc::new(alloc, lower(alloc, &tree)?)?)
+    let program = lower(alloc, &tree)?;
+    Ok(Arc::new(alloc, program)?)
 }
 
-/// The book of a text's program at bound 0, where all is open.
-fn book_of(alloc: Global, text: &str) -> Result<Book, Fail> {
-    Ok(Book::open(alloc, program_of(alloc, text)?, FIRST)?)
-}
-
-/// A walk of the item of a prefix, of a program of its own.
-fn walk_of(alloc: Global, text: &str, prefix: &[u8], mode: Mode) -> Result<Walked, Fail> {
-    let item = Item::at(alloc, program_of(alloc, text)?, prefix)?;
-    Ok(walk(alloc, &item, mode, 256)?)
+/// The book of a text's program at a bound, where all is open.
+fn book_of(alloc: Global, text: &str, mode: Mode) -> Result<Book, Fail> {
+    let program = program_of(alloc, text)?;
+    Ok(Book::open(alloc, program, mode)?)
 }
 
 /// More rounds than a program of these tests takes.
 const ROUNDS: u32 = 100;
+
+/// Walks an open item of a book, and settles the walk.
+fn walk_item(alloc: Global, book: &mut Book, item: &Item, quota: u32) -> Result<(), Fail>
+    requires { 1 ≤ quota }
+{
+    let walked = walk(alloc, item, book.mode(), quota)?;
+    book.settle(alloc, walked)?;
+    Ok(())
+}
+
+/// Walks the last open items of a book.
+fn walk_round(alloc: Global, book: &mut Book, quota: u32) -> Result<(), Fail>
+    requires { 1 ≤ quota }
+{
+    for item in &book.round(alloc)? {
+        walk_item(alloc, book, item, quota)?;
+    }
+    Ok(())
+}
 
 /// Walks the open items of a book until there are none.
 fn finish(alloc: Global, book: &mut Book, quota: u32) -> Result<(), Fail>
     requires { 1 ≤ quota }
 {
     for _ in 0..ROUNDS {
-        for item in &book.round(alloc)? {
-            let walked = walk(alloc, item, book.mode(), quota)?;
-            book.settle(alloc, walked)?;
-        }
+        walk_round(alloc, book, quota)?;
+    }
+    Ok(())
+}
+
+/// Adds an item's prefix to a line, after a word.
+fn add_prefix(alloc: Global, line: &mut String, word: &str, item: &Item) -> Result<(), AllocError> {
+    let shown = format!(in alloc; " {word} {:?}", item.prefix())?;
+    line.push_str(shown.as_str())
+}
+
+/// Adds the prefixes of the open items to a line.
+fn add_open(alloc: Global, line: &mut String, book: &Book) -> Result<(), AllocError> {
+    for place in 0..book.open_length() {
+        let item = book.open_item(alloc, place)?;
+        add_prefix(alloc, line, "open", &item)?;
+    }
+    Ok(())
+}
+
+/// Adds the prefixes of the items that wait for the next bound to a line.
+fn add_deferred(alloc: Global, line: &mut String, book: &Book) -> Result<(), AllocError> {
+    for place in 0..book.deferred_length() {
+        let item = book.deferred_item(alloc, place)?;
+        add_prefix(alloc, line, "deferred", &item)?;
     }
     Ok(())
 }
 
 /// What a book has finished, and its prefixes, in one line.
-fn shown(alloc: Global, book: &Book) -> Result<String, Fail> {
+fn shown(alloc: Global, book: &Book) -> Result<String, AllocError> {
     let mut line = format!(in alloc; "{} {}", book.finished().tried(), book.finished().beyond())?;
-    for place in 0..book.open_length() {
-        let item = book.open_item(alloc, place)?;
-        line.push_str(format!(in alloc; " open {:?}", item.prefix())?.as_str())?;
-    }
-    for place in 0..book.deferred_length() {
-        let item = book.deferred_item(alloc, place)?;
-        line.push_str(format!(in alloc; " deferred {:?}", item.prefix())?.as_str())?;
-    }
+    add_open(alloc, &mut line, book)?;
+    add_deferred(alloc, &mut line, book)?;
     Ok(line)
 }
 
+/// Stops the test where a book doesn't show this line.
+fn shows(rt: &(impl Abort + Alloc<A = Global>), book: &Book, want: &str) -> Result<(), AllocError> {
+    let line = shown(rt.alloc(), book)?;
+    assert_eq!(rt; line.as_str(), want);
+    Ok(())
+}
+
 /// Settles a walk, and answers what the book tells then.
-fn settled(alloc: Global, book: &mut Book, walked: Walked) -> Result<String, Fail> {
+fn settled(alloc: Global, book: &mut Book, walked: Walked) -> Result<String, AllocError> {
     match book.settle(alloc, walked) {
         Ok(()) => shown(alloc, book),
-        Err(error) => Ok(format!(in alloc; "{error}")?),
+        Err(error) => format!(in alloc; "{error}"),
     }
 }
 
-#[test]
-fn items_are_settled_one_by_one(rt: HostRuntime) -> Result<(), Fail> {
-    let alloc = rt.alloc();
-    let mut book = book_of(alloc, COUNTERS)?;
-    let root = Item::root(alloc, program_of(alloc, COUNTERS)?)?;
-    let line = settled(alloc, &mut book, walk(alloc, &root, FIRST, 1)?)?;
-    assert_eq!(rt; line.as_str(), "1 true open [1] deferred [0, 1]");
-    let again = settled(alloc, &mut book, walk(alloc, &root, FIRST, 1)?)?;
-    assert_eq!(rt; again.as_str(), "book B1 NotOpen");
-    let last = settled(alloc, &mut book, walk_of(alloc, COUNTERS, &[1], FIRST)?)?;
-    assert_eq!(rt; last.as_str(), "2 true deferred [0, 1] deferred [1, 0]");
+/// A walk, and what a book tells where it is settled.
+struct Settlement {
+    text: &'static str,
+    prefix: &'static [u8],
+    mode: Mode,
+    // Whether the walk tries one schedule alone.
+    single: bool,
+    told: &'static str,
+}
+
+/// A walk of an item of a program of its own.
+fn walk_of(alloc: Global, step: &Settlement) -> Result<Walked, Fail> {
+    let program = program_of(alloc, step.text)?;
+    let item = Item::at(alloc, program, step.prefix)?;
+    let quota = if step.single { 1 } else { 256 };
+    Ok(walk(alloc, &item, step.mode, quota)?)
+}
+
+/// Settles a walk, and compares what the book tells.
+fn settle(
+    rt: &(impl Abort + Alloc<A = Global>),
+    book: &mut Book,
+    step: &Settlement,
+) -> Result<(), Fail> {
+    let walked = walk_of(rt.alloc(), step)?;
+    let line = settled(rt.alloc(), book, walked)?;
+    assert_eq!(rt;
+        line.as_str(),
+        step.told,
+        "after {:?} of {:?}",
+        step.prefix,
+        step.text
+    );
     Ok(())
 }
+
+/// The book of a text at bound 0 after these settlements.
+fn played(
+    rt: &(impl Abort + Alloc<A = Global>),
+    text: &str,
+    script: &[Settlement],
+) -> Result<Book, Fail> {
+    let mut book = book_of(rt.alloc(), text, FIRST)?;
+    for step in script {
+        settle(rt, &mut book, step)?;
+    }
+    Ok(book)
+}
+
+/// The counters' root is cut short, and then walked again; then the item that it left.
+const ONE_BY_ONE: [Settlement; 3] = [
+    Settlement {
+        text: COUNTERS,
+        prefix: &[],
+        mode: FIRST,
+        single: true,
+        told: "1 true open [1] deferred [0, 1]",
+    },
+    Settlement {
+        text: COUNTERS,
+        prefix: &[],
+        mode: FIRST,
+        single: true,
+        told: "book B1 NotOpen",
+    },
+    Settlement {
+        text: COUNTERS,
+        prefix: &[1],
+        mode: FIRST,
+        single: false,
+        told: "2 true deferred [0, 1] deferred [1, 0]",
+    },
+];
+
+#[test]
+fn items_are_settled_one_by_one(rt: HostRuntime) -> Result<(), Fail> {
+    let _book = played(&rt, COUNTERS, &ONE_BY_ONE)?;
+    Ok(())
+}
+
+/// Walks of another program, of another mode, and of an item that isn't open.
+const STRANGERS: [Settlement; 3] = [
+    Settlement {
+        text: COUNTERS,
+        prefix: &[],
+        mode: FIRST,
+        single: false,
+        told: "book B2 Stranger",
+    },
+    Settlement {
+        text: WRITERS,
+        prefix: &[],
+        mode: Mode::Reduced,
+        single: false,
+        told: "book B2 Stranger",
+    },
+    Settlement {
+        text: WRITERS,
+        prefix: &[1],
+        mode: FIRST,
+        single: false,
+        told: "book B1 NotOpen",
+    },
+];
 
 #[test]
 fn strangers_are_refused(rt: HostRuntime) -> Result<(), Fail> {
-    let alloc = rt.alloc();
-    let mut book = book_of(alloc, WRITERS)?;
-    let other = walk_of(alloc, COUNTERS, &[], FIRST)?;
-    assert_eq!(rt;
-        settled(alloc, &mut book, other)?.as_str(),
-        "book B2 Stranger"
-    );
-    let pruned = walk_of(alloc, WRITERS, &[], Mode::Reduced)?;
-    assert_eq!(rt;
-        settled(alloc, &mut book, pruned)?.as_str(),
-        "book B2 Stranger"
-    );
-    let part = walk_of(alloc, WRITERS, &[1], FIRST)?;
-    assert_eq!(rt;
-        settled(alloc, &mut book, part)?.as_str(),
-        "book B1 NotOpen"
-    );
-    assert_eq!(rt; shown(alloc, &book)?.as_str(), "0 false open []");
+    let book = played(&rt, WRITERS, &STRANGERS)?;
+    shows(&rt, &book, "0 false open []")?;
     Ok(())
 }
 
+/// An equal program's root, which is the book's own, twice.
+const EQUALS: [Settlement; 2] = [
+    Settlement {
+        text: WRITERS,
+        prefix: &[],
+        mode: FIRST,
+        single: false,
+        told: "6 false",
+    },
+    Settlement {
+        text: WRITERS,
+        prefix: &[],
+        mode: FIRST,
+        single: false,
+        told: "book B1 NotOpen",
+    },
+];
+
 #[test]
 fn programs_are_compared_by_value(rt: HostRuntime) -> Result<(), Fail> {
-    let alloc = rt.alloc();
-    let mut book = book_of(alloc, WRITERS)?;
-    let equal = walk_of(alloc, WRITERS, &[], FIRST)?;
-    assert_eq!(rt; settled(alloc, &mut book, equal)?.as_str(), "6 false");
-    let twice = walk_of(alloc, WRITERS, &[], FIRST)?;
-    assert_eq!(rt;
-        settled(alloc, &mut book, twice)?.as_str(),
-        "book B1 NotOpen"
-    );
+    let _book = played(&rt, WRITERS, &EQUALS)?;
     Ok(())
+}
+
+/// Whether a book answers what it finished to who asks for this program at bound 0, for the other
+/// one, for this one at bound 1, and for this one's quick search.
+fn answers(book: &Book, program: &Program, other: &Program) -> (bool, bool, bool, bool) {
+    (
+        book.closed(program, FIRST).is_some(),
+        book.closed(other, FIRST).is_some(),
+        book.closed(program, Mode::Bounded(1)).is_some(),
+        book.closed_quick(program, FIRST).is_some(),
+    )
+}
+
+/// What a book answers where the writers' program is asked for, and the counters' is the other.
+fn asked(alloc: Global, book: &Book) -> Result<(bool, bool, bool, bool), Fail> {
+    let writers = program_of(alloc, WRITERS)?;
+    let counters = program_of(alloc, COUNTERS)?;
+    Ok(answers(book, &writers, &counters))
 }
 
 #[test]
 fn a_closed_book_asks_who_wants_to_know(rt: HostRuntime) -> Result<(), Fail> {
-    let alloc = rt.alloc();
-    let mut book = book_of(alloc, WRITERS)?;
-    let mine = program_of(alloc, WRITERS)?;
-    let other = program_of(alloc, COUNTERS)?;
-    assert!(&rt; book.closed(&mine, FIRST).is_none());
-    finish(alloc, &mut book, 256)?;
-    assert!(&rt; book.closed(&mine, FIRST).is_some());
-    assert!(&rt; book.closed(&other, FIRST).is_none());
-    assert!(&rt; book.closed(&mine, Mode::Bounded(1)).is_none());
-    assert!(&rt; book.closed_quick(&mine, FIRST).is_none());
+    let mut book = book_of(rt.alloc(), WRITERS, FIRST)?;
+    assert_eq!(rt; asked(rt.alloc(), &book)?, (false, false, false, false));
+    finish(rt.alloc(), &mut book, 256)?;
+    assert_eq!(rt; asked(rt.alloc(), &book)?, (true, false, false, false));
     Ok(())
 }
 
@@ -156,64 +290,109 @@ const BOUNDS: [&str; 3] = [
     "6 false",
 ];
 
+/// Walks the items of a book's bound, compares what the book shows, and goes to the next bound.
+fn finish_bound(
+    rt: &(impl Abort + Alloc<A = Global>),
+    book: &mut Book,
+    want: &str,
+) -> Result<(), Fail> {
+    finish(rt.alloc(), book, 256)?;
+    shows(rt, book, want)?;
+    book.raise()?;
+    Ok(())
+}
+
 #[test]
 fn nothing_is_walked_twice_over_the_bounds(rt: HostRuntime) -> Result<(), Fail> {
-    let alloc = rt.alloc();
-    let mut book = book_of(alloc, COUNTERS)?;
+    let mut book = book_of(rt.alloc(), COUNTERS, FIRST)?;
     for want in BOUNDS {
-        finish(alloc, &mut book, 256)?;
-        assert_eq!(rt; shown(alloc, &book)?.as_str(), want);
-        book.raise()?;
+        finish_bound(&rt, &mut book, want)?;
     }
     Ok(())
 }
 
 /// Why a book isn't raised, if it isn't.
-fn raised(alloc: Global, book: &mut Book) -> Result<String, Fail> {
+fn raised(alloc: Global, book: &mut Book) -> Result<String, AllocError> {
     match book.raise() {
-        Ok(()) => Ok(format!(in alloc; "raised")?),
-        Err(error) => Ok(format!(in alloc; "{error}")?),
+        Ok(()) => format!(in alloc; "raised"),
+        Err(error) => format!(in alloc; "{error}"),
     }
 }
 
-#[test]
-fn books_are_raised_where_nothing_is_open(rt: HostRuntime) -> Result<(), Fail> {
-    let alloc = rt.alloc();
-    let mut book = Book::open(alloc, program_of(alloc, WRITERS)?, Mode::Bounded(64))?;
-    assert_eq!(rt; raised(alloc, &mut book)?.as_str(), "book B4 StillOpen");
-    finish(alloc, &mut book, 1)?;
-    assert_eq!(rt; raised(alloc, &mut book)?.as_str(), "book B5 LastBound");
+/// Stops the test where a book is raised, or isn't for another reason than this one.
+fn is_not_raised(
+    rt: &(impl Abort + Alloc<A = Global>),
+    book: &mut Book,
+    why: &str,
+) -> Result<(), AllocError> {
+    let line = raised(rt.alloc(), book)?;
+    assert_eq!(rt; line.as_str(), why);
     Ok(())
 }
 
 #[test]
-fn a_quick_book_drops_what_comes_later(rt: HostRuntime) -> Result<(), Fail> {
-    let alloc = rt.alloc();
-    let program = program_of(alloc, FAILING)?;
-    let mut book = Book::open_quick(alloc, Arc::try_clone(&program)?, FIRST)?;
-    let walked = walk_of(alloc, FAILING, &[], FIRST)?;
-    assert!(&rt; book.drop_later() == 0 && !book.has_dropped() && book.is_quick());
-    drop(walked);
-    let root = Item::root(alloc, Arc::try_clone(&program)?)?;
-    book.settle(alloc, walk(alloc, &root, FIRST, 1)?)?;
+fn books_are_raised_where_nothing_is_open(rt: HostRuntime) -> Result<(), Fail> {
+    let mut book = book_of(rt.alloc(), WRITERS, Mode::Bounded(64))?;
+    is_not_raised(&rt, &mut book, "book B4 StillOpen")?;
+    finish(rt.alloc(), &mut book, 1)?;
+    is_not_raised(&rt, &mut book, "book B5 LastBound")?;
+    Ok(())
+}
+
+/// Walks one schedule of a book's root, and settles the walk.
+fn start(alloc: Global, book: &mut Book) -> Result<(), Fail> {
+    let program = Arc::try_clone(book.program())?;
+    let root = Item::root(alloc, program)?;
+    walk_item(alloc, book, &root, 1)
+}
+
+/// Whether a quick book has items open, and drops all of them as later ones.
+fn drops_all(book: &mut Book) -> bool {
     let open = book.open_length();
-    assert!(&rt; open > 0 && book.drop_later() == open as u64 && book.has_dropped());
-    assert!(&rt; book.closed(&program, FIRST).is_none());
-    assert!(&rt; book.closed_quick(&program, FIRST).is_some());
-    assert_eq!(rt; raised(alloc, &mut book)?.as_str(), "book B6 Dropped");
+    open > 0 && book.drop_later() == open as u64 && book.has_dropped()
+}
+
+/// Whether a book is closed for who asks for the failing program's quick search, and not for who
+/// asks for the other search.
+fn is_closed_as_quick(alloc: Global, book: &Book) -> Result<bool, Fail> {
+    let program = program_of(alloc, FAILING)?;
+    let whole = book.closed(&program, FIRST).is_some();
+    Ok(!whole && book.closed_quick(&program, FIRST).is_some())
+}
+
+#[test]
+fn a_quick_book_drops_what_comes_later(rt: HostRuntime) -> Result<(), Fail> {
+    let program = program_of(rt.alloc(), FAILING)?;
+    let mut book = Book::open_quick(rt.alloc(), program, FIRST)?;
+    assert!(&rt; book.drop_later() == 0 && !book.has_dropped() && book.is_quick());
+    start(rt.alloc(), &mut book)?;
+    assert!(&rt; drops_all(&mut book));
+    assert!(&rt; is_closed_as_quick(rt.alloc(), &book)?);
+    is_not_raised(&rt, &mut book, "book B6 Dropped")?;
+    Ok(())
+}
+
+/// Whether a book is of this text's program at bound 0.
+fn is_of(alloc: Global, book: &Book, text: &str) -> Result<bool, Fail> {
+    let program = program_of(alloc, text)?;
+    Ok(book.mode() == FIRST && book.program().is_same(&program))
+}
+
+/// Settles a walk of a book's root, which the book doesn't drop, as one of its own.
+fn settle_root(rt: &(impl Abort + Alloc<A = Global>), book: &mut Book) -> Result<(), Fail> {
+    let program = Arc::try_clone(book.program())?;
+    let root = Item::root(rt.alloc(), program)?;
+    assert!(rt; !book.drops(&root));
+    let walked = walk(rt.alloc(), &root, book.mode(), 256)?;
+    book.settle_own(rt.alloc(), walked)?;
     Ok(())
 }
 
 #[test]
 fn walks_of_its_own_are_settled(rt: HostRuntime) -> Result<(), Fail> {
-    let alloc = rt.alloc();
-    let program = program_of(alloc, COUNTERS)?;
-    let mut book = Book::open(alloc, Arc::try_clone(&program)?, FIRST)?;
-    let root = Item::root(alloc, Arc::try_clone(&program)?)?;
-    assert!(&rt; !book.drops(&root) && book.mode() == FIRST && book.program().is_same(&program));
-    let walked = walk(alloc, &root, FIRST, 256)?;
-    book.settle_own(alloc, walked)?;
-    let line = shown(alloc, &book)?;
-    assert_eq!(rt; line.as_str(), "2 true deferred [0, 1] deferred [1, 0]");
+    let mut book = book_of(rt.alloc(), COUNTERS, FIRST)?;
+    assert!(&rt; is_of(rt.alloc(), &book, COUNTERS)?);
+    settle_root(&rt, &mut book)?;
+    shows(&rt, &book, "2 true deferred [0, 1] deferred [1, 0]")?;
     Ok(())
 }

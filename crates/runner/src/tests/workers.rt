@@ -2,6 +2,7 @@
 
 ghost use Rattle.std.specs.Prelude.{◌≤◌};
 ghost use Rattle.runner.specs.Promises.{IsSearch};
+ghost use Rattle.runner.specs.declared.limits.TheConstants.{WORKERS};
 
 use crate::gate::Open;
 use crate::options::{Options, Search};
@@ -61,6 +62,28 @@ const FAILING: &str =
 const FIRST: &str =
     r#"{"bound":0,"ends":[{"kind":"failed","vars":[1,1,1]}],"failed":1,"kind":"failed","preemptions":0,"quick":true,"schedule":"0,1,2","stuck":0,"tried":1,"verdict":"bad"}"#;
 
+/// Compares the report of so many workers.
+fn reports(
+    rt: &(impl Abort + Threads + Wait + Sync + Alloc<A = Global>),
+    text: &str,
+    options: Options,
+    workers: u32,
+    want: &str,
+) -> Result<(), Fail>
+    requires search { IsSearch options.search }
+    requires quota { 1 ≤ options.quota }
+    requires workers { (1 ≤ workers) × (workers ≤ WORKERS) }
+{
+    let found = searched(rt, text, options, workers, &Open)?;
+    let quota = options.quota;
+    assert_eq!(rt;
+        found.as_slice(),
+        want.as_bytes(),
+        "{workers} workers, quota {quota}"
+    );
+    Ok(())
+}
+
 /// Compares the reports of 1, 2 and 8 workers.
 fn all_report(
     rt: &(impl Abort + Threads + Wait + Sync + Alloc<A = Global>),
@@ -71,13 +94,9 @@ fn all_report(
     requires search { IsSearch options.search }
     requires quota { 1 ≤ options.quota }
 {
-    let one = searched(rt, text, options, 1, &Open)?;
-    assert_eq!(rt; one.as_slice(), want.as_bytes());
-    let two = searched(rt, text, options, 2, &Open)?;
-    assert_eq!(rt; two.as_slice(), want.as_bytes());
-    let eight = searched(rt, text, options, 8, &Open)?;
-    assert_eq!(rt; eight.as_slice(), want.as_bytes());
-    Ok(())
+    reports(rt, text, options, 1, want)?;
+    reports(rt, text, options, 2, want)?;
+    reports(rt, text, options, 8, want)
 }
 
 /// The same with quotas 1, 3 and 256.
