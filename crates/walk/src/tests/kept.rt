@@ -9,29 +9,102 @@ use crate::mode::Mode;
 use crate::spare::Spare;
 use crate::summary::Summary;
 use crate::tests::{COUNTERS, program_of, shown};
+use crate::walked::{Parts, Walked};
 use crate::walker::Walker;
 use guest_code::program::Program;
-use std::alloc::Global;
+use semantics::view::EndView;
+use std::alloc::{Alloc, AllocError, Global};
+use std::process::Abort;
 use std::sync::Arc;
 use std::test::*;
 
-/// What a kept walker finds of the schedules that begin with a prefix. Where memory is refused
-/// once, it is asked again.
-fn next_found(
+/// What a kept walker makes of an item.
+fn walk_once(
     alloc: Global,
     walker: &mut Walker,
-    program: &Arc<Program>,
-    prefix: &[u8],
+    item: &Item,
     mode: Mode,
-) -> Result<String, Fail>
+) -> Result<Walked, AllocError>
+    requires { item.now.program ≡ walker.old }
+    ensures { walker.new ≡ walker.old }
+{
+    walker.walk(alloc, item, mode, 256)
+}
+
+/// The same. Where memory is refused once, the walker is asked again.
+fn walked_by(
+    alloc: Global,
+    walker: &mut Walker,
+    item: &Item,
+    mode: Mode,
+) -> Result<Walked, AllocError>
+    requires { item.now.program ≡ walker.old }
+    ensures { walker.new ≡ walker.old }
+{
+    match walk_once(alloc, walker, item, mode) {
+        Ok(walked) => Ok(walked),
+        Err(_) => walk_once(alloc, walker, item, mode),
+    }
+}
+
+/// The schedules that a kept walker is asked for, and what it finds.
+#[derive(Drop)]
+struct Row<'a> {
+    prefix: &'a [u8],
+    mode: Mode,
+    want: &'a str,
+}
+
+/// Compares what a kept walker finds of the schedules that begin with a prefix.
+fn finds_next(
+    rt: &(impl Abort + Alloc<A = Global>),
+    walker: &mut Walker,
+    program: &Arc<Program>,
+    row: &Row,
+) -> Result<(), Fail>
     requires { arc_value program.now ≡ walker.old }
     ensures { walker.new ≡ walker.old }
 {
-    let item = Item::at(alloc, Arc::try_clone(program)?, prefix)?;
-    match walker.walk(alloc, &item, mode, 256) {
-        Ok(walked) => shown(alloc, walked.part()),
-        Err(_) => shown(alloc, walker.walk(alloc, &item, mode, 256)?.part()),
-    }
+    let alloc = rt.alloc();
+    let item = Item::at(alloc, Arc::try_clone(program)?, row.prefix)?;
+    let walked = walked_by(alloc, walker, &item, row.mode)?;
+    let line = shown(alloc, walked.part())?;
+    assert_eq!(rt; line.as_str(), row.want);
+    Ok(())
+}
+
+/// After a preemption.
+const PREEMPTED: Row = Row {
+    prefix: &[1, 0],
+    mode: Mode::Bounded(2),
+    want: "2 0 0 false None Done [1]",
+};
+
+/// After a first step of another thread.
+const ELSEWHERE: Row = Row {
+    prefix: &[0],
+    mode: Mode::Bounded(1),
+    want: "2 0 0 true None Done [1] Done [2]",
+};
+
+/// From the start, in the other mode.
+const PRUNED: Row = Row {
+    prefix: &[],
+    mode: Mode::Reduced,
+    want: "4 0 0 false None Done [1] Done [2]",
+};
+
+/// Compares what one walker finds of these, one after another.
+fn finds_all(
+    rt: &(impl Abort + Alloc<A = Global>),
+    walker: &mut Walker,
+    program: &Arc<Program>,
+) -> Result<(), Fail>
+    requires { arc_value program.now ≡ walker.old }
+{
+    finds_next(rt, walker, program, &PREEMPTED)?;
+    finds_next(rt, walker, program, &ELSEWHERE)?;
+    finds_next(rt, walker, program, &PRUNED)
 }
 
 #[test]
@@ -39,13 +112,39 @@ fn a_walker_is_kept(rt: HostRuntime) -> Result<(), Fail> {
     let alloc = rt.alloc();
     let program = program_of(alloc, COUNTERS)?;
     let mut walker = Walker::new(alloc, Arc::try_clone(&program)?)?;
-    let line = next_found(alloc, &mut walker, &program, &[1, 0], Mode::Bounded(2))?;
-    assert_eq!(rt; line.as_str(), "2 0 0 false None Done [1]");
-    let line = next_found(alloc, &mut walker, &program, &[0], Mode::Bounded(1))?;
-    assert_eq!(rt; line.as_str(), "2 0 0 true None Done [1] Done [2]");
-    let line = next_found(alloc, &mut walker, &program, &[], Mode::Reduced)?;
-    assert_eq!(rt; line.as_str(), "4 0 0 false None Done [1] Done [2]");
+    finds_all(&rt, &mut walker, &program)
+}
+
+/// The memory of a summary's end views, once it is joined in.
+fn ends_joined(alloc: Global, part: Summary) -> Result<Vec<EndView>, AllocError> {
+    let mut finished = Summary::empty(alloc);
+    let mut hints = EndHints::new();
+    finished.join_in_by(&mut hints, part)
+}
+
+/// The memory of a walk, once its summary is joined in.
+fn spare_of(alloc: Global, parts: Parts) -> Result<Spare, AllocError> {
+    let Parts { part, deferred, .. } = parts;
+    let ends = ends_joined(alloc, part)?;
+    Ok(Spare { ends, deferred })
+}
+
+/// Walks an item, and gives the walker the memory of that walk.
+fn walk_and_reuse(alloc: Global, walker: &mut Walker, root: &Item) -> Result<(), Fail>
+    requires { root.now.program ≡ walker.old }
+    ensures { walker.new ≡ walker.old }
+{
+    let walked = walk_once(alloc, walker, root, Mode::Bounded(0))?;
+    walker.reuse(spare_of(alloc, walked.into_parts())?);
     Ok(())
+}
+
+/// What the walker finds within one preemption, and how many prefixes it puts off.
+fn found_again(alloc: Global, walker: &mut Walker, root: &Item) -> Result<(String, usize), Fail>
+    requires { root.now.program ≡ walker.old }
+{
+    let walked = walk_once(alloc, walker, root, Mode::Bounded(1))?;
+    Ok((shown(alloc, walked.part())?, walked.deferred_length()))
 }
 
 #[test]
@@ -54,18 +153,11 @@ fn memory_is_used_again(rt: HostRuntime) -> Result<(), Fail> {
     let program = program_of(alloc, COUNTERS)?;
     let root = Item::root(alloc, Arc::try_clone(&program)?)?;
     let mut walker = Walker::new(alloc, program)?;
-    let parts = walker
-        .walk(alloc, &root, Mode::Bounded(0), 256)?
-        .into_parts();
-    let mut finished = Summary::empty(alloc);
-    let ends = finished.join_in_by(&mut EndHints::new(), parts.part)?;
-    walker.reuse(Spare {
-        ends,
-        deferred: parts.deferred,
-    });
-    let walked = walker.walk(alloc, &root, Mode::Bounded(1), 256)?;
-    let line = shown(alloc, walked.part())?;
-    assert_eq!(rt; line.as_str(), "4 0 0 true None Done [1] Done [2]");
-    assert!(&rt; walked.deferred_length() == 2);
+    walk_and_reuse(alloc, &mut walker, &root)?;
+    let (line, put_off) = found_again(alloc, &mut walker, &root)?;
+    assert_eq!(rt;
+        (line.as_str(), put_off),
+        ("4 0 0 true None Done [1] Done [2]", 2)
+    );
     Ok(())
 }

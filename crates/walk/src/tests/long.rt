@@ -1,10 +1,10 @@
 //! Walks of long schedules.
 
 use crate::mode::Mode;
-use crate::tests::{found_at, root_of};
-use crate::walker::walk;
+use crate::tests::{counted, finds};
 use guest_code::limits::THREADS;
-use std::alloc::Global;
+use std::alloc::{Alloc, Global};
+use std::process::Abort;
 use std::test::*;
 
 /// Two threads of 256 steps each.
@@ -16,27 +16,30 @@ fn longest(alloc: Global) -> Result<String, Fail> {
     let mut text = String::from_str(alloc, "var x;")?;
     for thread in 0..THREADS {
         let body = "{ repeat 64 { repeat 16 { store x 1; } } }";
-        text.push_str(format!(in alloc; " thread T{thread} {body}")?.as_str())?;
+        write!(text, " thread T{thread} {body}")?;
     }
     Ok(text)
 }
 
 #[test]
 fn schedules_of_512_steps(rt: HostRuntime) -> Result<(), Fail> {
-    let line = found_at(rt.alloc(), LONG, Mode::Bounded(0))?;
-    assert_eq!(rt; line.as_str(), "2 0 0 true None Done [4]");
+    finds(&rt, LONG, Mode::Bounded(0), "2 0 0 true None Done [4]")
+}
+
+/// Compares what a walk of one schedule without preemption counts.
+fn counts(
+    rt: &(impl Abort + Alloc<A = Global>),
+    text: &str,
+    want: (u64, u64, usize, usize),
+) -> Result<(), Fail> {
+    assert_eq!(rt; counted(rt.alloc(), text, Mode::Bounded(0), 1)?, want);
     Ok(())
 }
 
 #[test]
 fn a_schedule_of_16384_steps(rt: HostRuntime) -> Result<(), Fail> {
-    let alloc = rt.alloc();
-    let root = root_of(alloc, longest(alloc)?.as_str())?;
-    let walked = walk(alloc, &root, Mode::Bounded(0), 1)?;
-    assert_eq!(rt; walked.part().tried(), 1);
-    assert_eq!(rt; walked.rest_length(), 120);
-    assert_eq!(rt; walked.deferred_length(), 122760);
-    Ok(())
+    let text = longest(rt.alloc())?;
+    counts(&rt, text.as_str(), (1, 0, 120, 122760))
 }
 
 /// As many threads as a program has, each of as many instructions as a thread has. The first ones
@@ -46,22 +49,20 @@ fn waiting_in_turn(alloc: Global) -> Result<String, Fail> {
     let turns = "repeat 63 { repeat 8 { signal c; wait c m; } } repeat 6 { signal c; wait c m; }";
     let mut text = String::from_str(alloc, "mutex m; cond c;")?;
     for thread in 0..THREADS - 1 {
-        let body = format!(in alloc; "lock m; wait c m; {turns} signal c; unlock m;")?;
-        text.push_str(format!(in alloc; " thread T{thread} {{ {body} }}")?.as_str())?;
+        write!(
+            text,
+            " thread T{thread} {{ lock m; wait c m; {turns} signal c; unlock m; }}"
+        )?;
     }
-    let body = format!(in alloc; "lock m; signal c; wait c m; {turns} unlock m;")?;
-    text.push_str(format!(in alloc; " thread LAST {{ {body} }}")?.as_str())?;
+    write!(
+        text,
+        " thread LAST {{ lock m; signal c; wait c m; {turns} unlock m; }}"
+    )?;
     Ok(text)
 }
 
 #[test]
 fn a_schedule_of_24560_steps(rt: HostRuntime) -> Result<(), Fail> {
-    let alloc = rt.alloc();
-    let root = root_of(alloc, waiting_in_turn(alloc)?.as_str())?;
-    let walked = walk(alloc, &root, Mode::Bounded(0), 1)?;
-    assert_eq!(rt; walked.part().tried(), 1);
-    assert_eq!(rt; walked.part().stuck(), 0);
-    assert_eq!(rt; walked.rest_length(), 120);
-    assert_eq!(rt; walked.deferred_length(), 0);
-    Ok(())
+    let text = waiting_in_turn(rt.alloc())?;
+    counts(&rt, text.as_str(), (1, 0, 120, 0))
 }

@@ -1,8 +1,7 @@
 //! Pruned walks of roots.
 
 use crate::mode::Mode;
-use crate::tests::{CALLED, COUNTERS, CROSSED, LATE, found_at, root_of};
-use crate::walker::walk;
+use crate::tests::{CALLED, COUNTERS, CROSSED, LATE, counted, finds};
 use std::test::*;
 
 /// Three threads that store to variables of their own: all orders of their steps lead to one state.
@@ -11,49 +10,52 @@ const APART: &str =
 
 #[test]
 fn counters(rt: HostRuntime) -> Result<(), Fail> {
-    let line = found_at(rt.alloc(), COUNTERS, Mode::Reduced)?;
-    assert_eq!(rt; line.as_str(), "4 0 0 false None Done [1] Done [2]");
-    Ok(())
+    finds(
+        &rt,
+        COUNTERS,
+        Mode::Reduced,
+        "4 0 0 false None Done [1] Done [2]",
+    )
 }
 
 #[test]
 fn variables_apart(rt: HostRuntime) -> Result<(), Fail> {
-    let line = found_at(rt.alloc(), APART, Mode::Reduced)?;
-    assert_eq!(rt; line.as_str(), "1 0 0 false None Done [1, 1, 1]");
-    Ok(())
+    finds(&rt, APART, Mode::Reduced, "1 0 0 false None Done [1, 1, 1]")
 }
 
 #[test]
 fn crossed_locks(rt: HostRuntime) -> Result<(), Fail> {
-    let line = found_at(rt.alloc(), CROSSED, Mode::Reduced)?;
-    assert_eq!(rt; line.as_str(), "3 0 1 false Some([0, 1]) Done [] Stuck []");
-    Ok(())
+    finds(
+        &rt,
+        CROSSED,
+        Mode::Reduced,
+        "3 0 1 false Some([0, 1]) Done [] Stuck []",
+    )
 }
 
 #[test]
 fn a_lost_call(rt: HostRuntime) -> Result<(), Fail> {
-    let line = found_at(rt.alloc(), CALLED, Mode::Reduced)?;
-    assert_eq!(rt;
-        line.as_str(),
-        "2 0 1 false Some([1, 1, 1, 0, 0]) Done [] Stuck []"
-    );
-    Ok(())
+    finds(
+        &rt,
+        CALLED,
+        Mode::Reduced,
+        "2 0 1 false Some([1, 1, 1, 0, 0]) Done [] Stuck []",
+    )
 }
 
 #[test]
 fn a_late_failure(rt: HostRuntime) -> Result<(), Fail> {
-    let line = found_at(rt.alloc(), LATE, Mode::Reduced)?;
-    assert_eq!(rt;
-        line.as_str(),
-        "2 1 0 false Some([0, 1, 0]) Done [1, 1] Failed [1, 1]"
-    );
-    Ok(())
+    finds(
+        &rt,
+        LATE,
+        Mode::Reduced,
+        "2 1 0 false Some([0, 1, 0]) Done [1, 1] Failed [1, 1]",
+    )
 }
 
 #[test]
 fn pruned_walks_put_nothing_off(rt: HostRuntime) -> Result<(), Fail> {
-    let alloc = rt.alloc();
-    let walked = walk(alloc, &root_of(alloc, COUNTERS)?, Mode::Reduced, 256)?;
-    assert_eq!(rt; walked.deferred_length(), 0);
+    let (_, _, _, put_off) = counted(rt.alloc(), COUNTERS, Mode::Reduced, 256)?;
+    assert_eq!(rt; put_off, 0);
     Ok(())
 }

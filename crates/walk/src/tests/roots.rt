@@ -2,7 +2,7 @@
 
 use crate::limits::BOUND;
 use crate::mode::Mode;
-use crate::tests::{ALL_KINDS, CALLED, COUNTERS, CROSSED, LATE, found_at};
+use crate::tests::{ALL_KINDS, CALLED, COUNTERS, CROSSED, LATE, finds};
 use std::test::*;
 
 /// The second thread fails where the first comes first.
@@ -19,183 +19,195 @@ const THREE: &str =
 
 #[test]
 fn a_first_state_that_failed(rt: HostRuntime) -> Result<(), Fail> {
-    let line = found_at(rt.alloc(), "thread A { assert 0; }", Mode::Bounded(0))?;
-    assert_eq!(rt; line.as_str(), "1 1 0 false Some([]) Failed []");
-    Ok(())
+    finds(
+        &rt,
+        "thread A { assert 0; }",
+        Mode::Bounded(0),
+        "1 1 0 false Some([]) Failed []",
+    )
 }
 
 #[test]
 fn no_step_at_all(rt: HostRuntime) -> Result<(), Fail> {
-    let line = found_at(rt.alloc(), "thread A { }", Mode::Bounded(0))?;
-    assert_eq!(rt; line.as_str(), "1 0 0 false None Done []");
-    Ok(())
+    finds(
+        &rt,
+        "thread A { }",
+        Mode::Bounded(0),
+        "1 0 0 false None Done []",
+    )
 }
 
 #[test]
 fn a_semaphore_at_nought(rt: HostRuntime) -> Result<(), Fail> {
-    let line = found_at(
-        rt.alloc(),
+    finds(
+        &rt,
         "sem s = 0; thread A { acquire s; }",
         Mode::Bounded(0),
-    )?;
-    assert_eq!(rt; line.as_str(), "1 0 1 false Some([]) Stuck []");
-    Ok(())
+        "1 0 1 false Some([]) Stuck []",
+    )
 }
 
 #[test]
 fn a_mutex_taken_twice(rt: HostRuntime) -> Result<(), Fail> {
-    let line = found_at(
-        rt.alloc(),
+    finds(
+        &rt,
         "mutex m; thread A { lock m; lock m; }",
         Mode::Bounded(0),
-    )?;
-    assert_eq!(rt; line.as_str(), "1 0 1 false Some([0]) Stuck []");
-    Ok(())
+        "1 0 1 false Some([0]) Stuck []",
+    )
 }
 
 #[test]
 fn one_of_two_orders_fails(rt: HostRuntime) -> Result<(), Fail> {
-    let line = found_at(rt.alloc(), SECOND_FAILS, Mode::Bounded(0))?;
-    assert_eq!(rt;
-        line.as_str(),
-        "2 1 0 false Some([0, 1]) Done [1] Failed [1]"
-    );
-    Ok(())
+    finds(
+        &rt,
+        SECOND_FAILS,
+        Mode::Bounded(0),
+        "2 1 0 false Some([0, 1]) Done [1] Failed [1]",
+    )
 }
 
 #[test]
 fn counters_without_preemption(rt: HostRuntime) -> Result<(), Fail> {
-    let line = found_at(rt.alloc(), COUNTERS, Mode::Bounded(0))?;
-    assert_eq!(rt; line.as_str(), "2 0 0 true None Done [2]");
-    Ok(())
+    finds(&rt, COUNTERS, Mode::Bounded(0), "2 0 0 true None Done [2]")
 }
 
 #[test]
 fn counters_within_one(rt: HostRuntime) -> Result<(), Fail> {
-    let line = found_at(rt.alloc(), COUNTERS, Mode::Bounded(1))?;
-    assert_eq!(rt; line.as_str(), "4 0 0 true None Done [1] Done [2]");
-    Ok(())
+    finds(
+        &rt,
+        COUNTERS,
+        Mode::Bounded(1),
+        "4 0 0 true None Done [1] Done [2]",
+    )
 }
 
 #[test]
 fn counters_within_two(rt: HostRuntime) -> Result<(), Fail> {
-    let line = found_at(rt.alloc(), COUNTERS, Mode::Bounded(2))?;
-    assert_eq!(rt; line.as_str(), "6 0 0 false None Done [1] Done [2]");
-    Ok(())
+    finds(
+        &rt,
+        COUNTERS,
+        Mode::Bounded(2),
+        "6 0 0 false None Done [1] Done [2]",
+    )
 }
 
 #[test]
 fn counters_within_the_greatest_bound(rt: HostRuntime) -> Result<(), Fail> {
-    let line = found_at(rt.alloc(), COUNTERS, Mode::Bounded(BOUND))?;
-    assert_eq!(rt; line.as_str(), "6 0 0 false None Done [1] Done [2]");
-    Ok(())
+    finds(
+        &rt,
+        COUNTERS,
+        Mode::Bounded(BOUND),
+        "6 0 0 false None Done [1] Done [2]",
+    )
 }
 
 #[test]
 fn a_failure_past_the_bound(rt: HostRuntime) -> Result<(), Fail> {
-    let line = found_at(rt.alloc(), BETWEEN, Mode::Bounded(0))?;
-    assert_eq!(rt; line.as_str(), "2 0 0 true None Done [0]");
-    Ok(())
+    finds(&rt, BETWEEN, Mode::Bounded(0), "2 0 0 true None Done [0]")
 }
 
 #[test]
 fn a_failure_within_the_bound(rt: HostRuntime) -> Result<(), Fail> {
-    let line = found_at(rt.alloc(), BETWEEN, Mode::Bounded(1))?;
-    assert_eq!(rt;
-        line.as_str(),
-        "3 1 0 false Some([0, 1, 0]) Done [0] Failed [0]"
-    );
-    Ok(())
+    finds(
+        &rt,
+        BETWEEN,
+        Mode::Bounded(1),
+        "3 1 0 false Some([0, 1, 0]) Done [0] Failed [0]",
+    )
 }
 
 #[test]
 fn crossed_locks_without_preemption(rt: HostRuntime) -> Result<(), Fail> {
-    let line = found_at(rt.alloc(), CROSSED, Mode::Bounded(0))?;
-    assert_eq!(rt; line.as_str(), "2 0 0 true None Done []");
-    Ok(())
+    finds(&rt, CROSSED, Mode::Bounded(0), "2 0 0 true None Done []")
 }
 
 #[test]
 fn crossed_locks_within_one(rt: HostRuntime) -> Result<(), Fail> {
-    let line = found_at(rt.alloc(), CROSSED, Mode::Bounded(1))?;
-    assert_eq!(rt; line.as_str(), "6 0 2 false Some([0, 1]) Done [] Stuck []");
-    Ok(())
+    finds(
+        &rt,
+        CROSSED,
+        Mode::Bounded(1),
+        "6 0 2 false Some([0, 1]) Done [] Stuck []",
+    )
 }
 
 #[test]
 fn a_call_that_is_lost(rt: HostRuntime) -> Result<(), Fail> {
-    let line = found_at(rt.alloc(), CALLED, Mode::Bounded(0))?;
-    assert_eq!(rt;
-        line.as_str(),
-        "2 0 1 false Some([1, 1, 1, 0, 0]) Done [] Stuck []"
-    );
-    Ok(())
+    finds(
+        &rt,
+        CALLED,
+        Mode::Bounded(0),
+        "2 0 1 false Some([1, 1, 1, 0, 0]) Done [] Stuck []",
+    )
 }
 
 #[test]
 fn a_late_failure_without_preemption(rt: HostRuntime) -> Result<(), Fail> {
-    let line = found_at(rt.alloc(), LATE, Mode::Bounded(0))?;
-    assert_eq!(rt;
-        line.as_str(),
-        "2 1 0 true Some([1, 0, 0]) Done [1, 1] Failed [1, 1]"
-    );
-    Ok(())
+    finds(
+        &rt,
+        LATE,
+        Mode::Bounded(0),
+        "2 1 0 true Some([1, 0, 0]) Done [1, 1] Failed [1, 1]",
+    )
 }
 
 #[test]
 fn a_late_failure_within_one(rt: HostRuntime) -> Result<(), Fail> {
-    let line = found_at(rt.alloc(), LATE, Mode::Bounded(1))?;
-    assert_eq!(rt;
-        line.as_str(),
-        "3 2 0 false Some([0, 1, 0]) Done [1, 1] Failed [1, 1]"
-    );
-    Ok(())
+    finds(
+        &rt,
+        LATE,
+        Mode::Bounded(1),
+        "3 2 0 false Some([0, 1, 0]) Done [1, 1] Failed [1, 1]",
+    )
 }
 
 #[test]
 fn all_kinds_without_preemption(rt: HostRuntime) -> Result<(), Fail> {
-    let line = found_at(rt.alloc(), ALL_KINDS, Mode::Bounded(0))?;
-    assert_eq!(rt;
-        line.as_str(),
-        "4 0 1 true Some([1, 1, 1, 1, 1, 2, 2, 0, 0]) Done [1] Stuck [1]"
-    );
-    Ok(())
+    finds(
+        &rt,
+        ALL_KINDS,
+        Mode::Bounded(0),
+        "4 0 1 true Some([1, 1, 1, 1, 1, 2, 2, 0, 0]) Done [1] Stuck [1]",
+    )
 }
 
 #[test]
 fn all_kinds_within_one(rt: HostRuntime) -> Result<(), Fail> {
-    let line = found_at(rt.alloc(), ALL_KINDS, Mode::Bounded(1))?;
-    assert_eq!(rt;
-        line.as_str(),
-        "11 0 2 true Some([1, 1, 1, 1, 1, 0, 2, 2, 0]) Done [1] Stuck [1]"
-    );
-    Ok(())
+    finds(
+        &rt,
+        ALL_KINDS,
+        Mode::Bounded(1),
+        "11 0 2 true Some([1, 1, 1, 1, 1, 0, 2, 2, 0]) Done [1] Stuck [1]",
+    )
 }
 
 #[test]
 fn all_kinds_within_four(rt: HostRuntime) -> Result<(), Fail> {
-    let line = found_at(rt.alloc(), ALL_KINDS, Mode::Bounded(4))?;
-    assert_eq!(rt;
-        line.as_str(),
-        "30 0 4 false Some([1, 1, 1, 1, 0, 1, 2, 2, 0]) Done [1] Stuck [1]"
-    );
-    Ok(())
+    finds(
+        &rt,
+        ALL_KINDS,
+        Mode::Bounded(4),
+        "30 0 4 false Some([1, 1, 1, 1, 0, 1, 2, 2, 0]) Done [1] Stuck [1]",
+    )
 }
 
 #[test]
 fn three_threads_within_one(rt: HostRuntime) -> Result<(), Fail> {
-    let line = found_at(rt.alloc(), THREE, Mode::Bounded(1))?;
-    let want =
-        "36 12 0 true Some([0, 0, 0, 1, 1, 2, 1]) Done [0, 1] Done [0, 2] Done [0, 3] Failed [0, 1] Failed [0, 2]";
-    assert_eq!(rt; line.as_str(), want);
-    Ok(())
+    finds(
+        &rt,
+        THREE,
+        Mode::Bounded(1),
+        "36 12 0 true Some([0, 0, 0, 1, 1, 2, 1]) Done [0, 1] Done [0, 2] Done [0, 3] Failed [0, 1] Failed [0, 2]",
+    )
 }
 
 #[test]
 fn all_of_three_threads(rt: HostRuntime) -> Result<(), Fail> {
-    let line = found_at(rt.alloc(), THREE, Mode::Bounded(6))?;
-    let want =
-        "296 74 0 false Some([0, 0, 0, 1, 1, 2, 1]) Done [0, 1] Done [0, 2] Done [0, 3] Failed [0, 1] Failed [0, 2]";
-    assert_eq!(rt; line.as_str(), want);
-    Ok(())
+    finds(
+        &rt,
+        THREE,
+        Mode::Bounded(6),
+        "296 74 0 false Some([0, 0, 0, 1, 1, 2, 1]) Done [0, 1] Done [0, 2] Done [0, 3] Failed [0, 1] Failed [0, 2]",
+    )
 }
