@@ -128,13 +128,13 @@ impl State {
         ensures above { (u : ℕ) → length program.now.threads ≤ u → has result u ≡ has mask u }
     {
         let mut mask = mask;
-        let mut next = 0;
-        while let Some(thread) = some.first_from(next) {
+        let mut left = some;
+        while let Some(thread) = left.first_from(0) {
             if thread >= program.threads() {
                 return mask;
             }
             mask = mask.with(thread, self.is_enabled(program, thread));
-            next = thread + 1;
+            left = left.with(thread, false);
         }
         mask
     }
