@@ -50,7 +50,7 @@ impl Found {
 
     // Puts the prefix of these steps and one of a thread after the others, by what they share with
     // the last one put off.
-    #[inline(always)]
+    #[inline(never)]
     fn put_in(&mut self, steps: &mut Vec<u8>, thread: u8) -> Result<(), AllocError>
         requires { IsShared steps.old.items self.old }
         ensures steps { steps.new.items ≡ steps.old.items }
@@ -65,6 +65,7 @@ impl Found {
     }
 
     // Puts off the step of a thread after the others.
+    #[inline(always)]
     fn put_off(&mut self, steps: &mut Vec<u8>, thread: u8) -> Result<(), AllocError>
         requires { IsShared steps.old.items self.old }
         ensures steps { steps.new.items ≡ steps.old.items }
@@ -72,6 +73,7 @@ impl Found {
         ensures deferred { OnOk result (self.new.deferred
             ≡ self.old.deferred ++ (steps.old.items ++ thread ∷ []) ∷ []) }
         ensures shared { OnOk result (IsShared steps.old.items self.new) }
+        ensures here { OnOk result (self.new.shared ≡ length steps.old.items) }
     {
         match steps.len() - self.shared {
             0 => self.deferred.push_step(self.shared, thread)?,
@@ -85,25 +87,63 @@ impl Found {
         Ok(())
     }
 
-    // Puts off the steps of these threads after the others.
-    fn put_off_all(&mut self, steps: &mut Vec<u8>, past: Mask) -> Result<(), AllocError>
-        requires { IsShared steps.old.items self.old }
-        ensures steps { steps.new.items ≡ steps.old.items }
-        ensures part { OnOk result (self.new.part ≡ with_beyond self.old.part
-            (self.old.part.beyond || not (is_empty (members_from past 0)))) }
+    // Puts off the steps of these threads after that of one of the same node.
+    #[inline(always)]
+    fn put_beside(&mut self, _steps: &Vec<u8>, past: Mask) -> Result<(), AllocError>
+        requires shared { IsShared _steps.now.items self.old }
+        requires here { self.old.shared ≡ length _steps.now.items }
+        ensures same { self.new ≡ record self.old { deferred = self.new.deferred } }
         ensures deferred { OnOk result (self.new.deferred ≡ self.old.deferred
-            ++ map (λ t. steps.old.items ++ t ∷ []) (members_from past 0)) }
-        ensures shared { OnOk result (IsShared steps.old.items self.new) }
+            ++ map (λ t. _steps.now.items ++ t ∷ []) (members_from past 0)) }
+        ensures shared { OnOk result (IsShared _steps.now.items self.new) }
     {
-        let mut next = 0;
-        while let Some(thread) = past.first_from(next) {
-            self.put_off(steps, thread)?;
-            next = thread + 1;
+        let mut left = past;
+        while let Some(thread) = left.first_from(0) {
+            self.deferred.push_step(self.shared, thread)?;
+            left = without_first(left, thread);
         }
         Ok(())
     }
 
-    // The same, where there often is none.
+    // Puts off the steps of these threads, of which this one is the first, after the others.
+    #[inline(always)]
+    fn put_off_all(&mut self, steps: &mut Vec<u8>, past: Mask, first: u8) -> Result<(), AllocError>
+        requires shared { IsShared steps.old.items self.old }
+        requires first { members_from past 0 ≡ first ∷ members_from past (first + 1) }
+        requires least { (u : ℕ) → u < first → has past u ≡ false }
+        requires fits { first < THREADS }
+        ensures steps { steps.new.items ≡ steps.old.items }
+        ensures part { OnOk result (self.new.part ≡ with_beyond self.old.part true) }
+        ensures deferred { OnOk result (self.new.deferred ≡ self.old.deferred
+            ++ map (λ t. steps.old.items ++ t ∷ []) (members_from past 0)) }
+        ensures shared { OnOk result (IsShared steps.old.items self.new) }
+    {
+        self.put_off(steps, first)?;
+        self.put_beside(steps, without_first(past, first))
+    }
+
+    // The same, out of the way of a walk's turns.
+    #[inline(never)]
+    fn put_off_apart(
+        &mut self,
+        steps: &mut Vec<u8>,
+        past: Mask,
+        first: u8,
+    ) -> Result<(), AllocError>
+        requires shared { IsShared steps.old.items self.old }
+        requires first { members_from past 0 ≡ first ∷ members_from past (first + 1) }
+        requires least { (u : ℕ) → u < first → has past u ≡ false }
+        requires fits { first < THREADS }
+        ensures steps { steps.new.items ≡ steps.old.items }
+        ensures part { OnOk result (self.new.part ≡ with_beyond self.old.part true) }
+        ensures deferred { OnOk result (self.new.deferred ≡ self.old.deferred
+            ++ map (λ t. steps.old.items ++ t ∷ []) (members_from past 0)) }
+        ensures shared { OnOk result (IsShared steps.old.items self.new) }
+    {
+        self.put_off_all(steps, past, first)
+    }
+
+    // Puts off the steps of these threads after the others. Often there is none.
     #[inline(always)]
     fn defer(&mut self, steps: &mut Vec<u8>, past: Mask) -> Result<(), AllocError>
         requires { IsShared steps.old.items self.old }
@@ -116,7 +156,24 @@ impl Found {
     {
         match past.first_from(0) {
             None => Ok(()),
-            Some(_) => self.put_off_all(steps, past),
+            Some(first) => self.put_off_all(steps, past, first),
+        }
+    }
+
+    // The same where there seldom is one.
+    #[inline(always)]
+    fn defer_apart(&mut self, steps: &mut Vec<u8>, past: Mask) -> Result<(), AllocError>
+        requires { IsShared steps.old.items self.old }
+        ensures steps { steps.new.items ≡ steps.old.items }
+        ensures part { OnOk result (self.new.part ≡ with_beyond self.old.part
+            (self.old.part.beyond || not (is_empty (members_from past 0)))) }
+        ensures deferred { OnOk result (self.new.deferred ≡ self.old.deferred
+            ++ map (λ t. steps.old.items ++ t ∷ []) (members_from past 0)) }
+        ensures shared { OnOk result (IsShared steps.old.items self.new) }
+    {
+        match past.first_from(0) {
+            None => Ok(()),
+            Some(first) => self.put_off_apart(steps, past, first),
         }
     }
 
@@ -242,7 +299,7 @@ impl Trail {
     {
         let past = self.node.open(mode);
         match self.node.enabled.first_from(0) {
-            Some(_) => found.defer(&mut self.steps, past)?,
+            Some(_) => found.defer_apart(&mut self.steps, past)?,
             None => {
                 let kind = self.state.final_kind();
                 found.part.add(

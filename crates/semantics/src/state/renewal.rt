@@ -9,7 +9,7 @@ ghost use Rattle.semantics.specs.declared.action.Others.TheVariants.{At};
 
 use crate::action::{After, Gate, Others, passes};
 use crate::mask::Mask;
-use crate::state::State;
+use crate::state::{State, Status};
 use guest_code::program::Program;
 
 impl State {
@@ -86,15 +86,15 @@ impl State {
         ensures above { (u : ℕ) → length program.now.threads ≤ u → has result u ≡ has mask u }
     {
         let mut mask = mask;
-        let mut next = 0;
-        while let Some(thread) = some.first_from(next) {
+        let mut left = some;
+        while let Some(thread) = left.first_from(0) {
             if thread >= program.threads() {
                 return mask;
             }
             if self.passes(program, thread, gate) {
                 mask = mask.with(thread, on);
             }
-            next = thread + 1;
+            left = left.with(thread, false);
         }
         mask
     }
@@ -107,6 +107,12 @@ impl State {
         ensures { result ≡ passes gate (next_of program.now self.now thread) }
     {
         let runner = &self.threads[thread as usize];
+        if matches!(
+            runner.status,
+            Status::Ended | Status::Waiting(_) | Status::Stopped(_)
+        ) {
+            return false;
+        }
         match program.code(thread).get(runner.pc) {
             Some(instruction) => passes(runner.status, instruction, gate),
             None => false,
@@ -122,13 +128,13 @@ impl State {
         ensures above { (u : ℕ) → length program.now.threads ≤ u → has result u ≡ has mask u }
     {
         let mut mask = mask;
-        let mut next = 0;
-        while let Some(thread) = some.first_from(next) {
+        let mut left = some;
+        while let Some(thread) = left.first_from(0) {
             if thread >= program.threads() {
                 return mask;
             }
             mask = mask.with(thread, self.is_enabled(program, thread));
-            next = thread + 1;
+            left = left.with(thread, false);
         }
         mask
     }

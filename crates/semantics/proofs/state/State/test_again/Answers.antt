@@ -1,22 +1,32 @@
-use Rattle.std.proofs.Common.{◌≡◌, ◌≢◌, ◌<◌, ◌∙◌, ℕ, true, cond, length, inl, inr, arith, below_more, sym, ap}
-use Rattle.std.proofs.lemmas.Bool.{cases_lt}
+use Rattle.std.proofs.Common.{◌≡◌, ◌≢◌, ◌<◌, ◌∙◌, ℕ, Bool, cond, length, inl, inr, arith, sym, ap, subst}
+use Rattle.std.proofs.lemmas.Bool.{cases_eq}
 use Rattle.semantics.specs.Machine.{is_enabled}
-use Rattle.semantics.specs.Mask.{has}
-use Rattle.semantics.proofs.Masks.{none_left}
+use Rattle.semantics.specs.Mask.{has, members_from}
+use Rattle.semantics.proofs.Masks.{members-without_first, none_left}
 use Rattle.semantics.proofs.state.State.test_again.Goals as goal
 
-pub returns-then-thread-threads-clause-above : goal.returns-then-thread-threads-clause-above
-returns-then-thread-threads-clause-above c =
-    λ u h. c.loop-thread.invariant.above u (omega (arith, h, c.loop-thread.invariant.near))
+pub loop-thread-smaller : goal.loop-thread-smaller
+loop-thread-smaller c =
+    let here = ap length c.in-Some.ensures.list in
+    let rest = ap length (members-without_first c.loop-thread.left c.with-left.result
+    c.in-Some.thread c.in-Some.ensures.member.2
+    (λ u h. c.in-Some.ensures.none u (omega arith) h) c.with-left.ensures.same
+    c.with-left.ensures.others) in
+    omega (arith, here, rest)
 
 pub loop-thread-preserved : goal.loop-thread-preserved
 loop-thread-preserved c = record {
-  near = omega (arith, within);
-  below = below_more _ _
-      (λ u h. let ne : u ≢ t = omega (arith, h) in c.with-mask.ensures.others u ne ∙ before u h)
-      (c.with-mask.ensures.same ∙ (c.is_enabled.ensures ∙ choice (c.in-Some.ensures.member.0)));
-  above = λ u h. let ne : u ≢ t = omega (arith, h) in c.with-mask.ensures.others u ne ∙
-      c.loop-thread.invariant.above u (omega (arith, h, c.in-Some.ensures.member.1));
+  below = λ u h. elim (cases_eq u t) [
+    | inl e ↦ subst (λ v. cond (has c.with-left.result v) (on v) (has c.with-mask.result v)
+        ≡ cond (has c.args.some v) (on v) (has c.args.mask v)) (sym e)
+        (here ∙ c.loop-thread.invariant.below t within)
+    | inr ne ↦ ap (λ b. cond b (on u) (has c.with-mask.result u))
+        (c.with-left.ensures.others u ne)
+        ∙ ap (cond (has c.loop-thread.left u) (on u)) (c.with-mask.ensures.others u ne)
+        ∙ c.loop-thread.invariant.below u h
+  ];
+  above = λ u h. let ne : u ≢ t = omega (arith, h, within) in c.with-mask.ensures.others u ne ∙
+      c.loop-thread.invariant.above u h;
 }
   where
     t : ℕ
@@ -25,31 +35,18 @@ loop-thread-preserved c = record {
     within : t < length c.args.program.now.threads
     within = omega (arith, c.if-thread-threads.false, c.threads.ensures.number)
 
-    choice : has c.args.some t ≡ true → is_enabled c.args.program.now c.args.self.now t
-        ≡ cond (has c.args.some t) (is_enabled c.args.program.now c.args.self.now t)
-        (has c.args.mask t)
-    choice e = ap (λ b. cond b (is_enabled c.args.program.now c.args.self.now t)
-        (has c.args.mask t)) (sym e)
+    on : ℕ → Bool
+    on u = is_enabled c.args.program.now c.args.self.now u
 
-    before : (u : ℕ) → u < t → has c.loop-thread.mask u
-        ≡ cond (has c.args.some u) (is_enabled c.args.program.now c.args.self.now u)
-        (has c.args.mask u)
-    before u h = elim (cases_lt u c.loop-thread.next) [
-      | inl l ↦ c.loop-thread.invariant.below u l
-      | inr g ↦ c.loop-thread.invariant.above u g ∙
-          ap (λ b. cond b (is_enabled c.args.program.now c.args.self.now u) (has c.args.mask u))
-          (sym (c.in-Some.ensures.none u g h))
-    ]
+    here : cond (has c.with-left.result t) (on t) (has c.with-mask.result t)
+        ≡ cond (has c.loop-thread.left t) (on t) (has c.loop-thread.mask t)
+    here = ap (λ b. cond b (on t) (has c.with-mask.result t)) c.with-left.ensures.same
+        ∙ (c.with-mask.ensures.same ∙ (c.is_enabled.ensures
+        ∙ ap (λ b. cond b (on t) (has c.loop-thread.mask t)) (sym c.in-Some.ensures.member.0)))
 
 pub returns-clause-below : goal.returns-clause-below
-returns-clause-below c = λ u h. elim (cases_lt u c.loop-thread.next) [
-  | inl l ↦ c.loop-thread.invariant.below u l
-  | inr g ↦ c.loop-thread.invariant.above u g ∙
-      ap (λ b. cond b (is_enabled c.args.program.now c.args.self.now u) (has c.args.mask u))
-      (sym (none_left c.args.some c.loop-thread.next u c.in_default.ensures.list g
-      (omega (arith, h, c.requires.few, c.requires.threads))))
-]
-
-pub returns-clause-above : goal.returns-clause-above
-returns-clause-above c = λ u h. c.loop-thread.invariant.above u
-    (omega (arith, h, c.loop-thread.invariant.near))
+returns-clause-below c = λ u h.
+    ap (λ b. cond b (is_enabled c.args.program.now c.args.self.now u) (has c.loop-thread.mask u))
+    (sym (none_left c.loop-thread.left 0 u c.in_default.ensures.list (omega arith)
+    (omega (arith, h, c.requires.few, c.requires.threads))))
+    ∙ c.loop-thread.invariant.below u h
