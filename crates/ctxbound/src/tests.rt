@@ -56,18 +56,26 @@ fn search(alloc: Global, line: &str) -> Result<Asked, Fail> {
     request_by(alloc, given.as_slice())
 }
 
+/// What the program wrote on both streams, and the status that it ended with.
+#[derive(Drop)]
+struct Written {
+    out: Vec<u8>,
+    err: Vec<u8>,
+    status: u8,
+}
+
 /// What the program writes on both streams, and the status that it ends with.
 fn answered(
     rt: &(impl Threads + Wait + Sync + Alloc<A = Global>),
     text: &[u8],
     request: &Asked,
-) -> Result<(Vec<u8>, Vec<u8>, u8), Fail> {
+) -> Written {
     let alloc = rt.alloc();
     let mut input = text;
     let mut out = Vec::new(alloc);
     let mut err = Vec::new(alloc);
     let status = serve(rt, alloc, request, &mut input, &mut out, &mut err);
-    Ok((out, err, status))
+    Written { out, err, status }
 }
 
 /// The same of a replay.
@@ -75,17 +83,37 @@ fn served(
     rt: &(impl Threads + Wait + Sync + Alloc<A = Global>),
     text: &[u8],
     schedule: &str,
-) -> Result<(Vec<u8>, Vec<u8>, u8), Fail> {
-    answered(rt, text, &request(rt.alloc(), schedule)?)
+) -> Result<Written, Fail> {
+    let request = request(rt.alloc(), schedule)?;
+    Ok(answered(rt, text, &request))
+}
+
+/// Compares what was written on both streams and the status with what is wanted of words about a
+/// text.
+fn compare(rt: &impl Abort, written: &Written, want: (&[u8], &[u8], u8), about: (&str, &str)) {
+    let (text, words) = about;
+    let (out, err, status) = want;
+    assert_eq!(rt; written.out.as_slice(), out, "{text} with {words}");
+    assert_eq!(rt; written.err.as_slice(), err, "{text} with {words}");
+    assert_eq!(rt; written.status, status, "{text} with {words}");
+}
+
+/// Compares what a replay writes and the status.
+fn replays(
+    rt: &(impl Abort + Threads + Wait + Sync + Alloc<A = Global>),
+    text: &str,
+    schedule: &str,
+    want: (&[u8], &[u8], u8),
+) -> Result<(), Fail> {
+    let written = served(rt, text.as_bytes(), schedule)?;
+    compare(rt, &written, want, (text, schedule));
+    Ok(())
 }
 
 #[test]
 fn prints_traces(rt: HostRuntime) -> Result<(), Fail> {
-    for (text, schedule, trace, want) in TRACES.iter() {
-        let (out, err, status) = served(&rt, text.as_bytes(), schedule)?;
-        assert_eq!(rt; out.as_slice(), trace.as_bytes(), "{text} with {schedule}");
-        assert_eq!(rt; err.len(), 0, "{text} with {schedule}");
-        assert_eq!(rt; status, *want, "{text} with {schedule}");
+    for (text, schedule, trace, status) in TRACES.iter() {
+        replays(&rt, text, schedule, (trace.as_bytes(), &[], *status))?;
     }
     Ok(())
 }
@@ -93,12 +121,32 @@ fn prints_traces(rt: HostRuntime) -> Result<(), Fail> {
 #[test]
 fn prints_refusals(rt: HostRuntime) -> Result<(), Fail> {
     for (text, schedule, line) in REFUSALS.iter() {
-        let (out, err, status) = served(&rt, text.as_bytes(), schedule)?;
-        assert_eq!(rt; out.len(), 0, "{text} with {schedule}");
-        assert_eq!(rt; err.as_slice(), line.as_bytes(), "{text} with {schedule}");
-        assert_eq!(rt; status, 2, "{text} with {schedule}");
+        replays(&rt, text, schedule, (&[], line.as_bytes(), 2))?;
     }
     Ok(())
+}
+
+/// Compares what a search writes and the status.
+fn searches(
+    rt: &(impl Abort + Threads + Wait + Sync + Alloc<A = Global>),
+    text: &str,
+    line: &str,
+    want: (&[u8], &[u8], u8),
+) -> Result<(), Fail> {
+    let request = search(rt.alloc(), line)?;
+    let written = answered(rt, text.as_bytes(), &request);
+    compare(rt, &written, want, (text, line));
+    Ok(())
+}
+
+/// Compares the report of a search.
+fn prints_report(
+    rt: &(impl Abort + Threads + Wait + Sync + Alloc<A = Global>),
+    row: &(&str, &str, &str, u8),
+) -> Result<(), Fail> {
+    let (text, line, report, status) = row;
+    let report = format!(in rt.alloc(); "{report}\n")?;
+    searches(rt, text, line, (report.as_bytes(), &[], *status))
 }
 
 /// Compares the reports of searches.
@@ -106,13 +154,8 @@ fn prints_reports(
     rt: &(impl Abort + Threads + Wait + Sync + Alloc<A = Global>),
     rows: &[(&str, &str, &str, u8)],
 ) -> Result<(), Fail> {
-    let alloc = rt.alloc();
-    for (text, line, report, want) in rows {
-        let (out, err, status) = answered(rt, text.as_bytes(), &search(alloc, line)?)?;
-        let report = format!(in alloc; "{report}\n")?;
-        assert_eq!(rt; out.as_slice(), report.as_bytes(), "{line} of {text}");
-        assert_eq!(rt; err.len(), 0, "{line} of {text}");
-        assert_eq!(rt; status, *want, "{line} of {text}");
+    for row in rows {
+        prints_report(rt, row)?;
     }
     Ok(())
 }
@@ -134,85 +177,102 @@ fn searches_as_it_is_asked_to(rt: HostRuntime) -> Result<(), Fail> {
 
 #[test]
 fn tells_a_text_that_cannot_be_searched(rt: HostRuntime) -> Result<(), Fail> {
-    let alloc = rt.alloc();
-    for (text, line) in [
-        ("", "ctxbound: check C4 NoThreads\n"),
-        (
-            "thread A { assert 0;",
-            "ctxbound: syntax S3 Expected at 1:21\n",
-        ),
-    ] {
-        let (out, err, status) = answered(&rt, text.as_bytes(), &search(alloc, "unbounded FILE")?)?;
-        assert_eq!(rt; (out.len(), status), (0, 2));
-        assert_eq!(rt; err.as_slice(), line.as_bytes());
-    }
-    Ok(())
+    let line = b"ctxbound: check C4 NoThreads\n";
+    searches(&rt, "", "unbounded FILE", (&[], line, 2))?;
+    let line = b"ctxbound: syntax S3 Expected at 1:21\n";
+    let text = "thread A { assert 0;";
+    searches(&rt, text, "unbounded FILE", (&[], line, 2))
 }
 
-/// Serves a request over a reader that fails at this call.
+/// Serves a request over a reader that fails at this call, and compares what it writes as the line
+/// of a fault: answers the status, how much output there is, and the calls of the reader.
 fn reader_fails(
-    rt: &(impl Threads + Wait + Sync + Alloc<A = Global>),
+    rt: &(impl Abort + Threads + Wait + Sync + Alloc<A = Global>),
     request: &Asked,
-    text: &str,
+    text: &[u8],
     fails_at: usize,
-) -> Result<(u8, usize, usize, Vec<u8>), Fail> {
+    line: &[u8],
+) -> (u8, usize, usize) {
     let alloc = rt.alloc();
     let mut input = FailingReader {
-        text: text.as_bytes(),
+        text,
         fails_at,
         calls: 0,
     };
     let mut out = Vec::new(alloc);
     let mut err = Vec::new(alloc);
     let status = serve(rt, alloc, request, &mut input, &mut out, &mut err);
-    Ok((status, out.len(), input.calls, err))
+    assert_eq!(rt; err.as_slice(), line);
+    (status, out.len(), input.calls)
 }
 
-/// Serves a request over a writer that fails at this call.
+/// Serves a request over a writer that fails at this call, and compares what it writes as the line
+/// of a fault: answers the status and the calls of the writer.
 fn writer_fails(
-    rt: &(impl Threads + Wait + Sync + Alloc<A = Global>),
+    rt: &(impl Abort + Threads + Wait + Sync + Alloc<A = Global>),
     request: &Asked,
     text: &str,
     fails_at: usize,
-) -> Result<(u8, usize, Vec<u8>), Fail> {
+    line: &[u8],
+) -> (u8, usize) {
     let alloc = rt.alloc();
     let mut input = text.as_bytes();
     let mut out = FailingWriter::at(fails_at);
     let mut err = Vec::new(alloc);
     let status = serve(rt, alloc, request, &mut input, &mut out, &mut err);
-    Ok((status, out.calls, err))
+    assert_eq!(rt; err.as_slice(), line);
+    (status, out.calls)
 }
 
-/// Each call of a device fails in turn: the program says so, and doesn't try it again.
-fn devices_fail(
+/// Each call of a reader fails in turn: the program says so, and doesn't try it again.
+fn readers_fail(
     rt: &(impl Abort + Threads + Wait + Sync + Alloc<A = Global>),
     request: &Asked,
     text: &str,
-) -> Result<(), Fail> {
+) {
     for fails_at in 0..=text.len() {
-        let (status, written, calls, err) = reader_fails(rt, request, text, fails_at)?;
-        assert_eq!(rt; (status, written, calls), (4, 0, fails_at + 1));
-        assert_eq!(rt; err.as_slice(), FILE_FAULT);
+        let counts = reader_fails(rt, request, text.as_bytes(), fails_at, FILE_FAULT);
+        assert_eq!(rt; counts, (4, 0, fails_at + 1));
     }
-    let (output, _, _) = answered(rt, text.as_bytes(), request)?;
-    assert!(rt; output.len() > 0);
-    for fails_at in 0..=output.len() {
-        let (status, calls, err) = writer_fails(rt, request, text, fails_at)?;
-        assert_eq!(rt; (status, calls), (4, fails_at + 1));
-        assert_eq!(rt; err.as_slice(), FILE_FAULT);
+}
+
+/// The same of each call of a writer.
+fn writers_fail(
+    rt: &(impl Abort + Threads + Wait + Sync + Alloc<A = Global>),
+    request: &Asked,
+    text: &str,
+) {
+    let length = answered(rt, text.as_bytes(), request).out.len();
+    assert!(rt; length > 0);
+    for fails_at in 0..=length {
+        let counts = writer_fails(rt, request, text, fails_at, FILE_FAULT);
+        assert_eq!(rt; counts, (4, fails_at + 1));
     }
-    Ok(())
 }
 
 #[test]
 fn says_that_a_device_failed(rt: HostRuntime) -> Result<(), Fail> {
-    devices_fail(&rt, &request(rt.alloc(), "0,1,0")?, RACE)
+    let request = request(rt.alloc(), "0,1,0")?;
+    readers_fail(&rt, &request, RACE);
+    writers_fail(&rt, &request, RACE);
+    Ok(())
+}
+
+/// Each call of a device fails in turn in a search.
+fn devices_fail_in_a_search(
+    rt: &(impl Abort + Threads + Wait + Sync + Alloc<A = Global>),
+    line: &str,
+) -> Result<(), Fail> {
+    let request = search(rt.alloc(), line)?;
+    readers_fail(rt, &request, RACE);
+    writers_fail(rt, &request, RACE);
+    Ok(())
 }
 
 #[test]
 fn says_that_a_device_failed_in_a_search(rt: HostRuntime) -> Result<(), Fail> {
-    devices_fail(&rt, &search(rt.alloc(), "explore FILE")?, RACE)?;
-    devices_fail(&rt, &search(rt.alloc(), "unbounded FILE")?, RACE)
+    devices_fail_in_a_search(&rt, "explore FILE")?;
+    devices_fail_in_a_search(&rt, "unbounded FILE")
 }
 
 /// The number that a text begins with.
@@ -234,39 +294,36 @@ fn after<'a>(text: &'a [u8], begins: &str) -> Result<&'a str, Fail> {
     }
 }
 
+/// The status of the search that is cut short in a bound, and how many schedules it tried.
+fn cut_short(rt: &(impl Threads + Wait + Sync + Alloc<A = Global>)) -> Result<(u8, u64), Fail> {
+    let request = search(rt.alloc(), "explore FILE --bound 0 --limit 1000")?;
+    let written = answered(rt, EIGHT_STORES.as_bytes(), &request);
+    let tried = number_in(after(written.out.as_slice(), CUT_SHORT)?);
+    Ok((written.status, tried))
+}
+
 #[test]
 fn is_cut_short_in_a_bound(rt: HostRuntime) -> Result<(), Fail> {
-    let alloc = rt.alloc();
-    let request = search(alloc, "explore FILE --bound 0 --limit 1000")?;
-    let (out, _, status) = answered(&rt, EIGHT_STORES.as_bytes(), &request)?;
+    let (status, tried) = cut_short(&rt)?;
     assert_eq!(rt; status, 3);
-    let tried = number_in(after(out.as_slice(), CUT_SHORT)?);
     assert!(rt; tried >= 1000 && tried <= 17383, "{tried}");
     Ok(())
 }
 
+/// The status where neither stream takes anything.
+fn status_alone(rt: &(impl Threads + Wait + Sync + Alloc<A = Global>), request: &Asked) -> u8 {
+    let mut input = RACE.as_bytes();
+    let mut out = FailingWriter::at(0);
+    let mut err = FailingWriter::at(0);
+    serve(rt, rt.alloc(), request, &mut input, &mut out, &mut err)
+}
+
 #[test]
 fn keeps_its_status_where_a_stream_fails(rt: HostRuntime) -> Result<(), Fail> {
-    let alloc = rt.alloc();
-    let request = request(alloc, "0,")?;
-    let mut out = FailingWriter::at(0);
-    let mut err = Vec::new(alloc);
-    let mut input = RACE.as_bytes();
-    assert_eq!(rt;
-        serve(&rt, alloc, &request, &mut input, &mut out, &mut err),
-        2
-    );
-    assert_eq!(rt; out.calls, 0);
-    assert_eq!(rt;
-        err.as_slice(),
-        &b"ctxbound: schedule Q1 BadSchedule at 2\n"[..]
-    );
-    let mut input = RACE.as_bytes();
-    let mut err = FailingWriter::at(0);
-    assert_eq!(rt;
-        serve(&rt, alloc, &request, &mut input, &mut out, &mut err),
-        2
-    );
+    let request = request(rt.alloc(), "0,")?;
+    let line = b"ctxbound: schedule Q1 BadSchedule at 2\n";
+    assert_eq!(rt; writer_fails(&rt, &request, RACE, 0, line), (2, 0));
+    assert_eq!(rt; status_alone(&rt, &request), 2);
     let mut err = FailingWriter::at(0);
     assert_eq!(rt; Fault::Memory.report(&mut err), 4);
     Ok(())

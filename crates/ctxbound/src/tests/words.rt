@@ -3,32 +3,49 @@
 use crate::asked::Asked;
 use crate::program::serve_words;
 use crate::tests::devices::Words;
-use crate::tests::{search, words_of};
+use crate::tests::{Written, compare, search, words_of};
 use crate::words::{HELP_END, VERSION, asked, command_words};
 use runner::{Options, Search};
 use std::alloc::{Alloc, Global};
+use std::fs::Files;
 use std::process::Abort;
+use std::sync::Wait;
 use std::test::*;
+use std::thread::Threads;
+
+/// Compares the file and the schedule of a replay that is asked for.
+fn is_replay(
+    rt: &impl Abort,
+    file: &str,
+    request: &Asked,
+    schedule_wanted: &str,
+) -> Result<(), Fail> {
+    let Asked::Replay { schedule } = request else {
+        return Err(Fail::new("no replay is asked for"));
+    };
+    assert_eq!(rt; file, "race.guest");
+    assert_eq!(rt; schedule.as_str(), schedule_wanted);
+    Ok(())
+}
+
+/// Compares the replay that words ask for.
+fn takes(
+    rt: &(impl Abort + Alloc<A = Global>),
+    given: &[&str],
+    schedule: &str,
+) -> Result<(), Fail> {
+    let words = words_of(rt.alloc(), given)?;
+    match asked(rt.alloc(), words.as_slice()) {
+        Ok((file, request)) => is_replay(rt, file.as_str(), &request, schedule),
+        Err(_) => Err(Fail::new("the words are refused")),
+    }
+}
 
 #[test]
 fn takes_the_schedule_or_none(rt: HostRuntime) -> Result<(), Fail> {
-    let alloc = rt.alloc();
-    for (given, want) in [
-        (&["replay", "race.guest"][..], "-"),
-        (&["replay", "race.guest", "0,1"][..], "0,1"),
-        (&["replay", "race.guest", "-"][..], "-"),
-    ] {
-        let words = words_of(alloc, given)?;
-        let Ok((file, request)) = asked(alloc, words.as_slice()) else {
-            return Err(Fail::new("the words are refused"));
-        };
-        let Asked::Replay { schedule } = &request else {
-            return Err(Fail::new("no replay is asked for"));
-        };
-        assert_eq!(rt; file.as_str(), "race.guest");
-        assert_eq!(rt; schedule.as_str(), want);
-    }
-    Ok(())
+    takes(&rt, &["replay", "race.guest"], "-")?;
+    takes(&rt, &["replay", "race.guest", "0,1"], "0,1")?;
+    takes(&rt, &["replay", "race.guest", "-"], "-")
 }
 
 /// Compares the search that words ask for.
@@ -80,97 +97,124 @@ fn takes_the_words_of_a_search(rt: HostRuntime) -> Result<(), Fail> {
     )
 }
 
+/// What the program writes that is started with these words.
+fn started(
+    rt: &(impl Threads + Wait + Sync + Files + Alloc<A = Global>),
+    given: &[&str],
+) -> Result<Written, Fail> {
+    let words = words_of(rt.alloc(), given)?;
+    let mut out = Vec::new(rt.alloc());
+    let mut err = Vec::new(rt.alloc());
+    let status = serve_words(rt, words.as_slice(), &mut out, &mut err);
+    Ok(Written { out, err, status })
+}
+
+/// Words that ask for nothing.
+const REFUSED: [&[&str]; 13] = [
+    &[],
+    &["replay"],
+    &["replay", "a", "0", "1"],
+    &["relay", "a"],
+    &["replay", "--fast", "a"],
+    &["explore"],
+    &["explore", "a", "--bound", "65"],
+    &["explore", "a", "--bound", "x"],
+    &["explore", "a", "--workers", "0"],
+    &["explore", "a", "--workers", "17"],
+    &["unbounded", "a", "--limit", "0"],
+    &["unbounded", "a", "--limit", "9223372036854775808"],
+    &["unbounded", "a", "--bound", "1"],
+];
+
+/// Words are refused where only an error is written, with status 2.
+fn are_refused(rt: &impl Abort, written: &Written, given: &[&str]) {
+    let counts = (written.out.len(), written.status);
+    assert_eq!(rt; counts, (0, 2), "{given:?}");
+    assert!(rt; written.err.as_slice().starts_with(b"error: "), "{given:?}");
+}
+
 #[test]
 fn tells_refused_words(rt: HostRuntime) -> Result<(), Fail> {
-    let alloc = rt.alloc();
-    for given in [
-        &[][..],
-        &["replay"][..],
-        &["replay", "a", "0", "1"][..],
-        &["relay", "a"][..],
-        &["replay", "--fast", "a"][..],
-        &["explore"][..],
-        &["explore", "a", "--bound", "65"][..],
-        &["explore", "a", "--bound", "x"][..],
-        &["explore", "a", "--workers", "0"][..],
-        &["explore", "a", "--workers", "17"][..],
-        &["unbounded", "a", "--limit", "0"][..],
-        &["unbounded", "a", "--limit", "9223372036854775808"][..],
-        &["unbounded", "a", "--bound", "1"][..],
-    ] {
-        let words = words_of(alloc, given)?;
-        let mut out = Vec::new(alloc);
-        let mut err = Vec::new(alloc);
-        assert_eq!(rt; serve_words(&rt, words.as_slice(), &mut out, &mut err), 2);
-        assert_eq!(rt; out.len(), 0);
-        assert!(rt; err.as_slice().starts_with(b"error: "), "{given:?}");
+    for given in REFUSED {
+        let written = started(&rt, given)?;
+        are_refused(&rt, &written, given);
+    }
+    Ok(())
+}
+
+/// Words that ask for help.
+const HELPED: [&[&str]; 5] = [
+    &["--help"],
+    &["replay", "--help"],
+    &["explore", "--help"],
+    &["unbounded", "--help"],
+    &["help", "replay"],
+];
+
+/// The help is written as a line of a fault, and ends like this.
+fn ends_in(rt: &impl Abort, written: &Written, end: &str, given: &[&str]) {
+    let counts = (written.out.len(), written.status);
+    assert_eq!(rt; counts, (0, 2), "{given:?}");
+    assert!(rt;
+        written.err.as_slice().ends_with(end.as_bytes()),
+        "{given:?}"
+    );
+}
+
+#[test]
+fn shows_help(rt: HostRuntime) -> Result<(), Fail> {
+    let end = format!(in rt.alloc(); "\n\n{HELP_END}\n")?;
+    for given in HELPED {
+        let written = started(&rt, given)?;
+        ends_in(&rt, &written, end.as_str(), given);
     }
     Ok(())
 }
 
 #[test]
-fn shows_help_and_version(rt: HostRuntime) -> Result<(), Fail> {
-    let alloc = rt.alloc();
-    for given in [
-        &["--help"][..],
-        &["replay", "--help"][..],
-        &["explore", "--help"][..],
-        &["unbounded", "--help"][..],
-        &["help", "replay"][..],
-    ] {
-        let words = words_of(alloc, given)?;
-        let mut out = Vec::new(alloc);
-        let mut err = Vec::new(alloc);
-        assert_eq!(rt; serve_words(&rt, words.as_slice(), &mut out, &mut err), 2);
-        assert_eq!(rt; out.len(), 0);
-        let end = format!(in alloc; "\n\n{HELP_END}\n")?;
-        assert!(rt; err.as_slice().ends_with(end.as_bytes()), "{given:?}");
-    }
-    let words = words_of(alloc, &["--version"])?;
-    let mut out = Vec::new(alloc);
-    let mut err = Vec::new(alloc);
-    assert_eq!(rt; serve_words(&rt, words.as_slice(), &mut out, &mut err), 2);
-    assert_eq!(rt; out.len(), 0);
-    let line = format!(in alloc; "ctxbound {VERSION}\n")?;
-    assert_eq!(rt; err.as_slice(), line.as_bytes());
+fn shows_version(rt: HostRuntime) -> Result<(), Fail> {
+    let written = started(&rt, &["--version"])?;
+    let line = format!(in rt.alloc(); "ctxbound {VERSION}\n")?;
+    compare(&rt, &written, (&[], line.as_bytes(), 2), ("", "--version"));
+    Ok(())
+}
+
+/// Words with a byte that no UTF-8 has are refused with a line that says so.
+fn refuses_bytes(rt: &(impl Abort + Alloc<A = Global>), given: &[&[u8]]) -> Result<(), Fail> {
+    let Err(fault) = command_words(&(Words(given), rt.alloc())) else {
+        return Err(Fail::new("the words are taken"));
+    };
+    let mut err = Vec::new(rt.alloc());
+    assert_eq!(rt; fault.report(&mut err), 2);
+    assert_eq!(rt; err.as_slice(), &b"ctxbound: words NotUtf8\n"[..]);
     Ok(())
 }
 
 #[test]
 fn refuses_words_that_are_not_utf8(rt: HostRuntime) -> Result<(), Fail> {
-    let alloc = rt.alloc();
-    for given in [
-        &[&b"ctxbound"[..], &b"\xff"[..]][..],
-        &[
-            &b"ctxbound"[..],
-            &b"replay"[..],
-            &b"a.guest"[..],
-            &b"0,\xff"[..],
-        ][..],
-    ] {
-        let Err(fault) = command_words(&(Words(given), alloc)) else {
-            return Err(Fail::new("the words are taken"));
-        };
-        let mut err = Vec::new(alloc);
-        assert_eq!(rt; fault.report(&mut err), 2);
-        assert_eq!(rt; err.as_slice(), &b"ctxbound: words NotUtf8\n"[..]);
+    refuses_bytes(&rt, &[b"ctxbound", b"\xff"])?;
+    refuses_bytes(&rt, &[b"ctxbound", b"replay", b"a.guest", b"0,\xff"])
+}
+
+/// How many words there are where they are taken.
+fn words_taken(alloc: Global, given: &[&[u8]]) -> Result<usize, Fail> {
+    match command_words(&(Words(given), alloc)) {
+        Ok(words) => Ok(words.len()),
+        Err(_) => Err(Fail::new("the words are refused")),
     }
+}
+
+#[test]
+fn takes_words_that_are_not_ascii(rt: HostRuntime) -> Result<(), Fail> {
     let given = [&b"ctxbound"[..], &b"replay"[..], "Füße".as_bytes()];
-    let Ok(words) = command_words(&(Words(&given), alloc)) else {
-        return Err(Fail::new("the words are refused"));
-    };
-    assert_eq!(rt; words.len(), 3);
+    assert_eq!(rt; words_taken(rt.alloc(), &given)?, 3);
     Ok(())
 }
 
 #[test]
 fn tells_a_file_that_is_not_there(rt: HostRuntime) -> Result<(), Fail> {
-    let alloc = rt.alloc();
-    let words = words_of(alloc, &["replay", "no/such/file.guest", "0"])?;
-    let mut out = Vec::new(alloc);
-    let mut err = Vec::new(alloc);
-    assert_eq!(rt; serve_words(&rt, words.as_slice(), &mut out, &mut err), 4);
-    assert_eq!(rt; out.len(), 0);
-    assert_eq!(rt; err.as_slice(), &b"ctxbound: file\n"[..]);
+    let written = started(&rt, &["replay", "no/such/file.guest", "0"])?;
+    let want = (&[][..], &b"ctxbound: file\n"[..], 4);
+    compare(&rt, &written, want, ("no/such/file.guest", "0"));
     Ok(())
 }
