@@ -4,6 +4,7 @@ use crate::lowering::lower;
 use crate::program::{Expression, Instruction, Program, Value};
 use guest_syntax::parse;
 use std::alloc::Global;
+use std::process::Abort;
 use std::test::*;
 
 /// Texts, and the lines that are printed for their first faults.
@@ -133,65 +134,101 @@ fn nested(alloc: Global, innermost: &str) -> Result<String, Fail> {
     Ok(text)
 }
 
+/// The line of the first fault of a text that spells a tree.
+fn fault_of(alloc: Global, text: &str) -> Result<String, Fail> {
+    let tree = parse(alloc, text.as_bytes())?;
+    match lower(alloc, &tree) {
+        Ok(_) => Ok(String::from_str(alloc, "no fault")?),
+        Err(error) => Ok(format!(in alloc; "{error}")?),
+    }
+}
+
 #[test]
 fn first_faults(rt: HostRuntime) -> Result<(), Fail> {
     first_fault_is_first();
-    let alloc = rt.alloc();
-    for (text, want) in FAULTS {
-        let tree = parse(alloc, text.as_bytes())?;
-        let line = match lower(alloc, &tree) {
-            Ok(_) => String::from_str(alloc, "no fault")?,
-            Err(error) => format!(in alloc; "{error}")?,
-        };
-        assert_eq!(rt; line.as_str(), want, "{text}");
+    for (text, want) in &FAULTS {
+        let line = fault_of(rt.alloc(), text)?;
+        assert_eq!(rt; line.as_str(), *want, "{text}");
     }
-    let line = format!(in alloc; "{}", CheckError::OutOfMemory)?;
-    assert_eq!(rt; line.as_str(), "memory");
     Ok(())
 }
 
 #[test]
+fn a_lack_of_memory_is_named(rt: HostRuntime) -> Result<(), Fail> {
+    let line = format!(in rt.alloc(); "{}", CheckError::OutOfMemory)?;
+    assert_eq!(rt; line.as_str(), "memory");
+    Ok(())
+}
+
+/// One for a text that is accepted, and one for a text whose fault is that it has no threads; none
+/// where it has another fault.
+fn counted(alloc: Global, text: &[u8]) -> Option<(u32, u32)> {
+    let Ok(tree) = parse(alloc, text) else {
+        return Some((0, 0));
+    };
+    match lower(alloc, &tree) {
+        Ok(_) => Some((1, 0)),
+        Err(CheckError::NoThreads) => Some((0, 1)),
+        Err(_) => None,
+    }
+}
+
+#[test]
 fn cuts_are_accepted_or_have_no_threads(rt: HostRuntime) -> Result<(), Fail> {
-    let alloc = rt.alloc();
     let mut accepted = 0_u32;
     let mut without_threads = 0_u32;
     for end in 0..=CUT.len() {
-        if let Ok(tree) = parse(alloc, &CUT[..end]) {
-            match lower(alloc, &tree) {
-                Ok(_) => accepted = accepted.saturating_add(1),
-                Err(CheckError::NoThreads) => without_threads = without_threads.saturating_add(1),
-                Err(_) => return Err(Fail::new("a cut text has another fault")),
-            }
-        }
+        let Some((whole, empty)) = counted(rt.alloc(), &CUT[..end]) else {
+            return Err(Fail::new("a cut text has another fault"));
+        };
+        accepted = accepted.saturating_add(whole);
+        without_threads = without_threads.saturating_add(empty);
     }
     assert_eq!(rt; (accepted, without_threads), (5, 5));
     Ok(())
 }
 
-#[test]
-fn nested_copies(rt: HostRuntime) -> Result<(), Fail> {
-    let alloc = rt.alloc();
-    let text = nested(alloc, "assert 1;")?;
+/// Whether a text, which spells a tree, is refused for the length of its first thread's code.
+fn is_too_long(alloc: Global, text: &str) -> Result<bool, Fail> {
     let tree = parse(alloc, text.as_bytes())?;
-    assert!(rt; matches!(lower(alloc, &tree), Err(CheckError::CodeTooLong(0))));
-    let text = nested(alloc, "")?;
-    let program = program_of(alloc, &text)?;
+    Ok(matches!(lower(alloc, &tree), Err(CheckError::CodeTooLong(0))))
+}
+
+#[test]
+fn nested_copies_are_too_long(rt: HostRuntime) -> Result<(), Fail> {
+    let text = nested(rt.alloc(), "assert 1;")?;
+    assert!(rt; is_too_long(rt.alloc(), text.as_str())?);
+    Ok(())
+}
+
+#[test]
+fn nested_copies_of_nothing(rt: HostRuntime) -> Result<(), Fail> {
+    let text = nested(rt.alloc(), "")?;
+    let program = program_of(rt.alloc(), &text)?;
     assert_eq!(rt; program.code(0).len(), 0);
     Ok(())
 }
 
 #[test]
-fn largest_programs(rt: HostRuntime) -> Result<(), Fail> {
-    let alloc = rt.alloc();
+fn long_code(rt: HostRuntime) -> Result<(), Fail> {
     let text = "var x; thread A { repeat 100 { store x 1; store x 2; store x 3; } }";
-    assert_eq!(rt; program_of(alloc, text)?.code(0).len(), 300);
+    let program = program_of(rt.alloc(), text)?;
+    assert_eq!(rt; program.code(0).len(), 300);
+    Ok(())
+}
+
+#[test]
+fn nine_threads(rt: HostRuntime) -> Result<(), Fail> {
     let text =
         "thread A { } thread B { } thread C { } thread D { } thread E { } thread F { } thread G { } thread H { } thread I { }";
-    assert_eq!(rt; program_of(alloc, text)?.threads(), 9);
-    let program = program_of(alloc, fullest(alloc)?.as_str())?;
-    limits_are();
-    programs_are_well_formed(&program);
-    assert_eq!(rt; (program.threads(), program.variables()), (16, 16));
+    let program = program_of(rt.alloc(), text)?;
+    assert_eq!(rt; program.threads(), 9);
+    Ok(())
+}
+
+/// The fullest text has as many objects as the limits allow.
+fn check_fullest_objects(rt: &impl Abort, program: &Program) {
+    assert_eq!(rt; program.variables(), 16);
     assert_eq!(rt;
         (
             program.mutexes(),
@@ -201,16 +238,34 @@ fn largest_programs(rt: HostRuntime) -> Result<(), Fail> {
         (8, 8, 8)
     );
     assert_eq!(rt; (program.opening(15), program.count(7)), (15, 7));
-    assert_eq!(rt; program.thread_name(15), b"t15".as_slice());
+}
+
+/// It has as many threads, each of as many locals and instructions.
+fn check_fullest_threads(rt: &impl Abort, program: &Program) {
+    assert_eq!(rt; program.threads(), 16);
     for t in 0..16 {
-        assert_eq!(rt; program.locals(t), 16);
-        assert_eq!(rt; program.code(t).len(), 1_024);
+        assert_eq!(rt;
+            (program.locals(t), program.code(t).len()),
+            (16, 1_024),
+            "{t}"
+        );
     }
+    assert_eq!(rt; program.thread_name(15), b"t15".as_slice());
     let last = Instruction::Store {
         variable: 15,
         value: Value::Local(15),
     };
     assert_eq!(rt; program.code(15).last(), Some(&last));
+}
+
+#[test]
+fn largest_programs(rt: HostRuntime) -> Result<(), Fail> {
+    let text = fullest(rt.alloc())?;
+    let program = program_of(rt.alloc(), text.as_str())?;
+    limits_are();
+    programs_are_well_formed(&program);
+    check_fullest_objects(&rt, &program);
+    check_fullest_threads(&rt, &program);
     Ok(())
 }
 
@@ -272,33 +327,60 @@ fn atomic_updates(rt: HostRuntime) -> Result<(), Fail> {
     Ok(())
 }
 
-#[test]
-fn parts(rt: HostRuntime) -> Result<(), Fail> {
-    let alloc = rt.alloc();
-    let text =
-        "sem t = 1; var x; mutex m; cond c; var y = -3; mutex n; sem s = 5; cond d; thread A { } thread B { wait d n; acquire s; set r y1 + 2; }";
-    let program = program_of(alloc, text)?;
-    assert_eq!(rt; program.variables(), 2);
-    assert_eq!(rt; program.mutexes(), 2);
-    assert_eq!(rt; program.conditions(), 2);
-    assert_eq!(rt; program.semaphores(), 2);
-    assert_eq!(rt; program.threads(), 2);
-    assert_eq!(rt; program.opening(0), 0);
-    assert_eq!(rt; program.opening(1), -3);
-    assert_eq!(rt; program.count(0), 1);
-    assert_eq!(rt; program.count(1), 5);
+/// A program with two objects of each kind and two threads.
+const PARTS: &str =
+    "sem t = 1; var x; mutex m; cond c; var y = -3; mutex n; sem s = 5; cond d; thread A { } thread B { wait d n; acquire s; set r y1 + 2; }";
+
+/// The variables and semaphores of `PARTS`.
+fn check_variables_and_semaphores(rt: &impl Abort, program: &Program) {
+    assert_eq!(rt; (program.variables(), program.semaphores()), (2, 2));
+    assert_eq!(rt; (program.opening(0), program.opening(1)), (0, -3));
+    assert_eq!(rt; (program.count(0), program.count(1)), (1, 5));
     assert_eq!(rt; program.variable_name(1), b"y".as_slice());
+    assert_eq!(rt; program.semaphore_name(1), b"s".as_slice());
+}
+
+/// The rest of its objects, and its threads.
+fn check_mutexes_conditions_and_threads(rt: &impl Abort, program: &Program) {
+    assert_eq!(rt;
+        (program.mutexes(), program.conditions(), program.threads()),
+        (2, 2, 2)
+    );
     assert_eq!(rt; program.mutex_name(1), b"n".as_slice());
     assert_eq!(rt; program.condition_name(1), b"d".as_slice());
-    assert_eq!(rt; program.semaphore_name(1), b"s".as_slice());
     assert_eq!(rt; program.thread_name(1), b"B".as_slice());
-    let shown = format!(in alloc; "{:?}", program.code(1))?;
+}
+
+#[test]
+fn parts(rt: HostRuntime) -> Result<(), Fail> {
+    let program = program_of(rt.alloc(), PARTS)?;
+    check_variables_and_semaphores(&rt, &program);
+    check_mutexes_conditions_and_threads(&rt, &program);
+    Ok(())
+}
+
+#[test]
+fn code_is_shown(rt: HostRuntime) -> Result<(), Fail> {
+    let program = program_of(rt.alloc(), PARTS)?;
+    assert_eq!(rt; program.threads(), 2);
+    let shown = format!(in rt.alloc(); "{:?}", program.code(1))?;
     assert_eq!(rt;
         shown.as_str(),
         "[Wait { condition: 1, mutex: 1 }, Acquire(1), Set { local: 0, value: Both(Local(1), Add, Literal(2)) }]"
     );
-    assert!(rt; program.is_same(&program_of(alloc, text)?));
-    let other = program_of(alloc, "thread A { }")?;
-    assert!(rt; !program.is_same(&other));
+    Ok(())
+}
+
+/// Whether the programs of two texts are the same.
+fn are_same(alloc: Global, first: &str, second: &str) -> Result<bool, Fail> {
+    let one = program_of(alloc, first)?;
+    let other = program_of(alloc, second)?;
+    Ok(one.is_same(&other))
+}
+
+#[test]
+fn programs_are_compared(rt: HostRuntime) -> Result<(), Fail> {
+    assert!(rt; are_same(rt.alloc(), PARTS, PARTS)?);
+    assert!(rt; !are_same(rt.alloc(), PARTS, "thread A { }")?);
     Ok(())
 }

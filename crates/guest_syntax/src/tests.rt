@@ -1,9 +1,11 @@
 use super::*;
+use crate::tree::{Statement, Tree};
 use std::alloc::Global;
+use std::process::Abort;
 use std::test::*;
 
 /// Texts and the lines that are printed for their first faults, by the place in the parser that
-/// finds them. Blocks that lie too deep and texts that are too long are in `limits`.
+/// finds them. Blocks that lie too deep and texts that are too long have tests of their own.
 const FAULTS: [(&str, &str); 47] = [
     // A byte above 127, wherever a token is looked for, and in a comment.
     ("# \u{C3}", "syntax S1 NotAscii at 1:3"),
@@ -260,57 +262,100 @@ fn long_text(alloc: Global, statements: usize, bytes: usize) -> Result<String, F
 
 #[test]
 fn first_faults(rt: HostRuntime) -> Result<(), Fail> {
-    for (text, want) in FAULTS {
+    for (text, want) in &FAULTS {
         let line = answer(rt.alloc(), text.as_bytes())?;
-        assert_eq!(rt; line.as_str(), want, "{text}");
+        assert_eq!(rt; line.as_str(), *want, "{text}");
     }
+    Ok(())
+}
+
+#[test]
+fn a_lack_of_memory_is_named(rt: HostRuntime) -> Result<(), Fail> {
     let line = format!(in rt.alloc(); "{}", SyntaxError::OutOfMemory)?;
     assert_eq!(rt; line.as_str(), "memory");
     Ok(())
 }
 
-#[test]
-fn limits(rt: HostRuntime) -> Result<(), Fail> {
-    let alloc = rt.alloc();
-    let spaces = vec![in alloc; b' '; 65_536]?;
-    assert_eq!(rt; answer(alloc, &spaces)?.as_str(), "tree");
-    let spaces = vec![in alloc; b' '; 65_537]?;
-    assert_eq!(rt;
-        answer(alloc, &spaces)?.as_str(),
-        "syntax S5 TooLong at 1:1"
-    );
-    let text = nested(alloc, 32)?;
-    assert_eq!(rt; answer(alloc, text.as_bytes())?.as_str(), "tree");
-    for text in [nested(alloc, 33)?, opened(alloc, 33)?] {
-        assert_eq!(rt;
-            answer(alloc, text.as_bytes())?.as_str(),
-            "syntax S6 TooDeep at 1:241"
-        );
-    }
-    let mut no_brace = opened(alloc, 32)?;
-    no_brace.push_str("if 1 x")?;
-    assert_eq!(rt;
-        answer(alloc, no_brace.as_bytes())?.as_str(),
-        "syntax S3 Expected at 1:241"
-    );
-    let largest = b"var x = 9223372036854775807; var y = -9223372036854775807;";
-    assert_eq!(rt; answer(alloc, largest)?.as_str(), "tree");
+/// A text has this line.
+fn check_answer(rt: &impl Abort, alloc: Global, text: &[u8], want: &str) -> Result<(), Fail> {
+    let line = answer(alloc, text)?;
+    assert_eq!(rt; line.as_str(), want);
     Ok(())
 }
 
 #[test]
+fn longest_texts(rt: HostRuntime) -> Result<(), Fail> {
+    let spaces = vec![in rt.alloc(); b' '; 65_537]?;
+    check_answer(&rt, rt.alloc(), &spaces[..65_536], "tree")?;
+    check_answer(&rt, rt.alloc(), &spaces, "syntax S5 TooLong at 1:1")
+}
+
+#[test]
+fn deepest_blocks(rt: HostRuntime) -> Result<(), Fail> {
+    let text = nested(rt.alloc(), 32)?;
+    check_answer(&rt, rt.alloc(), text.as_bytes(), "tree")?;
+    let text = nested(rt.alloc(), 33)?;
+    check_answer(
+        &rt,
+        rt.alloc(),
+        text.as_bytes(),
+        "syntax S6 TooDeep at 1:241",
+    )
+}
+
+#[test]
+fn blocks_that_stay_open(rt: HostRuntime) -> Result<(), Fail> {
+    let text = opened(rt.alloc(), 33)?;
+    check_answer(
+        &rt,
+        rt.alloc(),
+        text.as_bytes(),
+        "syntax S6 TooDeep at 1:241",
+    )?;
+    let mut no_brace = opened(rt.alloc(), 32)?;
+    no_brace.push_str("if 1 x")?;
+    check_answer(
+        &rt,
+        rt.alloc(),
+        no_brace.as_bytes(),
+        "syntax S3 Expected at 1:241",
+    )
+}
+
+#[test]
+fn largest_literals(rt: HostRuntime) -> Result<(), Fail> {
+    let largest = b"var x = 9223372036854775807; var y = -9223372036854775807;";
+    check_answer(&rt, rt.alloc(), largest, "tree")
+}
+
+/// The body of a thread with this statement, as it is shown.
+fn body_of(alloc: Global, statement: &str) -> Result<String, Fail> {
+    let text = format!(in alloc; "thread A {{ {statement} }}")?;
+    bodies(alloc, &text)
+}
+
+#[test]
 fn statements(rt: HostRuntime) -> Result<(), Fail> {
-    let alloc = rt.alloc();
-    for (statement, want) in STATEMENTS {
-        let text = format!(in alloc; "thread A {{ {statement} }}")?;
-        let shown = bodies(alloc, &text)?;
-        assert_eq!(rt; shown.as_str(), want, "{statement}");
+    for (statement, want) in &STATEMENTS {
+        let shown = body_of(rt.alloc(), statement)?;
+        assert_eq!(rt; shown.as_str(), *want, "{statement}");
     }
-    for (operator, name) in OPERATORS {
-        let text = format!(in alloc; "thread A {{ assert 2{operator}1; }}")?;
-        let want = format!(in alloc; "[Assert(Both(Literal(2), {name}, Literal(1)))]")?;
-        let shown = bodies(alloc, &text)?;
-        assert_eq!(rt; shown.as_str(), want.as_str(), "{operator}");
+    Ok(())
+}
+
+/// An operator between two literals has this name.
+fn check_operator(rt: &impl Abort, alloc: Global, operator: &str, name: &str) -> Result<(), Fail> {
+    let statement = format!(in alloc; "assert 2{operator}1;")?;
+    let shown = body_of(alloc, &statement)?;
+    let want = format!(in alloc; "[Assert(Both(Literal(2), {name}, Literal(1)))]")?;
+    assert_eq!(rt; shown.as_str(), want.as_str(), "{operator}");
+    Ok(())
+}
+
+#[test]
+fn operators(rt: HostRuntime) -> Result<(), Fail> {
+    for (operator, name) in &OPERATORS {
+        check_operator(&rt, rt.alloc(), operator, name)?;
     }
     Ok(())
 }
@@ -336,12 +381,32 @@ fn is_cut_short(last: usize) -> bool {
     }
 }
 
+/// A text has its first fault at this column, where a token must be, or is whole.
+fn check_cut(
+    rt: &impl Abort,
+    alloc: Global,
+    text: &[u8],
+    column: Option<usize>,
+) -> Result<(), Fail> {
+    let want = match column {
+        None => String::from_str(alloc, "tree")?,
+        Some(column) => format!(in alloc; "syntax S3 Expected at 1:{column}")?,
+    };
+    let line = answer(alloc, text)?;
+    assert_eq!(rt;
+        line.as_str(),
+        want.as_str(),
+        "a cut of {} bytes",
+        text.len()
+    );
+    Ok(())
+}
+
 /// Where the text is cut inside a keyword, the fault is there, since a name may not be there; where
 /// it is cut elsewhere inside a declaration or a thread, the fault is at the end.
 #[test]
 fn cuts(rt: HostRuntime) -> Result<(), Fail> {
-    let alloc = rt.alloc();
-    assert_eq!(rt; answer(alloc, b"")?.as_str(), "tree");
+    check_cut(&rt, rt.alloc(), b"", None)?;
     let mut depth = 0_u8;
     let mut whole = true;
     let mut keyword = 0_usize;
@@ -365,10 +430,8 @@ fn cuts(rt: HostRuntime) -> Result<(), Fail> {
         }
         let place = if is_cut_short(i) { keyword } else { end };
         let column = place.saturating_add(1);
-        let fault = format!(in alloc; "syntax S3 Expected at 1:{column}")?;
-        let line = answer(alloc, &CUT[..end])?;
-        let want = if whole { "tree" } else { fault.as_str() };
-        assert_eq!(rt; line.as_str(), want, "a cut at {i}");
+        let want = if whole { None } else { Some(column) };
+        check_cut(&rt, rt.alloc(), &CUT[..end], want)?;
     }
     Ok(())
 }
@@ -376,27 +439,57 @@ fn cuts(rt: HostRuntime) -> Result<(), Fail> {
 /// Texts of 1, 8 and 64 KiB, with the number of statements that fit.
 const LONG: [(usize, usize); 3] = [(70, 1_024), (580, 8_192), (4_650, 65_536)];
 
+/// The statement with this number in a long text is shown so.
+fn check_statement(
+    rt: &impl Abort,
+    alloc: Global,
+    number: usize,
+    statement: &Statement,
+) -> Result<(), Fail> {
+    let line = number.saturating_add(3);
+    let name = format!(in alloc; "at: Pos {{ line: {line}, col:")?;
+    let want = format!(in alloc;
+        "Add {{ local: Name {{ text: [114], {name} 5 }} }}, variable: Name {{ text: [120], {name} 7 }} }}, value: Literal({number}) }}"
+    )?;
+    let shown = format!(in alloc; "{statement:?}")?;
+    assert_eq!(rt; shown.as_str(), want.as_str());
+    Ok(())
+}
+
+/// The tree of a long text has one variable, and one thread of this many statements.
+fn check_long_tree(
+    rt: &impl Abort,
+    alloc: Global,
+    tree: &Tree,
+    statements: usize,
+) -> Result<(), Fail> {
+    assert_eq!(rt; tree.declarations().len(), 1);
+    assert_eq!(rt; tree.threads().len(), 1);
+    let body = &tree.threads()[0].body;
+    assert_eq!(rt; body.len(), statements);
+    for (i, statement) in body.iter().enumerate() {
+        check_statement(rt, alloc, i, statement)?;
+    }
+    Ok(())
+}
+
+/// A long text of this many statements and bytes has its tree.
+fn check_long_text(
+    rt: &impl Abort,
+    alloc: Global,
+    statements: usize,
+    bytes: usize,
+) -> Result<(), Fail> {
+    let text = long_text(alloc, statements, bytes)?;
+    assert_eq!(rt; text.len(), bytes);
+    let tree = parse(alloc, text.as_bytes())?;
+    check_long_tree(rt, alloc, &tree, statements)
+}
+
 #[test]
 fn long_texts(rt: HostRuntime) -> Result<(), Fail> {
-    let alloc = rt.alloc();
-    for (statements, bytes) in LONG {
-        let text = long_text(alloc, statements, bytes)?;
-        assert_eq!(rt; text.len(), bytes);
-        let tree = parse(alloc, text.as_bytes())?;
-        assert_eq!(rt; tree.declarations().len(), 1);
-        assert_eq!(rt; tree.threads().len(), 1);
-        for thread in tree.threads() {
-            assert_eq!(rt; thread.body.len(), statements);
-            for (i, statement) in thread.body.iter().enumerate() {
-                let line = i.saturating_add(3);
-                let name = format!(in alloc; "at: Pos {{ line: {line}, col:")?;
-                let want = format!(in alloc;
-                    "Add {{ local: Name {{ text: [114], {name} 5 }} }}, variable: Name {{ text: [120], {name} 7 }} }}, value: Literal({i}) }}"
-                )?;
-                let shown = format!(in alloc; "{statement:?}")?;
-                assert_eq!(rt; shown.as_str(), want.as_str());
-            }
-        }
+    for (statements, bytes) in &LONG {
+        check_long_text(&rt, rt.alloc(), *statements, *bytes)?;
     }
     Ok(())
 }
