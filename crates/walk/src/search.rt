@@ -366,7 +366,7 @@ impl Trail {
             ≤ turns_from mode item.now.program self.old) }
         ensures tried { OnOk result (found.new.part.tried ≡ found.old.part.tried) }
     {
-        let mut node = self.node;
+        let mut node = self.node.by_fields();
         let bound = node.used;
         while node.enabled.has(thread) {
             match self.follow(found, item, bound, thread, node) {

@@ -22,10 +22,10 @@ pub struct Node {
     pub last: Option<u8>,
     pub enabled: Mask,
     pub asleep: Mask,
-    /// The threads whose steps are still to be tried.
-    pub todo: Mask,
     /// The enabled threads whose step is a preempting switch.
     pub switches: Mask,
+    /// The threads whose steps are still to be tried.
+    pub todo: Mask,
     /// The preemptions so far.
     pub used: u32,
 }
@@ -54,6 +54,22 @@ pub struct Trail {
 }
 
 impl Node {
+    // The same node, read field by field: so it was written, and to read several at once, so soon,
+    // would have to wait for all these writes.
+    #[inline(always)]
+    pub(crate) fn by_fields(&self) -> Node
+        ensures { result ≡ self.now }
+    {
+        Node {
+            last: self.last,
+            enabled: self.enabled,
+            asleep: self.asleep,
+            switches: self.switches,
+            todo: self.todo,
+            used: self.used,
+        }
+    }
+
     // Whether a step of an enabled thread is a preempting switch.
     #[inline(always)]
     fn leaves(&self, thread: u8) -> bool
@@ -197,16 +213,7 @@ impl Trail {
         ensures trail { IsTrail program.now self.new }
         ensures entered { OnOk result (IsEntered self.old self.new thread asleep) }
     {
-        // Field by field: so they were written, and to read some at once, so soon, would have to
-        // wait for all these writes.
-        let from = Node {
-            last: self.node.last,
-            enabled: self.node.enabled,
-            asleep: self.node.asleep,
-            todo: self.node.todo,
-            switches: self.node.switches,
-            used: self.node.used,
-        };
+        let from = self.node.by_fields();
         let next = from.after(thread, asleep);
         let entered = self.step_from(program, thread, from, next)?;
         self.node = entered;
