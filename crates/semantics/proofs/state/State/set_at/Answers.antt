@@ -1,7 +1,7 @@
-use Rattle.std.proofs.Common.{◌≡◌, ◌≢◌, ◌<◌, ◌+◌, ◌∙◌, ◌&&◌, ◌∷◌, ℕ, Bool, true, false, cond, length, inl, inr, arith, sym, ap, subst}
+use Rattle.std.proofs.Common.{◌≡◌, ◌≢◌, ◌<◌, ◌∙◌, ◌&&◌, ℕ, Bool, true, false, cond, length, inl, inr, arith, sym, ap, subst}
 use Rattle.std.proofs.lemmas.Bool.{cases_eq}
 use Rattle.semantics.specs.Machine.{next_of}
-use Rattle.semantics.specs.Mask.{has, members_from}
+use Rattle.semantics.specs.Mask.{has}
 use Rattle.semantics.specs.inner.Recording.{passes}
 use Rattle.semantics.specs.declared.mask.Mask.{Mask}
 use Rattle.semantics.proofs.Masks.{members-without_first, none_left}
@@ -20,8 +20,9 @@ loop-thread-smaller c =
 pub loop-thread-preserved : goal.loop-thread-preserved
 loop-thread-preserved c = record {
   below = λ u h. elim (cases_eq u t) [
-    | inl e ↦ subst (λ v. cond (has c.with-left.result v && pass v) c.args.on (has c.if-passes.mask v)
-        ≡ cond (has c.args.some v && pass v) c.args.on (has c.args.mask v)) (sym e)
+    | inl e ↦ subst (λ v. cond (has c.with-left.result v && pass v) c.args.on
+        (has c.if-passes.mask v) ≡ cond (has c.args.some v && pass v) c.args.on
+        (has c.args.mask v)) (sym e)
         (here ∙ c.loop-thread.invariant.below t within)
     | inr ne ↦ ap (λ b. cond (b && pass u) c.args.on (has c.if-passes.mask u))
         (c.with-left.ensures.others u ne)

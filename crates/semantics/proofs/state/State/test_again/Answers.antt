@@ -1,7 +1,7 @@
 use Rattle.std.proofs.Common.{◌≡◌, ◌≢◌, ◌<◌, ◌∙◌, ℕ, Bool, cond, length, inl, inr, arith, sym, ap, subst}
 use Rattle.std.proofs.lemmas.Bool.{cases_eq}
 use Rattle.semantics.specs.Machine.{is_enabled}
-use Rattle.semantics.specs.Mask.{has, members_from}
+use Rattle.semantics.specs.Mask.{has}
 use Rattle.semantics.proofs.Masks.{members-without_first, none_left}
 use Rattle.semantics.proofs.state.State.test_again.Goals as goal
 
