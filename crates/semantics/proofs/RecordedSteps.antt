@@ -25,6 +25,7 @@ stepped p s t a u new others free of' h fine next as_told is begun few object lo
     record {
       value = value;
       of = subst (IsOf p) (sym value) (step_is_of p s t of' h);
+      thread = begun.thread;
       kept = subst (IsRecordOf u) (sym is)
           (in_range p s t a u of' (enabled_below p s t h) fine begun object few);
       back = ap (undone u) is ∙ back p s t a u of'.waiters next begun object

@@ -53,6 +53,12 @@ pub woken_here : (p : Program) (s : Snapshot) (t : ℕ) (th : Thread) (code : Li
 woken_here p s t th code d e f l w = next_here p s t th code d e f l
     ∙ ap (λ (status : Status). action_at status (Some (get_or code th.pc d))) w
 
+pub running_here : (p : Program) (s : Snapshot) (t : ℕ) (th : Thread) (code : List Instruction)
+    (d : Instruction) → th ≡ thread_at s t → code ≡ code_of p t → th.pc < length code
+    → th.status ≡ Running → next_of p s t ≡ action_of (get_or code th.pc d)
+running_here p s t th code d e f l w = next_here p s t th code d e f l
+    ∙ ap (λ (status : Status). action_at status (Some (get_or code th.pc d))) w
+
 pub visible_here : (p : Program) (s : Snapshot) (t : ℕ) (th : Thread) (code : List Instruction)
     (d : Instruction) → th ≡ thread_at s t → code ≡ code_of p t → th.pc < length code
     → th.status ≢ Woken → is_enabled p s t ≡ true → next_of p s t ≡ action_of (get_or code th.pc d)

@@ -49,7 +49,7 @@ pub none_kept : (v : Saved) (L : List ℤ) → v.count ≡ 0 → restored v L �
 none_kept v L h = ap (λ (n : ℕ). take n v.locals ++ drop n L) h
 
 -- what was written is written back
-set_back : {A : Type 0} (xs : List A) (i : ℕ) (a d : A) → set (set xs i a) i (get_or xs i d) ≡ xs
+pub set_back : {A : Type 0} (xs : List A) (i : ℕ) (a d : A) → set (set xs i a) i (get_or xs i d) ≡ xs
 set_back xs i a d = set-set xs i a (get_or xs i d) ∙ set-get_or xs i d
 
 -- the thread that took the step

@@ -49,6 +49,17 @@ pub struct Undo {
     pub(crate) saved: Saved,
 }
 
+/// A variable, a mutex or a semaphore that a step touched, by its number: as it was before.
+#[derive(Clone, Copy, Debug)]
+pub enum Touched {
+    /// The value of a variable.
+    Variable(usize, i64),
+    /// The owner of a mutex.
+    Owner(usize, Option<u8>),
+    /// The count of a semaphore.
+    Count(usize, u16),
+}
+
 impl Saved {
     /// Nothing is kept.
     pub fn new() -> Saved

@@ -1,6 +1,6 @@
 -- What a step writes into its record.
-use Rattle.std.specs.Prelude.{◌≡◌, ◌≢◌, ℕ, ◌<◌, ◌≤◌, Bool, true, false, nat_eq, nat_lt, List, length, Option, Some, None, slice_get, IsTrue, if◌then◌else◌}
-use Rattle.guest_code.specs.declared.limits.TheConstants.{THREADS}
+use Rattle.std.specs.Prelude.{◌≡◌, ◌≢◌, ℕ, ◌<◌, ◌≤◌, Bool, true, false, nat_eq, nat_lt, List, length, Option, Some, None, slice_get, slice_set, IsTrue, if◌then◌else◌}
+use Rattle.guest_code.specs.declared.limits.TheConstants.{THREADS, LOCALS}
 use Rattle.guest_code.specs.declared.program.Instruction.{Instruction}
 use Rattle.guest_code.specs.declared.program.Instruction.TheVariants.{Load, Store, Add, Cas, Lock, Unlock, Wait as WaitFor, Signal, Broadcast, Acquire, Release, Set, Assert, SkipIfZero, Skip}
 use Rattle.guest_code.specs.Program.{Program}
@@ -17,11 +17,14 @@ use Rattle.semantics.specs.declared.state.MutexAction.TheVariants.{Lock as Locks
 use Rattle.semantics.specs.declared.state.SemaphoreAction.TheVariants.{Acquire as Acquires, Release as Releases}
 use Rattle.semantics.specs.declared.state.Action.{Action}
 use Rattle.semantics.specs.declared.state.Action.TheVariants.{OnVariable, OnMutex, Wait as Waits, OnCondition, OnSemaphore}
+use Rattle.semantics.specs.declared.undo.Saved.{Saved}
+use Rattle.semantics.specs.declared.undo.Touched.{Touched}
+use Rattle.semantics.specs.declared.undo.Touched.TheVariants.{Variable as TheVariable, Owner as TheOwner, Count as TheCount}
 use Rattle.semantics.specs.declared.undo.Undo.{Undo}
 use Rattle.semantics.specs.declared.undo.Change.TheVariants.{Variable, Owner, Count, Wait, Call}
-use Rattle.semantics.specs.Machine.{Snapshot, run_from, action_at, can_do, is_enabled, is_free, next_of, step, value_of, owner_of, queue_of, count_of}
+use Rattle.semantics.specs.Machine.{Snapshot, run_from, action_at, can_do, is_enabled, is_free, next_of, step, thread_at, value_of, owner_of, queue_of, count_of}
 use Rattle.semantics.specs.Reachable.{IsOf}
-use Rattle.semantics.specs.Undoing.{old_queue, undone, IsRecordOf}
+use Rattle.semantics.specs.Undoing.{restored, old_queue, undone, with_touched, IsRecordOf, IsTouched}
 
 -- the record is of thread t, which was so
 pub record HasBegun (u : Undo) (t : ℕ) (th : Thread) : Type 0 where
@@ -113,6 +116,7 @@ pub record HasStepped (p : Program) (s : Snapshot) (t : ℕ) (u : Undo) (new : S
     (after : After) : Type 0 where
   pub value : new ≡ step p s t
   pub of : IsOf p new
+  pub thread : u.thread ≡ t
   pub kept : IsRecordOf u new
   pub back : undone u new ≡ s
   pub changes : Changes after.others p s t new
@@ -136,3 +140,26 @@ is_access (Set r e) = false
 is_access (Assert e) = false
 is_access (SkipIfZero e n) = false
 is_access (Skip n) = false
+
+-- a further step of thread t led from the first state to the second one: the locals that it kept,
+-- the object that it touched, as it was, and what it did to which threads are enabled
+pub record HasGoneOn (p : Program) (s : Snapshot) (t : ℕ) (old kept : Saved) (o : Touched)
+    (new : Snapshot) (after : After) :
+    Type 0 where
+  pub value : new ≡ step p s t
+  pub of : IsOf p new
+  pub there : IsTouched new o
+  pub back : with_touched o new ≡ record s { threads = slice_set s.threads t (thread_at new t) }
+  pub locals : restored kept (thread_at new t).locals ≡ restored old (thread_at s t).locals
+  pub few : kept.count ≤ LOCALS
+  pub changes : Changes after.others p s t new
+  pub gate : HasGate after.others new
+  pub free : IsTrue after.free → is_enabled p new t ≡ true
+
+-- the object that an action touches alone, as it is
+abbrev pub HasTouched : Touched → Snapshot → Action → Type 0
+HasTouched o s (OnVariable x d) = o ≡ TheVariable x (value_of s x)
+HasTouched o s (OnMutex m d) = o ≡ TheOwner m (owner_of s m)
+HasTouched o s (Waits c m) = ⊥
+HasTouched o s (OnCondition c d) = ⊥
+HasTouched o s (OnSemaphore k d) = o ≡ TheCount k (count_of s k)

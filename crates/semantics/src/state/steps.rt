@@ -16,7 +16,7 @@ use crate::signals::{call, wait_again};
 use crate::state::{
     Action, ConditionAction, MutexAction, SemaphoreAction, State, Status, Stop, VariableAction,
 };
-use crate::undo::{Change, Undo, restore};
+use crate::undo::{Change, Saved, Undo, restore};
 use guest_code::limits::{COUNT, LOCALS};
 use guest_code::program::{Instruction, Program};
 
@@ -43,6 +43,7 @@ impl State {
         requires enabled { IsTrue (is_enabled program.now self.old thread) }
         ensures value { self.new ≡ step program.now self.old thread }
         ensures of { IsOf program.now self.new }
+        ensures thread { undo.new.thread ≡ thread }
         ensures record { IsRecordOf undo.new self.new }
         ensures back { undone undo.new self.new ≡ self.old }
         ensures mask { HasEnabled mask program.now self.old →
@@ -214,7 +215,7 @@ impl State {
 
     // What the step that a thread is about to take does to which other threads are enabled.
     #[inline(always)]
-    fn others_after(&self, program: &Program, thread: u8, action: Action) -> Others
+    pub(crate) fn others_after(&self, program: &Program, thread: u8, action: Action) -> Others
         requires { IsReady program.now self.now thread action }
         ensures { result ≡ others_after self.now action }
     {
@@ -300,15 +301,36 @@ impl State {
         ensures free { IsTrue result →
             IsFree (code_of program.now thread) (thread_at self.new thread) }
     {
-        let runner = &mut self.threads[thread as usize];
-        undo.begin(thread, runner);
+        undo.begin(thread, &self.threads[thread as usize]);
         program.keeps_limits();
         undo.change = Change::Variable;
         undo.object = x as u8;
-        let cell = &mut self.variables[x];
-        undo.value = *cell;
-        access(cell, runner, &mut undo.saved, action);
-        resume(program.code(thread), runner, &mut undo.saved)
+        undo.value = self.variables[x];
+        self.touch_variable(program, thread, x, action, &mut undo.saved)
+    }
+
+    // A step on a variable, before which the locals that it writes are kept.
+    #[inline(always)]
+    pub(crate) fn touch_variable(
+        &mut self,
+        program: &Program,
+        thread: u8,
+        x: usize,
+        action: VariableAction,
+        saved: &mut Saved,
+    ) -> bool
+        requires ready { IsReady program.now self.old thread (OnVariable x action) }
+        requires few { saved.old.count ≤ LOCALS }
+        ensures value { self.new ≡ performed program.now self.old thread (OnVariable x action) }
+        ensures few { saved.new.count ≤ LOCALS }
+        ensures locals { restored saved.new (thread_at self.new thread).locals
+            ≡ restored saved.old (thread_at self.old thread).locals }
+        ensures free { IsTrue result →
+            IsFree (code_of program.now thread) (thread_at self.new thread) }
+    {
+        let runner = &mut self.threads[thread as usize];
+        access(&mut self.variables[x], runner, saved, action);
+        resume(program.code(thread), runner, saved)
     }
 
     // A step on a mutex alone.
@@ -331,12 +353,34 @@ impl State {
         ensures free { IsTrue result →
             IsFree (code_of program.now thread) (thread_at self.new thread) }
     {
-        let runner = &mut self.threads[thread as usize];
-        undo.begin(thread, runner);
+        undo.begin(thread, &self.threads[thread as usize]);
         program.keeps_limits();
         undo.change = Change::Owner;
         undo.object = m as u8;
         undo.owner = self.owners[m];
+        self.touch_mutex(program, thread, m, action, &mut undo.saved)
+    }
+
+    // A step on a mutex alone, before which the locals that it writes are kept.
+    #[inline(always)]
+    pub(crate) fn touch_mutex(
+        &mut self,
+        program: &Program,
+        thread: u8,
+        m: usize,
+        action: MutexAction,
+        saved: &mut Saved,
+    ) -> bool
+        requires ready { IsReady program.now self.old thread (OnMutex m action) }
+        requires few { saved.old.count ≤ LOCALS }
+        ensures value { self.new ≡ performed program.now self.old thread (OnMutex m action) }
+        ensures few { saved.new.count ≤ LOCALS }
+        ensures locals { restored saved.new (thread_at self.new thread).locals
+            ≡ restored saved.old (thread_at self.old thread).locals }
+        ensures free { IsTrue result →
+            IsFree (code_of program.now thread) (thread_at self.new thread) }
+    {
+        let runner = &mut self.threads[thread as usize];
         match action {
             MutexAction::Lock | MutexAction::Retake => self.owners[m] = Some(thread),
             MutexAction::Unlock => {
@@ -347,7 +391,7 @@ impl State {
                 self.owners[m] = None;
             }
         }
-        resume(program.code(thread), runner, &mut undo.saved)
+        resume(program.code(thread), runner, saved)
     }
 
     // The first step of a `wait`.
@@ -447,12 +491,34 @@ impl State {
         ensures free { IsTrue result →
             IsFree (code_of program.now thread) (thread_at self.new thread) }
     {
-        let runner = &mut self.threads[thread as usize];
-        undo.begin(thread, runner);
+        undo.begin(thread, &self.threads[thread as usize]);
         program.keeps_limits();
         undo.change = Change::Count;
         undo.object = k as u8;
         undo.count = self.counts[k];
+        self.touch_semaphore(program, thread, k, action, &mut undo.saved)
+    }
+
+    // A step on a semaphore, before which the locals that it writes are kept.
+    #[inline(always)]
+    pub(crate) fn touch_semaphore(
+        &mut self,
+        program: &Program,
+        thread: u8,
+        k: usize,
+        action: SemaphoreAction,
+        saved: &mut Saved,
+    ) -> bool
+        requires ready { IsReady program.now self.old thread (OnSemaphore k action) }
+        requires few { saved.old.count ≤ LOCALS }
+        ensures value { self.new ≡ performed program.now self.old thread (OnSemaphore k action) }
+        ensures few { saved.new.count ≤ LOCALS }
+        ensures locals { restored saved.new (thread_at self.new thread).locals
+            ≡ restored saved.old (thread_at self.old thread).locals }
+        ensures free { IsTrue result →
+            IsFree (code_of program.now thread) (thread_at self.new thread) }
+    {
+        let runner = &mut self.threads[thread as usize];
         match action {
             SemaphoreAction::Acquire => self.counts[k] -= 1,
             SemaphoreAction::Release => {
@@ -463,6 +529,6 @@ impl State {
                 self.counts[k] += 1;
             }
         }
-        resume(program.code(thread), runner, &mut undo.saved)
+        resume(program.code(thread), runner, saved)
     }
 }

@@ -1,0 +1,13 @@
+use Rattle.std.proofs.Common.{refl}
+use Rattle.semantics.specs.declared.action.Others.TheVariants.{Same}
+use Rattle.semantics.specs.declared.state.Action.TheVariants.{OnVariable}
+use Rattle.semantics.proofs.FurtherSteps.{gone_on}
+use Rattle.semantics.proofs.state.State.go_on_variable.Goals as goal
+
+pub returns : goal.returns
+returns c =
+    gone_on c.args.program.now c.args.self.now c.args.thread (OnVariable c.args.x c.args.action)
+    c.args.saved.now c.touch_variable-free.new.saved c.variable_as_is-touched.result c.touch_variable-free.new.self Same
+    c.touch_variable-free.result c.requires.of c.requires.enabled c.requires.fine c.requires.next refl
+    c.touch_variable-free.ensures.value c.variable_as_is-touched.ensures c.touch_variable-free.ensures.few
+    c.touch_variable-free.ensures.locals c.touch_variable-free.ensures.free

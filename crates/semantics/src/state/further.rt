@@ -1,0 +1,280 @@
+//! Further steps of a thread, which are taken back together with a step before them.
+
+ghost use Rattle.std.specs.Prelude.{◌≡◌, ◌<◌, ◌≤◌, ◌∷◌, List, None, Some, IfSome, IsTrue, All, length, reverse};
+ghost use Rattle.std.specs.Option.{is_some};
+ghost use Rattle.guest_code.specs.Program.{IsValid};
+ghost use Rattle.semantics.specs.Machine.{Snapshot, step, action_of, is_enabled, next_of, value_of, owner_of, count_of};
+ghost use Rattle.semantics.specs.Reachable.{IsOf, IsValidAction, StandsInCode};
+ghost use Rattle.semantics.specs.Mask.{HasEnabled};
+ghost use Rattle.semantics.specs.Undoing.{IsTouched, TakesBack, touches_one, with_all_touched, with_touched};
+ghost use Rattle.semantics.specs.inner.Recording.{HasGoneOn};
+ghost use Rattle.semantics.specs.declared.state.Action.TheVariants.{OnVariable, OnMutex, OnSemaphore};
+ghost use Rattle.semantics.specs.declared.undo.Touched.{Touched};
+ghost use Rattle.semantics.specs.declared.undo.Touched.TheVariants.{Variable as TheVariable, Owner as TheOwner, Count as TheCount};
+
+use crate::action::{After, Gate, Others};
+use crate::mask::Mask;
+use crate::state::{Action, MutexAction, SemaphoreAction, State, Status, VariableAction};
+use crate::undo::{Saved, Touched, Undo};
+use guest_code::limits::LOCALS;
+use guest_code::program::{Instruction, Program};
+
+impl State {
+    /// One more step of the thread whose step this record takes back, so that the record and what
+    /// further steps touched take them all back. Answers what it touched and, where the mask has the
+    /// threads that are enabled before the step, those that are enabled after it. It takes no
+    /// memory. `None` for a step of a condition's or a woken thread: such a step is not taken.
+    #[inline(always)]
+    pub fn step_further(
+        &mut self,
+        program: &Program,
+        thread: u8,
+        undo: &mut Undo,
+        mask: Mask,
+    ) -> Option<(Touched, Mask)>
+        requires of { IsOf program.now self.old }
+        requires enabled { IsTrue (is_enabled program.now self.old thread) }
+        requires thread { undo.old.thread ≡ thread }
+        requires few { undo.old.saved.count ≤ LOCALS }
+        ensures taken { is_some result ≡ touches_one (next_of program.now self.old thread) }
+        ensures same { result ≡ None → self.new ≡ self.old }
+        ensures record { result ≡ None → undo.new ≡ undo.old }
+        ensures value { IfSome result (λ r. self.new ≡ step program.now self.old thread) }
+        ensures of { IfSome result (λ r. IsOf program.now self.new) }
+        ensures thread { undo.new.thread ≡ thread }
+        ensures back { IfSome result (λ r. (os : List Touched) → (first : Snapshot) →
+            TakesBack undo.old os self.old first → TakesBack undo.new (r.0 ∷ os) self.new first) }
+        ensures mask { IfSome result (λ r. HasEnabled mask program.now self.old →
+            HasEnabled r.1 program.now self.new) }
+    {
+        match self.go_further(program, thread, &mut undo.saved) {
+            Some((touched, after)) => Some((touched, self.renew(program, thread, mask, after))),
+            None => None,
+        }
+    }
+
+    // The same, with the locals that are kept, and with what it does to which threads are enabled.
+    #[inline(always)]
+    fn go_further(
+        &mut self,
+        program: &Program,
+        thread: u8,
+        saved: &mut Saved,
+    ) -> Option<(Touched, After)>
+        requires of { IsOf program.now self.old }
+        requires enabled { IsTrue (is_enabled program.now self.old thread) }
+        requires few { saved.old.count ≤ LOCALS }
+        ensures taken { is_some result ≡ touches_one (next_of program.now self.old thread) }
+        ensures same { result ≡ None → self.new ≡ self.old }
+        ensures kept { result ≡ None → saved.new ≡ saved.old }
+        ensures further { IfSome result (λ r.
+            HasGoneOn program.now self.old thread saved.old saved.new r.0 self.new r.1) }
+    {
+        let runner = &self.threads[thread as usize];
+        match runner.status {
+            Status::Running => {
+                let instruction = &program.code(thread)[runner.pc];
+                self.go_visibly(program, thread, instruction, saved)
+            }
+            Status::Woken | Status::Waiting(_) | Status::Ended | Status::Stopped(_) => None,
+        }
+    }
+
+    // The same for a running thread at this instruction.
+    #[inline(always)]
+    fn go_visibly(
+        &mut self,
+        program: &Program,
+        thread: u8,
+        instruction: &Instruction,
+        saved: &mut Saved,
+    ) -> Option<(Touched, After)>
+        requires of { IsOf program.now self.old }
+        requires enabled { IsTrue (is_enabled program.now self.old thread) }
+        requires pc { StandsInCode program.now self.old thread }
+        requires fine { IsValid program.now instruction.now }
+        requires next { next_of program.now self.old thread ≡ action_of instruction.now }
+        requires few { saved.old.count ≤ LOCALS }
+        ensures taken { is_some result ≡ touches_one (next_of program.now self.old thread) }
+        ensures same { result ≡ None → self.new ≡ self.old }
+        ensures kept { result ≡ None → saved.new ≡ saved.old }
+        ensures further { IfSome result (λ r.
+            HasGoneOn program.now self.old thread saved.old saved.new r.0 self.new r.1) }
+    {
+        match instruction {
+            Instruction::Load { local, variable } => {
+                let access = VariableAction::Load(*local);
+                Some(self.go_on_variable(program, thread, *variable, access, saved))
+            }
+            Instruction::Store { variable, value } => {
+                let access = VariableAction::Store(*value);
+                Some(self.go_on_variable(program, thread, *variable, access, saved))
+            }
+            Instruction::Add {
+                local,
+                variable,
+                value,
+            } => {
+                let access = VariableAction::Add(*local, *value);
+                Some(self.go_on_variable(program, thread, *variable, access, saved))
+            }
+            Instruction::Cas {
+                local,
+                variable,
+                expected,
+                new,
+            } => {
+                let access = VariableAction::Cas(*local, *expected, *new);
+                Some(self.go_on_variable(program, thread, *variable, access, saved))
+            }
+            Instruction::Lock(m) => {
+                Some(self.go_on_mutex(program, thread, *m, MutexAction::Lock, saved))
+            }
+            Instruction::Unlock(m) => {
+                Some(self.go_on_mutex(program, thread, *m, MutexAction::Unlock, saved))
+            }
+            Instruction::Acquire(k) => {
+                Some(self.go_on_semaphore(program, thread, *k, SemaphoreAction::Acquire, saved))
+            }
+            Instruction::Release(k) => {
+                Some(self.go_on_semaphore(program, thread, *k, SemaphoreAction::Release, saved))
+            }
+            Instruction::Wait { .. }
+            | Instruction::Signal(_)
+            | Instruction::Broadcast(_)
+            | Instruction::Set { .. }
+            | Instruction::Assert(_)
+            | Instruction::SkipIfZero(_, _)
+            | Instruction::Skip(_) => None,
+        }
+    }
+
+    // A variable, as it is.
+    #[inline(always)]
+    fn variable_as_is(&self, x: usize) -> Touched
+        requires { x < length self.now.vars }
+        ensures { result ≡ TheVariable x (value_of self.now x) }
+    {
+        Touched::Variable(x, self.variables[x])
+    }
+
+    // A mutex, as it is.
+    #[inline(always)]
+    fn owner_as_is(&self, m: usize) -> Touched
+        requires { m < length self.now.owners }
+        ensures { result ≡ TheOwner m (owner_of self.now m) }
+    {
+        Touched::Owner(m, self.owners[m])
+    }
+
+    // A semaphore, as it is.
+    #[inline(always)]
+    fn count_as_is(&self, k: usize) -> Touched
+        requires { k < length self.now.counts }
+        ensures { result ≡ TheCount k (count_of self.now k) }
+    {
+        Touched::Count(k, self.counts[k])
+    }
+
+    // A further step, on a variable.
+    #[inline(always)]
+    fn go_on_variable(
+        &mut self,
+        program: &Program,
+        thread: u8,
+        x: usize,
+        action: VariableAction,
+        saved: &mut Saved,
+    ) -> (Touched, After)
+        requires of { IsOf program.now self.old }
+        requires enabled { IsTrue (is_enabled program.now self.old thread) }
+        requires pc { StandsInCode program.now self.old thread }
+        requires fine { IsValidAction program.now (OnVariable x action) }
+        requires next { next_of program.now self.old thread ≡ Some (OnVariable x action) }
+        requires few { saved.old.count ≤ LOCALS }
+        ensures { HasGoneOn program.now self.old thread saved.old saved.new result.0 self.new
+            result.1 }
+    {
+        let touched = self.variable_as_is(x);
+        let others = Others::Same;
+        let free = self.touch_variable(program, thread, x, action, saved);
+        (touched, After { others, free })
+    }
+
+    // A further step, on a mutex alone.
+    #[inline(always)]
+    fn go_on_mutex(
+        &mut self,
+        program: &Program,
+        thread: u8,
+        m: usize,
+        action: MutexAction,
+        saved: &mut Saved,
+    ) -> (Touched, After)
+        requires of { IsOf program.now self.old }
+        requires enabled { IsTrue (is_enabled program.now self.old thread) }
+        requires pc { StandsInCode program.now self.old thread }
+        requires fine { IsValidAction program.now (OnMutex m action) }
+        requires next { next_of program.now self.old thread ≡ Some (OnMutex m action) }
+        requires few { saved.old.count ≤ LOCALS }
+        ensures { HasGoneOn program.now self.old thread saved.old saved.new result.0 self.new
+            result.1 }
+    {
+        let touched = self.owner_as_is(m);
+        let others = self.others_after(program, thread, Action::OnMutex(m, action));
+        let free = self.touch_mutex(program, thread, m, action, saved);
+        (touched, After { others, free })
+    }
+
+    // A further step, on a semaphore.
+    #[inline(always)]
+    fn go_on_semaphore(
+        &mut self,
+        program: &Program,
+        thread: u8,
+        k: usize,
+        action: SemaphoreAction,
+        saved: &mut Saved,
+    ) -> (Touched, After)
+        requires of { IsOf program.now self.old }
+        requires enabled { IsTrue (is_enabled program.now self.old thread) }
+        requires pc { StandsInCode program.now self.old thread }
+        requires fine { IsValidAction program.now (OnSemaphore k action) }
+        requires next { next_of program.now self.old thread ≡ Some (OnSemaphore k action) }
+        requires few { saved.old.count ≤ LOCALS }
+        ensures { HasGoneOn program.now self.old thread saved.old saved.new result.0 self.new
+            result.1 }
+    {
+        let touched = self.count_as_is(k);
+        let others = self.others_after(program, thread, Action::OnSemaphore(k, action));
+        let free = self.touch_semaphore(program, thread, k, action, saved);
+        (touched, After { others, free })
+    }
+
+    // Gives an object back what a step touched.
+    #[inline(always)]
+    fn put_back_one(&mut self, touched: Touched)
+        requires { IsTouched self.old touched }
+        ensures { self.new ≡ with_touched touched self.old }
+    {
+        match touched {
+            Touched::Variable(x, value) => self.variables[x] = value,
+            Touched::Owner(m, owner) => self.owners[m] = owner,
+            Touched::Count(k, count) => self.counts[k] = count,
+        }
+    }
+
+    /// Gives the objects back what these further steps touched, those of the last step first. Then
+    /// `undo` takes back the step before them and puts their thread where it was.
+    #[inline(always)]
+    pub fn put_back(&mut self, touched: &[Touched])
+        requires { All (IsTouched self.old) touched.now }
+        ensures { self.new ≡ with_all_touched (reverse touched.now) self.old }
+    {
+        let mut left = touched.len();
+        while left > 0 {
+            left -= 1;
+            self.put_back_one(touched[left]);
+        }
+    }
+}
