@@ -1,5 +1,5 @@
 -- What arriving at a node does to a walk: the node gives way to its children, or is tried.
-use Rattle.std.proofs.Common.{◌≡◌, ℕ, ◌+◌, ◌-◌, ◌≤◌, true, false, ◌&&◌, ◌||◌, not, List, [], ◌∷◌, ◌++◌, length, map, ap, ◌∙◌, sym, arith, subst, min, take, reverse}
+use Rattle.std.proofs.Common.{◌≡◌, ℕ, ◌+◌, ◌-◌, ◌≤◌, true, false, ◌&&◌, ◌||◌, not, List, [], ◌∷◌, ◌++◌, length, map, ap, ◌∙◌, sym, arith, subst, min}
 use Rattle.std.specs.List.{filter}
 use Rattle.std.proofs.lemmas.List.{length_push}
 use Rattle.guest_code.specs.Program.{Program}
@@ -19,11 +19,10 @@ use Rattle.walk.specs.Items.{ItemView, IsItem, item_at}
 use Rattle.walk.specs.Walks.{IsWalked}
 use Rattle.walk.specs.inner.SubtreeInvariant.{added}
 use Rattle.walk.specs.inner.Children.{state_of, IsWithin, is_kept_step, kept_steps, past_steps, passes_bound, child_of, children_of, children, past_children, mask_after, cost_of, costs}
-use Rattle.walk.specs.inner.Paths.{IsNode, IsTrail, IsEntered}
+use Rattle.walk.specs.inner.Paths.{IsNode, IsTrail, IsOpened}
 use Rattle.walk.specs.inner.WalkerInvariant.{item_of, here, open_above, left_above, still_open, turns_left, turns_from, is_kept_at, is_past_at, IsWithinAt, IsPlace, IsSearch, IsShared}
 use Rattle.walk.proofs.SharedSteps.{shared_same, shared_kept, shared_entered}
-use Rattle.walk.proofs.TrailSteps.{trail_same}
-use Rattle.walk.proofs.WalkTurns.{step_enabled, open_entered, kept_members, past_members, node_enabled, deferred_are}
+use Rattle.walk.proofs.WalkTurns.{step_enabled, IsFurther, kept_members, past_members, node_enabled, deferred_are}
 use Rattle.walk.proofs.WalkSteps.{walk_of, walked_leaf, walked_node, over_none, over_some}
 use Rattle.walk.proofs.Turns.{costs-append, cost_two, children_cost}
 
@@ -35,31 +34,15 @@ within_at (Bounded bound) p w s n h fits =
     subst (λ (k : ℕ). k ≤ bound) (sym h.reaches.preemptions) fits
 within_at Reduced p w s n h fits = tt
 
--- the same place, where other children are to be tried
-pub record IsOpened (old new : Trail) : Type 0 where
-  pub steps : new.steps.items ≡ old.steps.items
-  pub frames : new.frames.items ≡ old.frames.items
-  pub state : new.state ≡ old.state
-  pub base : new.base ≡ old.base
-  pub node : new.node ≡ record old.node { todo = new.node.todo }
-
-node_opened : (p : Program) (w : List ℕ) (s : Snapshot) (n m : Node) (todo : Mask) → IsNode p w s n
-    →
-    m ≡ record n { todo = todo } → IsNode p w s m
-node_opened p w s n m todo h e = subst (IsNode p w s) (sym e)
-    (record { reaches = h.reaches; enabled = h.enabled; switches = h.switches })
-
-pub place_opened : (p : Program) (old new : Trail) → IsPlace p old → IsOpened old new
+pub place_opened : (p : Program) (old new : Trail) → IsPlace p old → IsOpened p old new
     → IsPlace p new
 place_opened p old new h o = record {
-  trail = trail_same p old new h.trail o.steps (ap (take (length old.steps.items)) o.frames)
-      (let r = h.trail.room in let e = ap length o.frames in omega (arith, r, e)) o.state
-      (node_opened p old.steps.items old.state old.node new.node new.node.todo h.trail.node o.node);
-  base = let b = h.base in let e = o.base in let k = ap length o.steps in omega (arith, b, e, k);
+  trail = o.trail;
+  base = let b = h.base in let e = o.base in let k = o.depth in omega (arith, b, e, k);
 }
 
 -- its children are open
-open_opened : (mode : Mode) (p : Program) (old new : Trail) → IsPlace p old → IsOpened old new →
+open_opened : (mode : Mode) (p : Program) (old new : Trail) → IsPlace p old → IsOpened p old new →
     ((t : ℕ) → has new.node.todo t ≡ (has old.node.enabled t && is_kept_at mode old.node t)) →
     still_open mode p new ≡ children mode (here p old) ++ left_above mode p old
 open_opened mode p old new h o kept =
@@ -69,8 +52,7 @@ open_opened mode p old new h o kept =
     kept in
     (λ i. children_of mode (record { program = p; prefix = o.steps i; mask = mask i })
     (members_from new.node.todo 0)
-    ++ open_above mode p (length (o.steps i) - o.base i)
-    (reverse (take (length (o.steps i)) (o.frames i))))
+    ++ open_above mode p (o.depth i - o.base i) (o.above i))
     ∙ ap (λ (ts : List ℕ). children_of mode (here p old) ts ++ left_above mode p old) members
 
 state_here : (p : Program) (t : Trail) → IsTrail p t → t.state ≡ state_of (here p t)
@@ -133,7 +115,8 @@ put_off mode i t f g past h more passed part deferred =
 
 pub arrived_node : (mode : Mode) (i : ItemView) (old new : Trail) (f g : Found) (past : Mask)
     (u : ℕ) (us : List ℕ) →
-    IsSearch mode i old f (here i.program old ∷ left_above mode i.program old) → IsOpened old new →
+    IsSearch mode i old f (here i.program old ∷ left_above mode i.program old)
+    → IsOpened i.program old new →
     ((t : ℕ) → has new.node.todo t ≡ (has old.node.enabled t && is_kept_at mode old.node t)) →
     ((t : ℕ) → has past t ≡ (has old.node.enabled t && is_past_at mode old.node t)) →
     members_from old.node.enabled 0 ≡ u ∷ us →
@@ -155,7 +138,8 @@ arrived_node mode i old new f g past u us h o kept passed e part deferred shared
 -- a complete schedule
 pub arrived_leaf : (mode : Mode) (i : ItemView) (old new : Trail) (f g : Found) (w : List ℕ)
     (v : View) →
-    IsSearch mode i old f (here i.program old ∷ left_above mode i.program old) → IsOpened old new →
+    IsSearch mode i old f (here i.program old ∷ left_above mode i.program old)
+    → IsOpened i.program old new →
     ((t : ℕ) → has new.node.todo t ≡ (has old.node.enabled t && is_kept_at mode old.node t)) →
     members_from old.node.enabled 0 ≡ [] → w ≡ old.steps.items → v ≡ view_at old.state →
     g.part ≡ added f.part w v → g.deferred ≡ f.deferred → g.shared ≡ f.shared →
@@ -187,7 +171,7 @@ arrived_leaf mode i old new f g w v h o kept e schedule view part deferred share
 
 -- how far there is to go then
 pub falls_node : (mode : Mode) (p : Program) (old new : Trail) (u : ℕ) (us : List ℕ)
-    → IsPlace p old → IsOpened old new →
+    → IsPlace p old → IsOpened p old new →
     ((t : ℕ) → has new.node.todo t ≡ (has old.node.enabled t && is_kept_at mode old.node t)) →
     members_from old.node.enabled 0 ≡ u ∷ us →
     turns_left mode p new + 2 ≤ turns_from mode p old
@@ -200,7 +184,7 @@ falls_node mode p old new u us h o kept e =
     let k = ap length o.steps in
     omega (arith, a, b, k)
 
-pub falls_leaf : (mode : Mode) (p : Program) (old new : Trail) → IsPlace p old → IsOpened old new →
+pub falls_leaf : (mode : Mode) (p : Program) (old new : Trail) → IsPlace p old → IsOpened p old new →
     ((t : ℕ) → has new.node.todo t ≡ (has old.node.enabled t && is_kept_at mode old.node t)) →
     members_from old.node.enabled 0 ≡ [] →
     turns_left mode p new + 2 ≤ turns_from mode p old
@@ -229,7 +213,7 @@ child_enabled mode p t u h i = step_enabled p t.steps.items t.state u i h.node.r
 pub entered_search : (mode : Mode) (i : ItemView) (old new : Trail) (f : Found) (u : ℕ)
     (asleep : Mask) →
     IsSearch mode i old f (child_of mode (here i.program old) u ∷ still_open mode i.program old) →
-    IsTrail i.program new → IsEntered old new u asleep
+    IsTrail i.program new → IsFurther mode i.program old new u asleep
     → asleep ≡ mask_after mode (here i.program old) u →
     IsSearch mode i new f (here i.program new ∷ left_above mode i.program new)
 entered_search mode i old new f u asleep h trail e mask =
@@ -237,32 +221,26 @@ entered_search mode i old new f u asleep h trail e mask =
     let same : here p new ≡ child_of mode (here p old) u =
     λ k. record { program = p; prefix = e.steps k; mask = (e.sleepers ∙ mask) k } in
     record {
-      place = record {
-        trail = trail;
-        base = let b = h.place.base in let d = e.base in
-            let l = ap length e.steps in let k =
-            length_push old.steps.items u in omega (arith, b, d, l, k);
-      };
+      place = record { trail = trail; base = e.base };
       walked = subst (λ (c : ItemView). IsWalked
           (walk_of mode i f.part (c ∷ left_above mode p new) (map (item_at p) f.deferred)))
           (sym same)
           (subst (λ (rs : List ItemView). IsWalked
           (walk_of mode i f.part (child_of mode (here p old) u ∷ rs)
           (map (item_at p) f.deferred)))
-          (sym (open_entered mode p old new u asleep h.place e)) h.walked);
+          (sym e.left) h.walked);
       shared = shared_entered old.steps.items new.steps.items u f h.shared e.steps;
     }
 
 -- how far there is to go from there
-pub entered_turns : (mode : Mode) (p : Program) (old new : Trail) (u : ℕ) (asleep : Mask)
-    → IsPlace p old →
-    IsEntered old new u asleep → asleep ≡ mask_after mode (here p old) u →
+pub entered_turns : (mode : Mode) (p : Program) (old new : Trail) (u : ℕ) (asleep : Mask) →
+    IsFurther mode p old new u asleep → asleep ≡ mask_after mode (here p old) u →
     turns_from mode p new ≡ cost_of (child_of mode (here p old) u) + turns_left mode p old + 1
 unfolding turns_left turns_from
-entered_turns mode p old new u asleep h e mask =
+entered_turns mode p old new u asleep e mask =
     let same : here p new ≡ child_of mode (here p old) u =
     λ k. record { program = p; prefix = e.steps k; mask = (e.sleepers ∙ mask) k } in
     let a = ap cost_of same in
-    let b = ap costs (open_entered mode p old new u asleep h e) in
+    let b = ap costs e.left in
     let k = ap length e.steps ∙ length_push old.steps.items u in
     omega (arith, a, b, k)

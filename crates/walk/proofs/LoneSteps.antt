@@ -1,5 +1,5 @@
 -- A thread that goes on alone: the bound is used up, so that a step of another passes it.
-use Rattle.std.proofs.Common.{◌≡◌, ℕ, zero, suc, ◌+◌, ◌-◌, ◌<◌, ◌≤◌, Bool, true, false, ◌&&◌, ◌||◌, nat_eq, nat_le, nat_lt, not, List, [], ◌∷◌, ◌++◌, length, map, refl, ap, ◌∙◌, sym, arith, subst, inl, inr, Some, Option, take, reverse}
+use Rattle.std.proofs.Common.{◌≡◌, ℕ, zero, suc, ◌+◌, ◌-◌, ◌<◌, ◌≤◌, Bool, true, false, ◌&&◌, ◌||◌, nat_eq, nat_le, nat_lt, not, List, [], ◌∷◌, ◌++◌, length, map, refl, ap, ◌∙◌, sym, arith, subst, inl, inr, Some, Option}
 use Rattle.std.specs.List.{filter}
 use Rattle.std.proofs.lemmas.Bool.{cases_lt}
 use Rattle.std.proofs.lemmas.Bool.Decides.{nat_tests}
@@ -21,9 +21,9 @@ use Rattle.walk.specs.Summaries.{with_beyond}
 use Rattle.walk.specs.Items.{ItemView, item_at}
 use Rattle.walk.specs.Walks.{IsWalked}
 use Rattle.walk.specs.inner.Children.{state_of, is_kept_step, kept_steps, child_of, children_of, children, cost_of, costs}
-use Rattle.walk.specs.inner.Paths.{leaves, leaves_last, state_at, IsNode, IsNext, IsTrail, HasSwitches}
+use Rattle.walk.specs.inner.Paths.{leaves, leaves_last, state_at, IsNode, IsNext, IsOpened, IsTrail, HasSwitches}
 use Rattle.walk.specs.inner.WalkerInvariant.{item_of, here, open_above, left_above, still_open, turns_left, turns_from, is_kept_at, is_past_at, IsSearch, IsShared, IsSpent}
-use Rattle.walk.proofs.Arrivals.{IsOpened, place_opened, put_off, here_of}
+use Rattle.walk.proofs.Arrivals.{place_opened, put_off, here_of}
 use Rattle.walk.proofs.Filters.{filter_none, filter_twice}
 use Rattle.walk.proofs.SharedSteps.{shared_same}
 use Rattle.walk.proofs.Turns.{costs-append, children_cost}
@@ -112,7 +112,7 @@ module _ (bound : ℕ) (p : Program) (w : List ℕ) (s : Snapshot) (n : Node) (t
       (nat_eq t) all each
       ∙ only_here t 0 (length z.threads) (omega arith) (omega (arith, below)))
 
-none_open : members_from no_threads 0 ≡ []
+pub none_open : members_from no_threads 0 ≡ []
 unfolding members_from
 none_open =
     filter_alike (has no_threads) (λ u. false) (up_from 0 (THREADS - 0)) empty_has
@@ -120,7 +120,7 @@ none_open =
 
 -- that child takes its place
 lone_open : (bound : ℕ) (p : Program) (old new : Trail) (t : ℕ) → IsTrail p old →
-    IsOpened old new → new.node.todo ≡ no_threads → IsSpent bound old.node t →
+    IsOpened p old new → new.node.todo ≡ no_threads → IsSpent bound old.node t →
     has old.node.enabled t ≡ true →
     child_of (Bounded bound) (here p new) t ∷ still_open (Bounded bound) p new
     ≡ children (Bounded bound) (here p old) ++ left_above (Bounded bound) p old
@@ -130,8 +130,7 @@ lone_open bound p old new t h o todo spent on =
     let same : here p new ≡ here p old =
     λ k. record { program = p; prefix = o.steps k; mask = asleep k } in
     let left : left_above mode p new ≡ left_above mode p old =
-    λ k. open_above mode p (length (o.steps k) - o.base k)
-    (reverse (take (length (o.steps k)) (o.frames k))) in
+    λ k. open_above mode p (o.depth k - o.base k) (o.above k) in
     let open_is = open_done mode p new (ap (λ m. members_from m 0) todo ∙ none_open) ∙ left in
     let steps = lone_steps bound p old.steps.items old.state old.node t h.node spent on in
     (λ k. child_of mode (same k) t ∷ open_is k)
@@ -146,7 +145,7 @@ lone_more p t u h on = is_terminal-some p (state_of (here p t)) u
 pub lone_search : (bound : ℕ) (i : ItemView) (old new : Trail) (f g : Found) (t : ℕ) →
     IsSearch (Bounded bound) i old f
     (here i.program old ∷ left_above (Bounded bound) i.program old) →
-    IsOpened old new → new.node.todo ≡ no_threads → IsSpent bound old.node t →
+    IsOpened i.program old new → new.node.todo ≡ no_threads → IsSpent bound old.node t →
     has old.node.enabled t ≡ true →
     g.part ≡ with_beyond f.part
     (f.part.beyond || not (is_empty (members_from old.node.switches 0))) →
@@ -171,7 +170,7 @@ lone_search bound i old new f g t h o todo spent on part deferred shared =
 
 -- and there is less to go
 pub lone_turns : (bound : ℕ) (p : Program) (old new : Trail) (t : ℕ) → IsTrail p old →
-    IsOpened old new → new.node.todo ≡ no_threads → IsSpent bound old.node t →
+    IsOpened p old new → new.node.todo ≡ no_threads → IsSpent bound old.node t →
     has old.node.enabled t ≡ true →
     cost_of (child_of (Bounded bound) (here p new) t) + turns_left (Bounded bound) p new + 2
     ≤ turns_from (Bounded bound) p old

@@ -1,35 +1,46 @@
 -- What one step down or back does to the way from the start.
-use Rattle.std.proofs.Common.{◌≡◌, ℕ, ◌+◌, ◌<◌, ◌≤◌, true, ◌&&◌, nat_eq, not, List, [], ◌∷◌, ◌++◌, length, Option, Some, None, refl, ap, ◌∙◌, sym, arith, subst, reverse, take, set, get_or, length-set, inl, inr}
+use Rattle.std.proofs.Common.{◌≡◌, ℕ, suc, ◌+◌, ◌-◌, ◌<◌, ◌≤◌, true, ◌&&◌, nat_eq, not, List, [], ◌∷◌, ◌++◌, length, Option, Some, None, refl, ap, ◌∙◌, sym, arith, subst, reverse, replicate, take, drop, set, get_or, length-set, length-take, length-drop, inl, inr}
 use Rattle.std.proofs.lemmas.Bool.{cases_lt, false≢true}
 use Rattle.semantics.proofs.WorkFalls.{disabled_past}
-use Rattle.std.proofs.lemmas.List.{reverse-append, length_push, take_more, take_more_set, take_at}
+use Rattle.std.proofs.lemmas.List.{reverse-append, length-append, length-replicate, length-reverse, append_assoc, length_push, replicate_more, take_more, take_more_set, take_at, drop_at, take-take, take-append-drop, drop-take, set-get_or, get_or-reverse, reverse-reverse}
+use Rattle.std.proofs.lemmas.List.Elements.{All-nil}
+use Rattle.std.specs.List.{All}
 use Rattle.guest_code.specs.Program.{Program}
 use Rattle.semantics.specs.Reachable.{IsOf}
 use Rattle.semantics.specs.Machine.{Snapshot, is_enabled, start, step}
 use Rattle.semantics.specs.Mask.{HasEnabled}
-use Rattle.semantics.specs.Schedules.{preempts, one_if}
-use Rattle.semantics.specs.Undoing.{undone, IsRecordOf}
+use Rattle.semantics.specs.Schedules.{preempts, one_if, last_of}
+use Rattle.semantics.specs.Undoing.{undone, with_all_touched, IsRecordOf, IsTouched, TakesBack}
 use Rattle.semantics.specs.Execution.{Reaches}
 use Rattle.semantics.specs.declared.mask.Mask.{Mask}
+use Rattle.semantics.specs.declared.undo.Touched.{Touched}
 use Rattle.semantics.specs.declared.undo.Undo.{Undo}
 use Rattle.semantics.proofs.Executions.{reaches_parts}
+use Rattle.semantics.proofs.PrefixesExtend.{last_of-push}
 use Rattle.semantics.proofs.UnfoldingUnderPrefix.{state_after-push}
 use Rattle.walk.specs.declared.trail.Node.{Node}
 use Rattle.walk.specs.declared.trail.Frame.{Frame}
 use Rattle.walk.specs.declared.trail.Trail.{Trail}
-use Rattle.walk.specs.inner.Paths.{leaves, leaves_last, IsNext, path, state_at, HasSwitches, IsNode, IsFrame, AreFrames, above, IsTrail, IsEntered, IsLeft}
+use Rattle.walk.specs.inner.Paths.{leaves, leaves_last, IsNext, path, run_of, state_at, HasSwitches, IsNode, IsFrame, AreFrames, above, touched_above, IsTrail, IsOpened, IsEntered, IsExtended, IsLeft}
 
-pub reversed : (S T : List Frame) (f : Frame) → S ≡ T ++ f ∷ [] → reverse S ≡ f ∷ reverse T
-reversed S T f e = ap reverse e ∙ reverse-append T (f ∷ [])
+pub reversed : {X : Type 0} → (S T : List X) (x : X) → S ≡ T ++ x ∷ []
+    → reverse S ≡ x ∷ reverse T
+reversed S T x e = ap reverse e ∙ reverse-append T (x ∷ [])
 
--- one more frame, written where it belongs
-pub above_entered : (S old : List Frame) (f : Frame) (w : List ℕ) (t : ℕ) → length w < length S →
-    take (length w) S ≡ take (length w) old →
-    reverse (take (length (w ++ t ∷ [])) (set S (length w) f)) ≡ f ∷ reverse (take (length w) old)
-above_entered S old f w t there same =
-    ap (λ n. reverse (take n (set S (length w) f))) (length_push w t)
-    ∙ reversed (take (length w + 1) (set S (length w) f)) (take (length w) old) f
-    (take_more_set S (length w) f there ∙ ap (λ (L : List Frame). L ++ f ∷ []) same)
+-- one more of a stack, written where it belongs
+pub one_more : {X : Type 0} → (S old : List X) (x : X) (n : ℕ) → n < length S
+    → take n S ≡ take n old
+    → reverse (take (n + 1) (set S n x)) ≡ x ∷ reverse (take n old)
+one_more {X} S old x n there same =
+    reversed (take (n + 1) (set S n x)) (take n old) x
+    (take_more_set S n x there ∙ ap (λ (L : List X). L ++ x ∷ []) same)
+
+-- the top of a stack
+pub one_off : {X : Type 0} → (S : List X) (x : X) (n m : ℕ) → m ≡ n + 1 → n < length S
+    → x ≡ get_or S n x → reverse (take m S) ≡ x ∷ reverse (take n S)
+one_off {X} S x n m one there read =
+    reversed (take m S) (take n S) x (ap (λ k. take k S) one
+    ∙ (take_more S n x there ∙ ap (λ (y : X). take n S ++ y ∷ []) (sym read)))
 
 -- a preempting switch, by the mask of who is enabled
 pub leaves_is : (p : Program) (s : Snapshot) (m : Mask) (last : Option ℕ) (t : ℕ)
@@ -68,103 +79,222 @@ node_entered p w v s z n next t enabled switches h after on stepped items masked
 
 -- the frame of a node whose thread has taken a step
 pub frame_entered : (p : Program) (w v : List ℕ) (s z : Snapshot) (n : Node) (t : ℕ) (u : Undo) →
-    IsNode p w s n → w ≡ v → z ≡ step p s t → undone u z ≡ s → IsOf p s → IsRecordOf u z →
-    IsFrame p v (record { node = n; thread = t; undo = u })
-frame_entered p w v s z n t u h e stepped back of' r =
+    IsNode p w s n → w ≡ v → z ≡ step p s t → undone u z ≡ s → IsOf p s → u.thread ≡ t
+    → IsRecordOf u z →
+    IsFrame p v [] (record { node = n; thread = t; further = 0; undo = u })
+frame_entered p w v s z n t u h e stepped back of' own r =
     let at : s ≡ state_at p v = h.reaches.state ∙ ap (state_at p) e in
+    let after : z ≡ state_at p (v ++ t ∷ []) =
+    stepped ∙ (ap (λ (q : Snapshot). step p q t) at ∙ sym (state_after-push p (start p) v t)) in
     record {
       node = node_same p v w (state_at p v) s n n h (sym e) (sym at) refl;
       state = subst (IsOf p) at of';
-      undo = subst (λ (q : Snapshot). IsRecordOf u (step p q t)) at
-          (subst (IsRecordOf u) stepped r);
-      back = subst (λ (q : Snapshot). undone u (step p q t) ≡ q) at
-          (ap (undone u) (sym stepped) ∙ back);
+      thread = own;
+      all = refl;
+      back = subst (λ (q : Snapshot). TakesBack u [] q (state_at p v)) after
+          (record {
+            there = All-nil (IsTouched z);
+            kept = r;
+            back = back ∙ at;
+          });
     }
 
--- the state after the last step, by the frame above
-stepped_from : (p : Program) (w v : List ℕ) (s : Snapshot) (t : ℕ) → s ≡ state_at p w
-    → w ≡ v ++ t ∷ [] →
-    s ≡ step p (state_at p v) t
-stepped_from p w v s t at items = at ∙ (ap (state_at p) items ∙ state_after-push p (start p) v t)
-
--- the frame above can take the last step back
-pub record_left : (p : Program) (w v : List ℕ) (s : Snapshot) (f : Frame) → IsFrame p v f
-    → s ≡ state_at p w →
-    w ≡ v ++ f.thread ∷ [] → IsRecordOf f.undo s
-record_left p w v s f h at items = subst (IsRecordOf f.undo)
-    (sym (stepped_from p w v s f.thread at items)) h.undo
-
--- and leads to the state there
-pub state_left : (p : Program) (w v : List ℕ) (s z : Snapshot) (f : Frame) → IsFrame p v f
-    → s ≡ state_at p w →
-    w ≡ v ++ f.thread ∷ [] → z ≡ undone f.undo s → z ≡ state_at p v
-state_left p w v s z f h at items back =
-    back ∙ (ap (undone f.undo) (stepped_from p w v s f.thread at items) ∙ h.back)
+-- the frame of a thread that has taken one more step
+pub frame_extended : (p : Program) (fs : List Frame) (w : List ℕ) (s z : Snapshot) (f : Frame)
+    (u : Undo) (o : Touched) (os : List Touched) →
+    AreFrames p os (f ∷ fs) → w ≡ path (f ∷ fs) → s ≡ state_at p w → z ≡ step p s f.thread
+    → u.thread ≡ f.thread →
+    ((qs : List Touched) → (q : Snapshot) → TakesBack f.undo qs s q → TakesBack u (o ∷ qs) z q) →
+    AreFrames p (o ∷ os) (record f { further = f.further + 1; undo = u } ∷ fs)
+    × (w ++ f.thread ∷ [] ≡ path (record f { further = f.further + 1; undo = u } ∷ fs))
+frame_extended p fs w s z f u o os h items at stepped own further =
+    let g : Frame = record f { further = f.further + 1; undo = u } in
+    let v : List ℕ = path fs in
+    let n : ℕ = f.further in
+    let t : ℕ = f.thread in
+    let one : n + 1 ≡ suc n = omega arith in
+    let longer : run_of f ++ t ∷ [] ≡ run_of g =
+    ap (λ (x : List ℕ). x ++ t ∷ []) (replicate_more n t) in
+    let steps : w ++ t ∷ [] ≡ v ++ run_of g =
+    ap (λ (x : List ℕ). x ++ t ∷ []) items
+    ∙ (append_assoc v (run_of f) (t ∷ []) ∙ ap (λ (x : List ℕ). v ++ x) longer) in
+    let after : z ≡ state_at p (v ++ run_of g) =
+    stepped ∙ (ap (λ (q : Snapshot). step p q t) at
+    ∙ (sym (state_after-push p (start p) w t) ∙ ap (state_at p) steps)) in
+    let before : state_at p (v ++ run_of f) ≡ s = sym (at ∙ ap (state_at p) items) in
+    (
+      (
+        record {
+          node = h.0.node;
+          state = h.0.state;
+          thread = own;
+          all = ap (λ m. length (take m (o ∷ os))) one ∙ (ap suc h.0.all ∙ sym one);
+          back = subst (λ (qs : List Touched).
+              TakesBack u qs (state_at p (v ++ run_of g)) (state_at p v))
+              (ap (λ m. take m (o ∷ os)) (sym one))
+              (subst (λ (q : Snapshot). TakesBack u (o ∷ take n os) q (state_at p v)) after
+              (further (take n os) (state_at p v)
+              (subst (λ (q : Snapshot). TakesBack f.undo (take n os) q (state_at p v)) before
+              h.0.back)));
+        },
+        subst (λ m. AreFrames p (drop m (o ∷ os)) fs) (sym one) h.1,
+      ),
+      steps,
+    )
 
 -- what is known of the lowest frame above, at this place of the frames
 pub record IsLowest (p : Program) (t : Trail) (n : ℕ) (f : Frame) : Type 0 where
   pub above : above t ≡ f ∷ reverse (take n t.frames.items)
-  pub frame : IsFrame p (path (reverse (take n t.frames.items))) f
-  pub frames : AreFrames p (reverse (take n t.frames.items))
-  pub steps : t.steps.items ≡ path (reverse (take n t.frames.items)) ++ f.thread ∷ []
+  pub frames : AreFrames p (touched_above t) (f ∷ reverse (take n t.frames.items))
+  pub steps : t.steps.items ≡ path (f ∷ reverse (take n t.frames.items))
 
-pub lowest : (p : Program) (t : Trail) (n : ℕ) (f : Frame) → IsTrail p t
-    → length t.steps.items ≡ n + 1 →
+pub lowest : (p : Program) (t : Trail) (n : ℕ) (f : Frame) → IsTrail p t → t.depth ≡ n + 1 →
     f ≡ get_or t.frames.items n f → IsLowest p t n f
 lowest p t n f h one read =
     let there : n < length t.frames.items = let r = h.room in omega (arith, r, one) in
-    let items : take (length t.steps.items) t.frames.items ≡ take n t.frames.items ++ f ∷ [] =
-    ap (λ k. take k t.frames.items) one
-    ∙ (take_more t.frames.items n f there ∙ ap (λ (g : Frame). take n t.frames.items ++ g ∷ [])
-    (sym read)) in
-    let rev : above t ≡ f ∷ reverse (take n t.frames.items) =
-    reversed (take (length t.steps.items) t.frames.items) (take n t.frames.items) f items in
-    let frames = subst (AreFrames p) rev h.frames in
-    record { above = rev; frame = frames.0; frames = frames.1; steps = h.steps ∙ ap path rev }
+    let up : above t ≡ f ∷ reverse (take n t.frames.items) =
+    one_off t.frames.items f n t.depth one there read in
+    record {
+      above = up;
+      frames = subst (AreFrames p (touched_above t)) up h.frames;
+      steps = h.steps ∙ ap path up;
+    }
 
--- the steps without the last one
-popped : (w v x : List ℕ) (t n : ℕ) → w ≡ v ++ t ∷ [] → length w ≡ n + 1 → x ≡ take n w → x ≡ v
-popped w v x t n e one h =
-    let m : length w ≡ length v + 1 = ap length e ∙ length_push v t in
-    let k : length v ≡ n = omega (arith, one, m) in
-    h ∙ (ap (take n) e ∙ take_at v (t ∷ []) n k)
+-- the thread of the lowest frame took the last step
+pub lowest_last : (p : Program) (t : Trail) (n : ℕ) (f : Frame) (u : ℕ) → IsTrail p t
+    → IsLowest p t n f → t.node.last ≡ Some u → f.thread ≡ u
+lowest_last p t n f u h l last =
+    let v : List ℕ = path (reverse (take n t.frames.items)) in
+    let e : Some f.thread ≡ Some u =
+    sym (last_of-push (v ++ replicate f.further f.thread) f.thread)
+    ∙ (ap last_of (append_assoc v (replicate f.further f.thread) (f.thread ∷ []) ∙ sym l.steps)
+    ∙ (sym h.node.reaches.last ∙ last)) in
+    cc
 
--- one step back
-pub trail_left : (p : Program) (old new : Trail) (n : ℕ) (f : Frame) → IsTrail p old →
-    length old.steps.items ≡ n + 1 → f ≡ get_or old.frames.items n f
-    → new.steps.items ≡ take n old.steps.items →
-    new.frames.items ≡ old.frames.items → new.state ≡ undone f.undo old.state → new.node ≡ f.node →
-    new.base ≡ old.base → IsTrail p new × IsLeft old new
-trail_left p old new n f h one read items frames back node base =
+-- and it has no more further steps than there is memory for
+pub lowest_few : (p : Program) (t : Trail) (n : ℕ) (f : Frame) → IsTrail p t → IsLowest p t n f
+    → f.further ≤ length t.touched.items
+lowest_few p t n f h l =
+    let a = l.frames.0.all in
+    let b = length-take f.further (touched_above t) in
+    let d = length-reverse (take t.further t.touched.items) in
+    let e = length-take t.further t.touched.items in
+    omega (arith, a, b, d, e)
+
+-- nor than there are in all
+pub lowest_fewer : (p : Program) (t : Trail) (n : ℕ) (f : Frame) → IsTrail p t → IsLowest p t n f
+    → f.further ≤ t.further
+lowest_fewer p t n f h l =
+    let a = l.frames.0.all in
+    let b = length-take f.further (touched_above t) in
+    let d = length-reverse (take t.further t.touched.items) in
+    let e = length-take t.further t.touched.items in
+    omega (arith, a, b, d, e)
+
+-- it has a step at least
+pub lowest_steps : (p : Program) (t : Trail) (n : ℕ) (f : Frame) → IsTrail p t → IsLowest p t n f
+    → length t.steps.items ≡ length (path (reverse (take n t.frames.items))) + (f.further + 1)
+lowest_steps p t n f h l =
+    ap length l.steps ∙ (length-append (path (reverse (take n t.frames.items))) (run_of f)
+    ∙ ap (λ k. length (path (reverse (take n t.frames.items))) + k)
+    (length_push (replicate f.further f.thread) f.thread
+    ∙ ap (λ k. k + 1) (length-replicate f.further f.thread)))
+
+-- what holds of each from the end holds of each
+pub all_reversed : {X : Type 0} (P : X → Type 0) (xs : List X) → All P (reverse xs) → All P xs
+all_reversed {X} P xs h = λ k d l.
+    let long : k < length (reverse xs) = let e = length-reverse xs in omega (arith, l, e) in
+    subst P (sym (get_or-reverse (reverse xs) k d long)
+    ∙ ap (λ (ys : List X). get_or ys k d) (reverse-reverse xs))
+    (h (length (reverse xs) - 1 - k) d (omega (arith, long)))
+
+-- what its further steps touched, at places m and on
+abbrev pub touched_from : Trail → ℕ → List Touched
+touched_from t m = take (t.further - m) (drop m t.touched.items)
+
+pub record HasParts (t : Trail) (m : ℕ) (f : Frame) : Type 0 where
+  pub own : reverse (touched_from t m) ≡ take f.further (touched_above t)
+  pub others : reverse (take m t.touched.items) ≡ drop f.further (touched_above t)
+
+pub touched_parts : (t : Trail) (m : ℕ) (f : Frame) → t.further ≤ length t.touched.items
+    → t.further ≡ m + f.further → HasParts t m f
+touched_parts t m f room sum =
+    let T : List Touched = t.touched.items in
+    let n : ℕ = t.further in
+    let all : List Touched = take n T in
+    let more : m + (n - m) ≡ n = omega (arith, sum) in
+    let cut : take m all ≡ take m T = take-take m n T (omega (arith, sum)) in
+    let rest : drop m all ≡ take (n - m) (drop m T) =
+    ap (λ k. drop m (take k T)) (sym more) ∙ drop-take m (n - m) T in
+    let parts : reverse all ≡ reverse (drop m all) ++ reverse (take m all) =
+    ap reverse (sym (take-append-drop m all)) ∙ reverse-append (take m all) (drop m all) in
+    let long : length (reverse (drop m all)) ≡ f.further =
+    let a = length-reverse (drop m all) in let b = length-drop m all in
+    let l = length-take n T in omega (arith, a, b, l, room, sum) in
+    record {
+      own = ap reverse (sym rest) ∙ sym (ap (take f.further) parts
+          ∙ take_at (reverse (drop m all)) (reverse (take m all)) f.further long);
+      others = ap reverse (sym cut) ∙ sym (ap (drop f.further) parts
+          ∙ drop_at (reverse (drop m all)) (reverse (take m all)) f.further long);
+    }
+
+-- it takes all steps of the lowest frame back
+pub lowest_back : (p : Program) (t : Trail) (n m : ℕ) (f : Frame) → IsTrail p t
+    → IsLowest p t n f → t.further ≡ m + f.further
+    → TakesBack f.undo (reverse (touched_from t m)) t.state
+    (state_at p (path (reverse (take n t.frames.items))))
+lowest_back p t n m f h l sum =
+    let first : Snapshot = state_at p (path (reverse (take n t.frames.items))) in
+    subst (λ (os : List Touched). TakesBack f.undo os t.state first)
+    (sym (touched_parts t m f h.places sum).own)
+    (subst (λ (q : Snapshot). TakesBack f.undo (take f.further (touched_above t)) q first)
+    (sym (h.node.reaches.state ∙ ap (state_at p) l.steps)) l.frames.0.back)
+
+-- back to the node above
+pub trail_left : (p : Program) (old new : Trail) (n m : ℕ) (f : Frame) → IsTrail p old →
+    old.depth ≡ n + 1 → new.depth ≡ n → f ≡ get_or old.frames.items n f
+    → old.further ≡ m + f.further → new.further ≡ m →
+    new.steps.items ≡ take (length old.steps.items - f.further - 1) old.steps.items →
+    new.frames.items ≡ old.frames.items → new.touched.items ≡ old.touched.items →
+    new.state ≡ undone f.undo
+    (with_all_touched (reverse (touched_from old m)) old.state) →
+    new.node ≡ f.node → new.base ≡ old.base → IsTrail p new × IsLeft old new
+trail_left p old new n m f h one depth read sum further items frames touched back node base =
     let L = lowest p old n f h one read in
     let v : List ℕ = path (reverse (take n old.frames.items)) in
-    let steps : new.steps.items ≡ v = popped old.steps.items v new.steps.items f.thread n L.steps
-    one items in
-    let count : length new.steps.items ≡ n =
-    let m : length old.steps.items ≡ length v + 1 = ap length L.steps ∙ length_push v f.thread in
-    let k : length new.steps.items ≡ length v = ap length steps in omega (arith, one, m, k) in
+    let whole : length old.steps.items ≡ length v + (f.further + 1) =
+    lowest_steps p old n f h L in
+    let steps : new.steps.items ≡ v =
+    items ∙ (ap (take (length old.steps.items - f.further - 1)) L.steps
+    ∙ take_at v (run_of f) (length old.steps.items - f.further - 1)
+    (omega (arith, whole))) in
     let up : above new ≡ reverse (take n old.frames.items) =
-    λ i. reverse (take (count i) (frames i)) in
+    λ i. reverse (take (depth i) (frames i)) in
+    let parts = touched_parts old m f h.places sum in
+    let rest : touched_above new ≡ drop f.further (touched_above old) =
+    (λ i. reverse (take (further i) (touched i))) ∙ parts.others in
     let at : new.state ≡ state_at p v =
-    state_left p old.steps.items v old.state new.state f L.frame h.node.reaches.state L.steps back
-    in (
+    back ∙ (lowest_back p old n m f h L sum).back in
+    (
       record {
         well_formed = h.well_formed;
-        node = node_same p new.steps.items v new.state (state_at p v) new.node f.node L.frame.node
-            steps at node;
-        state = subst (IsOf p) (sym at) L.frame.state;
-        frames = subst (AreFrames p) (sym up) L.frames;
+        node = node_same p new.steps.items v new.state (state_at p v) new.node f.node
+            L.frames.0.node steps at node;
+        state = subst (IsOf p) (sym at) L.frames.0.state;
+        frames = subst (λ (os : List Touched). AreFrames p os (above new)) (sym rest)
+            (subst (AreFrames p (drop f.further (touched_above old))) (sym up) L.frames.1);
         steps = steps ∙ ap path (sym up);
-        room = let r = h.room in let k : length new.frames.items ≡ length old.frames.items =
-            ap length frames in
-            omega (arith, r, k, one, count);
+        room = let r = h.room in let k = ap length frames in omega (arith, r, k, one, depth);
+        places = let r = h.places in let k = ap length touched in
+            omega (arith, r, k, sum, further);
       },
       record {
         frame = f;
-        steps = L.steps ∙ ap (λ (x : List ℕ). x ++ f.thread ∷ []) (sym steps);
+        steps = L.steps ∙ ap (λ (x : List ℕ). x ++ run_of f) (sym steps);
         above = L.above ∙ ap (λ (fs : List Frame). f ∷ fs) (sym up);
         node = node;
         base = base;
+        depth = one ∙ ap (λ k. k + 1) (sym depth);
       },
     )
 
@@ -172,37 +302,39 @@ trail_left p old new n f h one read items frames back node base =
 pub trail_entered : (p : Program) (old new : Trail) (S : List Frame) (t : ℕ) (u : Undo)
     (next : Node) (enabled switches : Mask) →
     IsTrail p old → IsNext old.node t next → is_enabled p old.state t ≡ true →
-    length old.steps.items < length S →
-    take (length old.steps.items) S ≡ take (length old.steps.items) old.frames.items →
+    old.depth < length S → take old.depth S ≡ take old.depth old.frames.items →
     new.steps.items ≡ old.steps.items ++ t ∷ [] →
-    new.frames.items ≡ set S (length old.steps.items)
-    (record { node = old.node; thread = t; undo = u }) →
-    new.state ≡ step p old.state t → IsOf p new.state → IsRecordOf u new.state
+    new.frames.items ≡ set S old.depth
+    (record { node = old.node; thread = t; further = 0; undo = u }) →
+    new.depth ≡ old.depth + 1 → new.touched.items ≡ old.touched.items
+    → new.further ≡ old.further →
+    new.state ≡ step p old.state t → IsOf p new.state → u.thread ≡ t → IsRecordOf u new.state
     → undone u new.state ≡ old.state →
     HasEnabled enabled p new.state → HasSwitches switches (Some t) enabled
     → new.node ≡ record next { enabled = enabled; switches = switches } → new.base ≡ old.base →
     IsTrail p new × IsEntered old new t next.asleep
-trail_entered p old new S t u next enabled switches h after on there same items frames stepped of' r
-    back masked leaving node base =
-    let f : Frame = record { node = old.node; thread = t; undo = u } in
+trail_entered p old new S t u next enabled switches h after on there same items frames depth
+    touched further stepped of' own r back masked leaving node base =
+    let f : Frame = record { node = old.node; thread = t; further = 0; undo = u } in
     let up : above new ≡ f ∷ above old =
-    (λ i. reverse (take (length (items i)) (frames i)))
-    ∙ above_entered S old.frames.items f old.steps.items t there same in
+    (λ i. reverse (take (depth i) (frames i)))
+    ∙ one_more S old.frames.items f old.depth there same in
+    let rest : touched_above new ≡ touched_above old =
+    λ i. reverse (take (further i) (touched i)) in
     let frame = frame_entered p old.steps.items (path (above old)) old.state new.state old.node t u
-    h.node h.steps stepped back h.state r in (
+    h.node h.steps stepped back h.state own r in (
       record {
         well_formed = h.well_formed;
         node = subst (IsNode p new.steps.items new.state) (sym node)
             (node_entered p old.steps.items new.steps.items old.state new.state old.node next t
             enabled switches h.node after on stepped items masked leaving);
         state = of';
-        frames = subst (AreFrames p) (sym up) (frame, h.frames);
+        frames = subst (λ (os : List Touched). AreFrames p os (above new)) (sym rest)
+            (subst (AreFrames p (touched_above old)) (sym up) (frame, h.frames));
         steps = items ∙ (ap (λ (x : List ℕ). x ++ t ∷ []) h.steps ∙ ap path (sym up));
         room = let k : length new.frames.items ≡ length S =
-            ap length frames ∙ length-set S (length old.steps.items) f in
-            let m : length new.steps.items ≡ length old.steps.items + 1 =
-            ap length items ∙ length_push old.steps.items t in
-            omega (arith, k, m, there);
+            ap length frames ∙ length-set S old.depth f in omega (arith, k, depth, there);
+        places = let r = h.places in let k = ap length touched in omega (arith, r, k, further);
       },
       record {
         steps = items;
@@ -216,29 +348,168 @@ trail_entered p old new S t u next enabled switches h after on there same items 
         };
         sleepers = ap (λ (n : Node). n.asleep) node;
         base = base;
+        depth = depth;
       },
     )
 
--- frames after the steps don't matter, nor what is still to be tried
+-- one step further in the lowest frame
+pub trail_extended : (p : Program) (old new : Trail) (n t : ℕ) (f : Frame) (u : Undo)
+    (o : Touched) (T : List Touched) (next : Node) (enabled switches : Mask) →
+    IsTrail p old → f.thread ≡ t → IsNext old.node t next → is_enabled p old.state t ≡ true →
+    old.depth ≡ n + 1 → old.base < old.depth → f ≡ get_or old.frames.items n f →
+    old.further < length T → take old.further T ≡ take old.further old.touched.items →
+    new.steps.items ≡ old.steps.items ++ t ∷ [] →
+    new.frames.items ≡ set old.frames.items n
+    (record f { further = f.further + 1; undo = u }) →
+    new.depth ≡ old.depth → new.touched.items ≡ set T old.further o
+    → new.further ≡ old.further + 1 →
+    new.state ≡ step p old.state t → IsOf p new.state → u.thread ≡ t →
+    ((qs : List Touched) → (q : Snapshot) → TakesBack f.undo qs old.state q
+    → TakesBack u (o ∷ qs) new.state q) →
+    HasEnabled enabled p new.state → HasSwitches switches (Some t) enabled
+    → new.node ≡ record next { enabled = enabled; switches = switches } → new.base ≡ old.base →
+    IsTrail p new × IsExtended old new t next.asleep
+trail_extended p old new n t f u o T next enabled switches h same_thread after on one within read
+    there same
+    items frames depth touched count stepped of' own further masked leaving node base =
+    let L = lowest p old n f h one read in
+    let S : List Frame = old.frames.items in
+    let fs : List Frame = reverse (take n S) in
+    let g : Frame = record f { further = f.further + 1; undo = u } in
+    let below : n < length S = let r = h.room in omega (arith, r, one) in
+    let up : above new ≡ g ∷ fs =
+    (λ i. reverse (take ((depth ∙ one) i) (frames i))) ∙ one_more S S g n below refl in
+    let more : touched_above new ≡ o ∷ touched_above old =
+    (λ i. reverse (take (count i) (touched i)))
+    ∙ one_more T old.touched.items o old.further there same in
+    let longer = frame_extended p fs old.steps.items old.state new.state f u o (touched_above old)
+    L.frames L.steps h.node.reaches.state (stepped ∙ ap (step p old.state) (sym same_thread))
+    (own ∙ sym same_thread) further in (
+      record {
+        well_formed = h.well_formed;
+        node = subst (IsNode p new.steps.items new.state) (sym node)
+            (node_entered p old.steps.items new.steps.items old.state new.state old.node next
+            t enabled switches h.node after on stepped items masked leaving);
+        state = of';
+        frames = subst (λ (os : List Touched). AreFrames p os (above new)) (sym more)
+            (subst (AreFrames p (o ∷ touched_above old)) (sym up) longer.0);
+        steps = items ∙ (ap (λ u. old.steps.items ++ u ∷ []) (sym same_thread)
+            ∙ (longer.1 ∙ ap path (sym up)));
+        room = let k : length new.frames.items ≡ length S =
+            ap length frames ∙ length-set S n g in omega (arith, k, depth, one, below);
+        places = let k : length new.touched.items ≡ length T =
+            ap length touched ∙ length-set T old.further o in omega (arith, k, count, there);
+      },
+      record {
+        steps = items;
+        frames = fs;
+        last = f;
+        longer = g;
+        before = L.above;
+        above = up;
+        node = refl;
+        next = record {
+          todo = ap (λ (n : Node). n.todo) node ∙ after.todo;
+          last = ap (λ (n : Node). n.last) node ∙ after.last;
+          used = ap (λ (n : Node). n.used) node ∙ after.used;
+        };
+        sleepers = ap (λ (n : Node). n.asleep) node;
+        base = base;
+        depth = depth;
+        within = within;
+      },
+    )
+
+-- what comes after the frames in use doesn't matter, nor what is still to be tried
 pub trail_same : (p : Program) (old new : Trail) → IsTrail p old
-    → new.steps.items ≡ old.steps.items →
-    take (length old.steps.items) new.frames.items ≡ take (length old.steps.items) old.frames.items
-    →
-    length old.steps.items ≤ length new.frames.items → new.state ≡ old.state →
+    → new.steps.items ≡ old.steps.items → new.depth ≡ old.depth →
+    take old.depth new.frames.items ≡ take old.depth old.frames.items →
+    old.depth ≤ length new.frames.items → new.further ≡ old.further →
+    take old.further new.touched.items ≡ take old.further old.touched.items →
+    old.further ≤ length new.touched.items → new.state ≡ old.state →
     IsNode p old.steps.items old.state new.node → IsTrail p new
-trail_same p old new h items frames room state node =
-    let up : above new ≡ above old = (λ i. reverse (take (length (items i)) new.frames.items)) ∙
+trail_same p old new h items depth frames room further touched places state node =
+    let up : above new ≡ above old = (λ i. reverse (take (depth i) new.frames.items)) ∙
     ap reverse frames in
+    let rest : touched_above new ≡ touched_above old =
+    (λ i. reverse (take (further i) new.touched.items)) ∙ ap reverse touched in
     record {
       well_formed = h.well_formed;
       node = node_same p new.steps.items old.steps.items new.state old.state new.node new.node node
           items state refl;
       state = subst (IsOf p) (sym state) h.state;
-      frames = subst (AreFrames p) (sym up) h.frames;
+      frames = subst (λ (os : List Touched). AreFrames p os (above new)) (sym rest)
+          (subst (AreFrames p (touched_above old)) (sym up) h.frames);
       steps = items ∙ (h.steps ∙ ap path (sym up));
-      room = let k : length new.steps.items ≡ length old.steps.items =
-          ap length items in omega (arith, k, room);
+      room = omega (arith, depth, room);
+      places = omega (arith, further, places);
     }
+
+node_opened : (p : Program) (w : List ℕ) (s : Snapshot) (n m : Node) (todo : Mask) → IsNode p w s n
+    →
+    m ≡ record n { todo = todo } → IsNode p w s m
+node_opened p w s n m todo h e = subst (IsNode p w s) (sym e)
+    (record { reaches = h.reaches; enabled = h.enabled; switches = h.switches })
+
+-- the same place, where the frames and what was touched are as they were
+pub opened : (p : Program) (old new : Trail) → IsTrail p old → new.steps.items ≡ old.steps.items
+    → new.depth ≡ old.depth → new.frames.items ≡ old.frames.items → new.further ≡ old.further
+    → take old.further new.touched.items ≡ take old.further old.touched.items
+    → old.further ≤ length new.touched.items → new.state ≡ old.state → new.base ≡ old.base
+    → new.node ≡ record old.node { todo = new.node.todo } → IsOpened p old new
+opened p old new h items depth frames further touched places state base node = record {
+  trail = trail_same p old new h items depth (ap (take old.depth) frames)
+      (let r = h.room in let e = ap length frames in omega (arith, r, e)) further touched places
+      state (node_opened p old.steps.items old.state old.node new.node new.node.todo h.node node);
+  steps = items;
+  above = λ i. reverse (take (depth i) (frames i));
+  base = base;
+  depth = depth;
+  node = node;
+}
+
+-- and where only the steps were written anew, or what is to be tried
+pub opened_here : (p : Program) (old new : Trail) → IsTrail p old
+    → new.steps.items ≡ old.steps.items → new.depth ≡ old.depth
+    → new.frames.items ≡ old.frames.items → new.further ≡ old.further
+    → new.touched.items ≡ old.touched.items → new.state ≡ old.state → new.base ≡ old.base
+    → new.node ≡ record old.node { todo = new.node.todo } → IsOpened p old new
+opened_here p old new h items depth frames further touched state base node =
+    opened p old new h items depth frames further (ap (take old.further) touched)
+    (let r = h.places in let e = ap length touched in omega (arith, r, e)) state base node
+
+-- a step that was written down, and then not taken
+pub opened_again : (p : Program) (old new : Trail) (w : List ℕ) (n t : ℕ) (f : Frame) (u : Undo)
+    → IsTrail p old → w ≡ old.steps.items ++ t ∷ [] → new.steps.items ≡ take (length w - 1) w
+    → new.depth ≡ old.depth → f ≡ get_or old.frames.items n f → u ≡ f.undo
+    → new.frames.items ≡ set old.frames.items n (record f { undo = u })
+    → new.further ≡ old.further
+    → take old.further new.touched.items ≡ take old.further old.touched.items
+    → old.further ≤ length new.touched.items → new.state ≡ old.state → new.base ≡ old.base
+    → new.node ≡ record old.node { todo = new.node.todo } → IsOpened p old new
+opened_again p old new w n t f u h pushed popped depth read same frames further touched places state
+    base node =
+    let S : List Frame = old.frames.items in
+    let few : length old.steps.items ≡ length w - 1 =
+    let k = ap length pushed ∙ length_push old.steps.items t in omega (arith, k) in
+    let items : new.steps.items ≡ old.steps.items =
+    popped ∙ (ap (take (length w - 1)) pushed
+    ∙ take_at old.steps.items (t ∷ []) (length w - 1) few) in
+    let kept : new.frames.items ≡ S =
+    frames ∙ (ap (λ (x : Undo). set S n (record f { undo = x })) same
+    ∙ (ap (set S n) read ∙ set-get_or S n f)) in
+    opened p old new h items depth kept further touched places state base node
+
+pub opened_twice : (p : Program) (a b c : Trail) → IsOpened p a b → IsOpened p b c
+    → IsOpened p a c
+opened_twice p a b c x y = record {
+  trail = y.trail;
+  steps = y.steps ∙ x.steps;
+  above = y.above ∙ x.above;
+  base = y.base ∙ x.base;
+  depth = y.depth ∙ x.depth;
+  node = y.node ∙ ap (λ (n : Node). record n { todo = c.node.todo }) x.node;
+}
 
 -- an enabled thread is one of the program
 pub enabled_within : (p : Program) (s : Snapshot) (t : ℕ) → IsOf p s → is_enabled p s t ≡ true

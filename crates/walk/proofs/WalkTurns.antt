@@ -1,7 +1,7 @@
 -- What is still open after one turn of a walk.
-use Rattle.std.proofs.Common.{◌≡◌, ℕ, suc, ◌+◌, ◌-◌, ◌<◌, Bool, true, ◌&&◌, List, [], ◌∷◌, ◌++◌, length, map, refl, ap, ◌∙◌, sym, arith, subst, cond, take, length-take, ◌≤◌, nat_le, nat_lt}
+use Rattle.std.proofs.Common.{◌≡◌, ℕ, suc, ◌+◌, ◌-◌, ◌<◌, Bool, true, ◌&&◌, List, [], ◌∷◌, ◌++◌, length, map, refl, ap, ◌∙◌, sym, arith, subst, cond, replicate, take, length-take, ◌≤◌, nat_le, nat_lt}
 use Rattle.std.specs.List.{filter}
-use Rattle.std.proofs.lemmas.List.{length_push, take_at, take_all, take-take, get_or_at, map-append}
+use Rattle.std.proofs.lemmas.List.{length-append, length_push, take_at, take_all, take-take, get_or_at, map-append}
 use Rattle.guest_code.specs.Program.{Program}
 use Rattle.semantics.specs.Machine.{Snapshot, is_enabled, start}
 use Rattle.semantics.specs.Mask.{has, members_from}
@@ -22,7 +22,7 @@ use Rattle.walk.proofs.Filters.{filter_twice}
 use Rattle.walk.proofs.TrailSteps.{leaves_is}
 use Rattle.walk.proofs.Children.{reduced_past}
 use Rattle.walk.specs.inner.Children.{child_of, children_of, past_children, kept_steps, past_steps, is_kept_step, is_past_step}
-use Rattle.walk.specs.inner.Paths.{leaves, IsNode, state_at, IsTrail, IsEntered, IsLeft}
+use Rattle.walk.specs.inner.Paths.{leaves, path, run_of, IsNode, state_at, IsTrail, IsEntered, IsExtended, IsLeft}
 use Rattle.walk.specs.inner.WalkerInvariant.{item_of, here, open_at, open_above, left_above, still_open, is_kept_at, is_past_at, IsPlace}
 
 -- the step of an item that is one step further is one of an enabled thread
@@ -38,34 +38,61 @@ step_enabled p w s t h at =
     (subst (λ (u : ℕ). is_enabled p (state_at p (take (length w) (w ++ t ∷ []))) u ≡ true)
     (get_or_at w t [] 0 (length w) refl) on))
 
--- what was open is open above, once a step is taken
-pub open_entered : (mode : Mode) (p : Program) (old new : Trail) (t : ℕ) (asleep : Mask)
-    → IsPlace p old →
-    IsEntered old new t asleep → left_above mode p new ≡ still_open mode p old
-open_entered mode p old new t asleep h e =
-    let count : length new.steps.items - new.base ≡ suc (length old.steps.items - old.base) =
-    let k : length new.steps.items ≡ length old.steps.items + 1 =
-    ap length e.steps ∙ length_push old.steps.items t in
-    let b = e.base in let l = h.base in omega (arith, k, b, l) in
-    (λ i. open_above mode p (count i) (e.above i))
-    ∙ (λ i. open_at mode p (sym h.trail.steps i) (e.node i) ++ left_above mode p old)
-
--- and once the last step is taken back
-pub open_left : (mode : Mode) (p : Program) (old new : Trail) → old.base < length old.steps.items
-    → IsTrail p new →
-    IsLeft old new → left_above mode p old ≡ still_open mode p new
-open_left mode p old new l h e =
-    let count : length old.steps.items - old.base ≡ suc (length new.steps.items - new.base) =
-    let k : length old.steps.items ≡ length new.steps.items + 1 =
-    ap length e.steps ∙ length_push new.steps.items e.frame.thread in
-    let b = e.base in omega (arith, k, b, l) in
-    (λ i. open_above mode p (count i) (e.above i))
-    ∙ (λ i. open_at mode p (sym h.steps i) (sym e.node i) ++ left_above mode p new)
-
 -- a node with nothing left to try
 pub open_done : (mode : Mode) (p : Program) (t : Trail) → members_from t.node.todo 0 ≡ [] →
     still_open mode p t ≡ left_above mode p t
 open_done mode p t e = ap (λ (ts : List ℕ). children_of mode (here p t) ts ++ left_above mode p t) e
+
+-- one step of a thread further, after which these sleep, and what was open is open above
+pub record IsFurther (mode : Mode) (p : Program) (old new : Trail) (t : ℕ) (asleep : Mask) :
+    Type 0 where
+  pub steps : new.steps.items ≡ old.steps.items ++ t ∷ []
+  pub sleepers : new.node.asleep ≡ asleep
+  pub base : new.base ≤ new.depth
+  pub left : left_above mode p new ≡ still_open mode p old
+
+-- in a frame of its own
+pub further_entered : (mode : Mode) (p : Program) (old new : Trail) (t : ℕ) (asleep : Mask)
+    → IsPlace p old → IsEntered old new t asleep → IsFurther mode p old new t asleep
+further_entered mode p old new t asleep h e =
+    let count : new.depth - new.base ≡ suc (old.depth - old.base) =
+    let k = e.depth in let b = e.base in let l = h.base in omega (arith, k, b, l) in
+    record {
+      steps = e.steps;
+      sleepers = e.sleepers;
+      base = let k = e.depth in let b = e.base in let l = h.base in omega (arith, k, b, l);
+      left = (λ i. open_above mode p (count i) (e.above i))
+          ∙ (λ i. open_at mode p (sym h.trail.steps i) (e.node i) ++ left_above mode p old);
+    }
+
+-- or in that of the steps before, where nothing is to be tried beside it
+pub further_extended : (mode : Mode) (p : Program) (old new : Trail) (t : ℕ) (asleep : Mask)
+    → members_from old.node.todo 0 ≡ [] → IsExtended old new t asleep
+    → IsFurther mode p old new t asleep
+further_extended mode p old new t asleep done e =
+    let count : old.depth - old.base ≡ suc (old.depth - old.base - 1) =
+    let l = e.within in omega (arith, l) in
+    let same : new.depth - new.base ≡ suc (old.depth - old.base - 1) =
+    let k = e.depth in let b = e.base in omega (arith, k, b, count) in
+    record {
+      steps = e.steps;
+      sleepers = e.sleepers;
+      base = let k = e.depth in let b = e.base in let l = e.within in omega (arith, k, b, l);
+      left = (λ i. open_above mode p (same i) (e.above i))
+          ∙ ((λ i. open_at mode p (path e.frames) (e.node i)
+          ++ open_above mode p (old.depth - old.base - 1) e.frames)
+          ∙ (sym (λ i. open_above mode p (count i) (e.before i)) ∙ sym (open_done mode p old done)));
+    }
+
+-- what was open above is open, once the walk goes back to the node above
+pub open_left : (mode : Mode) (p : Program) (old new : Trail) → old.base < old.depth
+    → IsTrail p new →
+    IsLeft old new → left_above mode p old ≡ still_open mode p new
+open_left mode p old new l h e =
+    let count : old.depth - old.base ≡ suc (new.depth - new.base) =
+    let k = e.depth in let b = e.base in omega (arith, k, b, l) in
+    (λ i. open_above mode p (count i) (e.above i))
+    ∙ (λ i. open_at mode p (sym h.steps i) (sym e.node i) ++ left_above mode p new)
 
 -- a walk went back from one place to another, and nothing was open between them
 pub record IsBack (mode : Mode) (p : Program) (old new : Trail) : Type 0 where
@@ -80,23 +107,26 @@ back_none mode p t h = record {
   steps = sym (take_all (length t.steps.items) t.steps.items (omega arith));
 }
 
--- one step further back
+-- one frame further back
 pub back_further : (mode : Mode) (p : Program) (first old new : Trail) → IsPlace p old
     → IsBack mode p first old → members_from old.node.todo 0 ≡ []
-    → old.base < length old.steps.items → IsTrail p new → IsLeft old new
+    → old.base < old.depth → IsTrail p new → IsLeft old new
     → IsBack mode p first new × (length new.steps.items < length first.steps.items)
 back_further mode p first old new place h done below trail left =
     let w : List ℕ = old.steps.items in
     let v : List ℕ = new.steps.items in
-    let one : length w ≡ length v + 1 = ap length left.steps ∙ length_push v left.frame.thread in
+    let one : length v + 1 ≤ length w =
+    let a = ap length left.steps ∙ length-append v (run_of left.frame) in
+    let b = length_push (replicate left.frame.further left.frame.thread) left.frame.thread in
+    omega (arith, a, b) in
     let few : length w ≤ length first.steps.items =
     omega (arith, ap length h.steps, length-take (length w) first.steps.items) in
     let cut : v ≡ take (length v) w =
-    sym (ap (take (length v)) left.steps ∙ take_at v (left.frame.thread ∷ []) (length v) refl) in (
+    sym (ap (take (length v)) left.steps ∙ take_at v (run_of left.frame) (length v) refl) in (
       record {
         place = record {
           trail = trail;
-          base = let b = left.base in omega (arith, b, below, one);
+          base = let b = left.base in let d = left.depth in omega (arith, b, d, below);
         };
         same = sym (open_done mode p old done ∙ open_left mode p old new below trail left) ∙ h.same;
         steps = cut ∙ (ap (take (length v)) h.steps

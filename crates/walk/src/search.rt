@@ -345,8 +345,13 @@ impl Trail {
             asleep: Mask::empty(),
             ..node
         };
-        let entered = self.step_from(item.program(), thread, node, next)?;
-        Ok(entered)
+        match self.extend(item.program(), thread, node, next)? {
+            Some(entered) => Ok(entered),
+            None => {
+                let entered = self.step_apart(item.program(), thread, node, next)?;
+                Ok(entered)
+            }
+        }
     }
 
     // Goes on with the thread of the last step as long as it can go on, where the bound is used up.
@@ -468,13 +473,13 @@ impl Trail {
         ensures there { IsFalse result →
             turns_left _mode program.now self.new ≡ turns_left _mode program.now self.old }
     {
-        if self.steps.len() == self.base {
+        if self.depth == self.base {
             return false;
         }
         let mut going = true;
         while going {
             self.leave(program);
-            going = self.steps.len() > self.base && has_none(self.node.todo);
+            going = self.depth > self.base && has_none(self.node.todo);
         }
         true
     }
@@ -601,13 +606,13 @@ impl Trail {
         ensures trail { IsTrail item.now.program self.new }
         ensures place { OnOk result (IsPlace item.now.program self.new) }
         ensures item { OnOk result (here item.now.program self.new ≡ item.now) }
-        ensures base { OnOk result (self.new.base ≡ length self.new.steps.items) }
+        ensures base { OnOk result (self.new.base ≡ self.new.depth) }
         ensures todo { OnOk result (self.new.node.todo ≡ no_threads) }
     {
         self.go_to(item.program(), item.prefix())?;
         self.node.asleep = item.mask();
         self.node.todo = Mask::empty();
-        self.base = self.steps.len();
+        self.base = self.depth;
         Ok(())
     }
 

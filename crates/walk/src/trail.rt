@@ -1,17 +1,17 @@
 //! The way from the start of a program to where a walk stands, with what takes each step back.
 
-ghost use Rattle.std.specs.Prelude.{◌≡◌, ◌+◌, ◌-◌, ◌<◌, ◌≤◌, ◌^◌, true, Some, IfOk, IfErr, OnOk, IsTrue, length, take};
+ghost use Rattle.std.specs.Prelude.{◌≡◌, ◌+◌, ◌-◌, ◌<◌, ◌≤◌, ◌^◌, true, None, Some, Ok, IfOk, IfErr, IfSome, OnOk, IsTrue, length, take};
 ghost use Rattle.semantics.specs.Machine.{start, is_enabled};
 ghost use Rattle.semantics.specs.Mask.{has};
 ghost use Rattle.semantics.specs.Schedules.{runs};
-ghost use Rattle.walk.specs.inner.Paths.{IsTrail, IsEntered, IsLeft, IsNext, with_node, leaves, HasSwitches};
+ghost use Rattle.walk.specs.inner.Paths.{IsTrail, IsEntered, IsExtended, IsLeft, IsNext, IsOpened, with_node, leaves, HasSwitches};
 
 use crate::hints::EndHints;
 use guest_code::laws::programs_are_well_formed;
 use guest_code::program::Program;
 use semantics::mask::Mask;
 use semantics::state::State;
-use semantics::undo::Undo;
+use semantics::undo::{Touched, Undo};
 use std::alloc::{AllocError, Global};
 
 /// A node of the tree of schedules: who can go on there, who sleeps, whose step is still to be
@@ -30,24 +30,34 @@ pub struct Node {
     pub used: u32,
 }
 
-/// A node above the one where a walk stands, the thread whose step was taken there, and how to take
-/// it back.
+/// A node above the one where a walk stands, the thread that went on from there, and how to take its
+/// steps back.
 #[derive(Clone, Copy, Debug)]
 pub struct Frame {
     pub node: Node,
     pub thread: u8,
+    /// How many further steps of the thread came right after the first one.
+    pub further: usize,
     pub undo: Undo,
 }
 
 /// The way from the start of a program: its steps, the state that they lead to, the node there, and
-/// a frame for each node above; frames after those are there to be written over.
+/// a frame for each node above at which something may be left to try.
 #[derive(Drop)]
 pub struct Trail {
     pub state: State,
     pub steps: Vec<u8>,
+    /// Frames after those in use are there to be written over.
     pub frames: Vec<Frame>,
+    /// How many frames are in use.
+    pub depth: usize,
+    /// What the further steps of all frames touched; what comes after them is there to be written
+    /// over.
+    pub touched: Vec<Touched>,
+    /// How many further steps there are in all frames.
+    pub further: usize,
     pub node: Node,
-    /// How many of the steps are the prefix of the item that is walked.
+    /// How many of the frames lead to the item that is walked.
     pub base: usize,
     /// Where end views were found, for the next look-up.
     pub hints: EndHints,
@@ -139,6 +149,7 @@ impl Frame {
                 used: 0,
             },
             thread: 0,
+            further: 0,
             undo: Undo::new(),
         }
     }
@@ -154,6 +165,20 @@ fn make_frame(frames: &mut Vec<Frame>, depth: usize) -> Result<(), AllocError>
 {
     if depth == frames.len() {
         frames.push(Frame::new())?;
+    }
+    Ok(())
+}
+
+// Sees to it that there is a place for what one more step touches.
+#[inline(always)]
+fn make_place(touched: &mut Vec<Touched>, further: usize) -> Result<(), AllocError>
+    requires { further ≤ length touched.old.items }
+    ensures there { OnOk result (further < length touched.new.items) }
+    ensures room { further ≤ length touched.new.items }
+    ensures same { take further touched.new.items ≡ take further touched.old.items }
+{
+    if further == touched.len() {
+        touched.push(Touched::Variable(0, 0))?;
     }
     Ok(())
 }
@@ -195,6 +220,9 @@ impl Trail {
             state,
             steps: Vec::new(alloc),
             frames: Vec::new(alloc),
+            depth: 0,
+            touched: Vec::new(alloc),
+            further: 0,
             node,
             base: 0,
             hints: EndHints::new(),
@@ -243,31 +271,108 @@ impl Trail {
             IsEntered (with_node self.old from) (with_node self.new n) thread next.asleep) }
         ensures node { self.new.node ≡ self.old.node }
     {
-        let depth = self.steps.len();
+        let depth = self.depth;
         make_frame(&mut self.frames, depth)?;
         self.steps.push(thread)?;
         let frame = &mut self.frames[depth];
         frame.node = from;
         frame.thread = thread;
+        frame.further = 0;
         let enabled = self
             .state
             .step_into(program, thread, &mut frame.undo, from.enabled);
+        self.depth = depth + 1;
         Ok(next.with_enabled(thread, enabled))
     }
 
-    /// Takes the last step back.
+    /// The same, out of the way of steps that are taken further.
+    #[inline(never)]
+    pub fn step_apart(
+        &mut self,
+        program: &Program,
+        thread: u8,
+        from: Node,
+        next: Node,
+    ) -> Result<Node, AllocError>
+        requires trail { IsTrail program.now (with_node self.old from) }
+        requires enabled { IsTrue (is_enabled program.now self.old.state thread) }
+        requires next { IsNext from thread next }
+        ensures same { IfErr result (λ _. IsTrail program.now (with_node self.new from)) }
+        ensures trail { IfOk result (λ n. IsTrail program.now (with_node self.new n)) }
+        ensures entered { IfOk result (λ n.
+            IsEntered (with_node self.old from) (with_node self.new n) thread next.asleep) }
+    {
+        self.step_from(program, thread, from, next)
+    }
+
+    /// Takes one more step of the thread of the last one, in the frame of that. Answers the node
+    /// that is entered. `None` where it takes a frame of its own; nothing is done then.
+    ///
+    /// # Errors
+    ///
+    /// `AllocError` where memory runs out; no step is taken then.
+    #[inline(always)]
+    pub fn extend(
+        &mut self,
+        program: &Program,
+        thread: u8,
+        from: Node,
+        next: Node,
+    ) -> Result<Option<Node>, AllocError>
+        requires trail { IsTrail program.now (with_node self.old from) }
+        requires enabled { IsTrue (is_enabled program.now self.old.state thread) }
+        requires next { IsNext from thread next }
+        requires last { from.last ≡ Some thread }
+        requires base { self.old.base ≤ self.old.depth }
+        ensures same { IfErr result (λ _. IsTrail program.now (with_node self.new from)) }
+        ensures none { result ≡ Ok None → IsOpened program.now (with_node self.old from)
+            (with_node self.new from) }
+        ensures trail { IfOk result (λ o. IfSome o (λ n.
+            IsTrail program.now (with_node self.new n))) }
+        ensures extended { IfOk result (λ o. IfSome o (λ n.
+            IsExtended (with_node self.old from) (with_node self.new n) thread next.asleep)) }
+    {
+        if self.depth == self.base {
+            return Ok(None);
+        }
+        make_place(&mut self.touched, self.further)?;
+        self.steps.push(thread)?;
+        let frame = &mut self.frames[self.depth - 1];
+        match self
+            .state
+            .step_further(program, thread, &mut frame.undo, from.enabled)
+        {
+            Some((touched, enabled)) => {
+                frame.further += 1;
+                self.touched[self.further] = touched;
+                self.further += 1;
+                Ok(Some(next.with_enabled(thread, enabled)))
+            }
+            None => {
+                self.steps.pop();
+                Ok(None)
+            }
+        }
+    }
+
+    /// Goes back to the node of the last frame.
     #[inline(always)]
     pub fn leave(&mut self, _program: &Program)
         requires trail { IsTrail _program.now self.old }
-        requires step { 0 < length self.old.steps.items }
+        requires step { 0 < self.old.depth }
         ensures trail { IsTrail _program.now self.new }
         ensures left { IsLeft self.old self.new }
     {
-        let depth = self.steps.len() - 1;
+        let depth = self.depth - 1;
         let frame = &self.frames[depth];
+        let further = self.further - frame.further;
+        self.state.put_back(&self.touched[further..self.further]);
         self.state.undo(&frame.undo);
         self.node = frame.node;
-        self.steps.pop();
+        let shorter = self.steps.len() - frame.further - 1;
+        self.steps.truncate(shorter);
+        self.further = further;
+        self.depth = depth;
     }
 
     /// Goes to where a schedule leads: back to what it shares with the steps so far, and then on.
@@ -283,18 +388,19 @@ impl Trail {
     {
         let shared = shared_length(self.steps.as_slice(), schedule);
         self.go_back(program, shared);
-        for place in shared..schedule.len() {
+        for place in self.steps.len()..schedule.len() {
             self.enter(program, schedule[place], Mask::empty())?;
         }
         Ok(())
     }
 
-    // Takes steps back until so many are left.
+    // Goes back until so many steps are left, or fewer.
     fn go_back(&mut self, program: &Program, count: usize)
         requires trail { IsTrail program.now self.old }
-        requires fewer { count ≤ length self.old.steps.items }
         ensures trail { IsTrail program.now self.new }
-        ensures steps { self.new.steps.items ≡ take count self.old.steps.items }
+        ensures few { length self.new.steps.items ≤ count }
+        ensures steps { self.new.steps.items
+            ≡ take (length self.new.steps.items) self.old.steps.items }
     {
         while self.steps.len() > count {
             self.leave(program);

@@ -1,5 +1,5 @@
 -- The way from the start of a program to where a walk stands.
-use Rattle.std.specs.Prelude.{◌≡◌, ℕ, ◌+◌, ◌≤◌, Bool, false, not, ◌&&◌, nat_eq, List, [], ◌∷◌, ◌++◌, length, take, reverse, Option, Some, None}
+use Rattle.std.specs.Prelude.{◌≡◌, ℕ, ◌+◌, ◌<◌, ◌≤◌, Bool, false, not, ◌&&◌, nat_eq, List, [], ◌∷◌, ◌++◌, length, take, drop, reverse, replicate, Option, Some, None}
 use Rattle.guest_code.specs.Program.{Program, IsWellFormed}
 use Rattle.semantics.specs.Machine.{Snapshot, start, step}
 use Rattle.semantics.specs.Reachable.{IsOf}
@@ -7,7 +7,8 @@ use Rattle.semantics.specs.declared.mask.Mask.{Mask}
 use Rattle.semantics.specs.Mask.{has, no_threads, HasEnabled}
 use Rattle.semantics.specs.Schedules.{state_after, one_if}
 use Rattle.semantics.specs.Execution.{Reaches}
-use Rattle.semantics.specs.Undoing.{undone, IsRecordOf}
+use Rattle.semantics.specs.declared.undo.Touched.{Touched}
+use Rattle.semantics.specs.Undoing.{TakesBack}
 use Rattle.walk.specs.declared.trail.Node.{Node}
 use Rattle.walk.specs.declared.trail.Frame.{Frame}
 use Rattle.walk.specs.declared.trail.Trail.{Trail}
@@ -32,10 +33,14 @@ pub record IsNext (n : Node) (t : ℕ) (next : Node) : Type 0 where
   pub last : next.last ≡ Some t
   pub used : next.used ≡ n.used + one_if (leaves n t)
 
+-- the steps of a frame, all of one thread
+abbrev pub run_of : Frame → List ℕ
+run_of f = replicate f.further f.thread ++ f.thread ∷ []
+
 -- the steps to the node below these frames, of which the lowest comes first
 abbrev pub path : List Frame → List ℕ
 path [] = []
-path (f ∷ fs) = path fs ++ f.thread ∷ []
+path (f ∷ fs) = path fs ++ run_of f
 
 -- the state that steps lead to from the start
 abbrev pub state_at : Program → List ℕ → Snapshot
@@ -47,33 +52,51 @@ pub record IsNode (p : Program) (w : List ℕ) (s : Snapshot) (n : Node) : Type 
   pub enabled : HasEnabled n.enabled p s
   pub switches : HasSwitches n.switches n.last n.enabled
 
--- what is known of a node above, to which these steps lead
-pub record IsFrame (p : Program) (w : List ℕ) (f : Frame) : Type 0 where
+-- what is known of a node above, to which these steps lead, and of what further steps from there
+-- touched, the last one first
+pub record IsFrame (p : Program) (w : List ℕ) (os : List Touched) (f : Frame) : Type 0 where
   pub node : IsNode p w (state_at p w) f.node
   pub state : IsOf p (state_at p w)
-  pub undo : IsRecordOf f.undo (step p (state_at p w) f.thread)
-  pub back : undone f.undo (step p (state_at p w) f.thread) ≡ state_at p w
+  pub thread : f.undo.thread ≡ f.thread
+  pub all : length os ≡ f.further
+  pub back : TakesBack f.undo os (state_at p (w ++ run_of f)) (state_at p w)
 
-abbrev pub AreFrames : Program → List Frame → Type 0
-AreFrames p [] = Unit {0}
-AreFrames p (f ∷ fs) = IsFrame p (path fs) f × AreFrames p fs
+-- of these frames, the lowest first, and of what their further steps touched, the last one first
+abbrev pub AreFrames : Program → List Touched → List Frame → Type 0
+AreFrames p os [] = Unit {0}
+AreFrames p os (f ∷ fs) =
+    IsFrame p (path fs) (take f.further os) f × AreFrames p (drop f.further os) fs
 
 -- the frames of the nodes above, the lowest first
 abbrev pub above : Trail → List Frame
-above t = reverse (take (length t.steps.items) t.frames.items)
+above t = reverse (take t.depth t.frames.items)
+
+-- what further steps touched, the last one first
+abbrev pub touched_above : Trail → List Touched
+touched_above t = reverse (take t.further t.touched.items)
 
 -- the steps lead to the state and the node, and each frame leads back to the node above
 pub record IsTrail (p : Program) (t : Trail) : Type 0 where
   pub well_formed : IsWellFormed p
   pub node : IsNode p t.steps.items t.state t.node
   pub state : IsOf p t.state
-  pub frames : AreFrames p (above t)
+  pub frames : AreFrames p (touched_above t) (above t)
   pub steps : t.steps.items ≡ path (above t)
-  pub room : length t.steps.items ≤ length t.frames.items
+  pub room : t.depth ≤ length t.frames.items
+  pub places : t.further ≤ length t.touched.items
 
 -- the same way, where the walk stands at this node
 abbrev pub with_node : Trail → Node → Trail
 with_node t n = record t { node = n }
+
+-- the same place, where other threads may be still to be tried
+pub record IsOpened (p : Program) (old new : Trail) : Type 0 where
+  pub trail : IsTrail p new
+  pub steps : new.steps.items ≡ old.steps.items
+  pub above : above new ≡ above old
+  pub base : new.base ≡ old.base
+  pub depth : new.depth ≡ old.depth
+  pub node : new.node ≡ record old.node { todo = new.node.todo }
 
 -- one step of a thread further, after which these sleep
 pub record IsEntered (old new : Trail) (t : ℕ) (asleep : Mask) : Type 0 where
@@ -84,11 +107,28 @@ pub record IsEntered (old new : Trail) (t : ℕ) (asleep : Mask) : Type 0 where
   pub next : IsNext old.node t new.node
   pub sleepers : new.node.asleep ≡ asleep
   pub base : new.base ≡ old.base
+  pub depth : new.depth ≡ old.depth + 1
 
--- one step back
+-- one step of a thread further, in the frame of its steps before, after which these sleep
+pub record IsExtended (old new : Trail) (t : ℕ) (asleep : Mask) : Type 0 where
+  pub steps : new.steps.items ≡ old.steps.items ++ t ∷ []
+  pub frames : List Frame
+  pub last : Frame
+  pub longer : Frame
+  pub before : above old ≡ last ∷ frames
+  pub above : above new ≡ longer ∷ frames
+  pub node : longer.node ≡ last.node
+  pub next : IsNext old.node t new.node
+  pub sleepers : new.node.asleep ≡ asleep
+  pub base : new.base ≡ old.base
+  pub depth : new.depth ≡ old.depth
+  pub within : old.base < old.depth
+
+-- back to the node above, over all the steps of its frame
 pub record IsLeft (old new : Trail) : Type 0 where
   pub frame : Frame
-  pub steps : old.steps.items ≡ new.steps.items ++ frame.thread ∷ []
+  pub steps : old.steps.items ≡ new.steps.items ++ run_of frame
   pub above : above old ≡ frame ∷ above new
   pub node : new.node ≡ frame.node
   pub base : new.base ≡ old.base
+  pub depth : old.depth ≡ new.depth + 1

@@ -35,7 +35,7 @@ open_above mode p (suc n) (f ∷ fs) = open_at mode p (path fs) f.node ++ open_a
 
 -- what is open above the node where a walk stands, down from the item's own node
 abbrev pub left_above : Mode → Program → Trail → List ItemView
-left_above mode p t = open_above mode p (length t.steps.items - t.base) (above t)
+left_above mode p t = open_above mode p (t.depth - t.base) (above t)
 
 -- what is still open, in order
 abbrev pub still_open : Mode → Program → Trail → List ItemView
@@ -44,7 +44,7 @@ still_open mode p t = open_at mode p t.steps.items t.node ++ left_above mode p t
 -- the steps lead from the start to a node that is under the item's
 pub record IsPlace (p : Program) (t : Trail) : Type 0 where
   pub trail : IsTrail p t
-  pub base : t.base ≤ length t.steps.items
+  pub base : t.base ≤ t.depth
 
 -- so many of the walk's steps begin the prefix that was put off last, too
 pub record IsShared (steps : List ℕ) (f : Found) : Type 0 where

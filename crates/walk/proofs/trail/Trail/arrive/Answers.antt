@@ -3,6 +3,7 @@ use Rattle.semantics.specs.Mask.{members_from}
 use Rattle.walk.specs.declared.trail.Node.{Node}
 use Rattle.walk.specs.inner.WalkerInvariant.{here, left_above}
 use Rattle.walk.proofs.WalkSteps.{first_open}
+use Rattle.walk.proofs.TrailSteps.{opened_here}
 use Rattle.walk.proofs.Arrivals.{within_at, arrived_node, arrived_leaf, falls_node, falls_leaf, tried_added}
 use Rattle.walk.proofs.trail.Trail.arrive.Goals as goal
 
@@ -18,13 +19,8 @@ pub returns-in_ok-defer_apart-in-Some-clause-search : goal.returns-in_ok-defer_a
 returns-in_ok-defer_apart-in-Some-clause-search c =
     arrived_node c.args.mode c.args.item.now c.args.self.now _ c.args.found.now _
     c.open-past.result _ _ c.requires.search
-    (record {
-      steps = c.defer_apart.ensures.steps;
-      frames = refl;
-      state = refl;
-      base = refl;
-      node = c.open-past.ensures.same;
-    })
+    (opened_here c.args.item.now.program c.args.self.now _ c.requires.search.place.trail c.defer_apart.ensures.steps
+    refl refl refl refl refl refl c.open-past.ensures.same)
     c.open-past.ensures.kept c.open-past.ensures.past
     (ap (λ (n : Node). members_from n.enabled 0) (sym c.open-past.ensures.same) ∙
     c.in-Some.ensures.list) c.in_ok-defer_apart-in-Some.ensures.part
@@ -35,13 +31,8 @@ returns-in_ok-defer_apart-in-Some-clause-falls c =
     falls_node c.args.mode c.args.item.now.program c.args.self.now
     (record c.args.self.now { steps = c.defer_apart.new.steps; node = c.open-past.new.self }) _ _
     c.requires.search.place
-    (record {
-      steps = c.defer_apart.ensures.steps;
-      frames = refl;
-      state = refl;
-      base = refl;
-      node = c.open-past.ensures.same;
-    })
+    (opened_here c.args.item.now.program c.args.self.now _ c.requires.search.place.trail c.defer_apart.ensures.steps
+    refl refl refl refl refl refl c.open-past.ensures.same)
     c.open-past.ensures.kept (ap (λ (n : Node). members_from n.enabled 0)
     (sym c.open-past.ensures.same) ∙ c.in-Some.ensures.list)
 
@@ -49,13 +40,8 @@ pub returns-in_ok-add-in-None-clause-search : goal.returns-in_ok-add-in-None-cla
 returns-in_ok-add-in-None-clause-search c =
     arrived_leaf c.args.mode c.args.item.now c.args.self.now _ c.args.found.now _ _ _
     c.requires.search
-    (record {
-      steps = refl;
-      frames = refl;
-      state = refl;
-      base = refl;
-      node = c.open-past.ensures.same;
-    })
+    (opened_here c.args.item.now.program c.args.self.now _ c.requires.search.place.trail refl
+    refl refl refl refl refl refl c.open-past.ensures.same)
     c.open-past.ensures.kept (ap (λ (n : Node). members_from n.enabled 0)
     (sym c.open-past.ensures.same) ∙ c.in-None.ensures.list) c.as_slice.ensures.value
     (λ i. record { kind = c.final_kind-kind.ensures i; vars = c.variables.ensures i })
@@ -66,13 +52,8 @@ returns-in_ok-add-in-None-clause-falls c =
     falls_leaf c.args.mode c.args.item.now.program c.args.self.now
     (record c.args.self.now { node = c.open-past.new.self; hints = c.add.new.hints })
     c.requires.search.place
-    (record {
-      steps = refl;
-      frames = refl;
-      state = refl;
-      base = refl;
-      node = c.open-past.ensures.same;
-    })
+    (opened_here c.args.item.now.program c.args.self.now _ c.requires.search.place.trail refl
+    refl refl refl refl refl refl c.open-past.ensures.same)
     c.open-past.ensures.kept (ap (λ (n : Node). members_from n.enabled 0)
     (sym c.open-past.ensures.same) ∙ c.in-None.ensures.list)
 

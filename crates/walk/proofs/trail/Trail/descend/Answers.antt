@@ -6,6 +6,7 @@ use Rattle.walk.specs.inner.Paths.{IsTrail}
 use Rattle.walk.specs.inner.Children.{child_of, mask_after}
 use Rattle.walk.specs.inner.WalkerInvariant.{here, still_open}
 use Rattle.walk.proofs.WalkSteps.{first_open}
+use Rattle.walk.proofs.WalkTurns.{further_entered}
 use Rattle.walk.proofs.Arrivals.{child_enabled, entered_search, entered_turns}
 use Rattle.walk.proofs.trail.Trail.descend.Goals as goal
 
@@ -34,8 +35,9 @@ run_on-requires c =
     record {
       search = entered_search c.args.mode c.args.item.now c.args.self.now c.enter.new.self
           c.args.found.now c.args.thread c.sleepers-asleep.result
-          c.requires.search trail c.in_ok-enter.ensures.entered
-          (c.sleepers-asleep.ensures ∙ ap (λ (q : Program). mask_after c.args.mode
+          c.requires.search trail (further_entered c.args.mode c.args.item.now.program
+          c.args.self.now c.enter.new.self c.args.thread c.sleepers-asleep.result
+          c.requires.search.place c.in_ok-enter.ensures.entered) (c.sleepers-asleep.ensures ∙ ap (λ (q : Program). mask_after c.args.mode
           (here q c.args.self.now) c.args.thread) c.program-program.ensures);
       todo = c.in_ok-enter.ensures.entered.next.todo;
       last = c.in_ok-enter.ensures.entered.next.last;
@@ -45,7 +47,8 @@ pub returns-clause-further : goal.returns-clause-further
 returns-clause-further c =
     let e = entered_turns c.args.mode c.args.item.now.program c.args.self.now c.enter.new.self
     c.args.thread c.sleepers-asleep.result
-    c.requires.search.place c.in_ok-enter.ensures.entered
+    (further_entered c.args.mode c.args.item.now.program c.args.self.now c.enter.new.self
+    c.args.thread c.sleepers-asleep.result c.requires.search.place c.in_ok-enter.ensures.entered)
     (c.sleepers-asleep.ensures ∙ ap (λ (q : Program). mask_after c.args.mode
     (here q c.args.self.now) c.args.thread) c.program-program.ensures) in
     let f = c.in_ok-run_on.ensures.further in

@@ -5,8 +5,7 @@ use Rattle.walk.proofs.trail.Trail.go_back.Given as goal
 abbrev pub invariant-loop-self : goal.invariant-loop-self
 invariant-loop-self l = record {
   trail : IsTrail l.program l.self;
-  fewer : l.count ≤ length l.self.steps.items;
-  steps : take l.count l.self.steps.items ≡ take l.count l.initial.self.steps.items;
+  steps : l.self.steps.items ≡ take (length l.self.steps.items) l.initial.self.steps.items;
 }
 
 abbrev pub decreases-loop-self : goal.decreases-loop-self

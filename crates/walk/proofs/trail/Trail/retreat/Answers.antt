@@ -9,18 +9,12 @@ pub loop-going-init : goal.loop-going-init
 loop-going-init c = record {
   back = back_none c.args._mode c.args.program.now c.args.self.now c.requires.place;
   done = λ e. c.requires.done;
-  below = λ e. omega (
-    arith,
-    c.len.ensures,
-    c.if-len-self.false,
-    c.requires.place.base,
-    c.args.self.now.steps.ok.0,
-  );
+  below = λ e. omega (arith, c.if-self.false, c.requires.place.base);
   further = λ e. absurd (cc);
 }
 
-pub loop-going-preserved-then-len-self-2 : goal.loop-going-preserved-then-len-self-2
-loop-going-preserved-then-len-self-2 c =
+pub loop-going-preserved-then-self-2 : goal.loop-going-preserved-then-self-2
+loop-going-preserved-then-self-2 c =
     let l = c.loop-going in
     let b = back_further c.args._mode c.args.program.now c.args.self.now l.self c.leave.new.self
     l.invariant.back.place l.invariant.back (l.invariant.done c.loop-going-test.true)
@@ -28,8 +22,7 @@ loop-going-preserved-then-len-self-2 c =
     record {
       back = b.0;
       done = λ e. c.has_none-going.ensures e;
-      below = λ e. omega
-          (arith, c.len-in-loop-going.ensures, c.if-len-self-2.true, c.leave.new.self.steps.ok.0);
+      below = λ e. c.if-self-2.true;
       further = λ e. b.1;
     }
 
@@ -41,13 +34,13 @@ loop-going-preserved c =
     (l.invariant.below c.loop-going-test.true) c.leave.ensures.trail c.leave.ensures.left in
     record {
       back = b.0;
-      done = λ e. absurd (going e c.if-len-self-2.false);
-      below = λ e. absurd (going e c.if-len-self-2.false);
+      done = λ e. absurd (going e c.if-self-2.false);
+      below = λ e. absurd (going e c.if-self-2.false);
       further = λ e. b.1;
     }
   where
-    going : nat_lt c.leave.new.self.base c.len-in-loop-going.result ≡ true
-        → c.len-in-loop-going.result ≤ c.leave.new.self.base → ⊥
+    going : nat_lt c.leave.new.self.base c.leave.new.self.depth ≡ true
+        → c.leave.new.self.depth ≤ c.leave.new.self.base → ⊥
     going e l = grind (arith, nat_tests, e, l)
 
 pub returns-clause-further : goal.returns-clause-further

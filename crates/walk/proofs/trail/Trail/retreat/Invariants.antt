@@ -7,7 +7,7 @@ abbrev pub invariant-loop-going : goal.invariant-loop-going
 invariant-loop-going l = record {
   back : IsBack l.fn._mode l.program l.initial.self l.self;
   done : l.going ≡ true → members_from l.self.node.todo 0 ≡ [];
-  below : l.going ≡ true → l.self.base < length l.self.steps.items;
+  below : l.going ≡ true → l.self.base < l.self.depth;
   further : l.going ≡ false → length l.self.steps.items < length l.initial.self.steps.items;
 }
 
