@@ -1,6 +1,7 @@
 -- What one step down or back does to the way from the start.
-use Rattle.std.proofs.Common.{◌≡◌, ℕ, suc, ◌+◌, ◌-◌, ◌<◌, ◌≤◌, true, ◌&&◌, nat_eq, not, List, [], ◌∷◌, ◌++◌, length, Option, Some, None, refl, ap, ◌∙◌, sym, arith, subst, reverse, replicate, take, drop, set, get_or, length-set, length-take, length-drop, inl, inr}
+use Rattle.std.proofs.Common.{◌≡◌, ℕ, suc, ◌+◌, ◌-◌, ◌<◌, ◌≤◌, Bool, true, false, ◌&&◌, nat_eq, not, List, [], ◌∷◌, ◌++◌, length, Option, Some, None, refl, ap, ◌∙◌, sym, arith, subst, reverse, replicate, take, drop, set, get_or, length-set, length-take, length-drop, inl, inr}
 use Rattle.std.proofs.lemmas.Bool.{cases_lt, false≢true}
+use Rattle.std.proofs.lemmas.Bool.Decides.{nat_tests}
 use Rattle.semantics.proofs.WorkFalls.{disabled_past}
 use Rattle.std.proofs.lemmas.List.{reverse-append, length-append, length-replicate, length-reverse, append_assoc, length_push, replicate_more, take_more, take_more_set, take_at, drop_at, take-take, take-append-drop, drop-take, set-get_or, get_or-reverse, reverse-reverse}
 use Rattle.std.proofs.lemmas.List.Elements.{All-nil}
@@ -8,7 +9,7 @@ use Rattle.std.specs.List.{All}
 use Rattle.guest_code.specs.Program.{Program}
 use Rattle.semantics.specs.Reachable.{IsOf}
 use Rattle.semantics.specs.Machine.{Snapshot, is_enabled, start, step}
-use Rattle.semantics.specs.Mask.{HasEnabled}
+use Rattle.semantics.specs.Mask.{has, no_threads, HasEnabled}
 use Rattle.semantics.specs.Schedules.{preempts, one_if, last_of}
 use Rattle.semantics.specs.Undoing.{undone, with_all_touched, IsRecordOf, IsTouched, TakesBack}
 use Rattle.semantics.specs.Execution.{Reaches}
@@ -76,6 +77,29 @@ node_entered p w v s z n next t enabled switches h after on stepped items masked
   enabled = masked;
   switches = subst (λ (l : Option ℕ). HasSwitches switches l enabled) (sym after.last) leaving;
 }
+
+-- the node after a further step, beside which nothing is to be tried
+pub lone_next : (n : Node) (t : ℕ) (asleep : Mask) → n.todo ≡ no_threads → n.last ≡ Some t
+    → IsNext n t (record n { asleep = asleep })
+lone_next n t asleep todo last = record {
+  todo = todo;
+  last = last;
+  used = sym (ap (λ b. n.used + one_if b) stays ∙ no_more);
+}
+  where
+    alike : not (nat_eq t t) ≡ false
+    alike = grind (arith, nat_tests)
+
+    never : (b : Bool) → (b && false) ≡ false
+    never true = refl
+    never false = refl
+
+    stays : leaves n t ≡ false
+    stays = ap (λ (l : Option ℕ). leaves_last l n.enabled t) last
+        ∙ (ap (λ b. has n.enabled t && b) alike ∙ never (has n.enabled t))
+
+    no_more : n.used + 0 ≡ n.used
+    no_more = omega arith
 
 -- the frame of a node whose thread has taken a step
 pub frame_entered : (p : Program) (w v : List ℕ) (s z : Snapshot) (n : Node) (t : ℕ) (u : Undo) →
@@ -419,6 +443,10 @@ trail_extended p old new n t f u o T next enabled switches h same_thread after o
         within = within;
       },
     )
+
+pub extended_asleep : (old new : Trail) (t : ℕ) (a b : Mask) → a ≡ b → IsExtended old new t a
+    → IsExtended old new t b
+extended_asleep old new t a b e h = subst (λ (m : Mask). IsExtended old new t m) e h
 
 -- what comes after the frames in use doesn't matter, nor what is still to be tried
 pub trail_same : (p : Program) (old new : Trail) → IsTrail p old

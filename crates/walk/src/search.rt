@@ -314,8 +314,8 @@ impl Trail {
         Ok(())
     }
 
-    // One step further with the thread of the last step, from this node, where the bound is used up
-    // and so the steps of the others are put off. Answers the node that is entered.
+    // One step further with the thread of the last step, where the bound is used up and so the steps
+    // of the others are put off.
     #[inline(always)]
     fn follow(
         &mut self,
@@ -323,39 +323,30 @@ impl Trail {
         item: &Item,
         _bound: u32,
         thread: u8,
-        node: Node,
-    ) -> Result<Node, AllocError>
-        requires search { let t = with_node self.old node in
-            IsSearch (Mode.Bounded _bound) item.now t found.old
-            (here item.now.program t ∷ left_above (Mode.Bounded _bound) item.now.program t) }
-        requires spent { IsSpent _bound node thread }
-        requires on { has node.enabled thread ≡ true }
-        ensures trail { IfErr result (λ _. IsTrail item.now.program (with_node self.new node)) }
-        ensures search { IfOk result (λ n. let t = with_node self.new n in
-            IsSearch (Mode.Bounded _bound) item.now t found.new
-            (here item.now.program t ∷ left_above (Mode.Bounded _bound) item.now.program t)) }
-        ensures spent { IfOk result (λ n. IsSpent _bound n thread) }
-        ensures further { IfOk result (λ n.
-            turns_from (Mode.Bounded _bound) item.now.program (with_node self.new n)
-            < turns_from (Mode.Bounded _bound) item.now.program (with_node self.old node)) }
+    ) -> Result<(), AllocError>
+        requires search { let mode = Mode.Bounded _bound in
+            IsSearch mode item.now self.old found.old
+            (here item.now.program self.old ∷ left_above mode item.now.program self.old) }
+        requires spent { IsSpent _bound self.old.node thread }
+        requires on { has self.old.node.enabled thread ≡ true }
+        ensures trail { IsTrail item.now.program self.new }
+        ensures search { let mode = Mode.Bounded _bound in
+            OnOk result (IsSearch mode item.now self.new found.new
+            (here item.now.program self.new ∷ left_above mode item.now.program self.new)) }
+        ensures spent { OnOk result (IsSpent _bound self.new.node thread) }
+        ensures further { let mode = Mode.Bounded _bound in
+            OnOk result (turns_from mode item.now.program self.new
+            < turns_from mode item.now.program self.old) }
         ensures tried { OnOk result (found.new.part.tried ≡ found.old.part.tried) }
     {
-        found.defer(&mut self.steps, node.switches)?;
-        let next = Node {
-            asleep: Mask::empty(),
-            ..node
-        };
-        match self.extend(item.program(), thread, node, next)? {
-            Some(entered) => Ok(entered),
-            None => {
-                let entered = self.step_apart(item.program(), thread, node, next)?;
-                Ok(entered)
-            }
+        found.defer(&mut self.steps, self.node.switches)?;
+        if !self.extend(item.program(), thread)? {
+            self.enter_apart(item.program(), thread)?;
         }
+        Ok(())
     }
 
     // Goes on with the thread of the last step as long as it can go on, where the bound is used up.
-    // The node where it stands is kept outside the trail meanwhile.
     #[inline(never)]
     fn run_alone(&mut self, found: &mut Found, item: &Item, thread: u8) -> Result<(), AllocError>
         requires search { let mode = Mode.Bounded self.old.node.used in
@@ -371,18 +362,10 @@ impl Trail {
             ≤ turns_from mode item.now.program self.old) }
         ensures tried { OnOk result (found.new.part.tried ≡ found.old.part.tried) }
     {
-        let mut node = self.node.by_fields();
-        let bound = node.used;
-        while node.enabled.has(thread) {
-            match self.follow(found, item, bound, thread, node) {
-                Ok(next) => node = next,
-                Err(error) => {
-                    self.node = node;
-                    return Err(error);
-                }
-            }
+        let bound = self.node.used;
+        while self.node.enabled.has(thread) {
+            self.follow(found, item, bound, thread)?;
         }
-        self.node = node;
         Ok(())
     }
 

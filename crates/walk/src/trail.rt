@@ -1,8 +1,8 @@
 //! The way from the start of a program to where a walk stands, with what takes each step back.
 
-ghost use Rattle.std.specs.Prelude.{◌≡◌, ◌+◌, ◌-◌, ◌<◌, ◌≤◌, ◌^◌, true, None, Some, Ok, IfOk, IfErr, IfSome, OnOk, IsTrue, length, take};
+ghost use Rattle.std.specs.Prelude.{◌≡◌, ◌+◌, ◌-◌, ◌<◌, ◌≤◌, ◌^◌, true, false, Some, Ok, IfOk, IfErr, OnOk, IsTrue, length, take};
 ghost use Rattle.semantics.specs.Machine.{start, is_enabled};
-ghost use Rattle.semantics.specs.Mask.{has};
+ghost use Rattle.semantics.specs.Mask.{has, no_threads};
 ghost use Rattle.semantics.specs.Schedules.{runs};
 ghost use Rattle.walk.specs.inner.Paths.{IsTrail, IsEntered, IsExtended, IsLeft, IsNext, IsOpened, with_node, leaves, HasSwitches};
 
@@ -248,14 +248,10 @@ impl Trail {
         Ok(())
     }
 
-    /// Takes a step of a thread that is enabled at this node, which is not kept in the trail, and
-    /// answers the node that is entered; that is known but for who is enabled there.
-    ///
-    /// # Errors
-    ///
-    /// `AllocError` where memory runs out; no step is taken then.
+    // Takes a step of a thread that is enabled at this node, and answers the node that is entered;
+    // that is known but for who is enabled there.
     #[inline(always)]
-    pub fn step_from(
+    fn step_from(
         &mut self,
         program: &Program,
         thread: u8,
@@ -285,72 +281,63 @@ impl Trail {
         Ok(next.with_enabled(thread, enabled))
     }
 
-    /// The same, out of the way of steps that are taken further.
+    /// Takes a step of a thread that is enabled, out of the way of those that are taken further.
+    /// Nobody sleeps after it.
+    ///
+    /// # Errors
+    ///
+    /// `AllocError` where memory runs out; no step is taken then.
     #[inline(never)]
-    pub fn step_apart(
-        &mut self,
-        program: &Program,
-        thread: u8,
-        from: Node,
-        next: Node,
-    ) -> Result<Node, AllocError>
-        requires trail { IsTrail program.now (with_node self.old from) }
+    pub fn enter_apart(&mut self, program: &Program, thread: u8) -> Result<(), AllocError>
+        requires trail { IsTrail program.now self.old }
         requires enabled { IsTrue (is_enabled program.now self.old.state thread) }
-        requires next { IsNext from thread next }
-        ensures same { IfErr result (λ _. IsTrail program.now (with_node self.new from)) }
-        ensures trail { IfOk result (λ n. IsTrail program.now (with_node self.new n)) }
-        ensures entered { IfOk result (λ n.
-            IsEntered (with_node self.old from) (with_node self.new n) thread next.asleep) }
+        ensures trail { IsTrail program.now self.new }
+        ensures entered { OnOk result (IsEntered self.old self.new thread no_threads) }
     {
-        self.step_from(program, thread, from, next)
+        self.enter(program, thread, Mask::empty())
     }
 
-    /// Takes one more step of the thread of the last one, in the frame of that. Answers the node
-    /// that is entered. `None` where it takes a frame of its own; nothing is done then.
+    /// Takes a further step of the thread of the last one, where nothing is to be tried beside it
+    /// and nobody sleeps after it. False where it takes a frame of its own; nothing is done then.
     ///
     /// # Errors
     ///
     /// `AllocError` where memory runs out; no step is taken then.
     #[inline(always)]
-    pub fn extend(
-        &mut self,
-        program: &Program,
-        thread: u8,
-        from: Node,
-        next: Node,
-    ) -> Result<Option<Node>, AllocError>
-        requires trail { IsTrail program.now (with_node self.old from) }
+    pub fn extend(&mut self, program: &Program, thread: u8) -> Result<bool, AllocError>
+        requires trail { IsTrail program.now self.old }
         requires enabled { IsTrue (is_enabled program.now self.old.state thread) }
-        requires next { IsNext from thread next }
-        requires last { from.last ≡ Some thread }
+        requires todo { self.old.node.todo ≡ no_threads }
+        requires last { self.old.node.last ≡ Some thread }
         requires base { self.old.base ≤ self.old.depth }
-        ensures same { IfErr result (λ _. IsTrail program.now (with_node self.new from)) }
-        ensures none { result ≡ Ok None → IsOpened program.now (with_node self.old from)
-            (with_node self.new from) }
-        ensures trail { IfOk result (λ o. IfSome o (λ n.
-            IsTrail program.now (with_node self.new n))) }
-        ensures extended { IfOk result (λ o. IfSome o (λ n.
-            IsExtended (with_node self.old from) (with_node self.new n) thread next.asleep)) }
+        ensures trail { IsTrail program.now self.new }
+        ensures extended { result ≡ Ok true → IsExtended self.old self.new thread no_threads }
+        ensures same { result ≡ Ok false → IsOpened program.now self.old self.new }
+        ensures node { result ≡ Ok false → self.new.node ≡ self.old.node }
     {
         if self.depth == self.base {
-            return Ok(None);
+            return Ok(false);
         }
         make_place(&mut self.touched, self.further)?;
         self.steps.push(thread)?;
         let frame = &mut self.frames[self.depth - 1];
+        let mask = self.node.enabled;
         match self
             .state
-            .step_further(program, thread, &mut frame.undo, from.enabled)
+            .step_further(program, thread, &mut frame.undo, mask)
         {
             Some((touched, enabled)) => {
                 frame.further += 1;
                 self.touched[self.further] = touched;
                 self.further += 1;
-                Ok(Some(next.with_enabled(thread, enabled)))
+                self.node.asleep = Mask::empty();
+                self.node.enabled = enabled;
+                self.node.switches = switches_after(enabled, thread);
+                Ok(true)
             }
             None => {
                 self.steps.pop();
-                Ok(None)
+                Ok(false)
             }
         }
     }
