@@ -1,23 +1,26 @@
 -- Further steps of a thread, and what takes them back.
-use Rattle.std.proofs.Common.{◌≡◌, ◌<◌, ◌≤◌, ℕ, Bool, true, pos, List, [], ◌∷◌, length, get_or, set, Some, None, refl, ap, ◌∙◌, sym, arith, subst}
-use Rattle.std.specs.Prelude.{All}
-use Rattle.std.proofs.lemmas.List.{get_or-set_same, length-set, set-set}
+use Rattle.std.proofs.Common.{◌≡◌, ◌<◌, ◌≤◌, ℕ, Bool, true, nat_eq, pos, List, [], ◌∷◌, length, get_or, set, Some, None, refl, ap, ◌∙◌, sym, arith, subst}
+use Rattle.std.specs.Prelude.{All, if◌then◌else◌}
+use Rattle.std.proofs.lemmas.List.{get_or-set_same, length-set, set-get_or, set-set}
 use Rattle.std.proofs.lemmas.List.Elements.{All-cons, All-weaker}
 use Rattle.guest_code.specs.declared.limits.TheConstants.{LOCALS}
 use Rattle.guest_code.specs.declared.program.Instruction.{Instruction}
 use Rattle.guest_code.specs.Program.{Program, code_of}
 use Rattle.semantics.specs.declared.action.After.{After}
 use Rattle.semantics.specs.declared.action.Others.{Others}
+use Rattle.semantics.specs.declared.action.Others.TheVariants.{Same, More}
 use Rattle.semantics.specs.declared.state.Action.{Action}
 use Rattle.semantics.specs.declared.state.Action.TheVariants.{OnVariable, OnMutex, Wait as Waits, OnCondition, OnSemaphore}
+use Rattle.semantics.specs.declared.state.ConditionAction.{ConditionAction}
+use Rattle.semantics.specs.declared.state.ConditionAction.TheVariants.{Signal as Signals, Broadcast as Broadcasts}
 use Rattle.semantics.specs.declared.state.Thread.{Thread}
 use Rattle.semantics.specs.declared.undo.Change.{Change}
 use Rattle.semantics.specs.declared.undo.Change.TheVariants.{Variable, Owner, Count, Wait, Call}
 use Rattle.semantics.specs.declared.undo.Saved.{Saved}
 use Rattle.semantics.specs.declared.undo.Touched.{Touched}
-use Rattle.semantics.specs.declared.undo.Touched.TheVariants.{Variable as TheVariable, Owner as TheOwner, Count as TheCount}
+use Rattle.semantics.specs.declared.undo.Touched.TheVariants.{Variable as TheVariable, Owner as TheOwner, Count as TheCount, Nothing}
 use Rattle.semantics.specs.declared.undo.Undo.{Undo}
-use Rattle.semantics.specs.Machine.{Snapshot, acts, performed, step, is_enabled, next_of, thread_at, missing_thread, value_of, owner_of, count_of, resumed, reader_after, taker_after, counter_after, var_after, owner_after, count_after}
+use Rattle.semantics.specs.Machine.{Snapshot, acts, performed, step, is_enabled, next_of, thread_at, missing_thread, value_of, owner_of, queue_of, count_of, queue_after, threads_to_wake, wake, resumed, reader_after, taker_after, counter_after, var_after, owner_after, count_after}
 use Rattle.semantics.specs.Reachable.{IsOf, IsValidAction}
 use Rattle.semantics.specs.Undoing.{restored, thread_before, with_change, with_thread_before, undone, old_queue, IsInRange, IsRecordOf, with_touched, with_all_touched, IsTouched, TakesBack}
 use Rattle.semantics.specs.inner.Recording.{Changes, HasGate, HasGoneOn, HasTouched, IsFree, others_after}
@@ -30,6 +33,40 @@ use Rattle.semantics.proofs.WorkFalls.{enabled_below}
 written : (T : List Thread) (t : ℕ) (th : Thread) → t < length T
     → set T t th ≡ set T t (get_or (set T t th) t missing_thread)
 written T t th h = ap (set T t) (sym (get_or-set_same T t th missing_thread h))
+
+-- where nobody waits for a condition, a call leaves all but the caller as it is
+
+none_to_wake : (d : ConditionAction) → threads_to_wake d [] ≡ []
+none_to_wake Signals = refl
+none_to_wake Broadcasts = refl
+
+none_after : (d : ConditionAction) → queue_after d [] ≡ []
+none_after Signals = refl
+none_after Broadcasts = refl
+
+pub none_called : (p : Program) (s : Snapshot) (t c : ℕ) (d : ConditionAction)
+    → queue_of s c ≡ [] → performed p s t (OnCondition c d) ≡ record s {
+      threads = set s.threads t (resumed (code_of p t) (thread_at s t));
+    }
+none_called p s t c d e =
+    let wake_is : wake c (threads_to_wake d (queue_of s c)) s.threads ≡ s.threads =
+    ap (λ (us : List ℕ). wake c us s.threads) (ap (threads_to_wake d) e ∙ none_to_wake d) in
+    let queue : set s.queues c (queue_after d (queue_of s c)) ≡ s.queues =
+    ap (set s.queues c) (ap (queue_after d) e ∙ (none_after d ∙ sym e))
+    ∙ set-get_or s.queues c [] in
+    λ i. record s {
+      queues = queue i;
+      threads = set (wake_is i) t (resumed (code_of p t) (thread_at s t));
+    }
+
+pub others_same : (s : Snapshot) (c : ℕ) (d : ConditionAction) → queue_of s c ≡ []
+    → others_after s (OnCondition c d) ≡ Same
+others_same s c d e =
+    ap (λ (q : List ℕ). if nat_eq (length q) 0 then Same else More) e
+
+pub empty_queue : (q : List ℕ) → length q ≤ 0 → q ≡ []
+empty_queue [] h = refl
+empty_queue (u ∷ q) h = absurd (omega arith)
 
 -- the object that a step touched, given back
 touched_back : (p : Program) (s : Snapshot) (t : ℕ) (a : Action) (o : Touched)
@@ -50,7 +87,13 @@ touched_back p s t (OnMutex m d) o l h =
           (taker_after d (code_of p t) t (owner_of s m) (thread_at s t)) l i;
     })
 touched_back p s t (Waits c m) o l h = absurd h
-touched_back p s t (OnCondition c d) o l h = absurd h
+touched_back p s t (OnCondition c d) o l h =
+    let N : Snapshot = performed p s t (OnCondition c d) in
+    let only = none_called p s t c d h.1 in
+    ap (λ (z : Touched). with_touched z N) h.0 ∙ (only
+    ∙ ((λ i. record s {
+      threads = written s.threads t (resumed (code_of p t) (thread_at s t)) l i;
+    }) ∙ sym (ap (λ (z : Snapshot). record s { threads = set s.threads t (thread_at z t) }) only)))
 touched_back p s t (OnSemaphore k d) o l h =
     let N : Snapshot = performed p s t (OnSemaphore k d) in
     ap (λ (z : Touched). with_touched z N) h ∙ (λ i. record s {
@@ -67,7 +110,7 @@ touched_there p s new (OnVariable x d) o of' f h =
 touched_there p s new (OnMutex m d) o of' f h =
     subst (IsTouched new) (sym h) (omega (arith, f, of'.owners))
 touched_there p s new (Waits c m) o of' f h = absurd h
-touched_there p s new (OnCondition c d) o of' f h = absurd h
+touched_there p s new (OnCondition c d) o of' f h = subst (IsTouched new) (sym h.0) tt
 touched_there p s new (OnSemaphore k d) o of' f h =
     subst (IsTouched new) (sym h) (omega (arith, f, of'.counts))
 
@@ -112,12 +155,14 @@ others_kept [] s T = refl
 others_kept (TheVariable x v ∷ os) s T = others_kept os (with_touched (TheVariable x v) s) T
 others_kept (TheOwner m w ∷ os) s T = others_kept os (with_touched (TheOwner m w) s) T
 others_kept (TheCount k n ∷ os) s T = others_kept os (with_touched (TheCount k n) s) T
+others_kept (Nothing ∷ os) s T = others_kept os s T
 
 threads_kept : (os : List Touched) (s : Snapshot) → (with_all_touched os s).threads ≡ s.threads
 threads_kept [] s = refl
 threads_kept (TheVariable x v ∷ os) s = threads_kept os (with_touched (TheVariable x v) s)
 threads_kept (TheOwner m w ∷ os) s = threads_kept os (with_touched (TheOwner m w) s)
 threads_kept (TheCount k n ∷ os) s = threads_kept os (with_touched (TheCount k n) s)
+threads_kept (Nothing ∷ os) s = threads_kept os s
 
 -- what a record keeps of its object doesn't depend on the locals that it keeps
 
@@ -145,6 +190,7 @@ touched_same : (p : Program) (s new : Snapshot) → IsOf p s → IsOf p new → 
 touched_same p s new a b (TheVariable x v) h = omega (arith, h, a.variables, b.variables)
 touched_same p s new a b (TheOwner m w) h = omega (arith, h, a.owners, b.owners)
 touched_same p s new a b (TheCount k n) h = omega (arith, h, a.counts, b.counts)
+touched_same p s new a b Nothing h = tt
 
 -- so the record takes the further step back, too
 pub further_back : (p : Program) (s new first : Snapshot) (t : ℕ) (u : Undo) (kept : Saved)

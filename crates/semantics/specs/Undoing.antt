@@ -1,5 +1,5 @@
 -- Taking a step back: what its record keeps, and the state that it gives back.
-use Rattle.std.specs.Prelude.{◌≡◌, ℕ, ℤ, ◌<◌, ◌≤◌, Bool, true, false, Option, Some, None, List, [], ◌∷◌, ◌++◌, length, take, drop, slice_index_or, slice_set, All}
+use Rattle.std.specs.Prelude.{◌≡◌, ℕ, ℤ, ◌<◌, ◌≤◌, Bool, true, false, nat_eq, Option, Some, None, List, [], ◌∷◌, ◌++◌, length, take, drop, slice_index_or, slice_set, All}
 use Rattle.guest_code.specs.declared.limits.TheConstants.{THREADS, LOCALS}
 use Rattle.semantics.specs.declared.state.Thread.{Thread}
 use Rattle.semantics.specs.declared.state.Status.TheVariants.{Waiting}
@@ -8,11 +8,11 @@ use Rattle.semantics.specs.declared.undo.Undo.{Undo}
 use Rattle.semantics.specs.declared.undo.Change.{Change}
 use Rattle.semantics.specs.declared.undo.Change.TheVariants.{Variable, Owner, Count, Wait, Call}
 use Rattle.semantics.specs.declared.undo.Touched.{Touched}
-use Rattle.semantics.specs.declared.undo.Touched.TheVariants.{Variable as TheVariable, Owner as TheOwner, Count as TheCount}
+use Rattle.semantics.specs.declared.undo.Touched.TheVariants.{Variable as TheVariable, Owner as TheOwner, Count as TheCount, Nothing}
 use Rattle.semantics.specs.declared.state.MutexAction.TheVariants.{Lock as Locks, Unlock as Unlocks, Retake as Retakes}
 use Rattle.semantics.specs.declared.state.Action.{Action}
 use Rattle.semantics.specs.declared.state.Action.TheVariants.{OnVariable, OnMutex, Wait as Waits, OnCondition, OnSemaphore}
-use Rattle.semantics.specs.Machine.{Snapshot, thread_at, with_status, missing_thread}
+use Rattle.semantics.specs.Machine.{Snapshot, thread_at, queue_of, with_status, missing_thread}
 
 -- the locals, of which the first so many get back their values
 abbrev pub restored : Saved → List ℤ → List ℤ
@@ -74,22 +74,24 @@ pub record IsRecordOf (u : Undo) (s : Snapshot) : Type 0 where
   pub few : u.saved.count ≤ LOCALS
   pub range : IsInRange u.change u s
 
--- the object that a step touched is as it was
+-- what a step touched is as it was
 abbrev pub with_touched : Touched → Snapshot → Snapshot
 with_touched (TheVariable x v) s = record s { vars = slice_set s.vars x v }
 with_touched (TheOwner m o) s = record s { owners = slice_set s.owners m o }
 with_touched (TheCount k n) s = record s { counts = slice_set s.counts k n }
+with_touched Nothing s = s
 
--- and so are those of all these steps, of which the last comes first
+-- and so is what all these steps touched, of which the last comes first
 abbrev pub with_all_touched : List Touched → Snapshot → Snapshot
 with_all_touched [] s = s
 with_all_touched (o ∷ os) s = with_all_touched os (with_touched o s)
 
--- the object is one of the state
+-- it is one of the state
 abbrev pub IsTouched : Snapshot → Touched → Type 0
 IsTouched s (TheVariable x v) = x < length s.vars
 IsTouched s (TheOwner m o) = m < length s.owners
 IsTouched s (TheCount k n) = k < length s.counts
+IsTouched s Nothing = Unit {0}
 
 -- the record of a step and what further steps of its thread touched, of which the last comes first,
 -- take the state back to the one before all of them
@@ -98,14 +100,14 @@ pub record TakesBack (u : Undo) (os : List Touched) (s first : Snapshot) : Type 
   pub kept : IsRecordOf u (with_all_touched os s)
   pub back : undone u (with_all_touched os s) ≡ first
 
--- what a thread is about to do touches a variable, a mutex or a semaphore alone, and the thread was
--- not woken for it
-abbrev pub touches_one : Option Action → Bool
-touches_one (Some (OnVariable x d)) = true
-touches_one (Some (OnMutex m Locks)) = true
-touches_one (Some (OnMutex m Unlocks)) = true
-touches_one (Some (OnMutex m Retakes)) = false
-touches_one (Some (Waits c m)) = false
-touches_one (Some (OnCondition c d)) = false
-touches_one (Some (OnSemaphore k d)) = true
-touches_one None = false
+-- what a thread is about to do touches a variable, a mutex or a semaphore alone, or it calls
+-- threads where none waits; and the thread was not woken for it
+abbrev pub touches_one : Snapshot → Option Action → Bool
+touches_one s (Some (OnVariable x d)) = true
+touches_one s (Some (OnMutex m Locks)) = true
+touches_one s (Some (OnMutex m Unlocks)) = true
+touches_one s (Some (OnMutex m Retakes)) = false
+touches_one s (Some (Waits c m)) = false
+touches_one s (Some (OnCondition c d)) = nat_eq (length (queue_of s c)) 0
+touches_one s (Some (OnSemaphore k d)) = true
+touches_one s None = false

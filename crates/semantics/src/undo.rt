@@ -49,7 +49,7 @@ pub struct Undo {
     pub(crate) saved: Saved,
 }
 
-/// A variable, a mutex or a semaphore that a step touched, by its number: as it was before.
+/// What a step touched, by its number, as it was before.
 #[derive(Clone, Copy, Debug)]
 pub enum Touched {
     /// The value of a variable.
@@ -58,6 +58,8 @@ pub enum Touched {
     Owner(usize, Option<u8>),
     /// The count of a semaphore.
     Count(usize, u16),
+    /// Nothing but its thread.
+    Nothing,
 }
 
 impl Saved {

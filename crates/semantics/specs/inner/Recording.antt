@@ -1,5 +1,5 @@
 -- What a step writes into its record.
-use Rattle.std.specs.Prelude.{◌≡◌, ◌≢◌, ℕ, ◌<◌, ◌≤◌, Bool, true, false, nat_eq, nat_lt, List, length, Option, Some, None, slice_get, slice_set, IsTrue, if◌then◌else◌}
+use Rattle.std.specs.Prelude.{◌≡◌, ◌≢◌, ℕ, ◌<◌, ◌≤◌, Bool, true, false, nat_eq, nat_lt, List, [], length, Option, Some, None, slice_get, slice_set, IsTrue, if◌then◌else◌}
 use Rattle.guest_code.specs.declared.limits.TheConstants.{THREADS, LOCALS}
 use Rattle.guest_code.specs.declared.program.Instruction.{Instruction}
 use Rattle.guest_code.specs.declared.program.Instruction.TheVariants.{Load, Store, Add, Cas, Lock, Unlock, Wait as WaitFor, Signal, Broadcast, Acquire, Release, Set, Assert, SkipIfZero, Skip}
@@ -19,7 +19,7 @@ use Rattle.semantics.specs.declared.state.Action.{Action}
 use Rattle.semantics.specs.declared.state.Action.TheVariants.{OnVariable, OnMutex, Wait as Waits, OnCondition, OnSemaphore}
 use Rattle.semantics.specs.declared.undo.Saved.{Saved}
 use Rattle.semantics.specs.declared.undo.Touched.{Touched}
-use Rattle.semantics.specs.declared.undo.Touched.TheVariants.{Variable as TheVariable, Owner as TheOwner, Count as TheCount}
+use Rattle.semantics.specs.declared.undo.Touched.TheVariants.{Variable as TheVariable, Owner as TheOwner, Count as TheCount, Nothing}
 use Rattle.semantics.specs.declared.undo.Undo.{Undo}
 use Rattle.semantics.specs.declared.undo.Change.TheVariants.{Variable, Owner, Count, Wait, Call}
 use Rattle.semantics.specs.Machine.{Snapshot, run_from, action_at, can_do, is_enabled, is_free, next_of, step, thread_at, value_of, owner_of, queue_of, count_of}
@@ -156,10 +156,10 @@ pub record HasGoneOn (p : Program) (s : Snapshot) (t : ℕ) (old kept : Saved) (
   pub gate : HasGate after.others new
   pub free : IsTrue after.free → is_enabled p new t ≡ true
 
--- the object that an action touches alone, as it is
+-- what an action touches alone, as it is
 abbrev pub HasTouched : Touched → Snapshot → Action → Type 0
 HasTouched o s (OnVariable x d) = o ≡ TheVariable x (value_of s x)
 HasTouched o s (OnMutex m d) = o ≡ TheOwner m (owner_of s m)
 HasTouched o s (Waits c m) = ⊥
-HasTouched o s (OnCondition c d) = ⊥
+HasTouched o s (OnCondition c d) = (o ≡ Nothing) × (queue_of s c ≡ [])
 HasTouched o s (OnSemaphore k d) = o ≡ TheCount k (count_of s k)

@@ -1,20 +1,21 @@
 //! Further steps of a thread, which are taken back together with a step before them.
 
-ghost use Rattle.std.specs.Prelude.{◌≡◌, ◌<◌, ◌≤◌, ◌∷◌, List, None, Some, IfSome, IsTrue, All, length, reverse};
+ghost use Rattle.std.specs.Prelude.{◌≡◌, ◌<◌, ◌≤◌, ◌∷◌, List, None, Some, IfSome, IsTrue, All, length, reverse, slice_set};
 ghost use Rattle.std.specs.Option.{is_some};
-ghost use Rattle.guest_code.specs.Program.{IsValid};
-ghost use Rattle.semantics.specs.Machine.{Snapshot, step, action_of, is_enabled, next_of, value_of, owner_of, count_of};
+ghost use Rattle.guest_code.specs.Program.{code_of, IsValid};
+ghost use Rattle.semantics.specs.Machine.{Snapshot, step, action_of, is_enabled, next_of, resumed, thread_at, value_of, owner_of, count_of};
 ghost use Rattle.semantics.specs.Reachable.{IsOf, IsValidAction, StandsInCode};
 ghost use Rattle.semantics.specs.Mask.{HasEnabled};
-ghost use Rattle.semantics.specs.Undoing.{IsTouched, TakesBack, touches_one, with_all_touched, with_touched};
-ghost use Rattle.semantics.specs.inner.Recording.{HasGoneOn};
-ghost use Rattle.semantics.specs.declared.state.Action.TheVariants.{OnVariable, OnMutex, OnSemaphore};
+ghost use Rattle.semantics.specs.Undoing.{IsTouched, TakesBack, restored, touches_one, with_all_touched, with_touched};
+ghost use Rattle.semantics.specs.inner.Recording.{HasGoneOn, IsFree};
+ghost use Rattle.semantics.specs.declared.state.Action.TheVariants.{OnVariable, OnMutex, OnCondition, OnSemaphore};
 ghost use Rattle.semantics.specs.declared.undo.Touched.{Touched};
 ghost use Rattle.semantics.specs.declared.undo.Touched.TheVariants.{Variable as TheVariable, Owner as TheOwner, Count as TheCount};
 
 use crate::action::{After, Gate, Others};
 use crate::mask::Mask;
-use crate::state::{Action, MutexAction, SemaphoreAction, State, Status, VariableAction};
+use crate::state::{Action, ConditionAction, MutexAction, SemaphoreAction, State, Status, VariableAction};
+use crate::local::resume;
 use crate::undo::{Saved, Touched, Undo};
 use guest_code::limits::LOCALS;
 use guest_code::program::{Instruction, Program};
@@ -23,7 +24,8 @@ impl State {
     /// One more step of the thread whose step this record takes back, so that the record and what
     /// further steps touched take them all back. Answers what it touched and, where the mask has the
     /// threads that are enabled before the step, those that are enabled after it. It takes no
-    /// memory. `None` for a step of a condition's or a woken thread: such a step is not taken.
+    /// memory. `None` where threads are called, or where the thread waits or was woken: such a step
+    /// is not taken.
     #[inline(always)]
     pub fn step_further(
         &mut self,
@@ -36,7 +38,7 @@ impl State {
         requires enabled { IsTrue (is_enabled program.now self.old thread) }
         requires thread { undo.old.thread ≡ thread }
         requires few { undo.old.saved.count ≤ LOCALS }
-        ensures taken { is_some result ≡ touches_one (next_of program.now self.old thread) }
+        ensures taken { is_some result ≡ touches_one self.old (next_of program.now self.old thread) }
         ensures same { result ≡ None → self.new ≡ self.old }
         ensures record { result ≡ None → undo.new ≡ undo.old }
         ensures value { IfSome result (λ r. self.new ≡ step program.now self.old thread) }
@@ -64,7 +66,7 @@ impl State {
         requires of { IsOf program.now self.old }
         requires enabled { IsTrue (is_enabled program.now self.old thread) }
         requires few { saved.old.count ≤ LOCALS }
-        ensures taken { is_some result ≡ touches_one (next_of program.now self.old thread) }
+        ensures taken { is_some result ≡ touches_one self.old (next_of program.now self.old thread) }
         ensures same { result ≡ None → self.new ≡ self.old }
         ensures kept { result ≡ None → saved.new ≡ saved.old }
         ensures further { IfSome result (λ r.
@@ -95,7 +97,7 @@ impl State {
         requires fine { IsValid program.now instruction.now }
         requires next { next_of program.now self.old thread ≡ action_of instruction.now }
         requires few { saved.old.count ≤ LOCALS }
-        ensures taken { is_some result ≡ touches_one (next_of program.now self.old thread) }
+        ensures taken { is_some result ≡ touches_one self.old (next_of program.now self.old thread) }
         ensures same { result ≡ None → self.new ≡ self.old }
         ensures kept { result ≡ None → saved.new ≡ saved.old }
         ensures further { IfSome result (λ r.
@@ -139,9 +141,13 @@ impl State {
             Instruction::Release(k) => {
                 Some(self.go_on_semaphore(program, thread, *k, SemaphoreAction::Release, saved))
             }
+            Instruction::Signal(c) => {
+                self.go_on_condition(program, thread, *c, ConditionAction::Signal, saved)
+            }
+            Instruction::Broadcast(c) => {
+                self.go_on_condition(program, thread, *c, ConditionAction::Broadcast, saved)
+            }
             Instruction::Wait { .. }
-            | Instruction::Signal(_)
-            | Instruction::Broadcast(_)
             | Instruction::Set { .. }
             | Instruction::Assert(_)
             | Instruction::SkipIfZero(_, _)
@@ -251,7 +257,56 @@ impl State {
         (touched, After { others, free })
     }
 
-    // Gives an object back what a step touched.
+    // A further step, on a condition for which nobody waits: the thread just runs on.
+    #[inline(always)]
+    fn go_on_condition(
+        &mut self,
+        program: &Program,
+        thread: u8,
+        c: usize,
+        _action: ConditionAction,
+        saved: &mut Saved,
+    ) -> Option<(Touched, After)>
+        requires of { IsOf program.now self.old }
+        requires enabled { IsTrue (is_enabled program.now self.old thread) }
+        requires pc { StandsInCode program.now self.old thread }
+        requires fine { IsValidAction program.now (OnCondition c _action) }
+        requires next { next_of program.now self.old thread ≡ Some (OnCondition c _action) }
+        requires few { saved.old.count ≤ LOCALS }
+        ensures taken { is_some result ≡ touches_one self.old (next_of program.now self.old thread) }
+        ensures same { result ≡ None → self.new ≡ self.old }
+        ensures kept { result ≡ None → saved.new ≡ saved.old }
+        ensures further { IfSome result (λ r.
+            HasGoneOn program.now self.old thread saved.old saved.new r.0 self.new r.1) }
+    {
+        if self.queue_length(c) > 0 {
+            return None;
+        }
+        let others = Others::Same;
+        let free = self.touch_nothing(program, thread, saved);
+        Some((Touched::Nothing, After { others, free }))
+    }
+
+    // A step that touches nothing but its thread, which runs on.
+    #[inline(always)]
+    fn touch_nothing(&mut self, program: &Program, thread: u8, saved: &mut Saved) -> bool
+        requires of { IsOf program.now self.old }
+        requires thread { thread < length program.now.threads }
+        requires pc { StandsInCode program.now self.old thread }
+        requires few { saved.old.count ≤ LOCALS }
+        ensures value { self.new ≡ record self.old { threads = slice_set self.old.threads thread
+            (resumed (code_of program.now thread) (thread_at self.old thread)) } }
+        ensures few { saved.new.count ≤ LOCALS }
+        ensures locals { restored saved.new (thread_at self.new thread).locals
+            ≡ restored saved.old (thread_at self.old thread).locals }
+        ensures free { IsTrue result →
+            IsFree (code_of program.now thread) (thread_at self.new thread) }
+    {
+        let runner = &mut self.threads[thread as usize];
+        resume(program.code(thread), runner, saved)
+    }
+
+    // Gives back what a step touched.
     #[inline(always)]
     fn put_back_one(&mut self, touched: Touched)
         requires { IsTouched self.old touched }
@@ -261,11 +316,12 @@ impl State {
             Touched::Variable(x, value) => self.variables[x] = value,
             Touched::Owner(m, owner) => self.owners[m] = owner,
             Touched::Count(k, count) => self.counts[k] = count,
+            Touched::Nothing => {}
         }
     }
 
-    /// Gives the objects back what these further steps touched, those of the last step first. Then
-    /// `undo` takes back the step before them and puts their thread where it was.
+    /// Gives back what these further steps touched, that of the last step first. Then `undo` takes
+    /// back the step before them and puts their thread where it was.
     #[inline(always)]
     pub fn put_back(&mut self, touched: &[Touched])
         requires { All (IsTouched self.old) touched.now }
