@@ -3,7 +3,7 @@ use Rattle.std.proofs.Common.{◌≡◌, ℕ, suc, ◌+◌, ◌-◌, ◌<◌, �
 use Rattle.std.proofs.lemmas.Bool.{cases_lt, false≢true}
 use Rattle.std.proofs.lemmas.Bool.Decides.{nat_tests}
 use Rattle.semantics.proofs.WorkFalls.{disabled_past}
-use Rattle.std.proofs.lemmas.List.{reverse-append, length-append, length-replicate, length-reverse, append_assoc, length_push, replicate_more, take_more, take_more_set, take_at, drop_at, take-take, take-append-drop, drop-take, set-get_or, get_or-reverse, reverse-reverse}
+use Rattle.std.proofs.lemmas.List.{reverse-append, length-append, length-replicate, length-reverse, append_assoc, length_push, replicate_more, take_more, take_more_set, take_at, drop_at, take-take, take-append-drop, drop-take, set-get_or, get_or_read, get_or-reverse, reverse-reverse}
 use Rattle.std.proofs.lemmas.List.Elements.{All-nil}
 use Rattle.std.specs.List.{All}
 use Rattle.guest_code.specs.Program.{Program}
@@ -22,7 +22,7 @@ use Rattle.semantics.proofs.UnfoldingUnderPrefix.{state_after-push}
 use Rattle.walk.specs.declared.trail.Node.{Node}
 use Rattle.walk.specs.declared.trail.Frame.{Frame}
 use Rattle.walk.specs.declared.trail.Trail.{Trail}
-use Rattle.walk.specs.inner.Paths.{leaves, leaves_last, IsNext, path, run_of, state_at, HasSwitches, IsNode, IsFrame, AreFrames, above, touched_above, IsTrail, IsOpened, IsEntered, IsExtended, IsLeft}
+use Rattle.walk.specs.inner.Paths.{leaves, leaves_last, IsNext, path, run_of, state_at, touched_from, HasSwitches, IsNode, IsFrame, AreFrames, above, touched_above, IsTrail, IsOpened, IsEntered, IsExtended, IsLeft}
 
 pub reversed : {X : Type 0} → (S T : List X) (x : X) → S ≡ T ++ x ∷ []
     → reverse S ≡ x ∷ reverse T
@@ -42,6 +42,11 @@ pub one_off : {X : Type 0} → (S : List X) (x : X) (n m : ℕ) → m ≡ n + 1 
 one_off {X} S x n m one there read =
     reversed (take m S) (take n S) x (ap (λ k. take k S) one
     ∙ (take_more S n x there ∙ ap (λ (y : X). take n S ++ y ∷ []) (sym read)))
+
+-- what is read twice is the same
+pub read_twice : {X : Type 0} → (S : List X) (n : ℕ) (x y : X) → n < length S
+    → x ≡ get_or S n x → y ≡ get_or S n y → x ≡ y
+read_twice S n x y there a b = get_or_read S n x there a y ∙ sym b
 
 -- a preempting switch, by the mask of who is enabled
 pub leaves_is : (p : Program) (s : Snapshot) (m : Mask) (last : Option ℕ) (t : ℕ)
@@ -232,10 +237,7 @@ all_reversed {X} P xs h = λ k d l.
     ∙ ap (λ (ys : List X). get_or ys k d) (reverse-reverse xs))
     (h (length (reverse xs) - 1 - k) d (omega (arith, long)))
 
--- what its further steps touched, at places m and on
-abbrev pub touched_from : Trail → ℕ → List Touched
-touched_from t m = take (t.further - m) (drop m t.touched.items)
-
+-- what its further steps touched, and what those above it did
 pub record HasParts (t : Trail) (m : ℕ) (f : Frame) : Type 0 where
   pub own : reverse (touched_from t m) ≡ take f.further (touched_above t)
   pub others : reverse (take m t.touched.items) ≡ drop f.further (touched_above t)
@@ -273,6 +275,16 @@ lowest_back p t n m f h l sum =
     (sym (touched_parts t m f h.places sum).own)
     (subst (λ (q : Snapshot). TakesBack f.undo (take f.further (touched_above t)) q first)
     (sym (h.node.reaches.state ∙ ap (state_at p) l.steps)) l.frames.0.back)
+
+-- the last step is forgotten after so many others
+pub shorter : (w v x : List ℕ) (n k : ℕ) → v ≡ take (length w - n) w → k ≡ length v
+    → x ≡ take (k - 1) v → x ≡ take (length w - n - 1) w
+shorter w v x n k e count h =
+    let long : length v ≡ length w - n =
+    let a = ap length e in let b = length-take (length w - n) w in omega (arith, a, b) in
+    let same : k - 1 ≡ length w - n - 1 = omega (arith, count, long) in
+    h ∙ ((λ i. take (same i) (e i))
+    ∙ take-take (length w - n - 1) (length w - n) w (omega arith))
 
 -- back to the node above
 pub trail_left : (p : Program) (old new : Trail) (n m : ℕ) (f : Frame) → IsTrail p old →

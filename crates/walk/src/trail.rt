@@ -1,10 +1,11 @@
 //! The way from the start of a program to where a walk stands, with what takes each step back.
 
-ghost use Rattle.std.specs.Prelude.{◌≡◌, ◌+◌, ◌-◌, ◌<◌, ◌≤◌, ◌^◌, true, false, Some, Ok, IfOk, IfErr, OnOk, IsTrue, length, take};
+ghost use Rattle.std.specs.Prelude.{◌≡◌, ◌+◌, ◌-◌, ◌<◌, ◌≤◌, ◌^◌, true, false, Some, Ok, IfOk, IfErr, OnOk, IsTrue, All, length, take, reverse};
 ghost use Rattle.semantics.specs.Machine.{start, is_enabled};
 ghost use Rattle.semantics.specs.Mask.{has, no_threads};
 ghost use Rattle.semantics.specs.Schedules.{runs};
-ghost use Rattle.walk.specs.inner.Paths.{IsTrail, IsEntered, IsExtended, IsLeft, IsNext, IsOpened, with_node, leaves, HasSwitches};
+ghost use Rattle.semantics.specs.Undoing.{IsTouched, with_all_touched};
+ghost use Rattle.walk.specs.inner.Paths.{touched_from, IsTrail, IsEntered, IsExtended, IsLeft, IsNext, IsOpened, with_node, leaves, HasSwitches};
 
 use crate::hints::EndHints;
 use guest_code::laws::programs_are_well_formed;
@@ -342,6 +343,35 @@ impl Trail {
         }
     }
 
+    // Gives back what so many further steps touched, and forgets the steps.
+    #[inline(always)]
+    fn put_back(&mut self, count: usize)
+        requires count { count ≤ self.old.further }
+        requires steps { count ≤ length self.old.steps.items }
+        requires places { self.old.further ≤ length self.old.touched.items }
+        requires there { All (IsTouched self.old.state)
+            (touched_from self.old (self.old.further - count)) }
+        ensures state { self.new.state ≡ with_all_touched
+            (reverse (touched_from self.old (self.old.further - count))) self.old.state }
+        ensures steps { self.new.steps.items
+            ≡ take (length self.old.steps.items - count) self.old.steps.items }
+        ensures further { self.new.further ≡ self.old.further - count }
+        ensures same { self.new ≡ record self.old {
+            state = self.new.state;
+            steps = self.new.steps;
+            further = self.new.further;
+        } }
+    {
+        if count > 0 {
+            let end = self.further;
+            let start = end - count;
+            self.state.put_back(&self.touched[start..end]);
+            let shorter = self.steps.len() - count;
+            self.steps.truncate(shorter);
+            self.further = start;
+        }
+    }
+
     /// Goes back to the node of the last frame.
     #[inline(always)]
     pub fn leave(&mut self, _program: &Program)
@@ -351,14 +381,12 @@ impl Trail {
         ensures left { IsLeft self.old self.new }
     {
         let depth = self.depth - 1;
+        let further = self.frames[depth].further;
+        self.put_back(further);
         let frame = &self.frames[depth];
-        let further = self.further - frame.further;
-        self.state.put_back(&self.touched[further..self.further]);
         self.state.undo(&frame.undo);
         self.node = frame.node;
-        let shorter = self.steps.len() - frame.further - 1;
-        self.steps.truncate(shorter);
-        self.further = further;
+        self.steps.pop();
         self.depth = depth;
     }
 

@@ -1,5 +1,5 @@
 -- The way from the start of a program to where a walk stands.
-use Rattle.std.specs.Prelude.{◌≡◌, ℕ, ◌+◌, ◌<◌, ◌≤◌, Bool, false, not, ◌&&◌, nat_eq, List, [], ◌∷◌, ◌++◌, length, take, drop, reverse, replicate, Option, Some, None}
+use Rattle.std.specs.Prelude.{◌≡◌, ℕ, ◌+◌, ◌-◌, ◌<◌, ◌≤◌, Bool, false, not, ◌&&◌, nat_eq, List, [], ◌∷◌, ◌++◌, length, take, drop, reverse, replicate, Option, Some, None}
 use Rattle.guest_code.specs.Program.{Program, IsWellFormed}
 use Rattle.semantics.specs.Machine.{Snapshot, start, step}
 use Rattle.semantics.specs.Reachable.{IsOf}
@@ -74,6 +74,10 @@ above t = reverse (take t.depth t.frames.items)
 -- what further steps touched, the last one first
 abbrev pub touched_above : Trail → List Touched
 touched_above t = reverse (take t.further t.touched.items)
+
+-- what further steps touched from the place m on
+abbrev pub touched_from : Trail → ℕ → List Touched
+touched_from t m = take (t.further - m) (drop m t.touched.items)
 
 -- the steps lead to the state and the node, and each frame leads back to the node above
 pub record IsTrail (p : Program) (t : Trail) : Type 0 where
