@@ -13,9 +13,11 @@ ghost use Rattle.semantics.specs.declared.undo.Touched.{Touched};
 ghost use Rattle.semantics.specs.declared.undo.Touched.TheVariants.{Variable as TheVariable, Owner as TheOwner, Count as TheCount};
 
 use crate::action::{After, Gate, Others};
-use crate::mask::Mask;
-use crate::state::{Action, ConditionAction, MutexAction, SemaphoreAction, State, Status, VariableAction};
 use crate::local::resume;
+use crate::mask::Mask;
+use crate::state::{
+    Action, ConditionAction, MutexAction, SemaphoreAction, State, Status, VariableAction,
+};
 use crate::undo::{Saved, Touched, Undo};
 use guest_code::limits::LOCALS;
 use guest_code::program::{Instruction, Program};
@@ -294,8 +296,10 @@ impl State {
         requires thread { thread < length program.now.threads }
         requires pc { StandsInCode program.now self.old thread }
         requires few { saved.old.count ≤ LOCALS }
-        ensures value { self.new ≡ record self.old { threads = slice_set self.old.threads thread
-            (resumed (code_of program.now thread) (thread_at self.old thread)) } }
+        ensures value { self.new ≡ record self.old {
+          threads = slice_set self.old.threads thread
+              (resumed (code_of program.now thread) (thread_at self.old thread));
+        } }
         ensures few { saved.new.count ≤ LOCALS }
         ensures locals { restored saved.new (thread_at self.new thread).locals
             ≡ restored saved.old (thread_at self.old thread).locals }
