@@ -282,6 +282,12 @@ impl State {
         ensures { result ≡ is_enabled program.now self.now thread }
     {
         let runner = &self.threads[thread as usize];
+        if matches!(
+            runner.status,
+            Status::Ended | Status::Waiting(_) | Status::Stopped(_)
+        ) {
+            return false;
+        }
         match program.code(thread).get(runner.pc) {
             Some(instruction) => self.allows(runner.status, instruction),
             None => false,

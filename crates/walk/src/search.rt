@@ -503,8 +503,36 @@ impl Trail {
         }
     }
 
-    // Turns until so many are tried or nothing is open.
+    // Turns until so many are tried or nothing is open; each mode has its own loop.
     fn search(
+        &mut self,
+        alloc: Global,
+        found: &mut Found,
+        item: &Item,
+        mode: Mode,
+        quota: u32,
+    ) -> Result<(), AllocError>
+        requires search { IsSearch mode item.now self.old found.old
+            (still_open mode item.now.program self.old) }
+        requires few { found.old.part.tried ≤ quota }
+        ensures trail { IsTrail item.now.program self.new }
+        ensures search { OnOk result (IsSearch mode item.now self.new found.new
+            (still_open mode item.now.program self.new)) }
+        ensures few { OnOk result (found.new.part.tried ≤ quota) }
+        ensures all { OnOk result (found.new.part.tried < quota
+            → still_open mode item.now.program self.new ≡ []) }
+    {
+        match mode {
+            Mode::Bounded(bound) => {
+                self.search_in(alloc, found, item, Mode::Bounded(bound), quota)
+            }
+            Mode::Reduced => self.search_in(alloc, found, item, Mode::Reduced, quota),
+        }
+    }
+
+    // The same, in line.
+    #[inline(always)]
+    fn search_in(
         &mut self,
         alloc: Global,
         found: &mut Found,

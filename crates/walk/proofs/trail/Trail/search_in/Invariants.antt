@@ -1,7 +1,7 @@
 use Rattle.std.proofs.Common.{◌≡◌, ◌≤◌, ◌+◌, false, []}
 use Rattle.semantics.specs.Schedules.{one_if}
 use Rattle.walk.specs.inner.WalkerInvariant.{IsSearch, still_open, turns_left}
-use Rattle.walk.proofs.trail.Trail.search.Given as goal
+use Rattle.walk.proofs.trail.Trail.search_in.Given as goal
 
 abbrev pub invariant-loop-going : goal.invariant-loop-going
 invariant-loop-going l = record {
