@@ -296,6 +296,8 @@ impl Trail {
         ensures falls { OnOk result (turns_left mode item.now.program self.new + 2
             ≤ turns_from mode item.now.program self.old) }
         ensures tried { OnOk result (found.new.part.tried ≤ found.old.part.tried + 1) }
+        ensures more { OnOk result (is_empty (members_from self.new.node.todo 0) ≡ false →
+            found.new.part.tried ≡ found.old.part.tried) }
     {
         let past = self.node.open(mode);
         match self.node.enabled.first_from(0) {
@@ -432,6 +434,8 @@ impl Trail {
             < cost_of (child_of mode (here item.now.program self.old) thread)
             + turns_left mode item.now.program self.old) }
         ensures tried { OnOk result (found.new.part.tried ≤ found.old.part.tried + 1) }
+        ensures more { OnOk result (is_empty (members_from self.new.node.todo 0) ≡ false →
+            found.new.part.tried ≡ found.old.part.tried) }
     {
         let program = item.program();
         let asleep = self.sleepers(program, mode, thread);
@@ -467,43 +471,53 @@ impl Trail {
         true
     }
 
-    // One turn. False where nothing is open.
+    // Goes into open children down to a node that has none.
     #[inline(always)]
-    fn turn(
+    fn dive(
         &mut self,
         alloc: Global,
         found: &mut Found,
         item: &Item,
         mode: Mode,
-    ) -> Result<bool, AllocError>
+    ) -> Result<(), AllocError>
         requires search { IsSearch mode item.now self.old found.old
             (still_open mode item.now.program self.old) }
         ensures trail { IsTrail item.now.program self.new }
         ensures search { OnOk result (IsSearch mode item.now self.new found.new
             (still_open mode item.now.program self.new)) }
-        ensures further { IfOk result (λ more. IsTrue more →
-            turns_left mode item.now.program self.new < turns_left mode item.now.program self.old) }
-        ensures over { IfOk result (λ more. IsFalse more
-            → still_open mode item.now.program self.new ≡ []) }
-        ensures there { IfOk result (λ more. IsFalse more →
-            turns_left mode item.now.program self.new ≡ turns_left mode item.now.program self.old) }
+        ensures done { OnOk result (members_from self.new.node.todo 0 ≡ []) }
+        ensures further { OnOk result (turns_left mode item.now.program self.new
+            ≤ turns_left mode item.now.program self.old) }
         ensures tried { OnOk result (found.new.part.tried ≤ found.old.part.tried + 1) }
     {
-        match self.node.todo.first_from(0) {
-            None => {
-                let more = self.retreat(item.program(), mode);
-                found.go_back(self.steps.len());
-                Ok(more)
-            }
-            Some(thread) => {
-                self.node.todo = without_first(self.node.todo, thread);
-                self.descend(alloc, found, item, mode, thread)?;
-                Ok(true)
-            }
+        while let Some(thread) = self.node.todo.first_from(0) {
+            self.node.todo = without_first(self.node.todo, thread);
+            self.descend(alloc, found, item, mode, thread)?;
         }
+        Ok(())
     }
 
-    // Turns until so many are tried or nothing is open; each mode has its own loop.
+    // Goes back to a node with an open child. False where none is open.
+    #[inline(always)]
+    fn climb(&mut self, found: &mut Found, item: &Item, mode: Mode) -> bool
+        requires search { IsSearch mode item.now self.old found.old
+            (still_open mode item.now.program self.old) }
+        requires done { members_from self.old.node.todo 0 ≡ [] }
+        ensures search { IsSearch mode item.now self.new found.new
+            (still_open mode item.now.program self.new) }
+        ensures further { IsTrue result →
+            turns_left mode item.now.program self.new < turns_left mode item.now.program self.old }
+        ensures over { IsFalse result → still_open mode item.now.program self.new ≡ [] }
+        ensures there { IsFalse result →
+            turns_left mode item.now.program self.new ≡ turns_left mode item.now.program self.old }
+        ensures tried { found.new.part.tried ≡ found.old.part.tried }
+    {
+        let more = self.retreat(item.program(), mode);
+        found.go_back(self.steps.len());
+        more
+    }
+
+    // Goes down and back until so many are tried or nothing is open; each mode has its own loop.
     fn search(
         &mut self,
         alloc: Global,
@@ -552,7 +566,8 @@ impl Trail {
     {
         let mut going = true;
         while going && found.part.tried() < quota as u64 {
-            going = self.turn(alloc, found, item, mode)?;
+            self.dive(alloc, found, item, mode)?;
+            going = self.climb(found, item, mode);
         }
         Ok(())
     }

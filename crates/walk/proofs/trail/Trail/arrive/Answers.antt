@@ -1,7 +1,11 @@
-use Rattle.std.proofs.Common.{◌∙◌, ◌+◌, ◌≤◌, ap, refl, sym, subst}
+use Rattle.std.proofs.Common.{◌≡◌, ◌∙◌, ◌+◌, ◌≤◌, [], ap, refl, sym, subst}
+use Rattle.std.specs.List.{filter}
+use Rattle.std.proofs.lemmas.Bool.{false≢true}
+use Rattle.semantics.specs.Ends.{is_empty}
 use Rattle.semantics.specs.Mask.{members_from}
 use Rattle.walk.specs.declared.trail.Node.{Node}
-use Rattle.walk.specs.inner.WalkerInvariant.{here, left_above}
+use Rattle.walk.specs.inner.WalkerInvariant.{here, is_kept_at, left_above}
+use Rattle.walk.proofs.WalkTurns.{members_chosen}
 use Rattle.walk.proofs.WalkSteps.{first_open}
 use Rattle.walk.proofs.TrailSteps.{opened_here}
 use Rattle.walk.proofs.Arrivals.{within_at, arrived_node, arrived_leaf, falls_node, falls_leaf, tried_added}
@@ -63,3 +67,14 @@ returns-in_ok-add-in-None-clause-tried c =
     (record { kind = c.final_kind-kind.result; vars = c.variables.result.now }) in
     subst (λ (s : _). s.tried ≤ c.args.found.now.part.tried + 1) (sym c.in_ok-add-in-None.ensures)
     least
+
+pub returns-in_ok-add-in-None-clause-more : goal.returns-in_ok-add-in-None-clause-more
+returns-in_ok-add-in-None-clause-more c =
+    let t = c.args.self.now in
+    let none : members_from t.node.enabled 0 ≡ [] =
+    ap (λ (n : Node). members_from n.enabled 0) (sym c.open-past.ensures.same) ∙
+    c.in-None.ensures.list in
+    let over : members_from c.open-past.new.self.todo 0 ≡ [] =
+    members_chosen c.open-past.new.self.todo t.node.enabled (is_kept_at c.args.mode t.node)
+    c.open-past.ensures.kept ∙ ap (filter (is_kept_at c.args.mode t.node)) none in
+    λ more. absurd (false≢true (sym more ∙ ap is_empty over))
