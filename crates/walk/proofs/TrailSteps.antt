@@ -150,8 +150,7 @@ frame_extended p fs w s z f u o os h items at stepped own further =
     let after : z ≡ state_at p (v ++ run_of g) =
     stepped ∙ (ap (λ (q : Snapshot). step p q t) at
     ∙ (sym (state_after-push p (start p) w t) ∙ ap (state_at p) steps)) in
-    let before : state_at p (v ++ run_of f) ≡ s = sym (at ∙ ap (state_at p) items) in
-    (
+    let before : state_at p (v ++ run_of f) ≡ s = sym (at ∙ ap (state_at p) items) in (
       (
         record {
           node = h.0.node;
@@ -310,8 +309,7 @@ trail_left p old new n m f h one depth read sum further items frames touched bac
     let rest : touched_above new ≡ drop f.further (touched_above old) =
     (λ i. reverse (take (further i) (touched i))) ∙ parts.others in
     let at : new.state ≡ state_at p v =
-    back ∙ (lowest_back p old n m f h L sum).back in
-    (
+    back ∙ (lowest_back p old n m f h L sum).back in (
       record {
         well_formed = h.well_formed;
         node = node_same p new.steps.items v new.state (state_at p v) new.node f.node

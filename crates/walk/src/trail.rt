@@ -357,9 +357,9 @@ impl Trail {
             ≡ take (length self.old.steps.items - count) self.old.steps.items }
         ensures further { self.new.further ≡ self.old.further - count }
         ensures same { self.new ≡ record self.old {
-            state = self.new.state;
-            steps = self.new.steps;
-            further = self.new.further;
+          state = self.new.state;
+          steps = self.new.steps;
+          further = self.new.further;
         } }
     {
         if count > 0 {

@@ -1,7 +1,7 @@
 -- The way from the start of a program to where a walk stands.
 use Rattle.std.specs.Prelude.{◌≡◌, ℕ, ◌+◌, ◌-◌, ◌<◌, ◌≤◌, Bool, false, not, ◌&&◌, nat_eq, List, [], ◌∷◌, ◌++◌, length, take, drop, reverse, replicate, Option, Some, None}
 use Rattle.guest_code.specs.Program.{Program, IsWellFormed}
-use Rattle.semantics.specs.Machine.{Snapshot, start, step}
+use Rattle.semantics.specs.Machine.{Snapshot, start}
 use Rattle.semantics.specs.Reachable.{IsOf}
 use Rattle.semantics.specs.declared.mask.Mask.{Mask}
 use Rattle.semantics.specs.Mask.{has, no_threads, HasEnabled}

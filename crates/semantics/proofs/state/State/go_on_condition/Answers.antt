@@ -1,4 +1,4 @@
-use Rattle.std.proofs.Common.{◌≡◌, ◌∙◌, ℕ, List, [], length, ap, refl, sym, arith}
+use Rattle.std.proofs.Common.{◌≡◌, ◌∙◌, [], refl, sym, arith}
 use Rattle.semantics.specs.declared.action.Others.TheVariants.{Same}
 use Rattle.semantics.specs.declared.state.Action.TheVariants.{OnCondition}
 use Rattle.semantics.specs.declared.undo.Touched.TheVariants.{Nothing}

@@ -1,4 +1,3 @@
-use Rattle.std.proofs.Common.{refl}
 use Rattle.semantics.specs.declared.state.Action.TheVariants.{OnSemaphore}
 use Rattle.semantics.proofs.FurtherSteps.{gone_on}
 use Rattle.semantics.proofs.state.State.go_on_semaphore.Goals as goal

@@ -1,4 +1,4 @@
-use Rattle.std.proofs.Common.{◌≡◌, ◌≤◌, length, take}
+use Rattle.std.proofs.Common.{◌≡◌, length, take}
 use Rattle.walk.specs.inner.Paths.{IsTrail}
 use Rattle.walk.proofs.trail.Trail.go_back.Given as goal
 

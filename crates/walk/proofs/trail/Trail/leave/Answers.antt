@@ -1,6 +1,5 @@
 use Rattle.std.proofs.Common.{◌≡◌, ◌∙◌, ◌-◌, ◌+◌, ◌<◌, ℕ, List, arith, ap, refl, sym, subst, length, get_or}
 use Rattle.semantics.specs.declared.undo.Undo.{Undo}
-use Rattle.semantics.specs.Machine.{Snapshot}
 use Rattle.semantics.specs.Undoing.{undone, IsRecordOf, IsTouched}
 use Rattle.walk.specs.declared.trail.Frame.{Frame}
 use Rattle.walk.specs.declared.trail.Trail.{Trail}
