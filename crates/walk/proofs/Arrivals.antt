@@ -184,7 +184,8 @@ falls_node mode p old new u us h o kept e =
     let k = ap length o.steps in
     omega (arith, a, b, k)
 
-pub falls_leaf : (mode : Mode) (p : Program) (old new : Trail) → IsPlace p old → IsOpened p old new →
+pub falls_leaf : (mode : Mode) (p : Program) (old new : Trail) → IsPlace p old
+    → IsOpened p old new →
     ((t : ℕ) → has new.node.todo t ≡ (has old.node.enabled t && is_kept_at mode old.node t)) →
     members_from old.node.enabled 0 ≡ [] →
     turns_left mode p new + 2 ≤ turns_from mode p old

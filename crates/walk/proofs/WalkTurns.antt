@@ -81,7 +81,8 @@ further_extended mode p old new t asleep done e =
       left = (λ i. open_above mode p (same i) (e.above i))
           ∙ ((λ i. open_at mode p (path e.frames) (e.node i)
           ++ open_above mode p (old.depth - old.base - 1) e.frames)
-          ∙ (sym (λ i. open_above mode p (count i) (e.before i)) ∙ sym (open_done mode p old done)));
+          ∙ (sym (λ i. open_above mode p (count i) (e.before i))
+          ∙ sym (open_done mode p old done)));
     }
 
 -- what was open above is open, once the walk goes back to the node above

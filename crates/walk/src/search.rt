@@ -316,8 +316,8 @@ impl Trail {
         Ok(())
     }
 
-    // One step further with the thread of the last step, where the bound is used up and so the steps
-    // of the others are put off.
+    // One step further with the thread of the last step, where the bound is used up and so the
+    // steps of the others are put off.
     #[inline(always)]
     fn follow(
         &mut self,

@@ -31,8 +31,8 @@ pub struct Node {
     pub used: u32,
 }
 
-/// A node above the one where a walk stands, the thread that went on from there, and how to take its
-/// steps back.
+/// A node above the one where a walk stands, the thread that went on from there, and how to take
+/// its steps back.
 #[derive(Clone, Copy, Debug)]
 pub struct Frame {
     pub node: Node,

@@ -7,7 +7,7 @@ ghost use Rattle.semantics.specs.Machine.{Snapshot, step, action_of, is_enabled,
 ghost use Rattle.semantics.specs.Reachable.{IsOf, IsValidAction, StandsInCode};
 ghost use Rattle.semantics.specs.Mask.{HasEnabled};
 ghost use Rattle.semantics.specs.Undoing.{IsTouched, TakesBack, restored, touches_one, with_all_touched, with_touched};
-ghost use Rattle.semantics.specs.inner.Recording.{HasGoneOn, IsFree};
+ghost use Rattle.semantics.specs.inner.Recording.{HasGoneOn, IsFree, is_access};
 ghost use Rattle.semantics.specs.declared.state.Action.TheVariants.{OnVariable, OnMutex, OnCondition, OnSemaphore};
 ghost use Rattle.semantics.specs.declared.undo.Touched.{Touched};
 ghost use Rattle.semantics.specs.declared.undo.Touched.TheVariants.{Variable as TheVariable, Owner as TheOwner, Count as TheCount};
@@ -24,8 +24,8 @@ use guest_code::program::{Instruction, Program};
 
 impl State {
     /// One more step of the thread whose step this record takes back, so that the record and what
-    /// further steps touched take them all back. Answers what it touched and, where the mask has the
-    /// threads that are enabled before the step, those that are enabled after it. It takes no
+    /// further steps touched take them all back. Answers what it touched and, where the mask has
+    /// the threads that are enabled before the step, those that are enabled after it. It takes no
     /// memory. `None` where threads are called, or where the thread waits or was woken: such a step
     /// is not taken.
     #[inline(always)]
@@ -40,7 +40,8 @@ impl State {
         requires enabled { IsTrue (is_enabled program.now self.old thread) }
         requires thread { undo.old.thread ≡ thread }
         requires few { undo.old.saved.count ≤ LOCALS }
-        ensures taken { is_some result ≡ touches_one self.old (next_of program.now self.old thread) }
+        ensures taken { is_some result
+            ≡ touches_one self.old (next_of program.now self.old thread) }
         ensures same { result ≡ None → self.new ≡ self.old }
         ensures record { result ≡ None → undo.new ≡ undo.old }
         ensures value { IfSome result (λ r. self.new ≡ step program.now self.old thread) }
@@ -68,7 +69,8 @@ impl State {
         requires of { IsOf program.now self.old }
         requires enabled { IsTrue (is_enabled program.now self.old thread) }
         requires few { saved.old.count ≤ LOCALS }
-        ensures taken { is_some result ≡ touches_one self.old (next_of program.now self.old thread) }
+        ensures taken { is_some result
+            ≡ touches_one self.old (next_of program.now self.old thread) }
         ensures same { result ≡ None → self.new ≡ self.old }
         ensures kept { result ≡ None → saved.new ≡ saved.old }
         ensures further { IfSome result (λ r.
@@ -99,37 +101,19 @@ impl State {
         requires fine { IsValid program.now instruction.now }
         requires next { next_of program.now self.old thread ≡ action_of instruction.now }
         requires few { saved.old.count ≤ LOCALS }
-        ensures taken { is_some result ≡ touches_one self.old (next_of program.now self.old thread) }
+        ensures taken { is_some result
+            ≡ touches_one self.old (next_of program.now self.old thread) }
         ensures same { result ≡ None → self.new ≡ self.old }
         ensures kept { result ≡ None → saved.new ≡ saved.old }
         ensures further { IfSome result (λ r.
             HasGoneOn program.now self.old thread saved.old saved.new r.0 self.new r.1) }
     {
         match instruction {
-            Instruction::Load { local, variable } => {
-                let access = VariableAction::Load(*local);
-                Some(self.go_on_variable(program, thread, *variable, access, saved))
-            }
-            Instruction::Store { variable, value } => {
-                let access = VariableAction::Store(*value);
-                Some(self.go_on_variable(program, thread, *variable, access, saved))
-            }
-            Instruction::Add {
-                local,
-                variable,
-                value,
-            } => {
-                let access = VariableAction::Add(*local, *value);
-                Some(self.go_on_variable(program, thread, *variable, access, saved))
-            }
-            Instruction::Cas {
-                local,
-                variable,
-                expected,
-                new,
-            } => {
-                let access = VariableAction::Cas(*local, *expected, *new);
-                Some(self.go_on_variable(program, thread, *variable, access, saved))
+            Instruction::Load { .. }
+            | Instruction::Store { .. }
+            | Instruction::Add { .. }
+            | Instruction::Cas { .. } => {
+                Some(self.go_access(program, thread, instruction, saved))
             }
             Instruction::Lock(m) => {
                 Some(self.go_on_mutex(program, thread, *m, MutexAction::Lock, saved))
@@ -154,6 +138,64 @@ impl State {
             | Instruction::Assert(_)
             | Instruction::SkipIfZero(_, _)
             | Instruction::Skip(_) => None,
+        }
+    }
+
+    // A further step of a running thread at this instruction, which is on a variable.
+    #[inline(always)]
+    fn go_access(
+        &mut self,
+        program: &Program,
+        thread: u8,
+        instruction: &Instruction,
+        saved: &mut Saved,
+    ) -> (Touched, After)
+        requires of { IsOf program.now self.old }
+        requires enabled { IsTrue (is_enabled program.now self.old thread) }
+        requires pc { StandsInCode program.now self.old thread }
+        requires fine { IsValid program.now instruction.now }
+        requires next { next_of program.now self.old thread ≡ action_of instruction.now }
+        requires access { IsTrue (is_access instruction.now) }
+        requires few { saved.old.count ≤ LOCALS }
+        ensures { HasGoneOn program.now self.old thread saved.old saved.new result.0 self.new
+            result.1 }
+    {
+        match instruction {
+            Instruction::Load { local, variable } => {
+                let access = VariableAction::Load(*local);
+                self.go_on_variable(program, thread, *variable, access, saved)
+            }
+            Instruction::Store { variable, value } => {
+                let access = VariableAction::Store(*value);
+                self.go_on_variable(program, thread, *variable, access, saved)
+            }
+            Instruction::Add {
+                local,
+                variable,
+                value,
+            } => {
+                let access = VariableAction::Add(*local, *value);
+                self.go_on_variable(program, thread, *variable, access, saved)
+            }
+            Instruction::Cas {
+                local,
+                variable,
+                expected,
+                new,
+            } => {
+                let access = VariableAction::Cas(*local, *expected, *new);
+                self.go_on_variable(program, thread, *variable, access, saved)
+            }
+            _ => {
+                let others = Others::Same;
+                (
+                    Touched::Nothing,
+                    After {
+                        others,
+                        free: false,
+                    },
+                )
+            }
         }
     }
 
@@ -275,7 +317,8 @@ impl State {
         requires fine { IsValidAction program.now (OnCondition c _action) }
         requires next { next_of program.now self.old thread ≡ Some (OnCondition c _action) }
         requires few { saved.old.count ≤ LOCALS }
-        ensures taken { is_some result ≡ touches_one self.old (next_of program.now self.old thread) }
+        ensures taken { is_some result
+            ≡ touches_one self.old (next_of program.now self.old thread) }
         ensures same { result ≡ None → self.new ≡ self.old }
         ensures kept { result ≡ None → saved.new ≡ saved.old }
         ensures further { IfSome result (λ r.

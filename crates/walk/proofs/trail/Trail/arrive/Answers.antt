@@ -23,7 +23,8 @@ pub returns-in_ok-defer_apart-in-Some-clause-search : goal.returns-in_ok-defer_a
 returns-in_ok-defer_apart-in-Some-clause-search c =
     arrived_node c.args.mode c.args.item.now c.args.self.now _ c.args.found.now _
     c.open-past.result _ _ c.requires.search
-    (opened_here c.args.item.now.program c.args.self.now _ c.requires.search.place.trail c.defer_apart.ensures.steps
+    (opened_here c.args.item.now.program c.args.self.now _ c.requires.search.place.trail
+    c.defer_apart.ensures.steps
     refl refl refl refl refl refl c.open-past.ensures.same)
     c.open-past.ensures.kept c.open-past.ensures.past
     (ap (λ (n : Node). members_from n.enabled 0) (sym c.open-past.ensures.same) ∙
@@ -35,7 +36,8 @@ returns-in_ok-defer_apart-in-Some-clause-falls c =
     falls_node c.args.mode c.args.item.now.program c.args.self.now
     (record c.args.self.now { steps = c.defer_apart.new.steps; node = c.open-past.new.self }) _ _
     c.requires.search.place
-    (opened_here c.args.item.now.program c.args.self.now _ c.requires.search.place.trail c.defer_apart.ensures.steps
+    (opened_here c.args.item.now.program c.args.self.now _ c.requires.search.place.trail
+    c.defer_apart.ensures.steps
     refl refl refl refl refl refl c.open-past.ensures.same)
     c.open-past.ensures.kept (ap (λ (n : Node). members_from n.enabled 0)
     (sym c.open-past.ensures.same) ∙ c.in-Some.ensures.list)

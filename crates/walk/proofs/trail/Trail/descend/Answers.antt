@@ -37,7 +37,8 @@ run_on-requires c =
           c.args.found.now c.args.thread c.sleepers-asleep.result
           c.requires.search trail (further_entered c.args.mode c.args.item.now.program
           c.args.self.now c.enter.new.self c.args.thread c.sleepers-asleep.result
-          c.requires.search.place c.in_ok-enter.ensures.entered) (c.sleepers-asleep.ensures ∙ ap (λ (q : Program). mask_after c.args.mode
+          c.requires.search.place c.in_ok-enter.ensures.entered) (c.sleepers-asleep.ensures
+          ∙ ap (λ (q : Program). mask_after c.args.mode
           (here q c.args.self.now) c.args.thread) c.program-program.ensures);
       todo = c.in_ok-enter.ensures.entered.next.todo;
       last = c.in_ok-enter.ensures.entered.next.last;
