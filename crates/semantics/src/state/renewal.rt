@@ -10,7 +10,18 @@ ghost use Rattle.semantics.specs.declared.action.Others.TheVariants.{At};
 use crate::action::{After, Gate, Others, passes};
 use crate::mask::Mask;
 use crate::state::{State, Status};
+use guest_code::limits::THREADS;
 use guest_code::program::Program;
+
+// A set, without one of its threads where that is off.
+#[inline(always)]
+fn kept_where(set: Mask, thread: u8, on: bool) -> Mask
+    requires { thread < THREADS }
+    ensures same { has set thread ≡ true → has result thread ≡ on }
+    ensures others { (u : ℕ) → u ≢ thread → has result u ≡ has set u }
+{
+    if on { set } else { set.with(thread, false) }
+}
 
 impl State {
     // The threads that are enabled now, after a step of this one, where these were before it.
@@ -21,11 +32,12 @@ impl State {
         requires free { IsTrue after.free → is_enabled program.now self.now thread ≡ true }
         requires gate { HasGate after.others self.now }
         ensures { (s : Snapshot) → IsOf program.now s → HasEnabled mask program.now s →
+            is_enabled program.now s thread ≡ true →
             Changes after.others program.now s thread self.now →
             HasEnabled result program.now self.now }
     {
         let on = self.is_on(program, thread, after.free);
-        let near = mask.with(thread, on);
+        let near = kept_where(mask, thread, on);
         match after.others {
             Others::Same => near,
             Others::At(gate) => self.renew_at(program, thread, near, gate),
@@ -65,8 +77,8 @@ impl State {
         requires of { IsOf program.now self.now }
         requires thread { thread < length program.now.threads }
         requires gate { IsGate gate self.now }
-        requires on { has near thread ≡ is_enabled program.now self.now thread }
         ensures { (s : Snapshot) → IsOf program.now s →
+            has near thread ≡ is_enabled program.now self.now thread →
             ((u : ℕ) → u ≢ thread → has near u ≡ is_enabled program.now s u) →
             Changes (At gate) program.now s thread self.now →
             HasEnabled result program.now self.now }

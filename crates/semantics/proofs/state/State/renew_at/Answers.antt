@@ -7,9 +7,9 @@ use Rattle.semantics.proofs.state.State.renew_at.Goals.{then-on, else-on}
 use Rattle.semantics.proofs.state.State.renew_at.Goals as goal
 
 pub returns : goal.returns
-returns c = λ s of' old change.
+returns c = λ s of' on old change.
     renew_at c.args.program.now s c.args.self.now c.args.thread c.args.gate c.is_open-on.result
-    c.args.near c.with.result c.set_at.result of' c.requires.of c.requires.thread c.requires.on old
+    c.args.near c.with.result c.set_at.result of' c.requires.of c.requires.thread on old
     change c.is_open-on.ensures c.with.ensures.same
     (λ u l ne. c.with.ensures.others u ne ∙ unlike u l)
     c.set_at.ensures.below c.set_at.ensures.above
