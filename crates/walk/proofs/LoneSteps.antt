@@ -21,7 +21,7 @@ use Rattle.walk.specs.Summaries.{with_beyond}
 use Rattle.walk.specs.Items.{ItemView, item_at}
 use Rattle.walk.specs.Walks.{IsWalked}
 use Rattle.walk.specs.inner.Children.{state_of, is_kept_step, kept_steps, child_of, children_of, children, cost_of, costs}
-use Rattle.walk.specs.inner.Paths.{leaves, leaves_last, state_at, IsNode, IsNext, IsOpened, IsTrail, HasSwitches}
+use Rattle.walk.specs.inner.Paths.{leaves, leaves_last, state_at, IsNode, IsOpened, IsTrail, HasSwitches}
 use Rattle.walk.specs.inner.WalkerInvariant.{item_of, here, open_above, left_above, still_open, turns_left, turns_from, is_kept_at, is_past_at, IsSearch, IsShared, IsSpent}
 use Rattle.walk.proofs.Arrivals.{place_opened, put_off, here_of}
 use Rattle.walk.proofs.Filters.{filter_none, filter_twice}
@@ -182,19 +182,3 @@ lone_turns bound p old new t h o todo spent on =
     let b = children_cost mode (here p old) (here_of p old h) (lone_more p old t h on) in
     let k = ap length o.steps in
     omega (arith, a, b, k)
-
--- the node after its step is spent, too
-pub lone_again : (bound : ℕ) (n next : Node) (t : ℕ) → IsSpent bound n t →
-    has n.enabled t ≡ true → IsNext n t next → IsSpent bound next t
-lone_again bound n next t h on after = record {
-  todo = after.todo;
-  last = after.last;
-  used = after.used ∙ (ap (λ b. n.used + one_if b) (lone_leaves n t h.last on t ∙ own)
-      ∙ (no_more ∙ h.used));
-}
-  where
-    own : not (nat_eq t t) ≡ false
-    own = grind (arith, nat_tests)
-
-    no_more : n.used + 0 ≡ n.used
-    no_more = omega arith

@@ -3,7 +3,7 @@ use Rattle.std.proofs.Common.{◌≡◌, ℕ, suc, ◌+◌, ◌-◌, ◌<◌, �
 use Rattle.std.proofs.lemmas.Bool.{cases_lt, false≢true}
 use Rattle.std.proofs.lemmas.Bool.Decides.{nat_tests}
 use Rattle.semantics.proofs.WorkFalls.{disabled_past}
-use Rattle.std.proofs.lemmas.List.{reverse-append, length-append, length-replicate, length-reverse, append_assoc, length_push, replicate_more, take_more, take_more_set, take_at, drop_at, take-take, take-append-drop, drop-take, set-get_or, get_or_read, get_or-reverse, reverse-reverse}
+use Rattle.std.proofs.lemmas.List.{reverse-append, length-append, length-replicate, length-reverse, append_assoc, length_push, replicate_more, take_more, take_more_set, take_at, drop_at, take-take, take-append-drop, drop-take, get_or_read, get_or-reverse, reverse-reverse}
 use Rattle.std.proofs.lemmas.List.Elements.{All-nil}
 use Rattle.std.specs.List.{All}
 use Rattle.guest_code.specs.Program.{Program}
@@ -515,28 +515,6 @@ pub opened_here : (p : Program) (old new : Trail) → IsTrail p old
 opened_here p old new h items depth frames further touched state base node =
     opened p old new h items depth frames further (ap (take old.further) touched)
     (let r = h.places in let e = ap length touched in omega (arith, r, e)) state base node
-
--- a step that was written down, and then not taken
-pub opened_again : (p : Program) (old new : Trail) (w : List ℕ) (n t : ℕ) (f : Frame) (u : Undo)
-    → IsTrail p old → w ≡ old.steps.items ++ t ∷ [] → new.steps.items ≡ take (length w - 1) w
-    → new.depth ≡ old.depth → f ≡ get_or old.frames.items n f → u ≡ f.undo
-    → new.frames.items ≡ set old.frames.items n (record f { undo = u })
-    → new.further ≡ old.further
-    → take old.further new.touched.items ≡ take old.further old.touched.items
-    → old.further ≤ length new.touched.items → new.state ≡ old.state → new.base ≡ old.base
-    → new.node ≡ record old.node { todo = new.node.todo } → IsOpened p old new
-opened_again p old new w n t f u h pushed popped depth read same frames further touched places state
-    base node =
-    let S : List Frame = old.frames.items in
-    let few : length old.steps.items ≡ length w - 1 =
-    let k = ap length pushed ∙ length_push old.steps.items t in omega (arith, k) in
-    let items : new.steps.items ≡ old.steps.items =
-    popped ∙ (ap (take (length w - 1)) pushed
-    ∙ take_at old.steps.items (t ∷ []) (length w - 1) few) in
-    let kept : new.frames.items ≡ S =
-    frames ∙ (ap (λ (x : Undo). set S n (record f { undo = x })) same
-    ∙ (ap (set S n) read ∙ set-get_or S n f)) in
-    opened p old new h items depth kept further touched places state base node
 
 pub opened_twice : (p : Program) (a b c : Trail) → IsOpened p a b → IsOpened p b c
     → IsOpened p a c

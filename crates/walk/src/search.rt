@@ -1,6 +1,6 @@
 //! The turns of a walk: down into the next open child, or back to the node above.
 
-ghost use Rattle.std.specs.Prelude.{◌≡◌, ◌+◌, ◌-◌, ◌++◌, ◌∷◌, ◌<◌, ◌≤◌, ◌&&◌, ◌||◌, not, [], ℕ, true, false, map, IfOk, IfErr, Some, OnOk, IsTrue, IsFalse, length, take, min, All};
+ghost use Rattle.std.specs.Prelude.{◌≡◌, ◌+◌, ◌-◌, ◌++◌, ◌∷◌, ◌<◌, ◌≤◌, ◌&&◌, ◌||◌, not, [], ℕ, true, false, map, IfOk, Some, OnOk, IsTrue, IsFalse, length, take, min, All};
 ghost use Rattle.guest_code.specs.declared.limits.TheConstants.{THREADS};
 ghost use Rattle.semantics.specs.Ends.{is_empty};
 ghost use Rattle.semantics.specs.Machine.{is_enabled};
@@ -8,7 +8,7 @@ ghost use Rattle.semantics.specs.Mask.{has, members_from, no_threads};
 ghost use Rattle.walk.specs.Items.{IsItem};
 ghost use Rattle.walk.specs.Summaries.{nothing, with_beyond};
 ghost use Rattle.walk.specs.inner.Children.{child_of, mask_after, cost_of};
-ghost use Rattle.walk.specs.inner.Paths.{HasSwitches, IsTrail, with_node};
+ghost use Rattle.walk.specs.inner.Paths.{HasSwitches, IsTrail};
 ghost use Rattle.walk.specs.Walks.{IsWalked, IsPastBound, walk_past_bound};
 ghost use Rattle.walk.specs.inner.WalkerInvariant.{IsPlace, IsSearch, IsSpent, IsUsedUp, here, left_above, still_open, turns_left, turns_from, is_kept_at, is_past_at, is_past_here, IsWithinAt, IsShared};
 

@@ -43,7 +43,7 @@ pub struct Frame {
 }
 
 /// The way from the start of a program: its steps, the state that they lead to, the node there, and
-/// a frame for each node above at which something may be left to try.
+/// a frame for each node above, but for those between a step and a further one.
 #[derive(Drop)]
 pub struct Trail {
     pub state: State,

@@ -12,7 +12,7 @@ ghost use Rattle.semantics.specs.declared.state.Action.TheVariants.{OnVariable, 
 ghost use Rattle.semantics.specs.declared.undo.Touched.{Touched};
 ghost use Rattle.semantics.specs.declared.undo.Touched.TheVariants.{Variable as TheVariable, Owner as TheOwner, Count as TheCount};
 
-use crate::action::{After, Gate, Others};
+use crate::action::{After, Others};
 use crate::local::resume;
 use crate::mask::Mask;
 use crate::state::{
