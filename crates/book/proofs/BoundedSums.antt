@@ -45,7 +45,7 @@ item_sum_kept : (mode : Mode) (i : ItemView) → IsSummary (item_sum mode i)
 item_sum_kept mode i = sum_kept i.program (schedules_of mode i) (goes_beyond mode i)
 
 sums_kept : (mode : Mode) (is : List ItemView) → IsSummary (item_sums mode is)
-sums_kept mode [] = nothing_kept [] refl
+sums_kept mode [] = nothing_kept 0 0 0 false [] refl refl refl refl
 sums_kept mode (i ∷ is) =
     join_kept (item_sum mode i) (item_sums mode is) (item_sum_kept mode i) (sums_kept mode is)
 

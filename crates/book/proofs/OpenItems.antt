@@ -1,13 +1,13 @@
 -- What the items of a book are: below the root, so of its program, and their prefixes run.
-use Rattle.std.proofs.Common.{◌≡◌, Bool, true, false, ◌++◌, subst, append_assoc}
+use Rattle.std.proofs.Common.{◌≡◌, ℕ, ◌<◌, Bool, true, false, ◌++◌, length, get_or, slice_get, Some, sym, ◌∙◌, subst, append_assoc}
 use Rattle.std.specs.List.{All}
 use Rattle.std.proofs.lemmas.List.Elements.{All-weaker}
-use Rattle.walk.specs.Items.{IsItem, root_of}
+use Rattle.walk.specs.Items.{ItemView, IsItem, root_of}
 use Rattle.walk.specs.Walks.{IsBelow, items_at}
 use Rattle.walk.proofs.ListParts.{all_left, all_right}
 use Rattle.book.specs.ItemLists.{ListView, all_of}
 use Rattle.book.specs.Books.{BookView, Keeps, KeepsWhere}
-use Rattle.book.proofs.PackedItems.{below_run}
+use Rattle.book.proofs.PackedItems.{below_run, got-or}
 
 left_below : (b : BookView) → Keeps b →
     All (IsBelow (root_of b.program)) (b.open_items ++ b.deferred)
@@ -44,3 +44,13 @@ loose_own b l e h =
     (all_right (IsBelow (root_of b.program)) (items_at b.program l.packed) l.loose
     (subst (All (IsBelow (root_of b.program))) e
     (all_left (IsBelow (root_of b.program)) b.open_items b.deferred (left_below b h))))
+
+-- an open item is of the book's program
+pub open_own : (b : BookView) → Keeps b → (k : ℕ) (i : ItemView) → k < length b.open_items →
+    slice_get b.open_items k ≡ Some i → b.program ≡ i.program
+open_own b h k i lt at =
+    let below : IsBelow (root_of b.program) (get_or b.open_items k i) =
+    all_left (IsBelow (root_of b.program)) b.open_items b.deferred (left_below b h) k i lt in
+    let there : Some (get_or b.open_items k i) ≡ Some i = sym (got-or b.open_items k i lt) ∙ at in
+    let same : get_or b.open_items k i ≡ i = cc in
+    sym (subst (λ (x : ItemView). x.program ≡ b.program) same below.program)

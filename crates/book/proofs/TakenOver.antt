@@ -1,14 +1,16 @@
 -- Lists that grow by what a walk left, and shrink again where a later step is refused.
-use Rattle.std.proofs.Common.{◌≡◌, ℕ, zero, suc, ◌<◌, ◌≤◌, Bool, true, false, Option, None, List, [], ◌∷◌, ◌++◌, length, take, refl, ap, sym, ◌∙◌, arith, append_assoc}
+use Rattle.std.specs.declared.alloc.AllocError.{AllocError}
+use Rattle.std.proofs.Common.{◌≡◌, ℕ, zero, suc, ◌<◌, ◌≤◌, Bool, true, false, Option, None, List, [], ◌∷◌, ◌++◌, length, take, refl, ap, sym, ◌∙◌, subst, arith, append_assoc, Result, Ok, Err, OnOk, is_ok, if◌then◌else◌}
 use Rattle.std.specs.List.{remove}
 use Rattle.std.proofs.lemmas.List.{take_at}
 use Rattle.semantics.specs.Order.{lesser}
 use Rattle.guest_code.specs.Program.{Program}
 use Rattle.walk.specs.Summaries.{SummaryView}
 use Rattle.walk.specs.Items.{ItemView}
-use Rattle.walk.specs.Walks.{items_at}
+use Rattle.walk.specs.declared.found.Found.{Found}
+use Rattle.walk.specs.Walks.{items_at, found_walk}
 use Rattle.book.specs.ItemLists.{ListView, all_of}
-use Rattle.book.specs.Books.{BookView}
+use Rattle.book.specs.Books.{BookView, IsFoundAt, HasWalkedAt, settled, settled_found}
 
 pub loose_only : (p : Program) (l : ListView) → l.packed ≡ [] → all_of p l ≡ l.loose
 loose_only p l e = ap (λ ws. items_at p ws ++ l.loose) e
@@ -36,6 +38,34 @@ pub same_book : (b : BookView) (finished : SummaryView) (open_items deferred : L
     record b { finished = finished; open_items = open_items; deferred = deferred } ≡ b
 same_book b finished open_items deferred e f g =
     λ k. record b { finished = e k; open_items = f k; deferred = g k }
+
+-- what a walk found settles it
+pub settled_by_found : (b : BookView) (found : Found) (place : ℕ) (is : IsFoundAt b found place) →
+    settled_found b found place ≡ settled b (found_walk b.mode is.item found) place
+settled_by_found b found place is = λ k. record (settled_found b found place) {
+  deferred = b.deferred ++ items_at (is.program k) found.deferred;
+}
+
+-- an open item was walked where it stands, and what was found is settled
+pub walked_at : (old b new : BookView) (found : Found) (place quota : ℕ) → b ≡ old →
+    IsFoundAt b found place → found.part.tried ≤ quota →
+    (found.part.tried < quota → found.rest.items ≡ []) → new ≡ settled_found b found place →
+    HasWalkedAt old place quota new
+walked_at old b new found place quota same is tried rest e =
+    subst (λ (z : BookView). HasWalkedAt z place quota new) same (record {
+      walk = found_walk b.mode is.item found;
+      of = (refl, is.program);
+      is_open = is.is_open;
+      walked = is.walked;
+      tried = tried;
+      rest = rest;
+      book = e ∙ settled_by_found b found place is;
+    })
+
+pub on_settled : (r : Result (Unit {0}) AllocError) (new then_new else_new : BookView)
+    (P : Type 0) → new ≡ (if is_ok r then then_new else else_new) → (new ≡ then_new → P) → OnOk r P
+on_settled (Ok x) new then_new else_new P e f = f e
+on_settled (Err x) new then_new else_new P e f = tt
 
 -- where a quick book has found a bad schedule it packs no more
 pub packs_none : (packs quick : Bool) (first part : Option (List ℕ)) →

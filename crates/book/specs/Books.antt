@@ -12,7 +12,8 @@ use Rattle.walk.specs.declared.mode.Mode.{Mode}
 use Rattle.walk.specs.declared.mode.Mode.TheVariants.{Bounded, Reduced}
 use Rattle.walk.specs.Summaries.{SummaryView, nothing, join, with_beyond}
 use Rattle.walk.specs.Items.{ItemView, root_of, schedules_of}
-use Rattle.walk.specs.Walks.{WalkView, IsSplit}
+use Rattle.walk.specs.declared.found.Found.{Found}
+use Rattle.walk.specs.Walks.{WalkView, IsSplit, IsWalked, items_at, found_walk}
 use Rattle.book.specs.Quick.{is_later}
 use Rattle.book.specs.ItemLists.{ListView, all_of}
 use Rattle.book.specs.declared.errors.SettleError.{SettleError}
@@ -128,6 +129,31 @@ pub record Settles (old : BookView) (w : WalkView) (new : BookView) : Type 0 whe
   pub place : ℕ
   pub is_open : IsOpenAt old w.item place
   pub book : new ≡ settled old w place
+
+-- the open item at this place was walked up to a quota, and the walk was settled
+pub record HasWalkedAt (old : BookView) (place quota : ℕ) (new : BookView) : Type 0 where
+  pub walk : WalkView
+  pub of : IsWalkOf old walk
+  pub is_open : IsOpenAt old walk.item place
+  pub walked : IsWalked walk
+  pub tried : walk.part.tried ≤ quota
+  pub rest : walk.part.tried < quota → walk.rest ≡ []
+  pub book : new ≡ settled old walk place
+
+-- a walk of the open item at this place, in the book's mode, found this
+pub record IsFoundAt (b : BookView) (found : Found) (place : ℕ) : Type 0 where
+  pub item : ItemView
+  pub program : b.program ≡ item.program
+  pub is_open : IsOpenAt b item place
+  pub walked : IsWalked (found_walk b.mode item found)
+
+-- the book where such a walk is settled
+abbrev pub settled_found : BookView → Found → ℕ → BookView
+settled_found b found place = record b {
+  finished = join b.finished found.part;
+  open_items = remove b.open_items place ++ found.rest.items;
+  deferred = b.deferred ++ items_at b.program found.deferred;
+}
 
 -- why a walk is refused
 abbrev pub IsRefused : BookView → WalkView → SettleError → Type 0

@@ -7,7 +7,7 @@ ghost use Rattle.walk.specs.declared.mode.Mode.TheVariants.{Bounded};
 ghost use Rattle.walk.specs.Items.{whole};
 ghost use Rattle.book.specs.declared.limits.TheConstants.{ROUND};
 ghost use Rattle.book.specs.Quick.{IsBoundedBy};
-ghost use Rattle.book.specs.Books.{Keeps, drops, thinned, opening, IsWalkOf, IsOpenAt, settled, Settles, IsRefused, Raises, IsNotRaised, IsClosed, bound_of};
+ghost use Rattle.book.specs.Books.{Keeps, drops, thinned, opening, IsWalkOf, IsFoundAt, HasWalkedAt, settled_found, Settles, IsRefused, Raises, IsNotRaised, IsClosed, bound_of};
 
 use crate::errors::{RaiseError, SettleError};
 use crate::item_list::{ItemList, is_later};
@@ -17,13 +17,14 @@ use std::alloc::{AllocError, Global};
 use std::marker::Model;
 use std::mem;
 use std::sync::Arc;
+use walk::found::Found;
 use walk::hints::EndHints;
 use walk::item::Item;
 use walk::limits::BOUND;
 use walk::mode::Mode;
-use walk::spare::Spare;
 use walk::summary::Summary;
-use walk::walked::{Parts, Walked};
+use walk::walked::Walked;
+use walk::walker::Walker;
 
 /// What is finished of a program's search in a mode, which items are still open, and which wait for
 /// the next bound.
@@ -98,7 +99,7 @@ impl Book {
         let mut roots = Vec::new(alloc);
         roots.push(root)?;
         let mut open_items = ItemList::new(alloc);
-        open_items.append(roots)?;
+        open_items.append(alloc, &mut roots)?;
         Ok(Book {
             program,
             mode,
@@ -317,7 +318,7 @@ impl Book {
         if !same_modes(self.mode, walked.mode()) || !self.program.is_same(walked.program()) {
             return Err(SettleError::Stranger);
         }
-        let _spare = self.settle_own(alloc, walked)?;
+        let _found = self.settle_own(alloc, walked)?;
         Ok(())
     }
 
@@ -327,7 +328,7 @@ impl Book {
     /// # Errors
     ///
     /// As those of `settle`, but for `Stranger`.
-    pub fn settle_own(&mut self, alloc: Global, walked: Walked) -> Result<Spare, SettleError>
+    pub fn settle_own(&mut self, alloc: Global, walked: Walked) -> Result<Found, SettleError>
         requires { IsWalkOf self.old walked }
         ensures ok { OnOk result (Settles self.old walked self.new) }
         ensures err { IfErr result (λ e. (self.new ≡ self.old) × IsRefused self.old walked e) }
@@ -335,56 +336,78 @@ impl Book {
         let Some(place) = self.open_items.place_of(walked.item()) else {
             return Err(SettleError::NotOpen);
         };
-        match self.take_over(alloc, walked, place) {
-            Ok(spare) => Ok(spare),
+        let mut found = walked.into_found();
+        match self.take_over(alloc, &mut found, place) {
+            Ok(()) => Ok(found),
             Err(AllocError) => Err(SettleError::OutOfMemory),
         }
     }
 
-    // The same where the item is at a place among the open ones. The lists grow first; then the
-    // part is joined, which is the last that can be refused, and the item is taken out.
+    /// Walks the open item at a place, counted from 0, where it stands, and settles the walk: no
+    /// item is copied. What the walk found is kept in this memory, which serves one walk after
+    /// another.
+    ///
+    /// # Errors
+    ///
+    /// `AllocError` where memory runs out. The book is as before then.
+    pub fn walk_at(
+        &mut self,
+        alloc: Global,
+        walker: &mut Walker,
+        found: &mut Found,
+        place: usize,
+        quota: u32,
+    ) -> Result<(), AllocError>
+        requires place { place < length self.old.open_items }
+        requires walker { walker.old ≡ self.old.program }
+        requires quota { 1 ≤ quota }
+        ensures walker { walker.new ≡ walker.old }
+        ensures ok { OnOk result (HasWalkedAt self.old place quota self.new) }
+        ensures err { IfErr result (λ _. self.new ≡ self.old) }
+    {
+        self.open_items.unpack_from(alloc, &self.program, place)?;
+        let item = self.open_items.loose_item(place);
+        walker.walk_into(alloc, found, item, self.mode, quota)?;
+        self.take_over(alloc, found, place)
+    }
+
+    // Settles a walk of the open item at a place, of which the memory is left. The lists grow
+    // first; then the part is joined, which is the last that can be refused, and the item is taken
+    // out.
     fn take_over(
         &mut self,
         alloc: Global,
-        walked: Walked,
+        found: &mut Found,
         place: usize,
-    ) -> Result<Spare, AllocError>
-        requires of { IsWalkOf self.old walked }
-        requires is_open { IsOpenAt self.old walked.item place }
-        ensures { self.new ≡ (if is_ok result then settled self.old walked place else self.old) }
+    ) -> Result<(), AllocError>
+        requires { IsFoundAt self.old found.old place }
+        ensures { self.new ≡ (if is_ok result
+            then settled_found self.old found.old place else self.old) }
     {
-        let packs = is_packed(self.quick, &self.finished, walked.part());
+        let packs = is_packed(self.quick, &self.finished, &found.part);
         self.open_items
             .unpack_from(alloc, &self.program, first_loose(packs, place))?;
         let deferred_length = self.deferred.length();
         self.deferred
             .unpack_from(alloc, &self.program, first_loose(packs, deferred_length))?;
-        let quiet = is_quiet(&walked);
-        let Parts {
-            part,
-            rest,
-            mut deferred,
-        } = walked.into_parts();
+        let quiet = is_quiet(found);
         let open_length = self.open_items.length();
-        self.open_items.append(rest)?;
+        self.open_items.append(alloc, &mut found.rest)?;
         if let Err(error) = self
             .deferred
-            .append_prefixes(alloc, &self.program, &mut deferred, packs)
+            .append_prefixes(alloc, &self.program, &mut found.deferred, packs)
         {
             self.open_items.truncate(open_length);
             return Err(error);
         }
-        let ends = match self.finished.join_in_by(&mut self.hints, part) {
-            Ok(ends) => ends,
-            Err(error) => {
-                self.open_items.truncate(open_length);
-                self.deferred.truncate(deferred_length);
-                return Err(error);
-            }
-        };
+        if let Err(error) = self.finished.join_in_by(&mut self.hints, &mut found.part) {
+            self.open_items.truncate(open_length);
+            self.deferred.truncate(deferred_length);
+            return Err(error);
+        }
         self.open_items.remove(place);
         self.swept = both(self.swept, quiet);
-        Ok(Spare { ends, deferred })
+        Ok(())
     }
 
     /// Goes from a bound to the next: what is finished stays, `beyond` aside, and the items that
@@ -465,8 +488,8 @@ fn both(first: bool, second: bool) -> bool
 }
 
 // Whether a walk found no bad schedule and left nothing.
-fn is_quiet(walked: &Walked) -> bool
-    ensures { IsTrue result → (walked.now.rest ≡ []) × (walked.now.part.first_bad ≡ None) }
+fn is_quiet(found: &Found) -> bool
+    ensures { IsTrue result → (found.now.rest.items ≡ []) × (found.now.part.first_bad ≡ None) }
 {
-    walked.rest_length() == 0 && walked.part().first_bad().is_none()
+    found.rest.is_empty() && found.part.first_bad().is_none()
 }

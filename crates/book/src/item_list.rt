@@ -15,6 +15,7 @@ use semantics::mask::Mask;
 use std::alloc::{AllocError, Global};
 use std::collections::VecDeque;
 use std::marker::Model;
+use std::mem;
 use std::sync::Arc;
 use walk::item::Item;
 use walk::prefixes::Prefixes;
@@ -99,6 +100,15 @@ impl ItemList {
         Ok(items)
     }
 
+    // An item that isn't packed, by its place among all.
+    pub(crate) fn loose_item(&self, place: usize) -> &Item
+        requires loose { length self.now.packed ≤ place }
+        requires place { place < length self.now.packed + length self.now.loose }
+        ensures { (p : Program) → slice_get (all_of p self.now) place ≡ Some result.now }
+    {
+        &self.loose[place - self.packed.length()]
+    }
+
     // The place of an item of the list's program.
     pub(crate) fn place_of(&self, item: &Item) -> Option<usize>
         requires { All (λ i. i.program ≡ item.now.program) self.now.loose }
@@ -181,18 +191,21 @@ impl ItemList {
         self.hint = place;
     }
 
-    // Puts items after the others.
+    // Puts items after the others. Mostly there is none.
     //
     // # Errors
     //
     // `AllocError` where memory runs out; the list is then as before.
-    pub(crate) fn append(&mut self, items: Vec<Item>) -> Result<(), AllocError>
+    pub(crate) fn append(&mut self, alloc: Global, items: &mut Vec<Item>) -> Result<(), AllocError>
         ensures packed { self.new.packed ≡ self.old.packed }
         ensures loose { self.new.loose ≡
-            (if is_ok result then self.old.loose ++ items.items else self.old.loose) }
+            (if is_ok result then self.old.loose ++ items.old.items else self.old.loose) }
     {
-        let mut items = VecDeque::from_vec(items);
-        self.loose.append(&mut items)
+        if items.is_empty() {
+            return Ok(());
+        }
+        let taken = mem::replace(items, Vec::new(alloc));
+        self.loose.append(&mut VecDeque::from_vec(taken))
     }
 
     // Puts the items of prefixes after the others, packed or as they are. The list of prefixes may
@@ -218,8 +231,8 @@ impl ItemList {
         if packs && self.loose.is_empty() {
             return self.packed.append(prefixes);
         }
-        let items = last_items(alloc, program, prefixes, prefixes.length())?;
-        self.append(items)
+        let mut items = last_items(alloc, program, prefixes, prefixes.length())?;
+        self.append(alloc, &mut items)
     }
 
     // Keeps so many items at most, the first of them.

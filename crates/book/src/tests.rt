@@ -8,10 +8,11 @@ use std::alloc::{Alloc, AllocError, Global};
 use std::process::Abort;
 use std::sync::Arc;
 use std::test::*;
+use walk::found::Found;
 use walk::item::Item;
 use walk::mode::Mode;
 use walk::walked::Walked;
-use walk::walker::walk;
+use walk::walker::{Walker, walk};
 
 /// Two threads that each add one to a variable.
 const COUNTERS: &str =
@@ -197,6 +198,27 @@ const ONE_BY_ONE: [Settlement; 3] = [
 #[test]
 fn items_are_settled_one_by_one(rt: HostRuntime) -> Result<(), Fail> {
     let _book = played(&rt, COUNTERS, &ONE_BY_ONE)?;
+    Ok(())
+}
+
+/// Walks the first open item of a book where it stands.
+fn walk_first(alloc: Global, book: &mut Book, quota: u32) -> Result<(), Fail>
+    requires { 1 ≤ quota }
+{
+    let mut walker = Walker::new(alloc, Arc::try_clone(book.program())?)?;
+    if book.open_length() > 0 {
+        book.walk_at(alloc, &mut walker, &mut Found::new(alloc), 0, quota)?;
+    }
+    Ok(())
+}
+
+#[test]
+fn items_are_walked_where_they_stand(rt: HostRuntime) -> Result<(), Fail> {
+    let mut book = book_of(rt.alloc(), COUNTERS, FIRST)?;
+    walk_first(rt.alloc(), &mut book, 1)?;
+    shows(&rt, &book, "1 true open [1] deferred [0, 1]")?;
+    walk_first(rt.alloc(), &mut book, 256)?;
+    shows(&rt, &book, "2 true deferred [0, 1] deferred [1, 0]")?;
     Ok(())
 }
 

@@ -1,10 +1,10 @@
 -- A settled walk leaves less to walk.
-use Rattle.std.proofs.Common.{◌≡◌, ℕ, suc, Bool, true, false, cond, not, ◌||◌, ◌+◌, ◌*◌, ◌^◌, ◌<◌, ◌≤◌}
+use Rattle.std.proofs.Common.{◌≡◌, ℕ, suc, Bool, true, false, cond, not, ◌||◌, ◌+◌, ◌-◌, ◌*◌, ◌^◌, ◌<◌, ◌≤◌}
 use Rattle.std.proofs.Common.{◌⊎◌, inl, inr, ⊎_elim, List, [], ◌∷◌, ◌++◌, length, get_or, take, drop}
 use Rattle.std.proofs.Common.{refl, ap, sym, ◌∙◌, subst, arith, Ok, length-append, length-drop}
 use Rattle.std.specs.List.{All, remove, filter, list_any}
 use Rattle.std.proofs.lemmas.Bool.{cases_lt}
-use Rattle.std.proofs.lemmas.List.{get_or-drop}
+use Rattle.std.proofs.lemmas.List.{get_or-drop, nil_from_length}
 use Rattle.std.proofs.lemmas.List.Elements.{All-nil, All-cons, All-weaker}
 use mathlib.Core.Logic.{dite}
 use native.Mathlib.Decide.{ℕ_discrete}
@@ -15,7 +15,7 @@ use Rattle.walk.specs.Items.{ItemView, schedule_count, schedules_of, root_of}
 use Rattle.walk.specs.Walks.{WalkView, IsWalked, IsBelow, tried_by}
 use Rattle.walk.proofs.WalkedItems.{walked_counts, walked_count}
 use Rattle.walk.proofs.ListParts.{all_left, all_right}
-use Rattle.book.specs.Books.{BookView, Keeps, KeepsWhere, Settles, drops, thinned}
+use Rattle.book.specs.Books.{BookView, Keeps, KeepsWhere, Settles, HasWalkedAt, drops, thinned}
 use Rattle.book.proofs.DroppedCounts.{nothing_dropped}
 use Rattle.book.proofs.Lists.{parted}
 use Rattle.runner.specs.inner.Shrinking.{IsSmaller, HasLess, Went, Goes}
@@ -80,6 +80,28 @@ settled_less old new w s walk ends =
           (walked_counts w walk) ends)));
     }
 
+-- an open item was walked where it stands
+pub walked_less : (old new : BookView) (place quota : ℕ) → 1 ≤ quota
+    → HasWalkedAt old place quota new → HasLess old new
+walked_less old new place quota some h =
+    settled_less old new h.walk
+    (record { of = h.of; place = place; is_open = h.is_open; book = h.book }) h.walked
+    (walk_ends h.walk quota some h.walked h.rest)
+
+-- as many items are open then, but for one
+pub walked_length : (old new : BookView) (place quota : ℕ) → HasWalkedAt old place quota new
+    → length old.open_items ≤ suc (length new.open_items)
+walked_length old new place quota h =
+    let is = parted old.open_items place h.walk.item h.is_open.0 h.is_open.1 in
+    let before = take place old.open_items in
+    let after = drop (suc place) old.open_items in
+    let n = ap (length {A = ItemView}) is in
+    let m = ap (λ (b : BookView). length b.open_items) h.book in
+    let x = length-append before (h.walk.item ∷ after) in
+    let y = length-append before after in
+    let z = length-append (before ++ after) h.walk.rest in
+    omega (arith, n, m, x, y, z)
+
 smaller_again : (mode : Mode) (a b c : List ItemView) → IsSmaller mode b a → IsSmaller mode c b
     → IsSmaller mode c a
 smaller_again mode a b c x y =
@@ -106,6 +128,24 @@ round_less old book new item j start less went k inside at = dite (ℕ_discrete 
     (ap (λ (b : BookView). get_or b.open_items k item) (start e) ∙ at))) went)
     (λ n. let l : HasLess old book = less (omega arith) in
     ⊎_elim (λ q. less_again old book new l q) (λ t. subst (HasLess old) (sym t.book) l) went)
+
+-- one more item of a round was walked where it stands
+pub walked_again : (old book new : BookView) (first j place quota : ℕ) → first ≤ j
+    → (j ≡ first → book ≡ old) → (first < j → HasLess old book) → 1 ≤ quota
+    → HasWalkedAt book place quota new → HasLess old new
+walked_again old book new first j place quota from start less some walked =
+    let l = walked_less book new place quota some walked in
+    dite (ℕ_discrete j first)
+    (λ e. subst (λ (b : BookView). HasLess b new) (start e) l)
+    (λ n. less_again old book new (less (omega (arith, n, from))) l)
+
+-- all items of a round were walked where they stand
+pub round_walked : (old book : BookView) (n first j : ℕ) → n ≡ length old.open_items
+    → first ≡ n - 64 → first ≤ j → n ≤ j → (j ≡ first → book ≡ old) → (first < j → HasLess old book)
+    → Goes old book
+round_walked old book n first j is last from all start less = dite (ℕ_discrete j first)
+    (λ e. inr (start e, nil_from_length old.open_items (omega (arith, is, last, all, e))))
+    (λ d. inl (less (omega (arith, d, from))))
 
 -- an item of the last ones is at a place among all
 pub last_at : (open_items items : List ItemView) (first j : ℕ) (item : ItemView)

@@ -14,9 +14,11 @@ use crate::options::{Options, Search};
 use crate::report::Report;
 use book::books::Book;
 use book::errors::{RaiseError, SettleError};
+use book::limits::ROUND;
 use guest_code::program::Program;
 use std::alloc::Global;
 use std::sync::Arc;
+use walk::found::Found;
 use walk::item::Item;
 use walk::mode::Mode;
 use walk::walker::Walker;
@@ -71,8 +73,8 @@ fn walk_item(
     }
     let walked = walker.walk(alloc, item, book.mode(), quota)?;
     match book.settle_own(alloc, walked) {
-        Ok(spare) => {
-            walker.reuse(spare);
+        Ok(found) => {
+            walker.reuse(found);
             let _number = book.drop_later();
             Ok(())
         }
@@ -82,8 +84,8 @@ fn walk_item(
     }
 }
 
-// Walks the items of a round in their order.
-fn walk_round(
+// Walks copies of the items of a round in their order: some items may be dropped in between.
+fn walk_copies(
     alloc: Global,
     book: &mut Book,
     walker: &mut Walker,
@@ -103,6 +105,50 @@ fn walk_round(
     Ok(())
 }
 
+// Walks the items of a round in their order, each where it stands: those before it have left the
+// book, and what they left stands after the round.
+fn walk_in_place(
+    alloc: Global,
+    book: &mut Book,
+    walker: &mut Walker,
+    found: &mut Found,
+    quota: u32,
+) -> Result<(), ExploreError>
+    requires quota { 1 ≤ quota }
+    requires book { book.old.program ≡ walker.old }
+    ensures walker { walker.new ≡ walker.old }
+    ensures book { OnOk result (Goes book.old book.new) }
+    ensures error { IfErr result (λ e. e ≡ OutOfMemory) }
+{
+    let length = book.open_length();
+    let first = length.saturating_sub(ROUND);
+    for _ in first..length {
+        book.walk_at(alloc, walker, found, first, quota)?;
+    }
+    Ok(())
+}
+
+// Walks the items of a round in their order.
+fn walk_round(
+    alloc: Global,
+    book: &mut Book,
+    walker: &mut Walker,
+    found: &mut Found,
+    quota: u32,
+) -> Result<(), ExploreError>
+    requires quota { 1 ≤ quota }
+    requires book { book.old.program ≡ walker.old }
+    ensures walker { walker.new ≡ walker.old }
+    ensures book { OnOk result (Goes book.old book.new) }
+    ensures error { IfErr result (λ e. e ≡ OutOfMemory) }
+{
+    if book.is_quick() {
+        walk_copies(alloc, book, walker, quota)
+    } else {
+        walk_in_place(alloc, book, walker, found, quota)
+    }
+}
+
 // The rounds of a search in one mode.
 fn search_mode(
     alloc: Global,
@@ -120,8 +166,9 @@ fn search_mode(
     ensures next { IfOk result (ComesAfter program.now options mode book.new) }
     ensures error { IfErr result (λ e. e ≡ OutOfMemory) }
 {
+    let mut found = Found::new(alloc);
     loop {
-        walk_round(alloc, book, walker, options.quota)?;
+        walk_round(alloc, book, walker, &mut found, options.quota)?;
         let _open = book.open_length();
         match judge(alloc, program, options, mode, book, false)? {
             Next::Again => {}

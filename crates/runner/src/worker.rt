@@ -20,9 +20,9 @@ use std::collections::VecDeque;
 use std::sync::{Arc, Mutex, Wait};
 use std::thread;
 use std::thread::Threads;
+use walk::found::Found;
 use walk::item::Item;
 use walk::mode::Mode;
-use walk::spare::Spare;
 use walk::walked::Walked;
 use walk::walker::Walker;
 
@@ -84,7 +84,7 @@ pub(crate) struct Worker {
 #[derive(Drop)]
 struct Kept {
     walks: VecDeque<Walked>,
-    spares: Vec<Spare>,
+    spares: Vec<Found>,
 }
 
 impl Worker {
@@ -132,11 +132,11 @@ impl Worker {
     }
 
     // Takes the memory of settled walks back, for later ones.
-    fn take_back(&mut self, spares: &mut Vec<Spare>)
+    fn take_back(&mut self, spares: &mut Vec<Found>)
         ensures { self.new ≡ self.old }
     {
-        while let Some(spare) = spares.pop() {
-            self.walker.reuse(spare);
+        while let Some(found) = spares.pop() {
+            self.walker.reuse(found);
         }
     }
 
@@ -293,7 +293,7 @@ fn is_in(book: &Book, program: &Program, mode: Mode) -> bool
 fn settle_own(
     alloc: Global,
     book: &mut Book,
-    spares: &mut Vec<Spare>,
+    spares: &mut Vec<Found>,
     walked: Walked,
 ) -> Result<(), AllocError>
     requires { IsWalkOf book.old walked }
@@ -304,8 +304,8 @@ fn settle_own(
         Err(SettleError::OutOfMemory) => Err(AllocError),
         Err(SettleError::NotOpen) => Ok(()),
         Err(SettleError::Stranger) => Ok(()),
-        Ok(spare) => {
-            let _ = spares.push(spare);
+        Ok(found) => {
+            let _ = spares.push(found);
             Ok(())
         }
     }

@@ -13,7 +13,7 @@ use Rattle.walk.specs.declared.mode.Mode.{Mode}
 use Rattle.walk.specs.declared.mode.Mode.TheVariants.{Bounded, Reduced}
 use Rattle.walk.specs.declared.trail.Node.{Node}
 use Rattle.walk.specs.declared.trail.Trail.{Trail}
-use Rattle.walk.specs.declared.search.Found.{Found}
+use Rattle.walk.specs.declared.found.Found.{Found}
 use Rattle.walk.specs.Summaries.{SummaryView, with_beyond, greatest_count}
 use Rattle.walk.specs.Items.{ItemView, IsItem, item_at}
 use Rattle.walk.specs.Walks.{IsWalked}

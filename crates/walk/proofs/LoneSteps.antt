@@ -16,7 +16,7 @@ use Rattle.walk.specs.declared.mode.Mode.{Mode}
 use Rattle.walk.specs.declared.mode.Mode.TheVariants.{Bounded}
 use Rattle.walk.specs.declared.trail.Node.{Node}
 use Rattle.walk.specs.declared.trail.Trail.{Trail}
-use Rattle.walk.specs.declared.search.Found.{Found}
+use Rattle.walk.specs.declared.found.Found.{Found}
 use Rattle.walk.specs.Summaries.{with_beyond}
 use Rattle.walk.specs.Items.{ItemView, item_at}
 use Rattle.walk.specs.Walks.{IsWalked}

@@ -1,7 +1,7 @@
 -- What the steps of a walk share with the prefix that was put off last.
 use Rattle.std.proofs.Common.{◌≡◌, ℕ, List, [], ◌∷◌, ◌++◌, length, take, ap, ◌∙◌, sym, arith, subst}
 use Rattle.std.proofs.lemmas.List.{length_push, take-append-le}
-use Rattle.walk.specs.declared.search.Found.{Found}
+use Rattle.walk.specs.declared.found.Found.{Found}
 use Rattle.walk.specs.PrefixLists.{last_of}
 use Rattle.walk.specs.inner.WalkerInvariant.{IsShared}
 

@@ -1,8 +1,10 @@
-//! Hints at where end views stand.
+//! Hints at where end views stand, and their memory.
 
-ghost use Rattle.std.specs.Prelude.{◌<◌};
+ghost use Rattle.std.specs.Prelude.{◌≡◌, ◌<◌, [], IfOk};
+ghost use Rattle.walk.specs.inner.EndPlaces.{end_with};
 
-use semantics::view::Kind;
+use semantics::view::{EndView, Kind};
+use std::alloc::{AllocError, Global};
 
 // Places of the table.
 const PLACES: usize = 256;
@@ -49,6 +51,50 @@ impl EndHints {
         match u16::try_from(index) {
             Ok(index) => self.indexes[place] = index,
             Err(_) => {}
+        }
+    }
+}
+
+/// What a summary makes its end views with: hints at where they stand, and views that are not
+/// needed any more, to be written over.
+#[derive(Drop)]
+pub struct EndMemory {
+    pub hints: EndHints,
+    views: Vec<EndView>,
+}
+
+impl EndMemory {
+    /// No hint and no view.
+    pub fn new(alloc: Global) -> EndMemory {
+        EndMemory {
+            hints: EndHints::new(),
+            views: Vec::new(alloc),
+        }
+    }
+
+    // Takes views that are not needed any more. One for which there is no room is given back to the
+    // allocator.
+    pub(crate) fn take_in(&mut self, views: &mut Vec<EndView>)
+        ensures { views.new.items ≡ [] }
+    {
+        while let Some(view) = views.pop() {
+            let _ = self.views.push(view);
+        }
+        views.clear();
+    }
+
+    // The view of a kind and values.
+    pub(crate) fn view(
+        &mut self,
+        alloc: Global,
+        kind: Kind,
+        values: &[i64],
+    ) -> Result<EndView, AllocError>
+        ensures { IfOk result (λ v. v ≡ end_with kind values.now) }
+    {
+        match self.views.pop() {
+            Some(view) => view.rewritten(kind, values),
+            None => Ok(EndView::new(kind, values.to_vec(alloc)?)),
         }
     }
 }

@@ -6,48 +6,22 @@ ghost use Rattle.semantics.specs.Ends.{is_empty};
 ghost use Rattle.semantics.specs.Machine.{is_enabled};
 ghost use Rattle.semantics.specs.Mask.{has, members_from, no_threads};
 ghost use Rattle.walk.specs.Items.{IsItem};
-ghost use Rattle.walk.specs.Summaries.{nothing, with_beyond};
+ghost use Rattle.walk.specs.Summaries.{with_beyond};
 ghost use Rattle.walk.specs.inner.Children.{child_of, mask_after, cost_of};
 ghost use Rattle.walk.specs.inner.Paths.{HasSwitches, IsTrail};
-ghost use Rattle.walk.specs.Walks.{IsWalked, IsPastBound, walk_past_bound};
-ghost use Rattle.walk.specs.inner.WalkerInvariant.{IsPlace, IsSearch, IsSpent, IsUsedUp, here, left_above, still_open, turns_left, turns_from, is_kept_at, is_past_at, is_past_here, IsWithinAt, IsShared};
+ghost use Rattle.walk.specs.Walks.{IsWalked, IsPastBound, found_walk, walk_past_bound};
+ghost use Rattle.walk.specs.inner.WalkerInvariant.{IsPlace, IsSearch, IsSpent, IsUsedUp, here, left_above, still_open, turns_left, turns_from, is_kept_at, is_past_at, is_past_here, IsWithinAt, IsNew, IsShared};
 
+use crate::found::Found;
 use crate::item::Item;
 use crate::mode::Mode;
-use crate::prefixes::Prefixes;
-use crate::spare::Spare;
-use crate::summary::Summary;
 use crate::trail::{Node, Trail};
-use crate::walked::Walked;
 use guest_code::program::Program;
 use semantics::independence::sleepers_after;
 use semantics::mask::Mask;
 use std::alloc::{AllocError, Global};
 
-/// What a walk has found so far: the sum of what it tried, and the prefixes that its bound put off.
-#[derive(Drop)]
-pub struct Found {
-    pub part: Summary,
-    pub deferred: Prefixes,
-    /// So many of the walk's steps begin the prefix that was put off last, too.
-    pub shared: usize,
-}
-
 impl Found {
-    /// Nothing was found yet; what is found is kept in this memory.
-    pub fn new(spare: Spare) -> Found
-        ensures part { result.part ≡ nothing }
-        ensures deferred { result.deferred ≡ [] }
-        ensures shared { result.shared ≡ 0 }
-    {
-        let (part, deferred) = spare.into_empty();
-        Found {
-            part,
-            deferred,
-            shared: 0,
-        }
-    }
-
     // Puts the prefix of these steps and one of a thread after the others, by what they share with
     // the last one put off.
     #[inline(never)]
@@ -306,7 +280,7 @@ impl Trail {
                 let kind = self.state.final_kind();
                 found.part.add(
                     alloc,
-                    &mut self.hints,
+                    &mut self.ends,
                     self.steps.as_slice(),
                     kind,
                     self.state.variables(),
@@ -656,44 +630,30 @@ impl Trail {
     pub fn walk(
         &mut self,
         alloc: Global,
-        mut found: Found,
+        found: &mut Found,
         item: &Item,
         mode: Mode,
         quota: u32,
-    ) -> Result<Walked, AllocError>
+    ) -> Result<(), AllocError>
         requires trail { IsTrail item.now.program self.old }
-        requires found { (found.part ≡ nothing) × (found.deferred ≡ []) × (found.shared ≡ 0) }
+        requires found { IsNew found.old }
         requires quota { 1 ≤ quota }
         ensures trail { IsTrail item.now.program self.new }
-        ensures item { IfOk result (λ w. w.item ≡ item.now) }
-        ensures mode { IfOk result (λ w. w.mode ≡ mode) }
-        ensures tried { IfOk result (λ w. w.part.tried ≤ quota) }
-        ensures rest { IfOk result (λ w. w.part.tried < quota → w.rest ≡ []) }
-        ensures past { IfOk result (λ w.
-            IsPastBound mode item.now → w ≡ walk_past_bound mode item.now) }
-        ensures walked { IfOk result IsWalked }
+        ensures tried { OnOk result (found.new.part.tried ≤ quota) }
+        ensures rest { OnOk result (found.new.part.tried < quota → found.new.rest.items ≡ []) }
+        ensures past { OnOk result (IsPastBound mode item.now →
+            found_walk mode item.now found.new ≡ walk_past_bound mode item.now) }
+        ensures walked { OnOk result (IsWalked (found_walk mode item.now found.new)) }
     {
         self.stand_at(item)?;
         if self.is_past(mode) {
             found.part.set_beyond();
-            return Ok(Walked::new(
-                mode,
-                item.try_clone(alloc)?,
-                found.part,
-                Vec::new(alloc),
-                found.deferred,
-            ));
+            return Ok(());
         }
-        self.begin(&mut found, item, mode)?;
-        self.arrive(alloc, &mut found, item, mode)?;
-        self.search(alloc, &mut found, item, mode, quota)?;
-        let rest = self.give_all_back(alloc, item, mode)?;
-        Ok(Walked::new(
-            mode,
-            item.try_clone(alloc)?,
-            found.part,
-            rest,
-            found.deferred,
-        ))
+        self.begin(found, item, mode)?;
+        self.arrive(alloc, found, item, mode)?;
+        self.search(alloc, found, item, mode, quota)?;
+        found.rest = self.give_all_back(alloc, item, mode)?;
+        Ok(())
     }
 }

@@ -1,6 +1,6 @@
 //! Summaries of schedules: how many were tried, how they ended, and the first bad one.
 
-ghost use Rattle.std.specs.Prelude.{◌≡◌, ◌+◌, ◌<◌, ◌≤◌, IfOk, IsOk, IsTrue, MatchOption, Some, None, true, false, ◌++◌, length, is_ok, if◌then◌else◌, vec_len, vec_capacity};
+ghost use Rattle.std.specs.Prelude.{◌≡◌, ◌+◌, ◌<◌, ◌≤◌, IfOk, IsOk, IsTrue, MatchOption, Some, None, true, false, ◌++◌, ◌⊎◌, [], length, is_ok, if◌then◌else◌, vec_len, vec_capacity};
 ghost use Rattle.std.specs.List.Sorted.{IsStrictlySortedBy};
 ghost use Rattle.std.specs.Option.{option_or};
 ghost use Rattle.semantics.specs.Order.{precedes, lesser, is_bad};
@@ -10,7 +10,7 @@ ghost use Rattle.walk.specs.Summaries.{SummaryView, IsSummary, schedule_view, cu
 ghost use Rattle.walk.specs.inner.SubtreeInvariant.{added, counted_if, first_bad_with};
 ghost use Rattle.walk.specs.inner.EndPlaces.{end_with, IsPlaceOf};
 
-use crate::hints::EndHints;
+use crate::hints::{EndHints, EndMemory};
 use semantics::view::{EndView, Kind};
 use std::alloc::{AllocError, Global};
 use std::cmp::Ordering;
@@ -46,22 +46,26 @@ impl Summary {
     pub fn empty(alloc: Global) -> Summary
         ensures { result ≡ nothing }
     {
-        Summary::empty_in(Vec::new(alloc))
-    }
-
-    /// The summary of no schedule, in the memory of a list of end views that isn't needed any more.
-    pub fn empty_in(mut ends: Vec<EndView>) -> Summary
-        ensures { result ≡ nothing }
-    {
-        ends.clear();
         Summary {
             tried: 0,
             failed: 0,
             stuck: 0,
             beyond: false,
             first_bad: None,
-            ends,
+            ends: Vec::new(alloc),
         }
+    }
+
+    // Forgets all schedules, and gives the end views to this memory.
+    pub(crate) fn clear(&mut self, memory: &mut EndMemory)
+        ensures { self.new ≡ nothing }
+    {
+        self.forget_beyond();
+        memory.take_in(&mut self.ends);
+        reset(&mut self.tried);
+        reset(&mut self.failed);
+        reset(&mut self.stuck);
+        self.first_bad = None;
     }
 
     /// How many schedules were tried.
@@ -155,15 +159,14 @@ impl Summary {
     /// # Errors
     ///
     /// `AllocError` where memory runs out; the summary is then as before.
-    pub fn join_in(&mut self, other: Summary) -> Result<(), AllocError>
+    pub fn join_in(&mut self, mut other: Summary) -> Result<(), AllocError>
         ensures { self.new ≡ (if is_ok result then join self.old other else self.old) }
     {
-        let _emptied = self.join_in_by(&mut EndHints::new(), other)?;
-        Ok(())
+        self.join_in_by(&mut EndHints::new(), &mut other)
     }
 
     /// The same, where hints tell at which index an end view was found in earlier joins. They may
-    /// be wrong. Answers the other summary's list of end views, emptied, for [`Summary::empty_in`].
+    /// be wrong. Of the other summary its memory is left: what it is then is not said.
     ///
     /// # Errors
     ///
@@ -172,25 +175,19 @@ impl Summary {
     pub fn join_in_by(
         &mut self,
         hints: &mut EndHints,
-        other: Summary,
-    ) -> Result<Vec<EndView>, AllocError>
-        ensures { self.new ≡ (if is_ok result then join self.old other else self.old) }
+        other: &mut Summary,
+    ) -> Result<(), AllocError>
+        ensures { self.new ≡ (if is_ok result then join self.old other.old else self.old) }
     {
-        let Summary {
-            tried,
-            failed,
-            stuck,
-            beyond,
-            first_bad,
-            ends,
-        } = other;
-        let emptied = join_views(&mut self.ends, hints, ends)?;
-        take_lesser(&mut self.first_bad, first_bad);
-        increase(&mut self.tried, tried);
-        increase(&mut self.failed, failed);
-        increase(&mut self.stuck, stuck);
-        self.beyond = self.beyond || beyond;
-        Ok(emptied)
+        join_views(&mut self.ends, hints, &mut other.ends)?;
+        take_lesser(&mut self.first_bad, other.first_bad.take());
+        increase(&mut self.tried, other.tried);
+        increase(&mut self.failed, other.failed);
+        increase(&mut self.stuck, other.stuck);
+        self.beyond = self.beyond || other.beyond;
+        reset(&mut other.failed);
+        reset(&mut other.stuck);
+        Ok(())
     }
 
     /// Forgets that some schedule is beyond the bound, for a bound that is raised.
@@ -205,7 +202,7 @@ impl Summary {
     pub(crate) fn add(
         &mut self,
         alloc: Global,
-        hints: &mut EndHints,
+        memory: &mut EndMemory,
         schedule: &[u8],
         kind: Kind,
         values: &[i64],
@@ -213,11 +210,11 @@ impl Summary {
         ensures { self.new ≡ (if is_ok result
             then added self.old schedule.now (end_with kind values.now) else self.old) }
     {
-        if is_done(kind) && is_hinted(self.ends.as_slice(), hints, kind, values) {
+        if is_done(kind) && is_hinted(self.ends.as_slice(), &memory.hints, kind, values) {
             increase(&mut self.tried, 1);
             return Ok(());
         }
-        self.add_any(alloc, hints, schedule, kind, values)
+        self.add_any(alloc, memory, schedule, kind, values)
     }
 
     // The same in every case, out of the way of the usual one.
@@ -226,7 +223,7 @@ impl Summary {
     fn add_any(
         &mut self,
         alloc: Global,
-        hints: &mut EndHints,
+        memory: &mut EndMemory,
         schedule: &[u8],
         kind: Kind,
         values: &[i64],
@@ -235,7 +232,7 @@ impl Summary {
             then added self.old schedule.now (end_with kind values.now) else self.old) }
     {
         let better = lesser_bad(alloc, &self.first_bad, schedule, kind)?;
-        add_view(alloc, &mut self.ends, hints, kind, values)?;
+        add_view(alloc, &mut self.ends, memory, kind, values)?;
         replace_by(&mut self.first_bad, better);
         increase(&mut self.tried, 1);
         count_if(is_failed(kind), &mut self.failed);
@@ -274,6 +271,13 @@ fn increase(count: &mut u64, more: u64)
     ensures { count.new ≡ cut (count.old + more) }
 {
     *count = count.saturating_add(more);
+}
+
+// None any more.
+fn reset(count: &mut u64)
+    ensures { count.new ≡ 0 }
+{
+    *count = 0;
 }
 
 // One more, where it is to be counted.
@@ -452,7 +456,7 @@ fn is_hinted(ends: &[EndView], hints: &EndHints, kind: Kind, values: &[i64]) -> 
 fn add_view(
     alloc: Global,
     ends: &mut Vec<EndView>,
-    hints: &mut EndHints,
+    memory: &mut EndMemory,
     kind: Kind,
     values: &[i64],
 ) -> Result<(), AllocError>
@@ -460,13 +464,13 @@ fn add_view(
     ensures { ends.new.items ≡ (if is_ok result
         then with_view (end_with kind values.now) ends.old.items else ends.old.items) }
 {
-    match find_view(ends.as_slice(), hints, kind, values) {
+    match find_view(ends.as_slice(), &mut memory.hints, kind, values) {
         Ok(_) => Ok(()),
         Err(index) => {
             if ends.is_empty() {
                 ends.reserve_exact(FEW_ENDS)?;
             }
-            ends.insert(index, EndView::new(kind, values.to_vec(alloc)?))?;
+            ends.insert(index, memory.view(alloc, kind, values)?)?;
             Ok(())
         }
     }
@@ -504,25 +508,26 @@ fn has_all(ends: &[EndView], hints: &mut EndHints, views: &[EndView]) -> bool
     true
 }
 
-// Puts views into a sorted list: sorted, each once. Answers their own list, emptied.
+// Puts views into a sorted list: sorted, each once. Their own list is emptied, but where all of them
+// are there.
 fn join_views(
     ends: &mut Vec<EndView>,
     hints: &mut EndHints,
-    mut views: Vec<EndView>,
-) -> Result<Vec<EndView>, AllocError>
+    views: &mut Vec<EndView>,
+) -> Result<(), AllocError>
     requires { IsStrictlySortedBy view_cmp ends.old.items }
-    ensures { ends.new.items ≡ (if is_ok result
-        then sorted_views (ends.old.items ++ views.items) else ends.old.items) }
+    ensures joined { ends.new.items ≡ (if is_ok result
+        then sorted_views (ends.old.items ++ views.old.items) else ends.old.items) }
+    ensures left { (views.new.items ≡ []) ⊎ (views.new.items ≡ views.old.items) }
 {
     if has_all(ends.as_slice(), hints, views.as_slice()) {
-        views.clear();
-        return Ok(views);
+        return Ok(());
     }
     ends.reserve(views.len())?;
     while let Some(view) = views.pop() {
         let _ = insert_view(ends, view);
     }
-    Ok(views)
+    Ok(())
 }
 
 // Equal views.

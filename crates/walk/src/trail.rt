@@ -7,7 +7,7 @@ ghost use Rattle.semantics.specs.Schedules.{runs};
 ghost use Rattle.semantics.specs.Undoing.{IsTouched, with_all_touched};
 ghost use Rattle.walk.specs.inner.Paths.{touched_from, IsTrail, IsEntered, IsExtended, IsLeft, IsNext, IsOpened, with_node, leaves, HasSwitches};
 
-use crate::hints::EndHints;
+use crate::hints::EndMemory;
 use guest_code::laws::programs_are_well_formed;
 use guest_code::program::Program;
 use semantics::mask::Mask;
@@ -60,8 +60,8 @@ pub struct Trail {
     pub node: Node,
     /// How many of the frames lead to the item that is walked.
     pub base: usize,
-    /// Where end views were found, for the next look-up.
-    pub hints: EndHints,
+    /// What end views are made with.
+    pub ends: EndMemory,
 }
 
 impl Node {
@@ -164,7 +164,7 @@ fn make_frame(frames: &mut Vec<Frame>, depth: usize) -> Result<(), AllocError>
     ensures room { depth ≤ length frames.new.items }
     ensures same { take depth frames.new.items ≡ take depth frames.old.items }
 {
-    if depth == frames.len() {
+    if frames.len() <= depth {
         frames.push(Frame::new())?;
     }
     Ok(())
@@ -178,7 +178,7 @@ fn make_place(touched: &mut Vec<Touched>, further: usize) -> Result<(), AllocErr
     ensures room { further ≤ length touched.new.items }
     ensures same { take further touched.new.items ≡ take further touched.old.items }
 {
-    if further == touched.len() {
+    if touched.len() <= further {
         touched.push(Touched::Variable(0, 0))?;
     }
     Ok(())
@@ -226,7 +226,7 @@ impl Trail {
             further: 0,
             node,
             base: 0,
-            hints: EndHints::new(),
+            ends: EndMemory::new(alloc),
         })
     }
 
@@ -404,7 +404,7 @@ impl Trail {
         let shared = shared_length(self.steps.as_slice(), schedule);
         self.go_back(program, shared);
         for place in self.steps.len()..schedule.len() {
-            self.enter(program, schedule[place], Mask::empty())?;
+            self.enter_apart(program, schedule[place])?;
         }
         Ok(())
     }

@@ -1,13 +1,12 @@
 //! The walk of an item's schedules.
 
-ghost use Rattle.std.specs.Prelude.{◌≡◌, ◌<◌, ◌≤◌, [], IfOk};
+ghost use Rattle.std.specs.Prelude.{◌≡◌, ◌<◌, ◌≤◌, [], IfOk, OnOk};
 ghost use Rattle.std.specs.Arc.{arc_value};
-ghost use Rattle.walk.specs.Walks.{IsWalked, IsPastBound, walk_past_bound};
+ghost use Rattle.walk.specs.Walks.{IsWalked, IsPastBound, found_walk, walk_past_bound};
 
+use crate::found::Found;
 use crate::item::Item;
 use crate::mode::Mode;
-use crate::search::Found;
-use crate::spare::Spare;
 use crate::trail::Trail;
 use crate::walked::Walked;
 use guest_code::program::Program;
@@ -21,8 +20,8 @@ use std::sync::Arc;
 pub struct Walker {
     program: Arc<Program>,
     trail: Trail,
-    // What the next walks keep their results in.
-    spares: Vec<Spare>,
+    // The memory of walks that were settled, for the next ones.
+    spares: Vec<Found>,
 }
 
 impl Model for Walker {
@@ -56,10 +55,10 @@ impl Walker {
 
     /// Gives the walker the memory of a walk that was settled, for a later one. Where there is no
     /// room for it, it is given back to the allocator.
-    pub fn reuse(&mut self, spare: Spare)
+    pub fn reuse(&mut self, found: Found)
         ensures { self.new ≡ self.old }
     {
-        let _ = self.spares.push(spare);
+        let _ = self.spares.push(found);
     }
 
     /// Tries the first `quota` schedules of an item of the walker's program in a mode, or all where
@@ -86,11 +85,39 @@ impl Walker {
             IsPastBound mode item.now → w ≡ walk_past_bound mode item.now) }
         ensures walked { IfOk result IsWalked }
     {
-        let spare = match self.spares.pop() {
-            Some(spare) => spare,
-            None => Spare::none(alloc),
+        let mut found = match self.spares.pop() {
+            Some(found) => found,
+            None => Found::new(alloc),
         };
-        self.trail.walk(alloc, Found::new(spare), item, mode, quota)
+        self.walk_into(alloc, &mut found, item, mode, quota)?;
+        Ok(Walked::new(mode, item.try_clone(alloc)?, found))
+    }
+
+    /// The same, for a caller that has the item: what is found takes the place of what another walk
+    /// found, in its memory, and no item is copied.
+    ///
+    /// # Errors
+    ///
+    /// `AllocError` where memory runs out. The walker and the memory can be used again then.
+    pub fn walk_into(
+        &mut self,
+        alloc: Global,
+        found: &mut Found,
+        item: &Item,
+        mode: Mode,
+        quota: u32,
+    ) -> Result<(), AllocError>
+        requires program { item.now.program ≡ self.old }
+        requires quota { 1 ≤ quota }
+        ensures program { self.new ≡ self.old }
+        ensures tried { OnOk result (found.new.part.tried ≤ quota) }
+        ensures rest { OnOk result (found.new.part.tried < quota → found.new.rest.items ≡ []) }
+        ensures past { OnOk result (IsPastBound mode item.now →
+            found_walk mode item.now found.new ≡ walk_past_bound mode item.now) }
+        ensures walked { OnOk result (IsWalked (found_walk mode item.now found.new)) }
+    {
+        found.clear(&mut self.trail.ends);
+        self.trail.walk(alloc, found, item, mode, quota)
     }
 }
 
@@ -116,6 +143,7 @@ pub fn walk(alloc: Global, item: &Item, mode: Mode, quota: u32) -> Result<Walked
     ensures walked { IfOk result IsWalked }
 {
     let mut trail = Trail::start(alloc, item.program())?;
-    let found = Found::new(Spare::none(alloc));
-    trail.walk(alloc, found, item, mode, quota)
+    let mut found = Found::new(alloc);
+    trail.walk(alloc, &mut found, item, mode, quota)?;
+    Ok(Walked::new(mode, item.try_clone(alloc)?, found))
 }

@@ -8,9 +8,10 @@ use Rattle.walk.specs.declared.mode.Mode.TheVariants.{Bounded, Reduced}
 use Rattle.walk.specs.declared.trail.Node.{Node}
 use Rattle.walk.specs.declared.trail.Frame.{Frame}
 use Rattle.walk.specs.declared.trail.Trail.{Trail}
-use Rattle.walk.specs.declared.search.Found.{Found}
+use Rattle.walk.specs.declared.found.Found.{Found}
 use Rattle.walk.specs.Items.{ItemView, item_at}
 use Rattle.walk.specs.PrefixLists.{last_of}
+use Rattle.walk.specs.Summaries.{nothing}
 use Rattle.walk.specs.Walks.{IsWalked}
 use Rattle.walk.specs.inner.Children.{children_of, cost_of, costs}
 use Rattle.walk.specs.inner.Paths.{leaves, path, above, IsTrail}
@@ -40,6 +41,13 @@ left_above mode p t = open_above mode p (t.depth - t.base) (above t)
 -- what is still open, in order
 abbrev pub still_open : Mode → Program → Trail → List ItemView
 still_open mode p t = open_at mode p t.steps.items t.node ++ left_above mode p t
+
+-- nothing was found yet
+pub record IsNew (f : Found) : Type 0 where
+  pub part : f.part ≡ nothing
+  pub rest : f.rest.items ≡ []
+  pub deferred : f.deferred ≡ []
+  pub shared : f.shared ≡ 0
 
 -- the steps lead from the start to a node that is under the item's
 pub record IsPlace (p : Program) (t : Trail) : Type 0 where

@@ -1,10 +1,10 @@
 //! Walks of items after a prefix, what a bound puts off, and prefixes that don't run.
 
+use crate::found::Found;
 use crate::item::Item;
 use crate::mode::Mode;
 use crate::prefixes::Prefixes;
 use crate::tests::{COUNTERS, found, program_of, shown};
-use crate::walked::Parts;
 use crate::walker::walk;
 use std::alloc::{Alloc, Global};
 use std::process::Abort;
@@ -28,9 +28,9 @@ fn add_from_the_last(line: &mut String, prefixes: &mut Prefixes) -> Result<(), F
 }
 
 /// The walk of the counters' schedules that begin with a prefix within a bound, in parts.
-fn parts_after(alloc: Global, prefix: &[u8], bound: u32) -> Result<Parts, Fail> {
+fn parts_after(alloc: Global, prefix: &[u8], bound: u32) -> Result<Found, Fail> {
     let item = Item::at(alloc, program_of(alloc, COUNTERS)?, prefix)?;
-    Ok(walk(alloc, &item, Mode::Bounded(bound), 256)?.into_parts())
+    Ok(walk(alloc, &item, Mode::Bounded(bound), 256)?.into_found())
 }
 
 /// What it finds, and then the prefixes that the bound put off, from the last on.

@@ -3,16 +3,15 @@
 ghost use Rattle.std.specs.Prelude.{◌≡◌};
 ghost use Rattle.std.specs.Arc.{arc_value};
 
+use crate::found::Found;
 use crate::hints::EndHints;
 use crate::item::Item;
 use crate::mode::Mode;
-use crate::spare::Spare;
 use crate::summary::Summary;
 use crate::tests::{COUNTERS, program_of, shown};
-use crate::walked::{Parts, Walked};
+use crate::walked::Walked;
 use crate::walker::Walker;
 use guest_code::program::Program;
-use semantics::view::EndView;
 use std::alloc::{Alloc, AllocError, Global};
 use std::process::Abort;
 use std::sync::Arc;
@@ -115,18 +114,35 @@ fn a_walker_is_kept(rt: HostRuntime) -> Result<(), Fail> {
     finds_all(&rt, &mut walker, &program)
 }
 
-/// The memory of a summary's end views, once it is joined in.
-fn ends_joined(alloc: Global, part: Summary) -> Result<Vec<EndView>, AllocError> {
-    let mut finished = Summary::empty(alloc);
-    let mut hints = EndHints::new();
-    finished.join_in_by(&mut hints, part)
+/// What a walker finds of an item with a quota of 1, in the memory of a walk within one preemption:
+/// what it tried, and how many items it left and how many prefixes it put off.
+fn found_first(alloc: Global, walker: &mut Walker, root: &Item) -> Result<String, Fail>
+    requires { root.now.program ≡ walker.old }
+{
+    let mut found = Found::new(alloc);
+    walker.walk_into(alloc, &mut found, root, Mode::Bounded(1), 256)?;
+    walker.walk_into(alloc, &mut found, root, Mode::Bounded(0), 1)?;
+    let (left, put_off) = (found.rest.len(), found.deferred.length());
+    let tried = shown(alloc, &found.part)?;
+    Ok(format!(in alloc; "{tried} left {left} put off {put_off}")?)
 }
 
-/// The memory of a walk, once its summary is joined in.
-fn spare_of(alloc: Global, parts: Parts) -> Result<Spare, AllocError> {
-    let Parts { part, deferred, .. } = parts;
-    let ends = ends_joined(alloc, part)?;
-    Ok(Spare { ends, deferred })
+#[test]
+fn a_walk_takes_the_place_of_another(rt: HostRuntime) -> Result<(), Fail> {
+    let alloc = rt.alloc();
+    let program = program_of(alloc, COUNTERS)?;
+    let root = Item::root(alloc, Arc::try_clone(&program)?)?;
+    let mut walker = Walker::new(alloc, program)?;
+    let line = found_first(alloc, &mut walker, &root)?;
+    assert_eq!(rt; line.as_str(), "1 0 0 true None Done [2] left 1 put off 1");
+    Ok(())
+}
+
+/// Joins the summary of a walk in, and leaves its memory.
+fn settle(alloc: Global, found: &mut Found) -> Result<(), AllocError> {
+    let mut finished = Summary::empty(alloc);
+    let mut hints = EndHints::new();
+    finished.join_in_by(&mut hints, &mut found.part)
 }
 
 /// Walks an item, and gives the walker the memory of that walk.
@@ -134,8 +150,9 @@ fn walk_and_reuse(alloc: Global, walker: &mut Walker, root: &Item) -> Result<(),
     requires { root.now.program ≡ walker.old }
     ensures { walker.new ≡ walker.old }
 {
-    let walked = walk_once(alloc, walker, root, Mode::Bounded(0))?;
-    walker.reuse(spare_of(alloc, walked.into_parts())?);
+    let mut found = walk_once(alloc, walker, root, Mode::Bounded(0))?.into_found();
+    settle(alloc, &mut found)?;
+    walker.reuse(found);
     Ok(())
 }
 

@@ -2,11 +2,12 @@
 
 ghost use Rattle.std.specs.Prelude.{◌≤◌};
 
+use crate::found::Found;
 use crate::item::Item;
 use crate::mode::Mode;
 use crate::summary::Summary;
 use crate::tests::{ALL_KINDS, COUNTERS, counted, root_of, shown};
-use crate::walked::{Parts, Walked};
+use crate::walked::Walked;
 use crate::walker::walk;
 use std::alloc::{Alloc, Global};
 use std::process::Abort;
@@ -20,7 +21,7 @@ const WITHIN_TWO: &str = "23 0 4 true Some([1, 1, 1, 1, 0, 1, 2, 2, 0]) Done [1]
 
 /// Joins what a walk found into the whole, and adds what it leaves to the open items.
 fn take_over(walked: Walked, whole: &mut Summary, open: &mut Vec<Item>) -> Result<(), Fail> {
-    let Parts { part, mut rest, .. } = walked.into_parts();
+    let Found { part, mut rest, .. } = walked.into_found();
     whole.join_in(part)?;
     open.append(&mut rest)?;
     Ok(())
@@ -128,7 +129,7 @@ fn left_and_put_off(walked: &Walked) -> (usize, usize) {
 }
 
 /// The same of the parts of a walk, after how many schedules it tried.
-fn counts_of(parts: Parts) -> (u64, usize, usize) {
+fn counts_of(parts: Found) -> (u64, usize, usize) {
     (
         parts.part.tried(),
         parts.rest.len(),
@@ -141,7 +142,7 @@ fn the_parts_of_a_walk_are_taken_over(rt: HostRuntime) -> Result<(), Fail> {
     let alloc = rt.alloc();
     let walked = walk(alloc, &root_of(alloc, COUNTERS)?, Mode::Bounded(0), 1)?;
     let (left, off) = left_and_put_off(&walked);
-    let counts = counts_of(walked.into_parts());
+    let counts = counts_of(walked.into_found());
     assert_eq!(rt; counts, (1, left, off));
     Ok(())
 }

@@ -36,8 +36,8 @@ loop-view-preserved c =
       );
     }
 
-pub returns : goal.returns
-returns c =
+pub returns-clause-joined : goal.returns-clause-joined
+returns-clause-joined c =
     let ends = c.loop-view.ends.items in
     let none : c.loop-view.views.items ≡ []
     = nil_from_length c.loop-view.views.items
@@ -45,4 +45,4 @@ returns c =
     sym (sorted_views-alone ends c.loop-view.invariant.sorted)
     ∙ (ap (λ vs. sorted_views (ends ++ vs)) (sym none)
     ∙ (c.loop-view.invariant.same
-    ∙ ap (λ vs. sorted_views (vs ++ c.args.views.items)) c.reserve.ensures.items))
+    ∙ ap (λ vs. sorted_views (vs ++ c.args.views.now.items)) c.reserve.ensures.items))

@@ -3,16 +3,16 @@ use Rattle.std.specs.Arc.{arc_value}
 use Rattle.std.specs.List.{All, remove}
 use Rattle.guest_code.specs.Program.{Program}
 use Rattle.walk.specs.Items.{IsItem, ItemView}
-use Rattle.walk.specs.Walks.{WalkView, IsWalked, IsBelow, items_at}
+use Rattle.walk.specs.Walks.{WalkView, IsBelow, items_at, found_walk}
 use Rattle.walk.proofs.ListParts.{all_right}
-use Rattle.walk.specs.Summaries.{SummaryView, join}
+use Rattle.walk.specs.Summaries.{SummaryView}
 use Rattle.walk.proofs.SumsJoin.{join_first_bad}
 use Rattle.book.specs.ItemLists.{all_of}
-use Rattle.book.specs.Books.{BookView, book_view, Keeps, IsSwept, IsWalkOf, IsOpenAt, settled}
+use Rattle.book.specs.Books.{BookView, book_view, Keeps, IsSwept, IsFoundAt, settled, settled_found}
 use Rattle.book.proofs.PackedItems.{below_run, length-all}
 use Rattle.book.proofs.Thinned.{settles_any}
 use Rattle.book.proofs.Swept.{settled_swept}
-use Rattle.book.proofs.TakenOver.{grown, taken_back, removed-left, same_book, packs_none, loose_after, none_there}
+use Rattle.book.proofs.TakenOver.{grown, taken_back, removed-left, same_book, packs_none, loose_after, none_there, settled_by_found}
 use Rattle.book.proofs.OpenItems.{open_run, deferred_run}
 use Rattle.book.proofs.books.Book.take_over.Goals as goal
 
@@ -30,25 +30,19 @@ unpack_from-requires-2 c =
 
 pub append_prefixes-requires : goal.append_prefixes-requires
 append_prefixes-requires c =
-    let w : WalkView = c.args.walked in
-    let walk : IsWalked w = c.into_parts-part.ensures.walked in
-    let of : arc_value c.self.inside.program ≡ w.item.program = search rules in
-    let are : items_at w.item.program c.into_parts-part.result.deferred ≡ w.deferred =
-    c.into_parts-part.ensures.deferred in
-    subst (λ (p : Program). All IsItem (items_at p c.into_parts-part.result.deferred)) (sym of)
-    (subst (All IsItem) (sym are)
-    (below_run w.item w.deferred (all_right (IsBelow w.item) w.rest w.deferred walk.split.below)))
+    let w : WalkView = found_walk c.args.self.now.mode c.requires.item c.args.found.now in
+    let of : arc_value c.self.inside.program ≡ w.item.program =
+    ap (λ (z : BookView). z.program) c.self.view_is ∙ c.requires.program in
+    subst (λ (p : Program). All IsItem (items_at p c.args.found.now.deferred)) (sym of)
+    (below_run w.item w.deferred
+    (all_right (IsBelow w.item) w.rest w.deferred c.requires.walked.split.below))
 
 pub invariant_of-self-in-Err : goal.invariant_of-self-in-Err
 invariant_of-self-in-Err c =
-    let is_packed : c.is_packed-packs.result ≡ true → c.self.inside.quick ≡ true →
-    (c.self.inside.finished.first_bad ≡ None) × (c.args.walked.part.first_bad ≡ None) =
-    λ h q. let e = c.is_packed-packs.ensures h q in
-    (e.0, ap (λ (z : SummaryView). z.first_bad) (sym c.part.ensures) ∙ e.1) in
     let b : BookView = book_view c.self.inside.program c.self.inside.mode c.self.inside.finished
     c.self.inside.open_items c.self.inside.deferred c.self.inside.quick c.self.inside.dropped in
     let p = arc_value c.self.inside.program in
-    let rest = c.into_parts-part.result.rest.items in
+    let rest = c.args.found.now.rest.items in
     let more : all_of p c.append.new.self ≡ all_of p c.unpack_from.new.self ++ rest =
     grown p c.unpack_from.new.self c.append.new.self rest c.in_ok-append.ensures.packed
     c.in_ok-append.ensures.loose in
@@ -67,7 +61,7 @@ invariant_of-self-in-Err c =
             (c.in_ok-append.ensures.packed ∙ c.unpack_from.ensures.none
             (c.self.invariant.2 q bad).0),
         (c.append_prefixes.ensures.packed (packs_none c.is_packed-packs.result c.self.inside.quick
-            c.self.inside.finished.first_bad c.args.walked.part.first_bad is_packed q bad)
+            c.self.inside.finished.first_bad c.args.found.now.part.first_bad c.is_packed-packs.ensures q bad)
             ∙ c.unpack_from-2.ensures.none (c.self.invariant.2 q bad).1),
       ),
     )
@@ -77,7 +71,7 @@ returns-in-Err c =
     let b : BookView = book_view c.self.inside.program c.self.inside.mode c.self.inside.finished
     c.self.inside.open_items c.self.inside.deferred c.self.inside.quick c.self.inside.dropped in
     let p = arc_value c.self.inside.program in
-    let rest = c.into_parts-part.result.rest.items in
+    let rest = c.args.found.now.rest.items in
     let more : all_of p c.append.new.self ≡ all_of p c.unpack_from.new.self ++ rest =
     grown p c.unpack_from.new.self c.append.new.self rest c.in_ok-append.ensures.packed
     c.in_ok-append.ensures.loose in
@@ -93,14 +87,10 @@ returns-in-Err c =
 
 pub invariant_of-self-in-Err-join_in_by : goal.invariant_of-self-in-Err-join_in_by
 invariant_of-self-in-Err-join_in_by c =
-    let is_packed : c.is_packed-packs.result ≡ true → c.self.inside.quick ≡ true →
-    (c.self.inside.finished.first_bad ≡ None) × (c.args.walked.part.first_bad ≡ None) =
-    λ h q. let e = c.is_packed-packs.ensures h q in
-    (e.0, ap (λ (z : SummaryView). z.first_bad) (sym c.part.ensures) ∙ e.1) in
     let b : BookView = book_view c.self.inside.program c.self.inside.mode c.self.inside.finished
     c.self.inside.open_items c.self.inside.deferred c.self.inside.quick c.self.inside.dropped in
     let p = arc_value c.self.inside.program in
-    let rest = c.into_parts-part.result.rest.items in
+    let rest = c.args.found.now.rest.items in
     let more : all_of p c.append.new.self ≡ all_of p c.unpack_from.new.self ++ rest =
     grown p c.unpack_from.new.self c.append.new.self rest c.in_ok-append.ensures.packed
     c.in_ok-append.ensures.loose in
@@ -111,11 +101,11 @@ invariant_of-self-in-Err-join_in_by c =
     (c.truncate-in-Err-join_in_by.ensures.items p)
     ∙ c.unpack_from.ensures.same in
     let later : all_of p c.truncate-in-Err-join_in_by-2.new.self ≡ b.deferred =
-    taken_back b.deferred (items_at p c.into_parts-part.result.deferred)
+    taken_back b.deferred (items_at p c.args.found.now.deferred)
     (all_of p c.append_prefixes.new.self) (all_of p c.truncate-in-Err-join_in_by-2.new.self)
     c.length-deferred_length.result
     (c.in_default.ensures.all
-    ∙ ap (λ is. is ++ items_at p c.into_parts-part.result.deferred) c.unpack_from-2.ensures.same)
+    ∙ ap (λ is. is ++ items_at p c.args.found.now.deferred) c.unpack_from-2.ensures.same)
     (c.length-deferred_length.ensures p) (c.truncate-in-Err-join_in_by-2.ensures.items p) in
     let same = same_book b c.join_in_by.new.self (all_of p c.truncate-in-Err-join_in_by.new.self)
     (all_of p c.truncate-in-Err-join_in_by-2.new.self) c.in-Err-join_in_by.ensures left later in (
@@ -129,7 +119,7 @@ invariant_of-self-in-Err-join_in_by c =
             c.truncate-in-Err-join_in_by-2.ensures.none
                 (c.append_prefixes.ensures.packed (packs_none c.is_packed-packs.result
                 c.self.inside.quick
-                c.self.inside.finished.first_bad c.args.walked.part.first_bad is_packed q bad)
+                c.self.inside.finished.first_bad c.args.found.now.part.first_bad c.is_packed-packs.ensures q bad)
                 ∙ c.unpack_from-2.ensures.none (c.self.invariant.2 q bad).1),
           ),
     )
@@ -139,7 +129,7 @@ returns-in-Err-join_in_by c =
     let b : BookView = book_view c.self.inside.program c.self.inside.mode c.self.inside.finished
     c.self.inside.open_items c.self.inside.deferred c.self.inside.quick c.self.inside.dropped in
     let p = arc_value c.self.inside.program in
-    let rest = c.into_parts-part.result.rest.items in
+    let rest = c.args.found.now.rest.items in
     let more : all_of p c.append.new.self ≡ all_of p c.unpack_from.new.self ++ rest =
     grown p c.unpack_from.new.self c.append.new.self rest c.in_ok-append.ensures.packed
     c.in_ok-append.ensures.loose in
@@ -150,11 +140,11 @@ returns-in-Err-join_in_by c =
     (c.truncate-in-Err-join_in_by.ensures.items p)
     ∙ c.unpack_from.ensures.same in
     let later : all_of p c.truncate-in-Err-join_in_by-2.new.self ≡ b.deferred =
-    taken_back b.deferred (items_at p c.into_parts-part.result.deferred)
+    taken_back b.deferred (items_at p c.args.found.now.deferred)
     (all_of p c.append_prefixes.new.self) (all_of p c.truncate-in-Err-join_in_by-2.new.self)
     c.length-deferred_length.result
     (c.in_default.ensures.all
-    ∙ ap (λ is. is ++ items_at p c.into_parts-part.result.deferred) c.unpack_from-2.ensures.same)
+    ∙ ap (λ is. is ++ items_at p c.args.found.now.deferred) c.unpack_from-2.ensures.same)
     (c.length-deferred_length.ensures p) (c.truncate-in-Err-join_in_by-2.ensures.items p) in
     let same = same_book b c.join_in_by.new.self (all_of p c.truncate-in-Err-join_in_by.new.self)
     (all_of p c.truncate-in-Err-join_in_by-2.new.self) c.in-Err-join_in_by.ensures left later in
@@ -163,7 +153,7 @@ returns-in-Err-join_in_by c =
 pub remove-requires-clause-place : goal.remove-requires-clause-place
 remove-requires-clause-place c =
     let p = arc_value c.self.inside.program in
-    let rest = c.into_parts-part.result.rest.items in
+    let rest = c.args.found.now.rest.items in
     let more : all_of p c.append.new.self ≡ all_of p c.unpack_from.new.self ++ rest =
     grown p c.unpack_from.new.self c.append.new.self rest c.in_ok-append.ensures.packed
     c.in_ok-append.ensures.loose in
@@ -179,52 +169,44 @@ remove-requires-clause-place c =
 
 pub invariant_of-self-2 : goal.invariant_of-self-2
 invariant_of-self-2 c =
-    let is_packed : c.is_packed-packs.result ≡ true → c.self.inside.quick ≡ true →
-    (c.self.inside.finished.first_bad ≡ None) × (c.args.walked.part.first_bad ≡ None) =
-    λ h q. let e = c.is_packed-packs.ensures h q in
-    (e.0, ap (λ (z : SummaryView). z.first_bad) (sym c.part.ensures) ∙ e.1) in
-    let w : WalkView = c.args.walked in
     let place = c.args.place in
+    let found = c.args.found.now in
     let b : BookView = book_view c.self.inside.program c.self.inside.mode c.self.inside.finished
     c.self.inside.open_items c.self.inside.deferred c.self.inside.quick c.self.inside.dropped in
     let p = arc_value c.self.inside.program in
-    let rest = c.into_parts-part.result.rest.items in
+    let rest = found.rest.items in
     let more : all_of p c.append.new.self ≡ all_of p c.unpack_from.new.self ++ rest =
     grown p c.unpack_from.new.self c.append.new.self rest c.in_ok-append.ensures.packed
     c.in_ok-append.ensures.loose in
-    let of : IsWalkOf b w =
-    subst (λ (z : BookView). IsWalkOf z w) (sym c.self.view_is) c.requires.of in
-    let at : IsOpenAt b w.item place =
-    subst (λ (z : BookView). IsOpenAt z w.item place) (sym c.self.view_is) c.requires.is_open in
-    let fin : c.join_in_by.new.self ≡ join b.finished w.part =
-    c.in-Ok.ensures ∙ ap (join b.finished) c.into_parts-part.ensures.part in
+    let is : IsFoundAt b found place =
+    subst (λ (z : BookView). IsFoundAt z found place) (sym c.self.view_is) c.requires in
     let lt : place < length (all_of p c.unpack_from.new.self) =
-    subst (λ (is : List ItemView). place < length is) (sym c.unpack_from.ensures.same) at.0 in
-    let items : all_of p c.remove.new.self ≡ remove b.open_items place ++ w.rest =
+    subst (λ (is : List ItemView). place < length is) (sym c.unpack_from.ensures.same)
+    is.is_open.0 in
+    let items : all_of p c.remove.new.self ≡ remove b.open_items place ++ rest =
     c.remove.ensures.items p ∙ (ap (λ is. remove is place) more
     ∙ (removed-left (all_of p c.unpack_from.new.self) rest place lt
-    ∙ (λ k. remove (c.unpack_from.ensures.same k) place ++ c.into_parts-part.ensures.rest k))) in
-    let own : items_at p c.into_parts-part.result.deferred ≡ w.deferred =
-    ap (λ q. items_at q c.into_parts-part.result.deferred) of.1
-    ∙ c.into_parts-part.ensures.deferred in
-    let later : all_of p c.append_prefixes.new.self ≡ b.deferred ++ w.deferred =
-    c.in_default.ensures.all ∙ (λ k. c.unpack_from-2.ensures.same k ++ own k) in
+    ∙ (λ k. remove (c.unpack_from.ensures.same k) place ++ rest))) in
+    let later : all_of p c.append_prefixes.new.self ≡ b.deferred ++ items_at p found.deferred =
+    c.in_default.ensures.all ∙ (λ k. c.unpack_from-2.ensures.same k ++ items_at p found.deferred) in
     let new : BookView = record b {
       finished = c.join_in_by.new.self;
       open_items = all_of p c.remove.new.self;
       deferred = all_of p c.append_prefixes.new.self;
     } in
-    let same : new ≡ settled b w place =
-    λ k. record b { finished = fin k; open_items = items k; deferred = later k } in (
-      subst Keeps (sym same)
-          (settles_any b w place c.self.invariant.0 c.into_parts-part.ensures.walked of at),
-      subst (λ (z : BookView). IsSwept c.both-self-inside.result z) (sym same)
+    let same : new ≡ settled_found b found place =
+    λ k. record b { finished = c.in_default-join_in_by.ensures k; open_items = items k; deferred = later k } in
+    let w : WalkView = found_walk b.mode is.item found in
+    let settles : new ≡ settled b w place = same ∙ settled_by_found b found place is in (
+      subst Keeps (sym settles)
+          (settles_any b w place c.self.invariant.0 is.walked (refl, is.program) is.is_open),
+      subst (λ (z : BookView). IsSwept c.both-self-inside.result z) (sym settles)
           (subst (λ (x : Bool). IsSwept x (settled b w place)) (sym c.both-self-inside.ensures)
           (settled_swept c.self.inside.swept c.is_quiet-quiet.result b w place c.self.invariant.1
-          c.is_quiet-quiet.ensures at)),
+          c.is_quiet-quiet.ensures is.is_open)),
       loose_after c.is_packed-packs.result c.self.inside.quick c.self.inside.finished.first_bad
           w.part.first_bad c.join_in_by.new.self.first_bad c.remove.new.self.packed
-          c.append_prefixes.new.self.packed is_packed
+          c.append_prefixes.new.self.packed c.is_packed-packs.ensures
           (λ n. (
             c.remove.ensures.packed ∙ (c.in_ok-append.ensures.packed
                 ∙ none_there c.unpack_from.new.self.packed c.first_loose.result
@@ -233,45 +215,40 @@ invariant_of-self-2 c =
                 ∙ none_there c.unpack_from-2.new.self.packed c.first_loose-2.result
                 c.in_ok-unpack_from-2.ensures.loose (c.first_loose-2.ensures.none n),
           ))
-          (ap (λ (z : SummaryView). z.first_bad) fin ∙ join_first_bad b.finished w.part),
+          (ap (λ (z : SummaryView). z.first_bad) c.in_default-join_in_by.ensures
+          ∙ join_first_bad b.finished w.part),
     )
 
 pub returns : goal.returns
 returns c =
-    let w : WalkView = c.args.walked in
     let place = c.args.place in
+    let found = c.args.found.now in
     let b : BookView = book_view c.self.inside.program c.self.inside.mode c.self.inside.finished
     c.self.inside.open_items c.self.inside.deferred c.self.inside.quick c.self.inside.dropped in
     let p = arc_value c.self.inside.program in
-    let rest = c.into_parts-part.result.rest.items in
+    let rest = found.rest.items in
     let more : all_of p c.append.new.self ≡ all_of p c.unpack_from.new.self ++ rest =
     grown p c.unpack_from.new.self c.append.new.self rest c.in_ok-append.ensures.packed
     c.in_ok-append.ensures.loose in
-    let of : IsWalkOf b w =
-    subst (λ (z : BookView). IsWalkOf z w) (sym c.self.view_is) c.requires.of in
-    let at : IsOpenAt b w.item place =
-    subst (λ (z : BookView). IsOpenAt z w.item place) (sym c.self.view_is) c.requires.is_open in
-    let fin : c.join_in_by.new.self ≡ join b.finished w.part =
-    c.in-Ok.ensures ∙ ap (join b.finished) c.into_parts-part.ensures.part in
+    let is : IsFoundAt b found place =
+    subst (λ (z : BookView). IsFoundAt z found place) (sym c.self.view_is) c.requires in
     let lt : place < length (all_of p c.unpack_from.new.self) =
-    subst (λ (is : List ItemView). place < length is) (sym c.unpack_from.ensures.same) at.0 in
-    let items : all_of p c.remove.new.self ≡ remove b.open_items place ++ w.rest =
+    subst (λ (is : List ItemView). place < length is) (sym c.unpack_from.ensures.same)
+    is.is_open.0 in
+    let items : all_of p c.remove.new.self ≡ remove b.open_items place ++ rest =
     c.remove.ensures.items p ∙ (ap (λ is. remove is place) more
     ∙ (removed-left (all_of p c.unpack_from.new.self) rest place lt
-    ∙ (λ k. remove (c.unpack_from.ensures.same k) place ++ c.into_parts-part.ensures.rest k))) in
-    let own : items_at p c.into_parts-part.result.deferred ≡ w.deferred =
-    ap (λ q. items_at q c.into_parts-part.result.deferred) of.1
-    ∙ c.into_parts-part.ensures.deferred in
-    let later : all_of p c.append_prefixes.new.self ≡ b.deferred ++ w.deferred =
-    c.in_default.ensures.all ∙ (λ k. c.unpack_from-2.ensures.same k ++ own k) in
+    ∙ (λ k. remove (c.unpack_from.ensures.same k) place ++ rest))) in
+    let later : all_of p c.append_prefixes.new.self ≡ b.deferred ++ items_at p found.deferred =
+    c.in_default.ensures.all ∙ (λ k. c.unpack_from-2.ensures.same k ++ items_at p found.deferred) in
     let new : BookView = record b {
       finished = c.join_in_by.new.self;
       open_items = all_of p c.remove.new.self;
       deferred = all_of p c.append_prefixes.new.self;
     } in
-    let same : new ≡ settled b w place =
-    λ k. record b { finished = fin k; open_items = items k; deferred = later k } in
-    same ∙ ap (λ z. settled z w place) c.self.view_is
+    let same : new ≡ settled_found b found place =
+    λ k. record b { finished = c.in_default-join_in_by.ensures k; open_items = items k; deferred = later k } in
+    same ∙ ap (λ z. settled_found z found place) c.self.view_is
 
 pub invariant_of-self-in_err-append : goal.invariant_of-self-in_err-append
 invariant_of-self-in_err-append c =

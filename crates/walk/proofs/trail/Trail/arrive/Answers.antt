@@ -56,7 +56,7 @@ returns-in_ok-add-in-None-clause-search c =
 pub returns-in_ok-add-in-None-clause-falls : goal.returns-in_ok-add-in-None-clause-falls
 returns-in_ok-add-in-None-clause-falls c =
     falls_leaf c.args.mode c.args.item.now.program c.args.self.now
-    (record c.args.self.now { node = c.open-past.new.self; hints = c.add.new.hints })
+    (record c.args.self.now { node = c.open-past.new.self; ends = c.add.new.memory })
     c.requires.search.place
     (opened_here c.args.item.now.program c.args.self.now _ c.requires.search.place.trail refl
     refl refl refl refl refl refl c.open-past.ensures.same)

@@ -4,8 +4,8 @@ use Rattle.semantics.specs.Schedules.{state_after}
 use Rattle.semantics.proofs.Executions.{runs_at}
 use Rattle.walk.proofs.trail.Trail.go_to.Goals as goal
 
-pub enter-requires-clause-enabled : goal.enter-requires-clause-enabled
-enter-requires-clause-enabled c =
+pub enter_apart-requires-clause-enabled : goal.enter_apart-requires-clause-enabled
+enter_apart-requires-clause-enabled c =
     let p = c.args.program.now in
     let w = c.args.schedule.now in
     let there : c.loop-place.place < length w = search rules in

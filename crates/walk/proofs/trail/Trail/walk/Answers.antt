@@ -5,8 +5,8 @@ use Rattle.walk.specs.Walks.{IsWalked}
 use Rattle.walk.proofs.Walks.{walked_past, search_begun, items_run}
 use Rattle.walk.proofs.trail.Trail.walk.Goals as goal
 
-pub new-requires-then-is_past : goal.new-requires-then-is_past
-new-requires-then-is_past c =
+pub returns-then-is_past-clause-walked : goal.returns-then-is_past-clause-walked
+returns-then-is_past-clause-walked c =
     let i = c.args.item.now in
     let t = c.stand_at.new.self in
     let w = walked_past c.args.mode i.program t.steps.items t.state t.node i
@@ -14,12 +14,11 @@ new-requires-then-is_past c =
     (sym c.is_past.ensures ∙ c.if-is_past.true) in
     subst IsWalked (λ k. record {
       mode = c.args.mode;
-      item = sym c.in_ok-try_clone.ensures k;
+      item = i;
       part = sym (c.set_beyond.ensures ∙ ap (λ (s : SummaryView). with_beyond s true)
-          c.requires.found.0) k;
-      rest = sym c.new.ensures.items k;
-      deferred = map (item_at (sym c.in_ok-try_clone.ensures k).program)
-          (sym c.requires.found.1 k);
+          c.requires.found.part) k;
+      rest = sym c.requires.found.rest k;
+      deferred = map (item_at i.program) (sym c.requires.found.deferred k);
     }) w
 
 pub begin-requires : goal.begin-requires
@@ -27,10 +26,10 @@ begin-requires c =
     let i = c.args.item.now in
     let t = c.stand_at.new.self in
     record {
-      search = search_begun c.args.mode i t c.args.found c.in_ok-stand_at.ensures.place
+      search = search_begun c.args.mode i t c.args.found.now c.in_ok-stand_at.ensures.place
           c.in_ok-stand_at.ensures.item c.in_ok-stand_at.ensures.base
-          (sym c.is_past.ensures ∙ c.if-is_past.false) c.requires.found.0
-          c.requires.found.1 c.requires.found.2;
+          (sym c.is_past.ensures ∙ c.if-is_past.false) c.requires.found.part
+          c.requires.found.deferred c.requires.found.shared;
       todo = c.in_ok-stand_at.ensures.todo;
     }
 

@@ -1,6 +1,6 @@
 use Rattle.std.proofs.Common.{◌≡◌, ◌<◌}
 use Rattle.runner.specs.inner.Shrinking.{HasLess}
-use Rattle.runner.proofs.alone.walk_round.Given as goal
+use Rattle.runner.proofs.alone.walk_copies.Given as goal
 
 abbrev pub invariant-loop-item : goal.invariant-loop-item
 invariant-loop-item l = record {

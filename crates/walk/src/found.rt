@@ -1,0 +1,53 @@
+//! What a walk finds.
+
+ghost use Rattle.std.specs.Prelude.{◌≡◌, []};
+ghost use Rattle.walk.specs.Summaries.{nothing};
+
+use crate::hints::EndMemory;
+use crate::item::Item;
+use crate::prefixes::Prefixes;
+use crate::summary::Summary;
+use std::alloc::Global;
+
+/// What a walk of an item found. Its memory serves one walk after another.
+#[derive(Drop)]
+pub struct Found {
+    /// The summary of the schedules that were tried.
+    pub part: Summary,
+    /// The items that were left, in order.
+    pub rest: Vec<Item>,
+    /// The prefixes whose last step would be one preemption too many.
+    pub deferred: Prefixes,
+    // While the walk goes on, so many of its steps begin the prefix that was put off last, too.
+    pub(crate) shared: usize,
+}
+
+impl Found {
+    /// Nothing was found.
+    pub fn new(alloc: Global) -> Found
+        ensures part { result.part ≡ nothing }
+        ensures rest { result.rest.items ≡ [] }
+        ensures deferred { result.deferred ≡ [] }
+        ensures shared { result.shared ≡ 0 }
+    {
+        Found {
+            part: Summary::empty(alloc),
+            rest: Vec::new(alloc),
+            deferred: Prefixes::new(alloc),
+            shared: 0,
+        }
+    }
+
+    // Forgets what was found. End views go to this memory, all else is kept.
+    pub(crate) fn clear(&mut self, ends: &mut EndMemory)
+        ensures part { self.new.part ≡ nothing }
+        ensures rest { self.new.rest.items ≡ [] }
+        ensures deferred { self.new.deferred ≡ [] }
+        ensures shared { self.new.shared ≡ 0 }
+    {
+        self.part.clear(ends);
+        self.rest.clear();
+        self.deferred.clear();
+        self.shared = 0;
+    }
+}
