@@ -1,4 +1,4 @@
-use Rattle.std.proofs.Common.{◌≡◌, ◌∙◌, ◌+◌, ◌-◌, ◌<◌, ◌≤◌, arith, length, sym}
+use Rattle.std.proofs.Common.{◌∙◌, ◌≤◌, arith, sym}
 use Rattle.runner.proofs.Shrinks.{walked_again, walked_length, round_walked}
 use Rattle.runner.proofs.alone.walk_in_place.Goals as goal
 

@@ -1,4 +1,4 @@
-use Rattle.std.proofs.Common.{rules, refl, ◌≡◌, ◌∙◌, ◌++◌, ◌<◌, sym, ap, subst, arith, length, length-append, None, true, Bool, List}
+use Rattle.std.proofs.Common.{refl, ◌≡◌, ◌∙◌, ◌++◌, ◌<◌, sym, ap, subst, arith, length, length-append, None, Bool, List}
 use Rattle.std.specs.Arc.{arc_value}
 use Rattle.std.specs.List.{All, remove}
 use Rattle.guest_code.specs.Program.{Program}

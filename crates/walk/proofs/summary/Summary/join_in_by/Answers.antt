@@ -1,4 +1,4 @@
-use Rattle.std.proofs.Common.{◌≡◌, ◌∙◌, ap, sym}
+use Rattle.std.proofs.Common.{◌∙◌, ap}
 use Rattle.semantics.specs.Order.{lesser}
 use Rattle.walk.specs.Summaries.{schedule_view}
 use Rattle.walk.proofs.SumsJoin.{parts_joined, left_kept, none_bad_kept}
