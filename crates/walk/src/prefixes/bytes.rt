@@ -138,7 +138,7 @@ fn number(bytes: &[u8], at: usize) -> usize
     }
 }
 
-// The way on top of some bytes: how many steps to take away, and where those to put back stand.
+// A way back: how many steps to take away, and where those to put back stand.
 #[derive(Clone, Copy, Drop)]
 pub struct WayBack {
     pub dropped: usize,
@@ -146,6 +146,7 @@ pub struct WayBack {
     pub end: usize,
 }
 
+// The last byte, which says what way is on top; 0 where there is none.
 fn head(bytes: &[u8]) -> usize
     ensures { result ≡ head_of bytes.now }
 {
@@ -156,6 +157,7 @@ fn head(bytes: &[u8]) -> usize
     }
 }
 
+// The way on top of some bytes.
 #[tactic(auto, using(std::proofs::lemmas::Bool::Decides::nat_tests), unfolding(crate::specs::inner::Packed::dropped_of, crate::specs::inner::Packed::end_of, crate::specs::inner::Packed::start_of))]
 pub fn top(bytes: &[u8]) -> WayBack
     ensures dropped { result.dropped ≡ dropped_of bytes.now }
