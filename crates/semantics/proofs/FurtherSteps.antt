@@ -22,8 +22,8 @@ use Rattle.semantics.specs.declared.undo.Undo.{Undo}
 use Rattle.semantics.specs.Machine.{Snapshot, acts, performed, step, is_enabled, next_of, thread_at, missing_thread, value_of, owner_of, queue_of, count_of, queue_after, threads_to_wake, wake, resumed, reader_after, taker_after, counter_after, var_after, owner_after, count_after}
 use Rattle.semantics.specs.Reachable.{IsOf, IsValidAction}
 use Rattle.semantics.specs.Undoing.{restored, thread_before, with_change, with_thread_before, undone, old_queue, IsInRange, IsRecordOf, with_touched, with_all_touched, IsTouched, TakesBack}
-use Rattle.semantics.specs.inner.Recording.{Changes, HasGate, HasGoneOn, HasTouched, IsFree, others_after}
-use Rattle.semantics.proofs.EnabledAfter.{changes, gate_there}
+use Rattle.semantics.specs.inner.Recording.{Changes, HasResource, HasGoneOn, HasTouched, IsFree, others_after}
+use Rattle.semantics.proofs.EnabledAfter.{changes, resource_there}
 use Rattle.semantics.proofs.StepsKeepStates.{step_is_of}
 use Rattle.semantics.proofs.Undone.{set_back}
 use Rattle.semantics.proofs.WorkFalls.{enabled_below}
@@ -134,9 +134,9 @@ gone_on p s t a old kept o new others free of' h fine next as_told is touched fe
       few = few;
       changes = subst (λ (z : Snapshot). Changes others p s t z) (sym is)
           (subst (λ (x : Others). Changes x p s t (performed p s t a)) (sym as_told)
-          (changes p s t a));
-      gate = subst (λ (x : Others). HasGate x new) (sym as_told) (gate_there p s new a new_of fine);
-      free = λ f. goes_on f new;
+          (changes p s t a next));
+      resource = subst (λ (x : Others). HasResource x new) (sym as_told) (resource_there p s new a new_of fine);
+      free = goes_on;
     }
   where
     value : new ≡ step p s t

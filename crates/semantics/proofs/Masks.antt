@@ -1,12 +1,12 @@
 -- Members of a mask members_from a number on.
-use Rattle.std.proofs.Common.{◌≡◌, ◌≢◌, ℕ, ℤ, zero, suc, ◌+◌, ◌-◌, ◌<◌, ◌≤◌, Bool, true, false, cond, not, ◌&&◌, min, List, [], ◌∷◌, length, Option, Some, None, refl, ap, ◌∙◌, sym, arith, inl, inr, get_or-set_other, pow-suc, ◌/◌, ◌^◌, ◌*◌, ◌%◌, nat_eq}
+use Rattle.std.proofs.Common.{◌≡◌, ◌≢◌, ℕ, ℤ, zero, suc, ◌+◌, ◌-◌, ◌<◌, ◌≤◌, Bool, true, false, cond, not, ◌&&◌, ◌||◌, min, max, List, [], ◌∷◌, length, Option, Some, None, refl, ap, ◌∙◌, sym, arith, inl, inr, get_or-set_other, pow-suc, ◌/◌, ◌^◌, ◌*◌, ◌%◌, nat_eq}
 use Rattle.std.specs.List.{filter}
 use Rattle.std.specs.Int.{bit_at, bit_not, w16, trailing_zeros}
-use Rattle.std.specs.Int.Bits.{bit_and}
+use Rattle.std.specs.Int.Bits.{bit_and, bit_or}
 use Rattle.guest_code.specs.declared.limits.TheConstants.{THREADS}
 use Rattle.std.proofs.Math.Nat.{div-div-eq-div-mul, div-le_self}
 use Rattle.std.proofs.lemmas.Nat.{pow-add}
-use Rattle.std.proofs.lemmas.Nat.Bits.{bit_at_above, bit_at-zero, bit_at-trailing_zeros, bit_at_not, bit_at_and, bit_at-lt, bit_at_cat_low, bit_at_cat_high, same_from_bits_below}
+use Rattle.std.proofs.lemmas.Nat.Bits.{bit_at_above, bit_at-zero, bit_at-trailing_zeros, bit_at_not, bit_at_and, bit_at_or, bit_at-lt, bit_at_cat_low, bit_at_cat_high, same_from_bits_below}
 use Rattle.std.proofs.lemmas.Bool.{cases_lt}
 use Rattle.guest_code.specs.Program.{Program, code_of}
 use Rattle.semantics.specs.declared.mask.Mask.{Mask}
@@ -181,6 +181,21 @@ members-without_first m n t h none off others =
     ∙ (let z : 0 + (t + 1) ≡ t + 1 = omega arith in ap (λ k. filter (has n) (up_from k (16 - k))) z)
     ∙ filter_between (has n) (has m) (t + 1) (16 - (t + 1))
     (λ u a b. let ne : u ≢ t = omega arith in others u ne)
+
+-- a mask with those of another
+
+either_bit : (x y : ℕ) → x < 2 → y < 2 → nat_eq (max x y) 1 ≡ (nat_eq x 1 || nat_eq y 1)
+either_bit zero zero h k = refl
+either_bit zero (suc zero) h k = refl
+either_bit (suc zero) zero h k = refl
+either_bit (suc zero) (suc zero) h k = refl
+either_bit (suc (suc x)) y h k = absurd (omega arith)
+either_bit x (suc (suc y)) h k = absurd (omega arith)
+
+pub union_bits : (a b u : ℕ) → nat_eq (bit_at (bit_or a b) u) 1
+    ≡ (nat_eq (bit_at a u) 1 || nat_eq (bit_at b u) 1)
+union_bits a b u = ap (λ n. nat_eq n 1) (bit_at_or a b u)
+    ∙ either_bit (bit_at a u) (bit_at b u) (bit_at-lt a u) (bit_at-lt b u)
 
 -- a mask without those of another
 

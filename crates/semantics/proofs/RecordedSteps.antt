@@ -8,8 +8,8 @@ use Rattle.semantics.specs.declared.undo.Undo.{Undo}
 use Rattle.semantics.specs.Machine.{Snapshot, acts, performed, step, is_enabled, next_of, thread_at}
 use Rattle.semantics.specs.Reachable.{IsOf, IsValidAction}
 use Rattle.semantics.specs.Undoing.{restored, undone, IsRecordOf}
-use Rattle.semantics.specs.inner.Recording.{HasBegun, HasObject, HasStepped, Changes, HasGate, IsFree, others_after}
-use Rattle.semantics.proofs.EnabledAfter.{changes, gate_there}
+use Rattle.semantics.specs.inner.Recording.{HasBegun, HasObject, HasStepped, Changes, HasResource, IsFree, others_after}
+use Rattle.semantics.proofs.EnabledAfter.{changes, resource_there}
 use Rattle.semantics.proofs.StepsKeepStates.{step_is_of}
 use Rattle.semantics.proofs.Undone.{back, in_range}
 use Rattle.semantics.proofs.WorkFalls.{enabled_below}
@@ -33,10 +33,10 @@ stepped p s t a u new others free of' h fine next as_told is begun few object lo
           ≡ (thread_at s t).locals) is locals);
       changes = subst (λ (z : Snapshot). Changes others p s t z) (sym is)
           (subst (λ (o : Others). Changes o p s t (performed p s t a)) (sym as_told)
-          (changes p s t a));
-      gate = subst (λ (o : Others). HasGate o new) (sym as_told) (gate_there p s new a
+          (changes p s t a next));
+      resource = subst (λ (o : Others). HasResource o new) (sym as_told) (resource_there p s new a
           (subst (IsOf p) (sym value) (step_is_of p s t of' h)) fine);
-      free = λ f. goes_on f new;
+      free = goes_on;
     }
   where
     value : new ≡ step p s t

@@ -13,6 +13,7 @@ pub mod Order
 pub mod Rising
 pub mod Waiters
 pub mod Mask
+pub mod Contenders
 pub mod Reachable
 pub mod FinalKinds
 pub mod OperatorTable

@@ -2,8 +2,8 @@
 
 ghost use Rattle.std.specs.Prelude.{◌≡◌, Some};
 ghost use Rattle.semantics.specs.Machine.{action_of, retake_of, action_at, owns};
-ghost use Rattle.semantics.specs.inner.Recording.{passes};
 
+use crate::contenders::Resource;
 use crate::state::{Action, ConditionAction, MutexAction, SemaphoreAction, Status, VariableAction};
 use guest_code::program::Instruction;
 
@@ -79,67 +79,14 @@ pub fn owns(thread: u8, owner: Option<u8>) -> bool
     }
 }
 
-/// An object that may hold up the threads that are about to take it.
-#[derive(Clone, Copy, Debug, PartialEq, Eq)]
-pub enum Gate {
-    /// The mutex of this number, while a thread owns it.
-    Mutex(usize),
-    /// The semaphore of this number, while its count is 0.
-    Semaphore(usize),
-}
-
-// Whether a running thread at this instruction is about to pass a gate.
-#[inline(always)]
-fn passes_visibly(instruction: &Instruction, gate: Gate) -> bool
-    ensures { result ≡ passes gate (action_of instruction.now) }
-{
-    match instruction {
-        Instruction::Lock(n) => match gate {
-            Gate::Mutex(m) => *n == m,
-            Gate::Semaphore(_) => false,
-        },
-        Instruction::Acquire(n) => match gate {
-            Gate::Mutex(_) => false,
-            Gate::Semaphore(k) => *n == k,
-        },
-        _ => false,
-    }
-}
-
-// Whether a woken thread at this instruction is about to pass a gate.
-#[inline(always)]
-fn passes_again(instruction: &Instruction, gate: Gate) -> bool
-    ensures { result ≡ passes gate (retake_of instruction.now) }
-{
-    match instruction {
-        Instruction::Wait { mutex, .. } => match gate {
-            Gate::Mutex(m) => *mutex == m,
-            Gate::Semaphore(_) => false,
-        },
-        _ => false,
-    }
-}
-
-/// Whether a thread of this status at this instruction is about to pass a gate.
-#[inline(always)]
-pub fn passes(status: Status, instruction: &Instruction, gate: Gate) -> bool
-    ensures { result ≡ passes gate (action_at status (Some instruction.now)) }
-{
-    match status {
-        Status::Running => passes_visibly(instruction, gate),
-        Status::Woken => passes_again(instruction, gate),
-        Status::Waiting(_) | Status::Ended | Status::Stopped(_) => false,
-    }
-}
-
 /// What a step does to which other threads are enabled.
 #[derive(Clone, Copy, Debug, PartialEq, Eq)]
 pub enum Others {
     /// They stay enabled or disabled.
     Same,
-    /// Those that are about to pass this gate are enabled where it is open now; the others stay
+    /// Those that are about to take this are enabled where it can be taken now; the others stay
     /// enabled or disabled.
-    At(Gate),
+    At(Resource),
     /// None is disabled that wasn't.
     More,
 }

@@ -24,6 +24,7 @@
 #![tactic(auto)]
 
 mod action;
+pub mod contenders;
 pub mod execution;
 pub mod independence;
 pub mod laws;

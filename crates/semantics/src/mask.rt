@@ -1,6 +1,6 @@
 //! Sets of thread numbers.
 
-ghost use Rattle.std.specs.Prelude.{◌≡◌, ◌≢◌, ◌<◌, ◌≤◌, ◌+◌, ◌∷◌, ◌&&◌, [], ℕ, false, not, IsTrue, MatchOption};
+ghost use Rattle.std.specs.Prelude.{◌≡◌, ◌≢◌, ◌<◌, ◌≤◌, ◌+◌, ◌∷◌, ◌&&◌, ◌||◌, [], ℕ, false, not, IsTrue, MatchOption};
 ghost use Rattle.semantics.specs.Mask.{has, no_threads, members_from};
 
 use guest_code::limits::THREADS;
@@ -49,6 +49,15 @@ impl Mask {
     {
         Mask {
             bits: self.bits & !other.bits,
+        }
+    }
+
+    /// The members of both sets.
+    pub fn union(self, other: Mask) -> Mask
+        ensures { (u : ℕ) → has result u ≡ (has self u || has other u) }
+    {
+        Mask {
+            bits: self.bits | other.bits,
         }
     }
 

@@ -6,6 +6,7 @@ ghost use Rattle.guest_code.specs.Program.{Program, IsValid, IsValidValue};
 ghost use Rattle.semantics.specs.Machine.{start, action_of, retake_of, action_at, can_do, is_enabled, next_of, thread_at, owner_of, queue_of, count_of, value_of_operand};
 ghost use Rattle.semantics.specs.Reachable.{IsOf, IsValidAction, StandsInCode};
 ghost use Rattle.semantics.specs.Ends.{is_terminal, kind_of, view_of, final_kind, is_stopped, is_ended, stop_of};
+ghost use Rattle.semantics.specs.Contenders.{HasContenders};
 ghost use Rattle.semantics.specs.Mask.{HasEnabled};
 
 mod further;
@@ -13,6 +14,7 @@ mod renewal;
 mod steps;
 
 use crate::action::action_at;
+use crate::contenders::Contenders;
 use crate::local::operand_at;
 use crate::mask::Mask;
 use crate::opening::{opening_counts, opening_threads, opening_values};
@@ -350,6 +352,18 @@ impl State {
             mask = mask.with(t, self.is_enabled(program, t));
         }
         mask
+    }
+
+    /// Who is about to take each mutex and each semaphore.
+    pub fn contenders(&self, program: &Program) -> Contenders
+        requires { IsOf program.now self.now }
+        ensures { HasContenders result program.now self.now }
+    {
+        let mut contenders = Contenders::none();
+        for t in 0..program.threads() {
+            self.arrive(program, t, &mut contenders);
+        }
+        contenders
     }
 
     /// How a complete schedule to this state ends.

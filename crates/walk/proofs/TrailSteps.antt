@@ -9,11 +9,13 @@ use Rattle.std.specs.List.{All}
 use Rattle.guest_code.specs.Program.{Program}
 use Rattle.semantics.specs.Reachable.{IsOf}
 use Rattle.semantics.specs.Machine.{Snapshot, is_enabled, start, step}
+use Rattle.semantics.specs.Contenders.{HasContenders}
 use Rattle.semantics.specs.Mask.{has, no_threads, HasEnabled}
 use Rattle.semantics.specs.Schedules.{preempts, one_if, last_of}
 use Rattle.semantics.specs.Undoing.{undone, with_all_touched, IsRecordOf, IsTouched, TakesBack}
 use Rattle.semantics.specs.Execution.{Reaches}
 use Rattle.semantics.specs.declared.mask.Mask.{Mask}
+use Rattle.semantics.specs.declared.contenders.Contenders.{Contenders}
 use Rattle.semantics.specs.declared.undo.Touched.{Touched}
 use Rattle.semantics.specs.declared.undo.Undo.{Undo}
 use Rattle.semantics.proofs.Executions.{reaches_parts}
@@ -107,17 +109,18 @@ lone_next n t asleep todo last = record {
     no_more = omega arith
 
 -- the frame of a node whose thread has taken a step
-pub frame_entered : (p : Program) (w v : List ℕ) (s z : Snapshot) (n : Node) (t : ℕ) (u : Undo) →
-    IsNode p w s n → w ≡ v → z ≡ step p s t → undone u z ≡ s → IsOf p s → u.thread ≡ t
-    → IsRecordOf u z →
-    IsFrame p v [] (record { node = n; thread = t; further = 0; undo = u })
-frame_entered p w v s z n t u h e stepped back of' own r =
+pub frame_entered : (p : Program) (w v : List ℕ) (s z : Snapshot) (n : Node) (t : ℕ) (u : Undo)
+    (c : Contenders) → IsNode p w s n → w ≡ v → z ≡ step p s t → undone u z ≡ s → IsOf p s
+    → HasContenders c p s → u.thread ≡ t → IsRecordOf u z →
+    IsFrame p v [] (record { node = n; thread = t; further = 0; contenders = c; undo = u })
+frame_entered p w v s z n t u c h e stepped back of' contend own r =
     let at : s ≡ state_at p v = h.reaches.state ∙ ap (state_at p) e in
     let after : z ≡ state_at p (v ++ t ∷ []) =
     stepped ∙ (ap (λ (q : Snapshot). step p q t) at ∙ sym (state_after-push p (start p) v t)) in
     record {
       node = node_same p v w (state_at p v) s n n h (sym e) (sym at) refl;
       state = subst (IsOf p) at of';
+      contenders = subst (HasContenders c p) at contend;
       thread = own;
       all = refl;
       back = subst (λ (q : Snapshot). TakesBack u [] q (state_at p v)) after
@@ -155,6 +158,7 @@ frame_extended p fs w s z f u o os h items at stepped own further =
         record {
           node = h.0.node;
           state = h.0.state;
+          contenders = h.0.contenders;
           thread = own;
           all = ap (λ m. length (take m (o ∷ os))) one ∙ (ap suc h.0.all ∙ sym one);
           back = subst (λ (qs : List Touched).
@@ -293,8 +297,10 @@ pub trail_left : (p : Program) (old new : Trail) (n m : ℕ) (f : Frame) → IsT
     new.frames.items ≡ old.frames.items → new.touched.items ≡ old.touched.items →
     new.state ≡ undone f.undo
     (with_all_touched (reverse (touched_from old m)) old.state) →
-    new.node ≡ f.node → new.base ≡ old.base → IsTrail p new × IsLeft old new
-trail_left p old new n m f h one depth read sum further items frames touched back node base =
+    new.node ≡ f.node → new.contenders ≡ f.contenders → new.base ≡ old.base
+    → IsTrail p new × IsLeft old new
+trail_left p old new n m f h one depth read sum further items frames touched back node contend
+    base =
     let L = lowest p old n f h one read in
     let v : List ℕ = path (reverse (take n old.frames.items)) in
     let whole : length old.steps.items ≡ length v + (f.further + 1) =
@@ -315,6 +321,8 @@ trail_left p old new n m f h one depth read sum further items frames touched bac
         node = node_same p new.steps.items v new.state (state_at p v) new.node f.node
             L.frames.0.node steps at node;
         state = subst (IsOf p) (sym at) L.frames.0.state;
+        contenders = subst (λ (c : Contenders). HasContenders c p new.state) (sym contend)
+            (subst (HasContenders f.contenders p) (sym at) L.frames.0.contenders);
         frames = subst (λ (os : List Touched). AreFrames p os (above new)) (sym rest)
             (subst (AreFrames p (drop f.further (touched_above old))) (sym up) L.frames.1);
         steps = steps ∙ ap path (sym up);
@@ -339,30 +347,44 @@ pub trail_entered : (p : Program) (old new : Trail) (S : List Frame) (t : ℕ) (
     old.depth < length S → take old.depth S ≡ take old.depth old.frames.items →
     new.steps.items ≡ old.steps.items ++ t ∷ [] →
     new.frames.items ≡ set S old.depth
-    (record { node = old.node; thread = t; further = 0; undo = u }) →
+    (record {
+      node = old.node;
+      thread = t;
+      further = 0;
+      contenders = old.contenders;
+      undo = u;
+    }) →
     new.depth ≡ old.depth + 1 → new.touched.items ≡ old.touched.items
     → new.further ≡ old.further →
-    new.state ≡ step p old.state t → IsOf p new.state → u.thread ≡ t → IsRecordOf u new.state
+    new.state ≡ step p old.state t → IsOf p new.state → HasContenders new.contenders p new.state
+    → u.thread ≡ t → IsRecordOf u new.state
     → undone u new.state ≡ old.state →
     HasEnabled enabled p new.state → HasSwitches switches (Some t) enabled
     → new.node ≡ record next { enabled = enabled; switches = switches } → new.base ≡ old.base →
     IsTrail p new × IsEntered old new t next.asleep
 trail_entered p old new S t u next enabled switches h after on there same items frames depth
-    touched further stepped of' own r back masked leaving node base =
-    let f : Frame = record { node = old.node; thread = t; further = 0; undo = u } in
+    touched further stepped of' contend own r back masked leaving node base =
+    let f : Frame = record {
+      node = old.node;
+      thread = t;
+      further = 0;
+      contenders = old.contenders;
+      undo = u;
+    } in
     let up : above new ≡ f ∷ above old =
     (λ i. reverse (take (depth i) (frames i)))
     ∙ one_more S old.frames.items f old.depth there same in
     let rest : touched_above new ≡ touched_above old =
     λ i. reverse (take (further i) (touched i)) in
     let frame = frame_entered p old.steps.items (path (above old)) old.state new.state old.node t u
-    h.node h.steps stepped back h.state own r in (
+    old.contenders h.node h.steps stepped back h.state h.contenders own r in (
       record {
         well_formed = h.well_formed;
         node = subst (IsNode p new.steps.items new.state) (sym node)
             (node_entered p old.steps.items new.steps.items old.state new.state old.node next t
             enabled switches h.node after on stepped items masked leaving);
         state = of';
+        contenders = contend;
         frames = subst (λ (os : List Touched). AreFrames p os (above new)) (sym rest)
             (subst (AreFrames p (touched_above old)) (sym up) (frame, h.frames));
         steps = items ∙ (ap (λ (x : List ℕ). x ++ t ∷ []) h.steps ∙ ap path (sym up));
@@ -397,7 +419,8 @@ pub trail_extended : (p : Program) (old new : Trail) (n t : ℕ) (f : Frame) (u 
     (record f { further = f.further + 1; undo = u }) →
     new.depth ≡ old.depth → new.touched.items ≡ set T old.further o
     → new.further ≡ old.further + 1 →
-    new.state ≡ step p old.state t → IsOf p new.state → u.thread ≡ t →
+    new.state ≡ step p old.state t → IsOf p new.state → HasContenders new.contenders p new.state
+    → u.thread ≡ t →
     ((qs : List Touched) → (q : Snapshot) → TakesBack f.undo qs old.state q
     → TakesBack u (o ∷ qs) new.state q) →
     HasEnabled enabled p new.state → HasSwitches switches (Some t) enabled
@@ -405,7 +428,7 @@ pub trail_extended : (p : Program) (old new : Trail) (n t : ℕ) (f : Frame) (u 
     IsTrail p new × IsExtended old new t next.asleep
 trail_extended p old new n t f u o T next enabled switches h same_thread after on one within read
     there same
-    items frames depth touched count stepped of' own further masked leaving node base =
+    items frames depth touched count stepped of' contend own further masked leaving node base =
     let L = lowest p old n f h one read in
     let S : List Frame = old.frames.items in
     let fs : List Frame = reverse (take n S) in
@@ -425,6 +448,7 @@ trail_extended p old new n t f u o T next enabled switches h same_thread after o
             (node_entered p old.steps.items new.steps.items old.state new.state old.node next
             t enabled switches h.node after on stepped items masked leaving);
         state = of';
+        contenders = contend;
         frames = subst (λ (os : List Touched). AreFrames p os (above new)) (sym more)
             (subst (AreFrames p (o ∷ touched_above old)) (sym up) longer.0);
         steps = items ∙ (ap (λ u. old.steps.items ++ u ∷ []) (sym same_thread)
@@ -465,8 +489,8 @@ pub trail_same : (p : Program) (old new : Trail) → IsTrail p old
     old.depth ≤ length new.frames.items → new.further ≡ old.further →
     take old.further new.touched.items ≡ take old.further old.touched.items →
     old.further ≤ length new.touched.items → new.state ≡ old.state →
-    IsNode p old.steps.items old.state new.node → IsTrail p new
-trail_same p old new h items depth frames room further touched places state node =
+    new.contenders ≡ old.contenders → IsNode p old.steps.items old.state new.node → IsTrail p new
+trail_same p old new h items depth frames room further touched places state contend node =
     let up : above new ≡ above old = (λ i. reverse (take (depth i) new.frames.items)) ∙
     ap reverse frames in
     let rest : touched_above new ≡ touched_above old =
@@ -476,6 +500,8 @@ trail_same p old new h items depth frames room further touched places state node
       node = node_same p new.steps.items old.steps.items new.state old.state new.node new.node node
           items state refl;
       state = subst (IsOf p) (sym state) h.state;
+      contenders = subst (λ (c : Contenders). HasContenders c p new.state) (sym contend)
+          (subst (HasContenders old.contenders p) (sym state) h.contenders);
       frames = subst (λ (os : List Touched). AreFrames p os (above new)) (sym rest)
           (subst (AreFrames p (touched_above old)) (sym up) h.frames);
       steps = items ∙ (h.steps ∙ ap path (sym up));
@@ -493,12 +519,13 @@ node_opened p w s n m todo h e = subst (IsNode p w s) (sym e)
 pub opened : (p : Program) (old new : Trail) → IsTrail p old → new.steps.items ≡ old.steps.items
     → new.depth ≡ old.depth → new.frames.items ≡ old.frames.items → new.further ≡ old.further
     → take old.further new.touched.items ≡ take old.further old.touched.items
-    → old.further ≤ length new.touched.items → new.state ≡ old.state → new.base ≡ old.base
+    → old.further ≤ length new.touched.items → new.state ≡ old.state
+    → new.contenders ≡ old.contenders → new.base ≡ old.base
     → new.node ≡ record old.node { todo = new.node.todo } → IsOpened p old new
-opened p old new h items depth frames further touched places state base node = record {
+opened p old new h items depth frames further touched places state contend base node = record {
   trail = trail_same p old new h items depth (ap (take old.depth) frames)
       (let r = h.room in let e = ap length frames in omega (arith, r, e)) further touched places
-      state (node_opened p old.steps.items old.state old.node new.node new.node.todo h.node node);
+      state contend (node_opened p old.steps.items old.state old.node new.node new.node.todo h.node node);
   steps = items;
   above = λ i. reverse (take (depth i) (frames i));
   base = base;
@@ -510,11 +537,12 @@ opened p old new h items depth frames further touched places state base node = r
 pub opened_here : (p : Program) (old new : Trail) → IsTrail p old
     → new.steps.items ≡ old.steps.items → new.depth ≡ old.depth
     → new.frames.items ≡ old.frames.items → new.further ≡ old.further
-    → new.touched.items ≡ old.touched.items → new.state ≡ old.state → new.base ≡ old.base
+    → new.touched.items ≡ old.touched.items → new.state ≡ old.state
+    → new.contenders ≡ old.contenders → new.base ≡ old.base
     → new.node ≡ record old.node { todo = new.node.todo } → IsOpened p old new
-opened_here p old new h items depth frames further touched state base node =
+opened_here p old new h items depth frames further touched state contend base node =
     opened p old new h items depth frames further (ap (take old.further) touched)
-    (let r = h.places in let e = ap length touched in omega (arith, r, e)) state base node
+    (let r = h.places in let e = ap length touched in omega (arith, r, e)) state contend base node
 
 pub opened_twice : (p : Program) (a b c : Trail) → IsOpened p a b → IsOpened p b c
     → IsOpened p a c

@@ -151,6 +151,15 @@ impl Found {
         }
     }
 
+    // Whether fewer than a quota were tried.
+    #[inline(always)]
+    fn is_below(&self, quota: u32) -> bool
+        ensures below { IsTrue result → self.now.part.tried < quota }
+        ensures full { IsFalse result → quota ≤ self.now.part.tried }
+    {
+        self.part.tried() < quota as u64
+    }
+
     // Goes back with the walk to a node above, so many steps from the start.
     #[inline(always)]
     fn go_back(&mut self, depth: usize)
@@ -491,7 +500,8 @@ impl Trail {
         more
     }
 
-    // Goes down and back until so many are tried or nothing is open; each mode has its own loop.
+    // Goes down and back until so many are tried or nothing is open. Each mode has a loop of its own,
+    // in which it is known.
     fn search(
         &mut self,
         alloc: Global,
@@ -511,37 +521,62 @@ impl Trail {
             → still_open mode item.now.program self.new ≡ []) }
     {
         match mode {
-            Mode::Bounded(bound) => {
-                self.search_in(alloc, found, item, Mode::Bounded(bound), quota)
-            }
-            Mode::Reduced => self.search_in(alloc, found, item, Mode::Reduced, quota),
+            Mode::Bounded(bound) => self.search_within(alloc, found, item, bound, quota),
+            Mode::Reduced => self.search_reduced(alloc, found, item, quota),
         }
     }
 
-    // The same, in line.
-    #[inline(always)]
-    fn search_in(
+    // The same within a bound.
+    #[inline(never)]
+    fn search_within(
         &mut self,
         alloc: Global,
         found: &mut Found,
         item: &Item,
-        mode: Mode,
+        bound: u32,
         quota: u32,
     ) -> Result<(), AllocError>
-        requires search { IsSearch mode item.now self.old found.old
-            (still_open mode item.now.program self.old) }
+        requires search { IsSearch (Mode.Bounded bound) item.now self.old found.old
+            (still_open (Mode.Bounded bound) item.now.program self.old) }
         requires few { found.old.part.tried ≤ quota }
         ensures trail { IsTrail item.now.program self.new }
-        ensures search { OnOk result (IsSearch mode item.now self.new found.new
-            (still_open mode item.now.program self.new)) }
+        ensures search { OnOk result (IsSearch (Mode.Bounded bound) item.now self.new found.new
+            (still_open (Mode.Bounded bound) item.now.program self.new)) }
         ensures few { OnOk result (found.new.part.tried ≤ quota) }
         ensures all { OnOk result (found.new.part.tried < quota
-            → still_open mode item.now.program self.new ≡ []) }
+            → still_open (Mode.Bounded bound) item.now.program self.new ≡ []) }
     {
         let mut going = true;
-        while going && found.part.tried() < quota as u64 {
-            self.dive(alloc, found, item, mode)?;
-            going = self.climb(found, item, mode);
+        while going && found.is_below(quota) {
+            self.dive(alloc, found, item, Mode::Bounded(bound))?;
+            going = self.climb(found, item, Mode::Bounded(bound));
+        }
+        Ok(())
+    }
+
+    // The same with sleep sets.
+    #[inline(never)]
+    fn search_reduced(
+        &mut self,
+        alloc: Global,
+        found: &mut Found,
+        item: &Item,
+        quota: u32,
+    ) -> Result<(), AllocError>
+        requires search { IsSearch Mode.Reduced item.now self.old found.old
+            (still_open Mode.Reduced item.now.program self.old) }
+        requires few { found.old.part.tried ≤ quota }
+        ensures trail { IsTrail item.now.program self.new }
+        ensures search { OnOk result (IsSearch Mode.Reduced item.now self.new found.new
+            (still_open Mode.Reduced item.now.program self.new)) }
+        ensures few { OnOk result (found.new.part.tried ≤ quota) }
+        ensures all { OnOk result (found.new.part.tried < quota
+            → still_open Mode.Reduced item.now.program self.new ≡ []) }
+    {
+        let mut going = true;
+        while going && found.is_below(quota) {
+            self.dive(alloc, found, item, Mode::Reduced)?;
+            going = self.climb(found, item, Mode::Reduced);
         }
         Ok(())
     }

@@ -10,6 +10,7 @@ ghost use Rattle.walk.specs.inner.Paths.{touched_from, IsTrail, IsEntered, IsExt
 use crate::hints::EndMemory;
 use guest_code::laws::programs_are_well_formed;
 use guest_code::program::Program;
+use semantics::contenders::Contenders;
 use semantics::mask::Mask;
 use semantics::state::State;
 use semantics::undo::{Touched, Undo};
@@ -39,6 +40,8 @@ pub struct Frame {
     pub thread: u8,
     /// How many further steps of the thread came right after the first one.
     pub further: usize,
+    /// Who is about to take what at the node.
+    pub contenders: Contenders,
     pub undo: Undo,
 }
 
@@ -58,6 +61,8 @@ pub struct Trail {
     /// How many further steps there are in all frames.
     pub further: usize,
     pub node: Node,
+    /// Who is about to take what.
+    pub contenders: Contenders,
     /// How many of the frames lead to the item that is walked.
     pub base: usize,
     /// What end views are made with.
@@ -151,6 +156,7 @@ impl Frame {
             },
             thread: 0,
             further: 0,
+            contenders: Contenders::none(),
             undo: Undo::new(),
         }
     }
@@ -209,6 +215,7 @@ impl Trail {
         programs_are_well_formed(program);
         let state = State::start(alloc, program)?;
         let enabled = state.enabled(program);
+        let contenders = state.contenders(program);
         let node = Node {
             enabled,
             asleep: Mask::empty(),
@@ -225,6 +232,7 @@ impl Trail {
             touched: Vec::new(alloc),
             further: 0,
             node,
+            contenders,
             base: 0,
             ends: EndMemory::new(alloc),
         })
@@ -275,9 +283,14 @@ impl Trail {
         frame.node = from;
         frame.thread = thread;
         frame.further = 0;
-        let enabled = self
-            .state
-            .step_into(program, thread, &mut frame.undo, from.enabled);
+        frame.contenders = self.contenders;
+        let enabled = self.state.step_into(
+            program,
+            thread,
+            &mut frame.undo,
+            from.enabled,
+            &mut self.contenders,
+        );
         self.depth = depth + 1;
         Ok(next.with_enabled(thread, enabled))
     }
@@ -323,9 +336,10 @@ impl Trail {
         self.steps.push(thread)?;
         let frame = &mut self.frames[self.depth - 1];
         let mask = self.node.enabled;
+        let contenders = &mut self.contenders;
         match self
             .state
-            .step_further(program, thread, &mut frame.undo, mask)
+            .step_further(program, thread, &mut frame.undo, mask, contenders)
         {
             Some((touched, enabled)) => {
                 frame.further += 1;
@@ -386,6 +400,7 @@ impl Trail {
         let frame = &self.frames[depth];
         self.state.undo(&frame.undo);
         self.node = frame.node;
+        self.contenders = frame.contenders;
         self.steps.pop();
         self.depth = depth;
     }

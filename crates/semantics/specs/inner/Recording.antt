@@ -1,9 +1,9 @@
 -- What a step writes into its record.
-use Rattle.std.specs.Prelude.{◌≡◌, ◌≢◌, ℕ, ◌<◌, ◌≤◌, Bool, true, false, nat_eq, nat_lt, List, [], length, Option, Some, None, slice_get, slice_set, IsTrue, if◌then◌else◌}
-use Rattle.guest_code.specs.declared.limits.TheConstants.{THREADS, LOCALS}
+use Rattle.std.specs.Prelude.{◌≡◌, ◌≢◌, ℕ, ◌<◌, ◌≤◌, Bool, true, false, nat_eq, nat_lt, ◌&&◌, ◌||◌, List, [], length, Option, Some, slice_get, slice_set, IsTrue, if◌then◌else◌}
+use Rattle.guest_code.specs.declared.limits.TheConstants.{THREADS, LOCALS, OBJECTS}
 use Rattle.guest_code.specs.declared.program.Instruction.{Instruction}
 use Rattle.guest_code.specs.declared.program.Instruction.TheVariants.{Load, Store, Add, Cas, Lock, Unlock, Wait as WaitFor, Signal, Broadcast, Acquire, Release, Set, Assert, SkipIfZero, Skip}
-use Rattle.guest_code.specs.Program.{Program}
+use Rattle.guest_code.specs.Program.{Program, code_of}
 use Rattle.semantics.specs.declared.state.Thread.{Thread}
 use Rattle.semantics.specs.declared.state.Status.TheVariants.{Running}
 use Rattle.semantics.specs.declared.local.Turn.{Turn}
@@ -11,10 +11,10 @@ use Rattle.semantics.specs.declared.local.Turn.TheVariants.{On, Free, Over}
 use Rattle.semantics.specs.declared.action.After.{After}
 use Rattle.semantics.specs.declared.action.Others.{Others}
 use Rattle.semantics.specs.declared.action.Others.TheVariants.{Same, At, More}
-use Rattle.semantics.specs.declared.action.Gate.{Gate}
-use Rattle.semantics.specs.declared.action.Gate.TheVariants.{Mutex, Semaphore}
-use Rattle.semantics.specs.declared.state.MutexAction.TheVariants.{Lock as Locks, Unlock as Unlocks, Retake as Retakes}
-use Rattle.semantics.specs.declared.state.SemaphoreAction.TheVariants.{Acquire as Acquires, Release as Releases}
+use Rattle.semantics.specs.declared.contenders.Contenders.{Contenders}
+use Rattle.semantics.specs.declared.contenders.Resource.{Resource}
+use Rattle.semantics.specs.declared.contenders.Resource.TheVariants.{Mutex, Semaphore}
+use Rattle.semantics.specs.declared.mask.Mask.{Mask}
 use Rattle.semantics.specs.declared.state.Action.{Action}
 use Rattle.semantics.specs.declared.state.Action.TheVariants.{OnVariable, OnMutex, Wait as Waits, OnCondition, OnSemaphore}
 use Rattle.semantics.specs.declared.undo.Saved.{Saved}
@@ -23,6 +23,8 @@ use Rattle.semantics.specs.declared.undo.Touched.TheVariants.{Variable as TheVar
 use Rattle.semantics.specs.declared.undo.Undo.{Undo}
 use Rattle.semantics.specs.declared.undo.Change.TheVariants.{Variable, Owner, Count, Wait, Call}
 use Rattle.semantics.specs.Machine.{Snapshot, run_from, action_at, can_do, is_enabled, is_free, next_of, step, thread_at, value_of, owner_of, queue_of, count_of}
+use Rattle.semantics.specs.Contenders.{takes, contenders_at, IsResource}
+use Rattle.semantics.specs.Mask.{has}
 use Rattle.semantics.specs.Reachable.{IsOf}
 use Rattle.semantics.specs.Undoing.{restored, old_queue, undone, with_touched, IsRecordOf, IsTouched}
 
@@ -50,42 +52,59 @@ abbrev pub KeepsEnabled : Program → Snapshot → ℕ → Snapshot → Type 0
 KeepsEnabled p s t new =
     (u : ℕ) → u ≢ t → is_enabled p s u ≡ true → is_enabled p new u ≡ true
 
--- what a thread is about to do is to take this object, so that it waits while it can't
-abbrev pub passes : Gate → Option Action → Bool
-passes (Mutex m) (Some (OnMutex n Locks)) = nat_eq n m
-passes (Mutex m) (Some (OnMutex n Unlocks)) = false
-passes (Mutex m) (Some (OnMutex n Retakes)) = nat_eq n m
-passes (Semaphore k) (Some (OnMutex n d)) = false
-passes (Mutex m) (Some (OnSemaphore n d)) = false
-passes (Semaphore k) (Some (OnSemaphore n Acquires)) = nat_eq n k
-passes (Semaphore k) (Some (OnSemaphore n Releases)) = false
-passes gate (Some (OnVariable x d)) = false
-passes gate (Some (Waits c n)) = false
-passes gate (Some (OnCondition c d)) = false
-passes gate None = false
-
 -- the object can be taken
-abbrev pub is_open : Snapshot → Gate → Bool
-is_open s (Mutex m) = is_free (owner_of s m)
-is_open s (Semaphore k) = nat_lt 0 (count_of s k)
+abbrev pub is_available : Snapshot → Resource → Bool
+is_available s (Mutex m) = is_free (owner_of s m)
+is_available s (Semaphore k) = nat_lt 0 (count_of s k)
 
 -- which of the threads but t are enabled in the second state, measured by the first one
-abbrev pub Changes : Others → Program → Snapshot → ℕ → Snapshot → Type 0
-Changes Same p s t new = (u : ℕ) → u ≢ t → is_enabled p new u ≡ is_enabled p s u
-Changes (At gate) p s t new = (u : ℕ) → u ≢ t → is_enabled p new u
-    ≡ if passes gate (next_of p new u) then is_open new gate else is_enabled p s u
-Changes More p s t new = KeepsEnabled p s t new
+abbrev pub Enables : Others → Program → Snapshot → ℕ → Snapshot → Type 0
+Enables Same p s t new = (u : ℕ) → u ≢ t → is_enabled p new u ≡ is_enabled p s u
+Enables (At resource) p s t new = (u : ℕ) → u ≢ t → is_enabled p new u
+    ≡ if takes resource (next_of p new u) then is_available new resource else is_enabled p s u
+Enables More p s t new = KeepsEnabled p s t new
 
--- the object is one of the state
-abbrev pub IsGate : Gate → Snapshot → Type 0
-IsGate (Mutex m) s = m < length s.owners
-IsGate (Semaphore k) s = k < length s.counts
+-- what another thread is about to do is what it was, unless it was nothing and threads were called
+abbrev pub Stays : Others → Option Action → Option Action → Type 0
+Stays Same old new = new ≡ old
+Stays (At resource) old new = new ≡ old
+Stays More old new = (a : Action) → old ≡ Some a → new ≡ old
+
+-- what a step of thread t that led from the first state to the second one did to who is enabled:
+-- what it took, if it took something, is the object by which the others are told
+pub record Changes (o : Others) (p : Program) (s : Snapshot) (t : ℕ) (new : Snapshot) :
+    Type 0 where
+  pub enables : Enables o p s t new
+  pub left : (resource : Resource) → takes resource (next_of p s t) ≡ true → o ≡ At resource
+  pub stays : (u : ℕ) → u ≢ t → Stays o (next_of p s u) (next_of p new u)
+
+-- the mask has thread t, and of the others those that are enabled
+pub record HasNear (m : Mask) (p : Program) (s : Snapshot) (t : ℕ) : Type 0 where
+  pub own : has m t ≡ true
+  pub others : (u : ℕ) → u ≢ t → has m u ≡ is_enabled p s u
+
+-- of the threads but t, those are in the sets that are about to take their objects
+pub record HasRest (c : Contenders) (p : Program) (s : Snapshot) (t : ℕ) : Type 0 where
+  pub own : (resource : Resource) → IsResource resource s →
+      has (contenders_at c resource) t ≡ false
+  pub others : (resource : Resource) → IsResource resource s → (u : ℕ) → u ≢ t →
+      has (contenders_at c resource) u ≡ takes resource (next_of p s u)
+
+-- the sets have a place for the object
+abbrev pub IsKnown : Resource → Type 0
+IsKnown (Mutex m) = m < OBJECTS
+IsKnown (Semaphore k) = k < OBJECTS
+
+-- the sets after one thread has come to where it is about to do this
+abbrev pub HasJoined : Contenders → ℕ → Option Action → Contenders → Type 0
+HasJoined old t o new = (resource : Resource) → (u : ℕ) → has (contenders_at new resource) u
+    ≡ ((takes resource o && nat_eq u t) || has (contenders_at old resource) u)
 
 -- the object by which the others are told is one of the state
-abbrev pub HasGate : Others → Snapshot → Type 0
-HasGate Same s = Unit {0}
-HasGate (At gate) s = IsGate gate s
-HasGate More s = Unit {0}
+abbrev pub HasResource : Others → Snapshot → Type 0
+HasResource Same s = Unit {0}
+HasResource (At resource) s = IsResource resource s
+HasResource More s = Unit {0}
 
 -- what a step does to which other threads are enabled, as far as its object tells
 abbrev pub others_after : Snapshot → Action → Others
@@ -93,10 +112,7 @@ others_after s (OnVariable x d) = Same
 others_after s (OnMutex m d) = At (Mutex m)
 others_after s (Waits c m) = At (Mutex m)
 others_after s (OnCondition c d) = if nat_eq (length (queue_of s c)) 0 then Same else More
-others_after s (OnSemaphore k Acquires) =
-    if nat_lt 1 (count_of s k) then Same else At (Semaphore k)
-others_after s (OnSemaphore k Releases) =
-    if nat_lt 0 (count_of s k) then Same else At (Semaphore k)
+others_after s (OnSemaphore k d) = At (Semaphore k)
 
 -- a thread that may take its next step, whatever the objects are
 abbrev pub IsFree : List Instruction → Thread → Type 0
@@ -120,8 +136,8 @@ pub record HasStepped (p : Program) (s : Snapshot) (t : ℕ) (u : Undo) (new : S
   pub kept : IsRecordOf u new
   pub back : undone u new ≡ s
   pub changes : Changes after.others p s t new
-  pub gate : HasGate after.others new
-  pub free : IsTrue after.free → is_enabled p new t ≡ true
+  pub resource : HasResource after.others new
+  pub free : IsTrue after.free → IsFree (code_of p t) (thread_at new t)
 
 -- the instruction is on a variable
 abbrev pub is_access : Instruction → Bool
@@ -153,8 +169,8 @@ pub record HasGoneOn (p : Program) (s : Snapshot) (t : ℕ) (old kept : Saved) (
   pub locals : restored kept (thread_at new t).locals ≡ restored old (thread_at s t).locals
   pub few : kept.count ≤ LOCALS
   pub changes : Changes after.others p s t new
-  pub gate : HasGate after.others new
-  pub free : IsTrue after.free → is_enabled p new t ≡ true
+  pub resource : HasResource after.others new
+  pub free : IsTrue after.free → IsFree (code_of p t) (thread_at new t)
 
 -- what an action touches alone, as it is
 abbrev pub HasTouched : Touched → Snapshot → Action → Type 0

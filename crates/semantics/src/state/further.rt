@@ -5,6 +5,7 @@ ghost use Rattle.std.specs.Option.{is_some};
 ghost use Rattle.guest_code.specs.Program.{code_of, IsValid};
 ghost use Rattle.semantics.specs.Machine.{Snapshot, step, action_of, is_enabled, next_of, resumed, thread_at, value_of, owner_of, count_of};
 ghost use Rattle.semantics.specs.Reachable.{IsOf, IsValidAction, StandsInCode};
+ghost use Rattle.semantics.specs.Contenders.{HasContenders};
 ghost use Rattle.semantics.specs.Mask.{HasEnabled};
 ghost use Rattle.semantics.specs.Undoing.{IsTouched, TakesBack, restored, touches_one, with_all_touched, with_touched};
 ghost use Rattle.semantics.specs.inner.Recording.{HasGoneOn, IsFree, is_access};
@@ -13,6 +14,7 @@ ghost use Rattle.semantics.specs.declared.undo.Touched.{Touched};
 ghost use Rattle.semantics.specs.declared.undo.Touched.TheVariants.{Variable as TheVariable, Owner as TheOwner, Count as TheCount};
 
 use crate::action::{After, Others};
+use crate::contenders::Contenders;
 use crate::local::resume;
 use crate::mask::Mask;
 use crate::state::{
@@ -25,7 +27,8 @@ use guest_code::program::{Instruction, Program};
 impl State {
     /// One more step of the thread whose step this record takes back, so that the record and what
     /// further steps touched take them all back. Answers what it touched and, where the mask has
-    /// the threads that are enabled before the step, those that are enabled after it. It takes no
+    /// the threads that are enabled before the step, and the contenders are those before it, the
+    /// threads that are enabled after it; the contenders are those after it then. It takes no
     /// memory. `None` where threads are called, or where the thread waits or was woken: such a step
     /// is not taken.
     #[inline(always)]
@@ -35,6 +38,7 @@ impl State {
         thread: u8,
         undo: &mut Undo,
         mask: Mask,
+        contenders: &mut Contenders,
     ) -> Option<(Touched, Mask)>
         requires of { IsOf program.now self.old }
         requires enabled { IsTrue (is_enabled program.now self.old thread) }
@@ -49,11 +53,19 @@ impl State {
         ensures thread { undo.new.thread ≡ thread }
         ensures back { IfSome result (λ r. (os : List Touched) → (first : Snapshot) →
             TakesBack undo.old os self.old first → TakesBack undo.new (r.0 ∷ os) self.new first) }
+        ensures unchanged { result ≡ None → contenders.new ≡ contenders.old }
         ensures mask { IfSome result (λ r. HasEnabled mask program.now self.old →
+            HasContenders contenders.old program.now self.old →
             HasEnabled r.1 program.now self.new) }
+        ensures contenders { IfSome result (λ r. HasEnabled mask program.now self.old →
+            HasContenders contenders.old program.now self.old →
+            HasContenders contenders.new program.now self.new) }
     {
         match self.go_further(program, thread, &mut undo.saved) {
-            Some((touched, after)) => Some((touched, self.renew(program, thread, mask, after))),
+            Some((touched, after)) => {
+                let enabled = self.renew(program, thread, mask, after, contenders);
+                Some((touched, enabled))
+            }
             None => None,
         }
     }

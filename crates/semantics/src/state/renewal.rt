@@ -1,17 +1,20 @@
 //! Which threads are enabled after a step, by those that were before it.
 
-ghost use Rattle.std.specs.Prelude.{◌≡◌, ◌≢◌, ◌<◌, ◌≤◌, ℕ, true, ◌&&◌, length, IsTrue, if◌then◌else◌};
-ghost use Rattle.semantics.specs.Machine.{Snapshot, is_enabled, next_of};
+ghost use Rattle.std.specs.Prelude.{◌≡◌, ◌≢◌, ◌<◌, ◌≤◌, ◌&&◌, ◌||◌, ℕ, Some, true, nat_eq, length, IsTrue, if◌then◌else◌};
+ghost use Rattle.guest_code.specs.declared.limits.TheConstants.{THREADS};
+ghost use Rattle.guest_code.specs.Program.{code_of, IsValid, IsWellFormed};
+ghost use Rattle.semantics.specs.Contenders.{contenders_at, takes, IsResource, HasContenders};
+ghost use Rattle.semantics.specs.Machine.{Snapshot, action_at, action_of, can_do, is_enabled, next_of, retake_of, thread_at};
 ghost use Rattle.semantics.specs.Reachable.{IsOf};
 ghost use Rattle.semantics.specs.Mask.{has, HasEnabled};
-ghost use Rattle.semantics.specs.inner.Recording.{Changes, HasGate, IsGate, is_open, passes};
-ghost use Rattle.semantics.specs.declared.action.Others.TheVariants.{At};
+ghost use Rattle.semantics.specs.inner.Recording.{Changes, HasResource, HasJoined, HasNear, HasRest, IsFree, is_available};
+ghost use Rattle.semantics.specs.declared.action.Others.TheVariants.{At, More};
 
-use crate::action::{After, Gate, Others, passes};
+use crate::action::{After, Others};
+use crate::contenders::{Contenders, Resource};
 use crate::mask::Mask;
 use crate::state::{State, Status};
-use guest_code::limits::THREADS;
-use guest_code::program::Program;
+use guest_code::program::{Instruction, Program};
 
 // A set, without one of its threads where that is off.
 #[inline(always)]
@@ -26,98 +29,155 @@ fn kept_where(set: Mask, thread: u8, on: bool) -> Mask
 impl State {
     // The threads that are enabled now, after a step of this one, where these were before it.
     #[inline(always)]
-    pub(crate) fn renew(&self, program: &Program, thread: u8, mask: Mask, after: After) -> Mask
+    pub(crate) fn renew(
+        &self,
+        program: &Program,
+        thread: u8,
+        mask: Mask,
+        after: After,
+        contenders: &mut Contenders,
+    ) -> Mask
         requires of { IsOf program.now self.now }
         requires thread { thread < length program.now.threads }
-        requires free { IsTrue after.free → is_enabled program.now self.now thread ≡ true }
-        requires gate { HasGate after.others self.now }
-        ensures { (s : Snapshot) → IsOf program.now s → HasEnabled mask program.now s →
+        requires free { IsTrue after.free →
+            IsFree (code_of program.now thread) (thread_at self.now thread) }
+        requires resource { HasResource after.others self.now }
+        ensures mask { (s : Snapshot) → IsOf program.now s → is_enabled program.now s thread ≡ true →
+            Changes after.others program.now s thread self.now →
+            HasEnabled mask program.now s → HasContenders contenders.old program.now s →
+            HasEnabled result program.now self.now }
+        ensures contenders { (s : Snapshot) → IsOf program.now s →
             is_enabled program.now s thread ≡ true →
             Changes after.others program.now s thread self.now →
-            HasEnabled result program.now self.now }
+            HasEnabled mask program.now s → HasContenders contenders.old program.now s →
+            HasContenders contenders.new program.now self.now }
     {
-        let on = self.is_on(program, thread, after.free);
-        let near = kept_where(mask, thread, on);
         match after.others {
-            Others::Same => near,
-            Others::At(gate) => self.renew_at(program, thread, near, gate),
             Others::More => {
-                self.test_again(program, near, mask.complement().with(thread, false))
+                let some = mask.complement().with(thread, true);
+                self.test_again(program, mask, some, contenders)
+            }
+            Others::Same | Others::At(_) => {
+                let near = self.renew_others(program, thread, mask, after.others, contenders);
+                self.settle(program, thread, near, after.free, contenders)
             }
         }
     }
 
-    // Whether a thread can take a step, where that may be known.
+    // The threads that are enabled now, but for this one, which is among them and not about to take
+    // anything.
     #[inline(always)]
-    fn is_on(&self, program: &Program, thread: u8, free: bool) -> bool
+    fn renew_others(
+        &self,
+        program: &Program,
+        thread: u8,
+        mask: Mask,
+        others: Others,
+        contenders: &mut Contenders,
+    ) -> Mask
         requires of { IsOf program.now self.now }
         requires thread { thread < length program.now.threads }
-        requires free { IsTrue free → is_enabled program.now self.now thread ≡ true }
-        ensures { result ≡ is_enabled program.now self.now thread }
+        requires resource { HasResource others self.now }
+        requires told { others ≢ More }
+        ensures near { (s : Snapshot) → IsOf program.now s →
+            is_enabled program.now s thread ≡ true →
+            Changes others program.now s thread self.now →
+            HasEnabled mask program.now s → HasContenders contenders.old program.now s →
+            HasNear result program.now self.now thread }
+        ensures rest { (s : Snapshot) → IsOf program.now s →
+            Changes others program.now s thread self.now →
+            HasContenders contenders.old program.now s →
+            HasRest contenders.new program.now self.now thread }
     {
-        free || self.is_enabled(program, thread)
-    }
-
-    // Whether a gate is open.
-    #[inline(always)]
-    fn is_open(&self, gate: Gate) -> bool
-        requires { IsGate gate self.now }
-        ensures { result ≡ is_open self.now gate }
-    {
-        match gate {
-            Gate::Mutex(m) => self.owners[m].is_none(),
-            Gate::Semaphore(k) => self.counts[k] > 0,
+        match others {
+            Others::At(resource) => self.renew_at(program, thread, mask, resource, contenders),
+            Others::Same | Others::More => mask,
         }
     }
 
-    // The threads that are enabled now, after a step of this one that has opened or closed a gate,
-    // where these would be if nobody else were about to pass it.
-    #[inline(never)]
-    fn renew_at(&self, program: &Program, thread: u8, near: Mask, gate: Gate) -> Mask
+    // The same where it has taken a mutex or a semaphore, or given it back.
+    #[inline(always)]
+    fn renew_at(
+        &self,
+        program: &Program,
+        thread: u8,
+        mask: Mask,
+        resource: Resource,
+        contenders: &mut Contenders,
+    ) -> Mask
         requires of { IsOf program.now self.now }
         requires thread { thread < length program.now.threads }
-        requires gate { IsGate gate self.now }
-        ensures { (s : Snapshot) → IsOf program.now s →
-            has near thread ≡ is_enabled program.now self.now thread →
-            ((u : ℕ) → u ≢ thread → has near u ≡ is_enabled program.now s u) →
-            Changes (At gate) program.now s thread self.now →
+        requires resource { IsResource resource self.now }
+        ensures near { (s : Snapshot) → IsOf program.now s →
+            is_enabled program.now s thread ≡ true →
+            Changes (At resource) program.now s thread self.now →
+            HasEnabled mask program.now s → HasContenders contenders.old program.now s →
+            HasNear result program.now self.now thread }
+        ensures rest { (s : Snapshot) → IsOf program.now s →
+            Changes (At resource) program.now s thread self.now →
+            HasContenders contenders.old program.now s →
+            HasRest contenders.new program.now self.now thread }
+    {
+        program.keeps_limits();
+        let others = contenders.leave(resource, thread);
+        if self.is_available(resource) {
+            mask.union(others)
+        } else {
+            mask.minus(others)
+        }
+    }
+
+    // The set, where a thread that has taken a step is put in or out: one that isn't free comes to
+    // where it is, and is asked.
+    #[inline(always)]
+    fn settle(
+        &self,
+        program: &Program,
+        thread: u8,
+        near: Mask,
+        free: bool,
+        contenders: &mut Contenders,
+    ) -> Mask
+        requires of { IsOf program.now self.now }
+        requires thread { thread < length program.now.threads }
+        requires free { IsTrue free →
+            IsFree (code_of program.now thread) (thread_at self.now thread) }
+        ensures mask { HasNear near program.now self.now thread →
             HasEnabled result program.now self.now }
+        ensures contenders { HasRest contenders.old program.now self.now thread →
+            HasContenders contenders.new program.now self.now }
     {
-        let on = self.is_open(gate);
-        let unlike = if on { near.complement() } else { near };
-        self.set_at(program, near, unlike.with(thread, false), gate, on)
+        let on = if free {
+            true
+        } else {
+            self.arrive(program, thread, contenders)
+        };
+        kept_where(near, thread, on)
     }
 
-    // The mask, where those of some threads that are about to pass a gate are put in or out.
+    // Whether a mutex or a semaphore can be taken.
     #[inline(always)]
-    fn set_at(&self, program: &Program, mask: Mask, some: Mask, gate: Gate, on: bool) -> Mask
-        requires { IsOf program.now self.now }
-        ensures below { (u : ℕ) → u < length program.now.threads → has result u
-            ≡ if has some u && passes gate (next_of program.now self.now u) then on
-            else has mask u }
-        ensures above { (u : ℕ) → length program.now.threads ≤ u → has result u ≡ has mask u }
+    fn is_available(&self, resource: Resource) -> bool
+        requires { IsResource resource self.now }
+        ensures { result ≡ is_available self.now resource }
     {
-        let mut mask = mask;
-        let mut left = some;
-        while let Some(thread) = left.first_from(0) {
-            if thread >= program.threads() {
-                return mask;
-            }
-            if self.passes(program, thread, gate) {
-                mask = mask.with(thread, on);
-            }
-            left = left.with(thread, false);
+        match resource {
+            Resource::Mutex(m) => self.owners[m].is_none(),
+            Resource::Semaphore(k) => self.counts[k] > 0,
         }
-        mask
     }
 
-    // Whether a thread is about to pass a gate.
+    // A thread comes to where it is, and contends for what it is about to take. The answer is
+    // whether it can take a step.
     #[inline(always)]
-    fn passes(&self, program: &Program, thread: u8, gate: Gate) -> bool
+    pub(crate) fn arrive(&self, program: &Program, thread: u8, contenders: &mut Contenders) -> bool
         requires of { IsOf program.now self.now }
         requires thread { thread < length program.now.threads }
-        ensures { result ≡ passes gate (next_of program.now self.now thread) }
+        ensures enabled { result ≡ is_enabled program.now self.now thread }
+        ensures joined { HasJoined contenders.old thread
+            (next_of program.now self.now thread) contenders.new }
     {
+        program.keeps_limits();
         let runner = &self.threads[thread as usize];
         if matches!(
             runner.status,
@@ -126,18 +186,90 @@ impl State {
             return false;
         }
         match program.code(thread).get(runner.pc) {
-            Some(instruction) => passes(runner.status, instruction, gate),
+            Some(instruction) => match runner.status {
+                Status::Running => self.arrive_visibly(instruction, thread, contenders),
+                Status::Woken => self.arrive_again(instruction, thread, contenders),
+                Status::Waiting(_) | Status::Ended | Status::Stopped(_) => false,
+            },
             None => false,
         }
     }
 
-    // The mask, where it is tested again for some threads whether they are enabled.
+    // The same for a running thread at this instruction.
+    #[inline(always)]
+    fn arrive_visibly(
+        &self,
+        instruction: &Instruction,
+        thread: u8,
+        contenders: &mut Contenders,
+    ) -> bool
+        requires of { (p : Program) × IsWellFormed p × IsOf p self.now × IsValid p instruction.now }
+        requires thread { thread < THREADS }
+        ensures enabled { result ≡ can_do self.now (action_of instruction.now) }
+        ensures joined { HasJoined contenders.old thread (action_of instruction.now)
+            contenders.new }
+    {
+        if let Instruction::Lock(m) = instruction {
+            contenders.join(Resource::Mutex(*m), thread);
+            return self.owners[*m].is_none();
+        }
+        if let Instruction::Acquire(k) = instruction {
+            contenders.join(Resource::Semaphore(*k), thread);
+            return self.counts[*k] > 0;
+        }
+        !matches!(
+            instruction,
+            Instruction::Set { .. }
+                | Instruction::Assert(_)
+                | Instruction::SkipIfZero(_, _)
+                | Instruction::Skip(_)
+        )
+    }
+
+    // The same for a woken thread at this instruction, out of the way of steps: one that has taken a
+    // step is not woken.
     #[inline(never)]
-    fn test_again(&self, program: &Program, mask: Mask, some: Mask) -> Mask
+    fn arrive_again(
+        &self,
+        instruction: &Instruction,
+        thread: u8,
+        contenders: &mut Contenders,
+    ) -> bool
+        requires of { (p : Program) × IsWellFormed p × IsOf p self.now × IsValid p instruction.now }
+        requires thread { thread < THREADS }
+        ensures enabled { result ≡ can_do self.now (retake_of instruction.now) }
+        ensures joined { HasJoined contenders.old thread (retake_of instruction.now)
+            contenders.new }
+    {
+        match instruction {
+            Instruction::Wait { mutex, .. } => {
+                contenders.join(Resource::Mutex(*mutex), thread);
+                self.owners[*mutex].is_none()
+            }
+            _ => false,
+        }
+    }
+
+    // The mask, where some threads come to where they are, and are put in or out.
+    #[inline(never)]
+    fn test_again(
+        &self,
+        program: &Program,
+        mask: Mask,
+        some: Mask,
+        contenders: &mut Contenders,
+    ) -> Mask
         requires { IsOf program.now self.now }
         ensures below { (u : ℕ) → u < length program.now.threads →
             has result u ≡ if has some u then is_enabled program.now self.now u else has mask u }
         ensures above { (u : ℕ) → length program.now.threads ≤ u → has result u ≡ has mask u }
+        ensures joined { (resource : Resource) → (u : ℕ) → u < length program.now.threads →
+            has (contenders_at contenders.new resource) u
+            ≡ ((has some u && takes resource (next_of program.now self.now u))
+            || has (contenders_at contenders.old resource) u) }
+        ensures outside { (resource : Resource) → (u : ℕ) → length program.now.threads ≤ u →
+            has (contenders_at contenders.new resource) u
+            ≡ has (contenders_at contenders.old resource) u }
     {
         let mut mask = mask;
         let mut left = some;
@@ -145,7 +277,8 @@ impl State {
             if thread >= program.threads() {
                 return mask;
             }
-            mask = mask.with(thread, self.is_enabled(program, thread));
+            let on = self.arrive(program, thread, contenders);
+            mask = mask.with(thread, on);
             left = left.with(thread, false);
         }
         mask

@@ -4,12 +4,14 @@ ghost use Rattle.std.specs.Prelude.{◌≡◌, ◌≤◌, Some, IsTrue};
 ghost use Rattle.guest_code.specs.Program.{code_of, IsValid};
 ghost use Rattle.semantics.specs.Machine.{step, performed, action_of, retake_of, is_enabled, next_of, thread_at};
 ghost use Rattle.semantics.specs.Reachable.{IsOf, IsValidAction, StandsInCode, IsReady};
+ghost use Rattle.semantics.specs.Contenders.{HasContenders};
 ghost use Rattle.semantics.specs.Mask.{HasEnabled};
 ghost use Rattle.semantics.specs.Undoing.{undone, restored, IsRecordOf};
 ghost use Rattle.semantics.specs.inner.Recording.{HasBegun, HasObject, HasStepped, IsFree, is_access, others_after};
 ghost use Rattle.semantics.specs.declared.state.Action.TheVariants.{OnVariable, OnMutex, Wait as Waits, OnCondition, OnSemaphore};
 
-use crate::action::{After, Gate, Others, action_of, owns, retake_of};
+use crate::action::{After, Others, action_of, owns, retake_of};
+use crate::contenders::{Contenders, Resource};
 use crate::local::{access, resume};
 use crate::mask::Mask;
 use crate::signals::{call, wait_again};
@@ -36,9 +38,17 @@ impl State {
     }
 
     /// The same, with the record written over one that is there. Where the mask has the threads
-    /// that are enabled before the step, the answer has those that are enabled after it.
+    /// that are enabled before the step, and the contenders are those before it, the answer has
+    /// the threads that are enabled after it, and the contenders are those after it.
     #[inline(always)]
-    pub fn step_into(&mut self, program: &Program, thread: u8, undo: &mut Undo, mask: Mask) -> Mask
+    pub fn step_into(
+        &mut self,
+        program: &Program,
+        thread: u8,
+        undo: &mut Undo,
+        mask: Mask,
+        contenders: &mut Contenders,
+    ) -> Mask
         requires of { IsOf program.now self.old }
         requires enabled { IsTrue (is_enabled program.now self.old thread) }
         ensures value { self.new ≡ step program.now self.old thread }
@@ -47,10 +57,14 @@ impl State {
         ensures record { IsRecordOf undo.new self.new }
         ensures back { undone undo.new self.new ≡ self.old }
         ensures mask { HasEnabled mask program.now self.old →
+            HasContenders contenders.old program.now self.old →
             HasEnabled result program.now self.new }
+        ensures contenders { HasEnabled mask program.now self.old →
+            HasContenders contenders.old program.now self.old →
+            HasContenders contenders.new program.now self.new }
     {
         let after = self.step_recorded(program, thread, undo);
-        self.renew(program, thread, mask, after)
+        self.renew(program, thread, mask, after, contenders)
     }
 
     // A step, with its record, and what it does to which threads are enabled.
@@ -221,14 +235,11 @@ impl State {
     {
         match action {
             Action::OnVariable(_, _) => Others::Same,
-            Action::OnMutex(m, _) => Others::At(Gate::Mutex(m)),
-            Action::Wait(_, m) => Others::At(Gate::Mutex(m)),
+            Action::OnMutex(m, _) => Others::At(Resource::Mutex(m)),
+            Action::Wait(_, m) => Others::At(Resource::Mutex(m)),
             Action::OnCondition(c, _) if self.queue_length(c) == 0 => Others::Same,
             Action::OnCondition(_, _) => Others::More,
-            Action::OnSemaphore(k, SemaphoreAction::Acquire) if self.counts[k] > 1 => Others::Same,
-            Action::OnSemaphore(k, SemaphoreAction::Acquire) => Others::At(Gate::Semaphore(k)),
-            Action::OnSemaphore(k, SemaphoreAction::Release) if self.counts[k] > 0 => Others::Same,
-            Action::OnSemaphore(k, SemaphoreAction::Release) => Others::At(Gate::Semaphore(k)),
+            Action::OnSemaphore(k, _) => Others::At(Resource::Semaphore(k)),
         }
     }
 

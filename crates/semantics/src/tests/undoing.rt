@@ -58,7 +58,8 @@ fn is_taken_back(alloc: Global, p: &Program, before: &State, t: u8) -> Result<bo
     Ok(objects && variables && same_threads(&state, before, p))
 }
 
-// Each step of a schedule is taken back, and the mask kept from step to step is right.
+// Each step of a schedule is taken back, and the mask and the contenders that are kept from step to
+// step are right.
 fn goes_back(
     rt: &impl Abort,
     alloc: Global,
@@ -67,6 +68,7 @@ fn goes_back(
 ) -> Result<(), AllocError> {
     let mut state = State::start(alloc, p)?;
     let mut mask = state.enabled(p);
+    let mut contenders = state.contenders(p);
     let mut undo = Undo::new();
     for t in schedule {
         assert!(rt;
@@ -74,8 +76,12 @@ fn goes_back(
             "{t} of {schedule:?} is not enabled"
         );
         assert!(rt; is_taken_back(alloc, p, &state, *t)?, "{t} of {schedule:?}");
-        mask = state.step_into(p, *t, &mut undo, mask);
+        mask = state.step_into(p, *t, &mut undo, mask, &mut contenders);
         assert!(rt; mask == state.enabled(p), "after {t} of {schedule:?}");
+        assert!(rt;
+            contenders == state.contenders(p),
+            "after {t} of {schedule:?}"
+        );
     }
     Ok(())
 }
@@ -146,20 +152,21 @@ fn are_taken_back(
 {
     let mut state = before.try_clone(alloc)?;
     let mut undo = Undo::new();
-    let mask = state.step_into(p, t, &mut undo, before.enabled(p));
+    let mut contenders = before.contenders(p);
+    let mask = state.step_into(p, t, &mut undo, before.enabled(p), &mut contenders);
     if !mask.has(t) {
         return Ok(None);
     }
-    let Some((first, mask)) = state.step_further(p, t, &mut undo, mask) else {
+    let Some((first, mask)) = state.step_further(p, t, &mut undo, mask, &mut contenders) else {
         return Ok(None);
     };
     if !mask.has(t) {
         return Ok(None);
     }
-    let Some((second, mask)) = state.step_further(p, t, &mut undo, mask) else {
+    let Some((second, mask)) = state.step_further(p, t, &mut undo, mask, &mut contenders) else {
         return Ok(None);
     };
-    let renewed = mask == state.enabled(p);
+    let renewed = mask == state.enabled(p) && contenders == state.contenders(p);
     state.put_back(&[first, second]);
     state.undo(&undo);
     let objects = same_queues(&state, before, p) && same_owners_and_counts(&state, before, p);

@@ -4,6 +4,7 @@ use Rattle.guest_code.specs.Program.{Program, IsWellFormed}
 use Rattle.semantics.specs.Machine.{Snapshot, start}
 use Rattle.semantics.specs.Reachable.{IsOf}
 use Rattle.semantics.specs.declared.mask.Mask.{Mask}
+use Rattle.semantics.specs.Contenders.{HasContenders}
 use Rattle.semantics.specs.Mask.{has, no_threads, HasEnabled}
 use Rattle.semantics.specs.Schedules.{state_after, one_if}
 use Rattle.semantics.specs.Execution.{Reaches}
@@ -57,6 +58,7 @@ pub record IsNode (p : Program) (w : List ℕ) (s : Snapshot) (n : Node) : Type 
 pub record IsFrame (p : Program) (w : List ℕ) (os : List Touched) (f : Frame) : Type 0 where
   pub node : IsNode p w (state_at p w) f.node
   pub state : IsOf p (state_at p w)
+  pub contenders : HasContenders f.contenders p (state_at p w)
   pub thread : f.undo.thread ≡ f.thread
   pub all : length os ≡ f.further
   pub back : TakesBack f.undo os (state_at p (w ++ run_of f)) (state_at p w)
@@ -84,6 +86,7 @@ pub record IsTrail (p : Program) (t : Trail) : Type 0 where
   pub well_formed : IsWellFormed p
   pub node : IsNode p t.steps.items t.state t.node
   pub state : IsOf p t.state
+  pub contenders : HasContenders t.contenders p t.state
   pub frames : AreFrames p (touched_above t) (above t)
   pub steps : t.steps.items ≡ path (above t)
   pub room : t.depth ≤ length t.frames.items

@@ -1,26 +1,39 @@
-use Rattle.std.proofs.Common.{◌≡◌, ◌<◌, ◌∙◌, ℕ, not, cond, length, arith, sym, ap}
-use Rattle.guest_code.specs.declared.limits.TheConstants.{THREADS}
-use Rattle.semantics.specs.declared.mask.Mask.{Mask}
+use Rattle.std.proofs.Common.{◌∙◌, ◌||◌, ◌&&◌, not, sym, ap}
 use Rattle.semantics.specs.Mask.{has}
-use Rattle.semantics.proofs.EnabledAfter.{renew_at}
-use Rattle.semantics.proofs.state.State.renew_at.Goals.{then-on, else-on}
+use Rattle.semantics.specs.declared.mask.Mask.{Mask}
+use Rattle.semantics.proofs.EnabledAfter.{closed_near, left_rest, opened_near}
 use Rattle.semantics.proofs.state.State.renew_at.Goals as goal
 
-pub returns : goal.returns
-returns c = λ s of' on old change.
-    renew_at c.args.program.now s c.args.self.now c.args.thread c.args.gate c.is_open-on.result
-    c.args.near c.with.result c.set_at.result of' c.requires.of c.requires.thread on old
-    change c.is_open-on.ensures c.with.ensures.same
-    (λ u l ne. c.with.ensures.others u ne ∙ unlike u l)
-    c.set_at.ensures.below c.set_at.ensures.above
-  where
-    unlike : (u : ℕ) → u < length c.args.program.now.threads → has c.if-on.unlike u
-        ≡ cond c.is_open-on.result (not (has c.args.near u)) (has c.args.near u)
-    unlike u l =
-        let few : u < THREADS = omega (arith, l, c.requires.of.few, c.requires.of.threads) in
-        elim c.if-on.branch [
-          | then-on w ↦ ap (λ (m : Mask). has m u) w.unlike-is ∙ (w.complement-unlike.ensures u few
-              ∙ sym (ap (λ b. cond b (not (has c.args.near u)) (has c.args.near u)) w.if-on.true))
-          | else-on w ↦ ap (λ (m : Mask). has m u) w.unlike-is
-              ∙ sym (ap (λ b. cond b (not (has c.args.near u)) (has c.args.near u)) w.if-on.false)
-        ]
+pub returns-then-is_available-clause-near : goal.returns-then-is_available-clause-near
+returns-then-is_available-clause-near c = λ s of' on change mask contend.
+    opened_near c.args.program.now s c.args.self.now c.args.thread c.args.resource
+    c.leave-others.new.self c.args.mask c.union.result on change mask
+    (sym c.is_available.ensures ∙ c.if-is_available.true) c.requires.resource
+    (left_rest c.args.program.now s c.args.self.now c.args.thread c.args.resource
+    c.args.contenders.now c.leave-others.new.self of' c.requires.of change contend
+    c.leave-others.ensures.left)
+    (λ u. c.union.ensures u ∙ ap (λ (m : Mask). has c.args.mask u || has m u)
+    c.leave-others.ensures.others)
+
+pub returns-then-is_available-clause-rest : goal.returns-then-is_available-clause-rest
+returns-then-is_available-clause-rest c = λ s of' change contend.
+    left_rest c.args.program.now s c.args.self.now c.args.thread c.args.resource
+    c.args.contenders.now c.leave-others.new.self of' c.requires.of change contend
+    c.leave-others.ensures.left
+
+pub returns-else-is_available-clause-near : goal.returns-else-is_available-clause-near
+returns-else-is_available-clause-near c = λ s of' on change mask contend.
+    closed_near c.args.program.now s c.args.self.now c.args.thread c.args.resource
+    c.leave-others.new.self c.args.mask c.minus.result on change mask
+    (sym c.is_available.ensures ∙ c.if-is_available.false) c.requires.resource
+    (left_rest c.args.program.now s c.args.self.now c.args.thread c.args.resource
+    c.args.contenders.now c.leave-others.new.self of' c.requires.of change contend
+    c.leave-others.ensures.left)
+    (λ u. c.minus.ensures u ∙ ap (λ (m : Mask). has c.args.mask u && not (has m u))
+    c.leave-others.ensures.others)
+
+pub returns-else-is_available-clause-rest : goal.returns-else-is_available-clause-rest
+returns-else-is_available-clause-rest c = λ s of' change contend.
+    left_rest c.args.program.now s c.args.self.now c.args.thread c.args.resource
+    c.args.contenders.now c.leave-others.new.self of' c.requires.of change contend
+    c.leave-others.ensures.left

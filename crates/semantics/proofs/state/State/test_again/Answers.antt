@@ -1,7 +1,9 @@
-use Rattle.std.proofs.Common.{◌≡◌, ◌≢◌, ◌<◌, ◌∙◌, ℕ, Bool, cond, length, inl, inr, arith, sym, ap, subst}
+use Rattle.std.proofs.Common.{◌≡◌, ◌≢◌, ◌<◌, ◌∙◌, ◌&&◌, ◌||◌, ℕ, Bool, cond, length, inl, inr, arith, sym, ap, subst}
 use Rattle.std.proofs.lemmas.Bool.{cases_eq}
-use Rattle.semantics.specs.Machine.{is_enabled}
+use Rattle.semantics.specs.Contenders.{contenders_at, takes}
+use Rattle.semantics.specs.Machine.{is_enabled, next_of}
 use Rattle.semantics.specs.Mask.{has}
+use Rattle.semantics.proofs.EnabledAfter.{joined_further, joined_other}
 use Rattle.semantics.proofs.Masks.{members-without_first, none_left}
 use Rattle.semantics.proofs.state.State.test_again.Goals as goal
 
@@ -27,6 +29,14 @@ loop-thread-preserved c = record {
   ];
   above = λ u h. let ne : u ≢ t = omega (arith, h, within) in c.with-mask.ensures.others u ne ∙
       c.loop-thread.invariant.above u h;
+  joined = λ resource u h. joined_further c.args.program.now c.args.self.now t c.loop-thread.contenders
+      c.arrive-on.new.contenders c.loop-thread.left c.with-left.result c.arrive-on.ensures.joined
+      c.in-Some.ensures.member.0 c.with-left.ensures.same c.with-left.ensures.others resource u
+      ∙ c.loop-thread.invariant.joined resource u h;
+  outside = λ resource u h. let ne : u ≢ t = omega (arith, h, within) in
+      joined_other c.args.program.now c.args.self.now t c.loop-thread.contenders
+      c.arrive-on.new.contenders c.arrive-on.ensures.joined resource u ne
+      ∙ c.loop-thread.invariant.outside resource u h;
 }
   where
     t : ℕ
@@ -41,7 +51,7 @@ loop-thread-preserved c = record {
     here : cond (has c.with-left.result t) (on t) (has c.with-mask.result t)
         ≡ cond (has c.loop-thread.left t) (on t) (has c.loop-thread.mask t)
     here = ap (λ b. cond b (on t) (has c.with-mask.result t)) c.with-left.ensures.same
-        ∙ (c.with-mask.ensures.same ∙ (c.is_enabled.ensures
+        ∙ (c.with-mask.ensures.same ∙ (c.arrive-on.ensures.enabled
         ∙ ap (λ b. cond b (on t) (has c.loop-thread.mask t)) (sym c.in-Some.ensures.member.0)))
 
 pub returns-clause-below : goal.returns-clause-below
@@ -50,3 +60,11 @@ returns-clause-below c = λ u h.
     (sym (none_left c.loop-thread.left 0 u c.in_default.ensures.list (omega arith)
     (omega (arith, h, c.requires.few, c.requires.threads))))
     ∙ c.loop-thread.invariant.below u h
+
+pub returns-clause-joined : goal.returns-clause-joined
+returns-clause-joined c = λ resource u h.
+    ap (λ b. (b && takes resource (next_of c.args.program.now c.args.self.now u))
+    || has (contenders_at c.loop-thread.contenders resource) u)
+    (sym (none_left c.loop-thread.left 0 u c.in_default.ensures.list (omega arith)
+    (omega (arith, h, c.requires.few, c.requires.threads))))
+    ∙ c.loop-thread.invariant.joined resource u h

@@ -25,7 +25,7 @@ returns-in_ok-defer_apart-in-Some-clause-search c =
     c.open-past.result _ _ c.requires.search
     (opened_here c.args.item.now.program c.args.self.now _ c.requires.search.place.trail
     c.defer_apart.ensures.steps
-    refl refl refl refl refl refl c.open-past.ensures.same)
+    refl refl refl refl refl refl refl c.open-past.ensures.same)
     c.open-past.ensures.kept c.open-past.ensures.past
     (ap (λ (n : Node). members_from n.enabled 0) (sym c.open-past.ensures.same) ∙
     c.in-Some.ensures.list) c.in_ok-defer_apart-in-Some.ensures.part
@@ -38,7 +38,7 @@ returns-in_ok-defer_apart-in-Some-clause-falls c =
     c.requires.search.place
     (opened_here c.args.item.now.program c.args.self.now _ c.requires.search.place.trail
     c.defer_apart.ensures.steps
-    refl refl refl refl refl refl c.open-past.ensures.same)
+    refl refl refl refl refl refl refl c.open-past.ensures.same)
     c.open-past.ensures.kept (ap (λ (n : Node). members_from n.enabled 0)
     (sym c.open-past.ensures.same) ∙ c.in-Some.ensures.list)
 
@@ -47,7 +47,7 @@ returns-in_ok-add-in-None-clause-search c =
     arrived_leaf c.args.mode c.args.item.now c.args.self.now _ c.args.found.now _ _ _
     c.requires.search
     (opened_here c.args.item.now.program c.args.self.now _ c.requires.search.place.trail refl
-    refl refl refl refl refl refl c.open-past.ensures.same)
+    refl refl refl refl refl refl refl c.open-past.ensures.same)
     c.open-past.ensures.kept (ap (λ (n : Node). members_from n.enabled 0)
     (sym c.open-past.ensures.same) ∙ c.in-None.ensures.list) c.as_slice.ensures.value
     (λ i. record { kind = c.final_kind-kind.ensures i; vars = c.variables.ensures i })
@@ -59,7 +59,7 @@ returns-in_ok-add-in-None-clause-falls c =
     (record c.args.self.now { node = c.open-past.new.self; ends = c.add.new.memory })
     c.requires.search.place
     (opened_here c.args.item.now.program c.args.self.now _ c.requires.search.place.trail refl
-    refl refl refl refl refl refl c.open-past.ensures.same)
+    refl refl refl refl refl refl refl c.open-past.ensures.same)
     c.open-past.ensures.kept (ap (λ (n : Node). members_from n.enabled 0)
     (sym c.open-past.ensures.same) ∙ c.in-None.ensures.list)
 

@@ -1,6 +1,8 @@
-use Rattle.std.proofs.Common.{◌≡◌, ◌<◌, ◌∙◌, ◌-◌, ◌+◌, ℕ, arith, refl}
+use Rattle.std.proofs.Common.{◌≡◌, ◌<◌, ◌∙◌, ◌-◌, ◌+◌, ℕ, ap, arith, refl, set, List, [], ◌∷◌, length, take}
+use Rattle.std.proofs.lemmas.List.{length_push, set-get_or, take_at}
+use Rattle.semantics.specs.declared.undo.Undo.{Undo}
 use Rattle.semantics.specs.Mask.{no_threads}
-use Rattle.walk.proofs.TrailSteps.{extended_asleep, lone_next, lowest, lowest_last, lowest_few, trail_extended}
+use Rattle.walk.proofs.TrailSteps.{extended_asleep, lone_next, lowest, lowest_last, lowest_few, opened, trail_extended}
 use Rattle.walk.proofs.trail.Trail.extend.Goals as goal
 
 pub step_further-requires-clause-thread : goal.step_further-requires-clause-thread
@@ -51,8 +53,11 @@ returns-in-Some-clause-trail c =
     c.switches_after-self.result c.requires.trail own next c.requires.enabled one
     within c.index_mut-frame.ensures.value c.in_ok-make_place.ensures.there
     c.in_ok-make_place.ensures.same c.in_ok-push.ensures.items refl refl refl refl
-    c.in-Some.ensures.value c.in-Some.ensures.of c.in-Some.ensures.thread c.in-Some.ensures.back
-    (c.in-Some.ensures.mask c.requires.trail.node.enabled) c.switches_after-self.ensures
+    c.in-Some.ensures.value c.in-Some.ensures.of
+    (c.in-Some.ensures.contenders c.requires.trail.node.enabled c.requires.trail.contenders)
+    c.in-Some.ensures.thread c.in-Some.ensures.back
+    (c.in-Some.ensures.mask c.requires.trail.node.enabled c.requires.trail.contenders)
+    c.switches_after-self.ensures
     refl refl in
     both.0
 
@@ -74,7 +79,33 @@ returns-in-Some-clause-extended c = λ e.
     c.switches_after-self.result c.requires.trail own next c.requires.enabled one
     within c.index_mut-frame.ensures.value c.in_ok-make_place.ensures.there
     c.in_ok-make_place.ensures.same c.in_ok-push.ensures.items refl refl refl refl
-    c.in-Some.ensures.value c.in-Some.ensures.of c.in-Some.ensures.thread c.in-Some.ensures.back
-    (c.in-Some.ensures.mask c.requires.trail.node.enabled) c.switches_after-self.ensures
+    c.in-Some.ensures.value c.in-Some.ensures.of
+    (c.in-Some.ensures.contenders c.requires.trail.node.enabled c.requires.trail.contenders)
+    c.in-Some.ensures.thread c.in-Some.ensures.back
+    (c.in-Some.ensures.mask c.requires.trail.node.enabled c.requires.trail.contenders)
+    c.switches_after-self.ensures
     refl refl in
     extended_asleep t _ c.args.thread c.empty-self.result no_threads c.empty-self.ensures both.1
+
+pub returns-in-None-clause-same : goal.returns-in-None-clause-same
+returns-in-None-clause-same c = λ e.
+    let t = c.args.self.now in
+    let n : ℕ = t.depth - 1 in
+    let f = c.index_mut-frame.result.now in
+    let w : List ℕ = t.steps.items in
+    let k : ℕ = c.push.new.self.len in
+    let long = c.push.new.self.ok.0 in
+    let count = ap length c.in_ok-push.ensures.items ∙ length_push w c.args.thread in
+    let items = c.pop.ensures.rest ∙ (ap (take (k - 1)) c.in_ok-push.ensures.items
+    ∙ take_at w (c.args.thread ∷ []) (k - 1) (omega (arith, long, count))) in
+    let frames : set t.frames.items n (record f { undo = c.step_further.new.undo })
+    ≡ t.frames.items =
+    ap (λ (u : Undo). set t.frames.items n (record f { undo = u })) (c.in-None.ensures.record refl)
+    ∙ (ap (set t.frames.items n) c.index_mut-frame.ensures.value
+    ∙ set-get_or t.frames.items n f) in
+    opened c.args.program.now t _ c.requires.trail items refl frames refl
+    c.in_ok-make_place.ensures.same c.in_ok-make_place.ensures.room
+    (c.in-None.ensures.same refl) (c.in-None.ensures.unchanged refl) refl refl
+
+pub returns-in-None-clause-trail : goal.returns-in-None-clause-trail
+returns-in-None-clause-trail c = (returns-in-None-clause-same c refl).trail

@@ -19,7 +19,7 @@ returns-else-not-branch-clause-search c =
     let t : Trail = c.args.self.now in
     let u : Trail = record t { steps = c.defer.new.steps } in
     let opened : IsOpened p t u = opened_here p t u c.requires.search.place.trail
-    c.defer.ensures.steps refl refl refl refl refl refl refl in
+    c.defer.ensures.steps refl refl refl refl refl refl refl refl in
     let v : Trail = c.extend.new.self in
     let s = lone_search bound c.args.item.now t u c.args.found.now c.defer.new.self
     c.args.thread c.requires.search opened c.requires.spent.todo c.requires.spent c.requires.on
@@ -40,7 +40,7 @@ returns-else-not-branch-clause-further c =
     let t : Trail = c.args.self.now in
     let u : Trail = record t { steps = c.defer.new.steps } in
     let opened : IsOpened p t u = opened_here p t u c.requires.search.place.trail
-    c.defer.ensures.steps refl refl refl refl refl refl refl in
+    c.defer.ensures.steps refl refl refl refl refl refl refl refl in
     let v : Trail = c.extend.new.self in
     let s = lone_search bound c.args.item.now t u c.args.found.now c.defer.new.self
     c.args.thread c.requires.search opened c.requires.spent.todo c.requires.spent c.requires.on
@@ -61,7 +61,7 @@ returns-in_ok-enter_apart-clause-search c =
     let t : Trail = c.args.self.now in
     let u : Trail = record t { steps = c.defer.new.steps } in
     let opened : IsOpened p t u = opened_here p t u c.requires.search.place.trail
-    c.defer.ensures.steps refl refl refl refl refl refl refl in
+    c.defer.ensures.steps refl refl refl refl refl refl refl refl in
     let w : Trail = c.extend.new.self in
     let v : Trail = c.enter_apart.new.self in
     let still : IsOpened p u w = subst (λ (q : Program). IsOpened q u w) c.program.ensures
@@ -87,7 +87,7 @@ returns-in_ok-enter_apart-clause-further c =
     let t : Trail = c.args.self.now in
     let u : Trail = record t { steps = c.defer.new.steps } in
     let opened : IsOpened p t u = opened_here p t u c.requires.search.place.trail
-    c.defer.ensures.steps refl refl refl refl refl refl refl in
+    c.defer.ensures.steps refl refl refl refl refl refl refl refl in
     let w : Trail = c.extend.new.self in
     let v : Trail = c.enter_apart.new.self in
     let still : IsOpened p u w = subst (λ (q : Program). IsOpened q u w) c.program.ensures

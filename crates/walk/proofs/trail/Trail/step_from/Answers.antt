@@ -11,9 +11,11 @@ returns-clause-trail c =
     c.with_enabled.result.switches c.requires.trail c.requires.next c.requires.enabled
     c.in_ok-make_frame.ensures.there c.in_ok-make_frame.ensures.same
     c.in_ok-push.ensures.items refl refl refl refl c.step_into-enabled.ensures.value
-    c.step_into-enabled.ensures.of c.step_into-enabled.ensures.thread
+    c.step_into-enabled.ensures.of
+    (c.step_into-enabled.ensures.contenders c.requires.trail.node.enabled
+    c.requires.trail.contenders) c.step_into-enabled.ensures.thread
     c.step_into-enabled.ensures.record c.step_into-enabled.ensures.back
-    (c.step_into-enabled.ensures.mask c.requires.trail.node.enabled)
+    (c.step_into-enabled.ensures.mask c.requires.trail.node.enabled c.requires.trail.contenders)
     c.with_enabled.ensures.switches c.with_enabled.ensures.node refl).0
 
 pub returns-clause-entered : goal.returns-clause-entered
@@ -24,7 +26,9 @@ returns-clause-entered c =
     c.with_enabled.result.switches c.requires.trail c.requires.next c.requires.enabled
     c.in_ok-make_frame.ensures.there c.in_ok-make_frame.ensures.same
     c.in_ok-push.ensures.items refl refl refl refl c.step_into-enabled.ensures.value
-    c.step_into-enabled.ensures.of c.step_into-enabled.ensures.thread
+    c.step_into-enabled.ensures.of
+    (c.step_into-enabled.ensures.contenders c.requires.trail.node.enabled
+    c.requires.trail.contenders) c.step_into-enabled.ensures.thread
     c.step_into-enabled.ensures.record c.step_into-enabled.ensures.back
-    (c.step_into-enabled.ensures.mask c.requires.trail.node.enabled)
+    (c.step_into-enabled.ensures.mask c.requires.trail.node.enabled c.requires.trail.contenders)
     c.with_enabled.ensures.switches c.with_enabled.ensures.node refl).1
