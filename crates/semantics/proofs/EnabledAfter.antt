@@ -139,7 +139,8 @@ semaphore_at s new k v None e f = refl
 
 resource_changes : (p : Program) (s new : Snapshot) (t : ℕ) (th : Thread) (resource : Resource)
     → new.threads ≡ set s.threads t th
-    → ((o : Option Action) → can_do new o ≡ cond (takes resource o) (is_available new resource) (can_do s o))
+    → ((o : Option Action)
+    → can_do new o ≡ cond (takes resource o) (is_available new resource) (can_do s o))
     → Enables (At resource) p s t new
 resource_changes p s new t th resource e at u ne = at (next_of p new u)
     ∙ ap (λ o. cond (takes resource (next_of p new u)) (is_available new resource) (can_do s o))
@@ -291,7 +292,8 @@ taken_off false false = refl
 
 pub opened_near : (p : Program) (s new : Snapshot) (t : ℕ) (resource : Resource) (c : Contenders)
     (mask result : Mask) → is_enabled p s t ≡ true → Changes (At resource) p s t new
-    → HasEnabled mask p s → is_available new resource ≡ true → IsResource resource new → HasRest c p new t
+    → HasEnabled mask p s → is_available new resource ≡ true → IsResource resource new
+    → HasRest c p new t
     → ((u : ℕ) → has result u ≡ (has mask u || has (contenders_at c resource) u))
     → HasNear result p new t
 opened_near p s new t resource c mask result on ch old free there rest is = record {
@@ -304,7 +306,8 @@ opened_near p s new t resource c mask result on ch old free there rest is = reco
 
 pub closed_near : (p : Program) (s new : Snapshot) (t : ℕ) (resource : Resource) (c : Contenders)
     (mask result : Mask) → is_enabled p s t ≡ true → Changes (At resource) p s t new
-    → HasEnabled mask p s → is_available new resource ≡ false → IsResource resource new → HasRest c p new t
+    → HasEnabled mask p s → is_available new resource ≡ false → IsResource resource new
+    → HasRest c p new t
     → ((u : ℕ) → has result u ≡ (has mask u && not (has (contenders_at c resource) u)))
     → HasNear result p new t
 closed_near p s new t resource c mask result on ch old shut there rest is = record {
@@ -361,7 +364,8 @@ same_rest p s new t old of of' ch h = record {
       ∙ ap (takes g) (sym (ch.stays u ne));
 }
   where
-    off : (g : Resource) → (b : Bool) → takes g (next_of p s t) ≡ b → takes g (next_of p s t) ≡ false
+    off : (g : Resource) → (b : Bool) → takes g (next_of p s t) ≡ b
+        → takes g (next_of p s t) ≡ false
     off g true e = let k : Same ≡ At g = ch.left g e in cc
     off g false e = e
 
@@ -423,7 +427,8 @@ stays_in false b old e = refl
 pub settled_there : (p : Program) (new : Snapshot) (t : ℕ) (old c : Contenders)
     → HasRest old p new t → HasJoined old t (next_of p new t) c → HasContenders c p new
 settled_there p new t old c h joined resource there u = joined resource u ∙ elim (same_or_not u t) [
-  | inl e ↦ joins (takes resource (next_of p new t)) (nat_eq u t) (has (contenders_at old resource) u)
+  | inl e ↦ joins (takes resource (next_of p new t)) (nat_eq u t) (has
+      (contenders_at old resource) u)
       (itself t u e) (ap (has (contenders_at old resource)) e ∙ h.own resource there)
       ∙ ap (λ v. takes resource (next_of p new v)) (sym e)
   | inr ne ↦ stays_in (takes resource (next_of p new t)) (nat_eq u t)
@@ -458,7 +463,8 @@ more_enabled p s new t mask some result of of' old c own asked below above u =
         z ∙ sym (c.enables u ne (sym (old u) ∙ z))
 
 -- what is about to take an object is about to do something
-takes_some : (resource : Resource) (o : Option Action) → takes resource o ≡ true → (o ≡ None → false ≡ true)
+takes_some : (resource : Resource) (o : Option Action) → takes resource o ≡ true → (o ≡ None
+    → false ≡ true)
 takes_some resource o h e = sym (ap (takes resource) e) ∙ h
 
 stays_put : (resource : Resource) (old new : Option Action)
@@ -478,7 +484,8 @@ pub more_contend : (p : Program) (s new : Snapshot) (t : ℕ) (mask some : Mask)
     → HasContenders c p new
 more_contend p s new t mask some old c of of' on ch h own asked joined outside resource there u =
     elim (cases_lt u (length p.threads)) [
-      | inl l ↦ joined resource u l ∙ (ap (λ b. (has some u && now) || b) before ∙ at l (same_or_not u t))
+      | inl l ↦ joined resource u l ∙ (ap (λ b. (has some u && now) || b) before
+          ∙ at l (same_or_not u t))
       | inr g ↦ outside resource u g ∙ (before
           ∙ (ap (takes resource) (next_past p s u (omega (arith, g, of.threads)))
           ∙ sym (ap (takes resource) (next_past p new u (omega (arith, g, of'.threads))))))
@@ -493,7 +500,8 @@ more_contend p s new t mask some old c of of' on ch h own asked joined outside r
     before : has (contenders_at old resource) u ≡ first
     before = h resource (resource_back p s new resource of of' there) u
 
-    none_took : (b : Bool) → takes resource (next_of p s t) ≡ b → takes resource (next_of p s t) ≡ false
+    none_took : (b : Bool) → takes resource (next_of p s t) ≡ b
+        → takes resource (next_of p s t) ≡ false
     none_took true e = let k : More ≡ At resource = ch.left resource e in cc
     none_took false e = e
 
@@ -540,13 +548,15 @@ pub joined_below : (p : Program) (s : Snapshot) (t : ℕ) (old c : Contenders)
     → ((resource : Resource) → (u : ℕ) → t ≤ u → has (contenders_at old resource) u ≡ false)
     → (resource : Resource) → (u : ℕ) → u < t + 1
     → has (contenders_at c resource) u ≡ takes resource (next_of p s u)
-joined_below p s t old c joined below above resource u l = joined resource u ∙ elim (same_or_not u t) [
-  | inl e ↦ joins (takes resource (next_of p s t)) (nat_eq u t) (has (contenders_at old resource) u)
-      (itself t u e) (above resource u (omega (arith, e)))
-      ∙ ap (λ v. takes resource (next_of p s v)) (sym e)
-  | inr ne ↦ stays_in (takes resource (next_of p s t)) (nat_eq u t)
-      (has (contenders_at old resource) u) (another t u ne) ∙ below resource u (omega (arith, l, ne))
-]
+joined_below p s t old c joined below above resource u l = joined resource u
+    ∙ elim (same_or_not u t) [
+      | inl e ↦ joins (takes resource (next_of p s t)) (nat_eq u t) (has (contenders_at old resource) u)
+          (itself t u e) (above resource u (omega (arith, e)))
+          ∙ ap (λ v. takes resource (next_of p s v)) (sym e)
+      | inr ne ↦ stays_in (takes resource (next_of p s t)) (nat_eq u t)
+          (has (contenders_at old resource) u) (another t u ne)
+          ∙ below resource u (omega (arith, l, ne))
+    ]
 
 pub joined_above : (p : Program) (s : Snapshot) (t : ℕ) (old c : Contenders)
     → HasJoined old t (next_of p s t) c
@@ -567,13 +577,15 @@ joined_other p s t old c joined resource u ne = joined resource u
 -- of some threads that come to where they are, this is one more
 pub joined_further : (p : Program) (s : Snapshot) (t : ℕ) (old c : Contenders)
     (left rest : Mask) → HasJoined old t (next_of p s t) c → has left t ≡ true
-    → has rest t ≡ false → ((u : ℕ) → u ≢ t → has rest u ≡ has left u) → (resource : Resource) → (u : ℕ)
+    → has rest t ≡ false → ((u : ℕ) → u ≢ t → has rest u ≡ has left u) → (resource : Resource)
+    → (u : ℕ)
     → ((has rest u && takes resource (next_of p s u)) || has (contenders_at c resource) u)
     ≡ ((has left u && takes resource (next_of p s u)) || has (contenders_at old resource) u)
 joined_further p s t old c left rest joined on off others resource u = elim (same_or_not u t) [
   | inl e ↦ subst (λ v. ((has rest v && takes resource (next_of p s v))
       || has (contenders_at c resource) v)
-      ≡ ((has left v && takes resource (next_of p s v)) || has (contenders_at old resource) v)) (sym e)
+      ≡ ((has left v && takes resource (next_of p s v)) || has (contenders_at old resource) v))
+      (sym e)
       ((λ i. (off i && pass) || (joined resource t
       ∙ ap (λ b. (pass && b) || has (contenders_at old resource) t) (itself t t refl)) i)
       ∙ (whole pass (has (contenders_at old resource) t)

@@ -135,7 +135,8 @@ gone_on p s t a old kept o new others free of' h fine next as_told is touched fe
       changes = subst (λ (z : Snapshot). Changes others p s t z) (sym is)
           (subst (λ (x : Others). Changes x p s t (performed p s t a)) (sym as_told)
           (changes p s t a next));
-      resource = subst (λ (x : Others). HasResource x new) (sym as_told) (resource_there p s new a new_of fine);
+      resource = subst (λ (x : Others). HasResource x new) (sym as_told)
+          (resource_there p s new a new_of fine);
       free = goes_on;
     }
   where

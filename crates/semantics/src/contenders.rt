@@ -72,7 +72,8 @@ impl Contenders {
         requires resource { IsKnown resource }
         requires thread { thread < THREADS }
         ensures { (r : Resource) → (t : ℕ) → has (contenders_at self.new r) t
-            ≡ ((is_same_resource r resource && nat_eq t thread) || has (contenders_at self.old r) t) }
+            ≡ ((is_same_resource r resource && nat_eq t thread)
+            || has (contenders_at self.old r) t) }
     {
         let threads = self.at(resource).with(thread, true);
         self.set(resource, threads);

@@ -525,7 +525,8 @@ pub opened : (p : Program) (old new : Trail) → IsTrail p old → new.steps.ite
 opened p old new h items depth frames further touched places state contend base node = record {
   trail = trail_same p old new h items depth (ap (take old.depth) frames)
       (let r = h.room in let e = ap length frames in omega (arith, r, e)) further touched places
-      state contend (node_opened p old.steps.items old.state old.node new.node new.node.todo h.node node);
+      state contend (node_opened p old.steps.items old.state old.node new.node new.node.todo
+      h.node node);
   steps = items;
   above = λ i. reverse (take (depth i) (frames i));
   base = base;

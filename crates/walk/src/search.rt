@@ -500,8 +500,8 @@ impl Trail {
         more
     }
 
-    // Goes down and back until so many are tried or nothing is open. Each mode has a loop of its own,
-    // in which it is known.
+    // Goes down and back until so many are tried or nothing is open. Each mode has a loop of its
+    // own, in which it is known.
     fn search(
         &mut self,
         alloc: Global,

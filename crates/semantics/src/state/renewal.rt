@@ -42,7 +42,8 @@ impl State {
         requires free { IsTrue after.free →
             IsFree (code_of program.now thread) (thread_at self.now thread) }
         requires resource { HasResource after.others self.now }
-        ensures mask { (s : Snapshot) → IsOf program.now s → is_enabled program.now s thread ≡ true →
+        ensures mask { (s : Snapshot) → IsOf program.now s →
+            is_enabled program.now s thread ≡ true →
             Changes after.others program.now s thread self.now →
             HasEnabled mask program.now s → HasContenders contenders.old program.now s →
             HasEnabled result program.now self.now }
@@ -226,8 +227,8 @@ impl State {
         )
     }
 
-    // The same for a woken thread at this instruction, out of the way of steps: one that has taken a
-    // step is not woken.
+    // The same for a woken thread at this instruction, out of the way of steps: a thread that has
+    // taken a step is not woken.
     #[inline(never)]
     fn arrive_again(
         &self,

@@ -9,5 +9,6 @@ abbrev pub invariant-loop-t : goal.invariant-loop-t
 invariant-loop-t l = record {
   below : (resource : Resource) → (u : ℕ) → u < l.t →
       has (contenders_at l.contenders resource) u ≡ takes resource (next_of l.program l.self u);
-  above : (resource : Resource) → (u : ℕ) → l.t ≤ u → has (contenders_at l.contenders resource) u ≡ false;
+  above : (resource : Resource) → (u : ℕ) → l.t ≤ u
+      → has (contenders_at l.contenders resource) u ≡ false;
 }

@@ -29,7 +29,8 @@ loop-thread-preserved c = record {
   ];
   above = λ u h. let ne : u ≢ t = omega (arith, h, within) in c.with-mask.ensures.others u ne ∙
       c.loop-thread.invariant.above u h;
-  joined = λ resource u h. joined_further c.args.program.now c.args.self.now t c.loop-thread.contenders
+  joined = λ resource u h. joined_further c.args.program.now c.args.self.now t
+      c.loop-thread.contenders
       c.arrive-on.new.contenders c.loop-thread.left c.with-left.result c.arrive-on.ensures.joined
       c.in-Some.ensures.member.0 c.with-left.ensures.same c.with-left.ensures.others resource u
       ∙ c.loop-thread.invariant.joined resource u h;

@@ -17,7 +17,8 @@ invariant-loop-thread l = record {
       ≡ ((has l.fn.some u && takes resource (next_of l.program l.self u))
       || has (contenders_at l.initial.contenders resource) u);
   outside : (resource : Resource) → (u : ℕ) → length l.program.threads ≤ u →
-      has (contenders_at l.contenders resource) u ≡ has (contenders_at l.initial.contenders resource) u;
+      has (contenders_at l.contenders resource) u ≡ has
+      (contenders_at l.initial.contenders resource) u;
 }
 
 abbrev pub decreases-loop-thread : goal.decreases-loop-thread

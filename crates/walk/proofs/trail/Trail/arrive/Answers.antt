@@ -19,7 +19,8 @@ open-past-requires-clause-within c =
     (first_open c.args.mode c.args.item.now (here p t) c.args.found.now.part
     (left_above c.args.mode p t) _ c.requires.search.walked).within
 
-pub returns-in_ok-defer_apart-in-Some-clause-search : goal.returns-in_ok-defer_apart-in-Some-clause-search
+pub returns-in_ok-defer_apart-in-Some-clause-search :
+    goal.returns-in_ok-defer_apart-in-Some-clause-search
 returns-in_ok-defer_apart-in-Some-clause-search c =
     arrived_node c.args.mode c.args.item.now c.args.self.now _ c.args.found.now _
     c.open-past.result _ _ c.requires.search
@@ -31,7 +32,8 @@ returns-in_ok-defer_apart-in-Some-clause-search c =
     c.in-Some.ensures.list) c.in_ok-defer_apart-in-Some.ensures.part
     c.in_ok-defer_apart-in-Some.ensures.deferred c.in_ok-defer_apart-in-Some.ensures.shared
 
-pub returns-in_ok-defer_apart-in-Some-clause-falls : goal.returns-in_ok-defer_apart-in-Some-clause-falls
+pub returns-in_ok-defer_apart-in-Some-clause-falls :
+    goal.returns-in_ok-defer_apart-in-Some-clause-falls
 returns-in_ok-defer_apart-in-Some-clause-falls c =
     falls_node c.args.mode c.args.item.now.program c.args.self.now
     (record c.args.self.now { steps = c.defer_apart.new.steps; node = c.open-past.new.self }) _ _

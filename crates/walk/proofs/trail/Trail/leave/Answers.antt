@@ -67,7 +67,8 @@ returns-clause-trail c =
     (trail_left p t _ n m f c.requires.trail one refl c.index.ensures sum
     c.put_back.ensures.further steps frames
     (ap (λ (x : Trail). x.touched.items) c.put_back.ensures.same) state
-    (ap (λ (x : Frame). x.node) same) (ap (λ (x : Frame). x.contenders) same) (ap (λ (x : Trail). x.base) c.put_back.ensures.same)).0
+    (ap (λ (x : Frame). x.node) same) (ap (λ (x : Frame). x.contenders) same) (ap (λ
+    (x : Trail). x.base) c.put_back.ensures.same)).0
 
 pub returns-clause-left : goal.returns-clause-left
 returns-clause-left c =
@@ -93,4 +94,5 @@ returns-clause-left c =
     (trail_left p t _ n m f c.requires.trail one refl c.index.ensures sum
     c.put_back.ensures.further steps frames
     (ap (λ (x : Trail). x.touched.items) c.put_back.ensures.same) state
-    (ap (λ (x : Frame). x.node) same) (ap (λ (x : Frame). x.contenders) same) (ap (λ (x : Trail). x.base) c.put_back.ensures.same)).1
+    (ap (λ (x : Frame). x.node) same) (ap (λ (x : Frame). x.contenders) same) (ap (λ
+    (x : Trail). x.base) c.put_back.ensures.same)).1

@@ -6,7 +6,8 @@ use Rattle.walk.proofs.trail.Trail.search_within.Given as goal
 
 abbrev pub invariant-loop-going : goal.invariant-loop-going
 invariant-loop-going l = record {
-  search : IsSearch (Bounded l.bound) l.item l.self l.found (still_open (Bounded l.bound) l.item.program l.self);
+  search : IsSearch (Bounded l.bound) l.item l.self l.found (still_open
+      (Bounded l.bound) l.item.program l.self);
   few : l.found.part.tried ≤ l.quota;
   over : l.going ≡ false → still_open (Bounded l.bound) l.item.program l.self ≡ [];
 }
