@@ -33,7 +33,8 @@ impl State {
         ensures back { undone result self.new ≡ self.old }
     {
         let mut undo = Undo::new();
-        self.step_recorded(program, thread, &mut undo);
+        let mut contenders = Contenders::none();
+        self.step_any(program, thread, &mut undo, Mask::empty(), &mut contenders);
         undo
     }
 
@@ -63,47 +64,47 @@ impl State {
             HasContenders contenders.old program.now self.old →
             HasContenders contenders.new program.now self.new }
     {
-        let after = self.step_recorded(program, thread, undo);
-        self.renew(program, thread, mask, after, contenders)
-    }
-
-    // A step, with its record, and what it does to which threads are enabled.
-    #[inline(always)]
-    fn step_recorded(&mut self, program: &Program, thread: u8, undo: &mut Undo) -> After
-        requires of { IsOf program.now self.old }
-        requires enabled { IsTrue (is_enabled program.now self.old thread) }
-        ensures { HasStepped program.now self.old thread undo.new self.new result }
-    {
         let runner = &self.threads[thread as usize];
-        let instruction = &program.code(thread)[runner.pc];
         match runner.status {
-            Status::Woken => self.step_woken(program, thread, instruction, undo),
-            _ => self.step_visible(program, thread, instruction, undo),
+            Status::Running => {
+                let instruction = &program.code(thread)[runner.pc];
+                let after = self.step_visible(program, thread, instruction, undo);
+                self.renew(program, thread, mask, after, contenders)
+            }
+            _ => self.step_any(program, thread, undo, mask, contenders),
         }
     }
 
-    // The step of a woken thread at this instruction.
+    // The same, whatever its thread is about to do, out of the way of the usual steps.
     #[inline(never)]
-    fn step_woken(
+    fn step_any(
         &mut self,
         program: &Program,
         thread: u8,
-        instruction: &Instruction,
         undo: &mut Undo,
-    ) -> After
+        mask: Mask,
+        contenders: &mut Contenders,
+    ) -> Mask
         requires of { IsOf program.now self.old }
         requires enabled { IsTrue (is_enabled program.now self.old thread) }
-        requires pc { StandsInCode program.now self.old thread }
-        requires fine { IsValid program.now instruction.now }
-        requires next { next_of program.now self.old thread ≡ retake_of instruction.now }
-        ensures { HasStepped program.now self.old thread undo.new self.new result }
+        ensures value { self.new ≡ step program.now self.old thread }
+        ensures of { IsOf program.now self.new }
+        ensures thread { undo.new.thread ≡ thread }
+        ensures record { IsRecordOf undo.new self.new }
+        ensures back { undone undo.new self.new ≡ self.old }
+        ensures mask { HasEnabled mask program.now self.old →
+            HasContenders contenders.old program.now self.old →
+            HasEnabled result program.now self.new }
+        ensures contenders { HasEnabled mask program.now self.old →
+            HasContenders contenders.old program.now self.old →
+            HasContenders contenders.new program.now self.new }
     {
-        match retake_of(instruction) {
-            Some(action) => self.act(program, thread, action, undo),
-            None => After {
-                others: Others::Same,
-                free: false,
-            },
+        match self.next(program, thread) {
+            Some(action) => {
+                let after = self.act(program, thread, action, undo);
+                self.renew(program, thread, mask, after, contenders)
+            }
+            None => mask,
         }
     }
 
