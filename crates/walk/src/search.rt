@@ -304,29 +304,31 @@ impl Trail {
     #[inline(always)]
     fn follow(
         &mut self,
+        program: &Program,
         found: &mut Found,
-        item: &Item,
+        _item: &Item,
         _bound: u32,
         thread: u8,
     ) -> Result<(), AllocError>
+        requires program { program.now ≡ _item.now.program }
         requires search { let mode = Mode.Bounded _bound in
-            IsSearch mode item.now self.old found.old
-            (here item.now.program self.old ∷ left_above mode item.now.program self.old) }
+            IsSearch mode _item.now self.old found.old
+            (here _item.now.program self.old ∷ left_above mode _item.now.program self.old) }
         requires spent { IsSpent _bound self.old.node thread }
         requires on { has self.old.node.enabled thread ≡ true }
-        ensures trail { IsTrail item.now.program self.new }
+        ensures trail { IsTrail _item.now.program self.new }
         ensures search { let mode = Mode.Bounded _bound in
-            OnOk result (IsSearch mode item.now self.new found.new
-            (here item.now.program self.new ∷ left_above mode item.now.program self.new)) }
+            OnOk result (IsSearch mode _item.now self.new found.new
+            (here _item.now.program self.new ∷ left_above mode _item.now.program self.new)) }
         ensures spent { OnOk result (IsSpent _bound self.new.node thread) }
         ensures further { let mode = Mode.Bounded _bound in
-            OnOk result (turns_from mode item.now.program self.new
-            < turns_from mode item.now.program self.old) }
+            OnOk result (turns_from mode _item.now.program self.new
+            < turns_from mode _item.now.program self.old) }
         ensures tried { OnOk result (found.new.part.tried ≡ found.old.part.tried) }
     {
         found.defer(&mut self.steps, self.node.switches)?;
-        if !self.extend(item.program(), thread)? {
-            self.enter_apart(item.program(), thread)?;
+        if !self.extend(program, thread)? {
+            self.enter_apart(program, thread)?;
         }
         Ok(())
     }
@@ -347,9 +349,10 @@ impl Trail {
             ≤ turns_from mode item.now.program self.old) }
         ensures tried { OnOk result (found.new.part.tried ≡ found.old.part.tried) }
     {
+        let program = item.program();
         let bound = self.node.used;
         while self.node.enabled.has(thread) {
-            self.follow(found, item, bound, thread)?;
+            self.follow(program, found, item, bound, thread)?;
         }
         Ok(())
     }

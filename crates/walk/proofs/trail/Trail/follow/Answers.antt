@@ -14,35 +14,35 @@ use Rattle.walk.proofs.trail.Trail.follow.Goals as goal
 
 pub returns-else-not-branch-clause-search : goal.returns-else-not-branch-clause-search
 returns-else-not-branch-clause-search c =
-    let p : Program = c.args.item.now.program in
+    let p : Program = c.args._item.now.program in
     let bound : ℕ = c.args._bound in
     let t : Trail = c.args.self.now in
     let u : Trail = record t { steps = c.defer.new.steps } in
     let opened : IsOpened p t u = opened_here p t u c.requires.search.place.trail
     c.defer.ensures.steps refl refl refl refl refl refl refl refl in
     let v : Trail = c.extend.new.self in
-    let s = lone_search bound c.args.item.now t u c.args.found.now c.defer.new.self
+    let s = lone_search bound c.args._item.now t u c.args.found.now c.defer.new.self
     c.args.thread c.requires.search opened c.requires.spent.todo c.requires.spent c.requires.on
     c.in_ok-defer.ensures.part c.in_ok-defer.ensures.deferred c.in_ok-defer.ensures.shared in
     let done : members_from u.node.todo 0 ≡ [] =
     ap (λ (m : Mask). members_from m 0) c.requires.spent.todo ∙ none_open in
     let further = further_extended (Bounded bound) p u v c.args.thread no_threads done
     (c.in_ok-extend.ensures.extended (ap (λ b. Ok b) c.if-not-branch.false)) in
-    let trail : IsTrail p v = subst (λ (q : Program). IsTrail q v) c.program.ensures
+    let trail : IsTrail p v = subst (λ (q : Program). IsTrail q v) c.requires.program
     c.extend.ensures.trail in
-    entered_search (Bounded bound) c.args.item.now u v c.defer.new.self c.args.thread
+    entered_search (Bounded bound) c.args._item.now u v c.defer.new.self c.args.thread
     no_threads s trail further refl
 
 pub returns-else-not-branch-clause-further : goal.returns-else-not-branch-clause-further
 returns-else-not-branch-clause-further c =
-    let p : Program = c.args.item.now.program in
+    let p : Program = c.args._item.now.program in
     let bound : ℕ = c.args._bound in
     let t : Trail = c.args.self.now in
     let u : Trail = record t { steps = c.defer.new.steps } in
     let opened : IsOpened p t u = opened_here p t u c.requires.search.place.trail
     c.defer.ensures.steps refl refl refl refl refl refl refl refl in
     let v : Trail = c.extend.new.self in
-    let s = lone_search bound c.args.item.now t u c.args.found.now c.defer.new.self
+    let s = lone_search bound c.args._item.now t u c.args.found.now c.defer.new.self
     c.args.thread c.requires.search opened c.requires.spent.todo c.requires.spent c.requires.on
     c.in_ok-defer.ensures.part c.in_ok-defer.ensures.deferred c.in_ok-defer.ensures.shared in
     let done : members_from u.node.todo 0 ≡ [] =
@@ -56,7 +56,7 @@ returns-else-not-branch-clause-further c =
 
 pub returns-in_ok-enter_apart-clause-search : goal.returns-in_ok-enter_apart-clause-search
 returns-in_ok-enter_apart-clause-search c =
-    let p : Program = c.args.item.now.program in
+    let p : Program = c.args._item.now.program in
     let bound : ℕ = c.args._bound in
     let t : Trail = c.args.self.now in
     let u : Trail = record t { steps = c.defer.new.steps } in
@@ -64,25 +64,25 @@ returns-in_ok-enter_apart-clause-search c =
     c.defer.ensures.steps refl refl refl refl refl refl refl refl in
     let w : Trail = c.extend.new.self in
     let v : Trail = c.enter_apart.new.self in
-    let still : IsOpened p u w = subst (λ (q : Program). IsOpened q u w) c.program.ensures
+    let still : IsOpened p u w = subst (λ (q : Program). IsOpened q u w) c.requires.program
     (c.in_ok-extend.ensures.same (ap (λ b. Ok b) c.if-not-branch.true)) in
     let again : IsOpened p t w = opened_twice p t u w opened still in
     let todo : w.node.todo ≡ no_threads = ap (λ (n : Node). n.todo)
     (c.in_ok-extend.ensures.node (ap (λ b. Ok b) c.if-not-branch.true))
     ∙ c.requires.spent.todo in
-    let s = lone_search bound c.args.item.now t w c.args.found.now c.defer.new.self
+    let s = lone_search bound c.args._item.now t w c.args.found.now c.defer.new.self
     c.args.thread c.requires.search again todo c.requires.spent c.requires.on
     c.in_ok-defer.ensures.part c.in_ok-defer.ensures.deferred c.in_ok-defer.ensures.shared in
     let further = further_entered (Bounded bound) p w v c.args.thread no_threads s.place
     c.in_ok-enter_apart.ensures.entered in
     let trail : IsTrail p v = subst (λ (q : Program). IsTrail q v)
-    c.program-then-not-branch.ensures c.enter_apart.ensures.trail in
-    entered_search (Bounded bound) c.args.item.now w v c.defer.new.self c.args.thread
+    c.requires.program c.enter_apart.ensures.trail in
+    entered_search (Bounded bound) c.args._item.now w v c.defer.new.self c.args.thread
     no_threads s trail further refl
 
 pub returns-in_ok-enter_apart-clause-further : goal.returns-in_ok-enter_apart-clause-further
 returns-in_ok-enter_apart-clause-further c =
-    let p : Program = c.args.item.now.program in
+    let p : Program = c.args._item.now.program in
     let bound : ℕ = c.args._bound in
     let t : Trail = c.args.self.now in
     let u : Trail = record t { steps = c.defer.new.steps } in
@@ -90,13 +90,13 @@ returns-in_ok-enter_apart-clause-further c =
     c.defer.ensures.steps refl refl refl refl refl refl refl refl in
     let w : Trail = c.extend.new.self in
     let v : Trail = c.enter_apart.new.self in
-    let still : IsOpened p u w = subst (λ (q : Program). IsOpened q u w) c.program.ensures
+    let still : IsOpened p u w = subst (λ (q : Program). IsOpened q u w) c.requires.program
     (c.in_ok-extend.ensures.same (ap (λ b. Ok b) c.if-not-branch.true)) in
     let again : IsOpened p t w = opened_twice p t u w opened still in
     let todo : w.node.todo ≡ no_threads = ap (λ (n : Node). n.todo)
     (c.in_ok-extend.ensures.node (ap (λ b. Ok b) c.if-not-branch.true))
     ∙ c.requires.spent.todo in
-    let s = lone_search bound c.args.item.now t w c.args.found.now c.defer.new.self
+    let s = lone_search bound c.args._item.now t w c.args.found.now c.defer.new.self
     c.args.thread c.requires.search again todo c.requires.spent c.requires.on
     c.in_ok-defer.ensures.part c.in_ok-defer.ensures.deferred c.in_ok-defer.ensures.shared in
     let further = further_entered (Bounded bound) p w v c.args.thread no_threads s.place
