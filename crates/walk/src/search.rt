@@ -316,7 +316,9 @@ impl Trail {
             (here _item.now.program self.old ∷ left_above mode _item.now.program self.old) }
         requires spent { IsSpent _bound self.old.node thread }
         requires on { has self.old.node.enabled thread ≡ true }
+        requires base { self.old.base < self.old.depth }
         ensures trail { IsTrail _item.now.program self.new }
+        ensures base { OnOk result (self.new.base < self.new.depth) }
         ensures search { let mode = Mode.Bounded _bound in
             OnOk result (IsSearch mode _item.now self.new found.new
             (here _item.now.program self.new ∷ left_above mode _item.now.program self.new)) }
@@ -333,6 +335,33 @@ impl Trail {
         Ok(())
     }
 
+    // The same for the first of such steps, which has a frame of its own.
+    fn set_out(
+        &mut self,
+        found: &mut Found,
+        item: &Item,
+        _bound: u32,
+        thread: u8,
+    ) -> Result<(), AllocError>
+        requires search { let mode = Mode.Bounded _bound in
+            IsSearch mode item.now self.old found.old
+            (here item.now.program self.old ∷ left_above mode item.now.program self.old) }
+        requires spent { IsSpent _bound self.old.node thread }
+        requires on { has self.old.node.enabled thread ≡ true }
+        ensures trail { IsTrail item.now.program self.new }
+        ensures base { OnOk result (self.new.base < self.new.depth) }
+        ensures search { let mode = Mode.Bounded _bound in
+            OnOk result (IsSearch mode item.now self.new found.new
+            (here item.now.program self.new ∷ left_above mode item.now.program self.new)) }
+        ensures spent { OnOk result (IsSpent _bound self.new.node thread) }
+        ensures tried { OnOk result (found.new.part.tried ≡ found.old.part.tried) }
+    {
+        let beside = self.node.switches;
+        found.defer(&mut self.steps, beside)?;
+        self.enter_apart(item.program(), thread)?;
+        Ok(())
+    }
+
     // Goes on with the thread of the last step as long as it can go on, where the bound is used up.
     #[inline(never)]
     fn run_alone(&mut self, found: &mut Found, item: &Item, thread: u8) -> Result<(), AllocError>
@@ -340,6 +369,7 @@ impl Trail {
             IsSearch mode item.now self.old found.old
             (here item.now.program self.old ∷ left_above mode item.now.program self.old) }
         requires spent { IsSpent self.old.node.used self.old.node thread }
+        requires base { self.old.base < self.old.depth }
         ensures trail { IsTrail item.now.program self.new }
         ensures search { let mode = Mode.Bounded self.old.node.used in
             OnOk result (IsSearch mode item.now self.new found.new
@@ -370,6 +400,7 @@ impl Trail {
             (here item.now.program self.old ∷ left_above mode item.now.program self.old) }
         requires todo { self.old.node.todo ≡ no_threads }
         requires last { self.old.node.last ≡ Some thread }
+        requires base { self.old.base < self.old.depth }
         ensures trail { IsTrail item.now.program self.new }
         ensures search { OnOk result (IsSearch mode item.now self.new found.new
             (here item.now.program self.new ∷ left_above mode item.now.program self.new)) }
@@ -395,8 +426,11 @@ impl Trail {
         ensures tried { OnOk result (found.new.part.tried ≡ found.old.part.tried) }
     {
         match self.node.last {
-            None => Ok(()),
-            Some(thread) => self.run_on(found, item, mode, thread),
+            Some(thread) if self.node.enabled.has(thread) && self.is_used_up(mode) => {
+                self.set_out(found, item, self.node.used, thread)?;
+                self.run_alone(found, item, thread)
+            }
+            _ => Ok(()),
         }
     }
 

@@ -323,15 +323,12 @@ impl Trail {
         requires enabled { IsTrue (is_enabled program.now self.old.state thread) }
         requires todo { self.old.node.todo ≡ no_threads }
         requires last { self.old.node.last ≡ Some thread }
-        requires base { self.old.base ≤ self.old.depth }
+        requires base { self.old.base < self.old.depth }
         ensures trail { IsTrail program.now self.new }
         ensures extended { result ≡ Ok true → IsExtended self.old self.new thread no_threads }
         ensures same { result ≡ Ok false → IsOpened program.now self.old self.new }
         ensures node { result ≡ Ok false → self.new.node ≡ self.old.node }
     {
-        if self.depth == self.base {
-            return Ok(false);
-        }
         make_place(&mut self.touched, self.further)?;
         self.steps.push(thread)?;
         let frame = &mut self.frames[self.depth - 1];

@@ -42,6 +42,12 @@ run_on-requires c =
           (here q c.args.self.now) c.args.thread) c.program-program.ensures);
       todo = c.in_ok-enter.ensures.entered.next.todo;
       last = c.in_ok-enter.ensures.entered.next.last;
+      base = omega (
+        arith,
+        c.requires.search.place.base,
+        c.in_ok-enter.ensures.entered.base,
+        c.in_ok-enter.ensures.entered.depth,
+      );
     }
 
 pub returns-clause-further : goal.returns-clause-further

@@ -10,7 +10,7 @@ step_further-requires-clause-thread c =
     let t = c.args.self.now in
     let n : ℕ = t.depth - 1 in
     let f = c.index_mut-frame.result.now in
-    let one : t.depth ≡ n + 1 = omega (arith, c.if-self.false, c.requires.base) in
+    let one : t.depth ≡ n + 1 = omega (arith, c.requires.base) in
     let L = lowest c.args.program.now t n f c.requires.trail one c.index_mut-frame.ensures.value in
     let own : f.thread ≡ c.args.thread =
     lowest_last c.args.program.now t n f c.args.thread c.requires.trail L c.requires.last in
@@ -21,7 +21,7 @@ step_further-requires-clause-few c =
     let t = c.args.self.now in
     let n : ℕ = t.depth - 1 in
     let f = c.index_mut-frame.result.now in
-    let one : t.depth ≡ n + 1 = omega (arith, c.if-self.false, c.requires.base) in
+    let one : t.depth ≡ n + 1 = omega (arith, c.requires.base) in
     let L = lowest c.args.program.now t n f c.requires.trail one c.index_mut-frame.ensures.value in
     L.frames.0.back.kept.few
 
@@ -30,7 +30,7 @@ overflow_add-frame c =
     let t = c.args.self.now in
     let n : ℕ = t.depth - 1 in
     let f = c.index_mut-frame.result.now in
-    let one : t.depth ≡ n + 1 = omega (arith, c.if-self.false, c.requires.base) in
+    let one : t.depth ≡ n + 1 = omega (arith, c.requires.base) in
     let L = lowest c.args.program.now t n f c.requires.trail one c.index_mut-frame.ensures.value in
     let few = lowest_few c.args.program.now t n f c.requires.trail L in
     omega (arith, few, t.touched.ok.0, t.touched.small)
@@ -40,11 +40,11 @@ returns-in-Some-clause-trail c =
     let t = c.args.self.now in
     let n : ℕ = t.depth - 1 in
     let f = c.index_mut-frame.result.now in
-    let one : t.depth ≡ n + 1 = omega (arith, c.if-self.false, c.requires.base) in
+    let one : t.depth ≡ n + 1 = omega (arith, c.requires.base) in
     let L = lowest c.args.program.now t n f c.requires.trail one c.index_mut-frame.ensures.value in
     let own : f.thread ≡ c.args.thread =
     lowest_last c.args.program.now t n f c.args.thread c.requires.trail L c.requires.last in
-    let within : t.base < t.depth = omega (arith, c.if-self.false, c.requires.base) in
+    let within : t.base < t.depth = omega (arith, c.requires.base) in
     let next = lone_next t.node c.args.thread c.empty-self.result c.requires.todo
     c.requires.last in
     let both = trail_extended c.args.program.now t _ n c.args.thread f c.step_further.new.undo
@@ -66,11 +66,11 @@ returns-in-Some-clause-extended c = λ e.
     let t = c.args.self.now in
     let n : ℕ = t.depth - 1 in
     let f = c.index_mut-frame.result.now in
-    let one : t.depth ≡ n + 1 = omega (arith, c.if-self.false, c.requires.base) in
+    let one : t.depth ≡ n + 1 = omega (arith, c.requires.base) in
     let L = lowest c.args.program.now t n f c.requires.trail one c.index_mut-frame.ensures.value in
     let own : f.thread ≡ c.args.thread =
     lowest_last c.args.program.now t n f c.args.thread c.requires.trail L c.requires.last in
-    let within : t.base < t.depth = omega (arith, c.if-self.false, c.requires.base) in
+    let within : t.base < t.depth = omega (arith, c.requires.base) in
     let next = lone_next t.node c.args.thread c.empty-self.result c.requires.todo
     c.requires.last in
     let both = trail_extended c.args.program.now t _ n c.args.thread f c.step_further.new.undo
