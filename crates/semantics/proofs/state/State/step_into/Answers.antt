@@ -25,14 +25,16 @@ step_visible-after-requires c =
       pc = enabled_stands c.args.program.now c.args.self.now c.args.thread c.requires.enabled;
       fine = c.code.ensures.valid.fine c.index-runner.result.now.pc (Load 0 0) stands;
       next = visible_here c.args.program.now c.args.self.now c.args.thread c.index-runner.result.now
-          c.code.result.now (Load 0 0) runner c.code.ensures.code stands (λ k. let e = sym c.in-Running.is in cc)
-          c.requires.enabled;
+          c.code.result.now (Load 0 0) runner c.code.ensures.code stands
+          (λ k. let e = sym c.in-Running.is in cc) c.requires.enabled;
     }
 
 pub returns-in-Running-clause-mask : goal.returns-in-Running-clause-mask
-returns-in-Running-clause-mask c = λ mask contend. c.renew.ensures.mask c.args.self.now c.requires.of
-    c.requires.enabled c.step_visible-after.ensures.changes mask contend
+returns-in-Running-clause-mask c = λ mask contend.
+    c.renew.ensures.mask c.args.self.now c.requires.of c.requires.enabled
+    c.step_visible-after.ensures.changes mask contend
 
 pub returns-in-Running-clause-contenders : goal.returns-in-Running-clause-contenders
-returns-in-Running-clause-contenders c = λ mask contend. c.renew.ensures.contenders c.args.self.now
-    c.requires.of c.requires.enabled c.step_visible-after.ensures.changes mask contend
+returns-in-Running-clause-contenders c = λ mask contend.
+    c.renew.ensures.contenders c.args.self.now c.requires.of c.requires.enabled
+    c.step_visible-after.ensures.changes mask contend
