@@ -1,5 +1,5 @@
 -- Where a thread is that is about to take a step.
-use Rattle.std.proofs.Common.{◌≡◌, ◌≢◌, ◌<◌, ◌∙◌, ℕ, true, false, inl, inr, List, length, Some, None, slice_get, get_or, refl, ap, sym, subst}
+use Rattle.std.proofs.Common.{◌≡◌, ◌<◌, ◌∙◌, ℕ, true, false, inl, inr, List, length, Some, None, slice_get, get_or, refl, ap, sym, subst}
 use Rattle.std.proofs.lemmas.Bool.{cases_lt}
 use Rattle.std.proofs.lemmas.List.{get_or_read}
 use Rattle.std.proofs.lemmas.Option.{slice_get_past, slice_get-get_or}
@@ -8,7 +8,7 @@ use Rattle.guest_code.specs.Program.{Program, code_of}
 use Rattle.semantics.specs.declared.state.Status.{Status}
 use Rattle.semantics.specs.declared.state.Status.TheVariants.{Running, Waiting, Woken, Ended, Stopped}
 use Rattle.semantics.specs.declared.state.Thread.{Thread}
-use Rattle.semantics.specs.Machine.{Snapshot, can_do, action_of, action_at, retake_of, is_enabled, next_of, thread_at, missing_thread}
+use Rattle.semantics.specs.Machine.{Snapshot, can_do, action_of, action_at, is_enabled, next_of, thread_at, missing_thread}
 use Rattle.semantics.specs.Reachable.{StandsInCode}
 use Rattle.semantics.proofs.WorkFalls.{enabled_below}
 
@@ -30,15 +30,6 @@ enabled_stands p s t h = elim (cases_lt (thread_at s t).pc (length (code_of p t)
       ∙ ap (can_do s) (none_past (thread_at s t).status) in cc)
 ]
 
--- one that may do something, and was not woken, does what its instruction says
-pub not_woken : (s : Snapshot) (status : Status) (i : Instruction) → status ≢ Woken
-    → can_do s (action_at status (Some i)) ≡ true → action_at status (Some i) ≡ action_of i
-not_woken s Running i n h = refl
-not_woken s Woken i n h = absurd (n refl)
-not_woken s (Waiting c) i n h = cc
-not_woken s Ended i n h = cc
-not_woken s (Stopped why) i n h = cc
-
 -- what a thread does next, by the instruction at which it is
 next_here : (p : Program) (s : Snapshot) (t : ℕ) (th : Thread) (code : List Instruction)
     (d : Instruction) → th ≡ thread_at s t → code ≡ code_of p t → th.pc < length code
@@ -47,24 +38,11 @@ next_here p s t th code d e f l =
     sym (λ i. action_at (e i).status (slice_get (f i) (e i).pc))
     ∙ ap (action_at th.status) (slice_get-get_or code th.pc d l)
 
-pub woken_here : (p : Program) (s : Snapshot) (t : ℕ) (th : Thread) (code : List Instruction)
-    (d : Instruction) → th ≡ thread_at s t → code ≡ code_of p t → th.pc < length code
-    → th.status ≡ Woken → next_of p s t ≡ retake_of (get_or code th.pc d)
-woken_here p s t th code d e f l w = next_here p s t th code d e f l
-    ∙ ap (λ (status : Status). action_at status (Some (get_or code th.pc d))) w
-
 pub running_here : (p : Program) (s : Snapshot) (t : ℕ) (th : Thread) (code : List Instruction)
     (d : Instruction) → th ≡ thread_at s t → code ≡ code_of p t → th.pc < length code
     → th.status ≡ Running → next_of p s t ≡ action_of (get_or code th.pc d)
 running_here p s t th code d e f l w = next_here p s t th code d e f l
     ∙ ap (λ (status : Status). action_at status (Some (get_or code th.pc d))) w
-
-pub visible_here : (p : Program) (s : Snapshot) (t : ℕ) (th : Thread) (code : List Instruction)
-    (d : Instruction) → th ≡ thread_at s t → code ≡ code_of p t → th.pc < length code
-    → th.status ≢ Woken → is_enabled p s t ≡ true → next_of p s t ≡ action_of (get_or code th.pc d)
-visible_here p s t th code d e f l w h =
-    let here = next_here p s t th code d e f l in
-    here ∙ not_woken s th.status (get_or code th.pc d) w (ap (can_do s) (sym here) ∙ h)
 
 -- of threads T: th is an enabled one
 pub enabled_thread : (p : Program) (s : Snapshot) (t : ℕ) (T : List Thread) (th : Thread)

@@ -2,7 +2,7 @@
 
 ghost use Rattle.std.specs.Prelude.{◌≡◌, ◌≤◌, Some, IsTrue};
 ghost use Rattle.guest_code.specs.Program.{code_of, IsValid};
-ghost use Rattle.semantics.specs.Machine.{step, performed, action_of, retake_of, is_enabled, next_of, thread_at};
+ghost use Rattle.semantics.specs.Machine.{step, performed, action_of, is_enabled, next_of, thread_at};
 ghost use Rattle.semantics.specs.Reachable.{IsOf, IsValidAction, StandsInCode, IsReady};
 ghost use Rattle.semantics.specs.Contenders.{HasContenders};
 ghost use Rattle.semantics.specs.Mask.{HasEnabled};
@@ -10,7 +10,7 @@ ghost use Rattle.semantics.specs.Undoing.{undone, restored, IsRecordOf};
 ghost use Rattle.semantics.specs.inner.Recording.{HasBegun, HasObject, HasStepped, IsFree, is_access, others_after};
 ghost use Rattle.semantics.specs.declared.state.Action.TheVariants.{OnVariable, OnMutex, Wait as Waits, OnCondition, OnSemaphore};
 
-use crate::action::{After, Others, action_of, owns, retake_of};
+use crate::action::{After, Others, action_of, owns};
 use crate::contenders::{Contenders, Resource};
 use crate::local::{access, resume};
 use crate::mask::Mask;

@@ -1,7 +1,7 @@
-use Rattle.std.proofs.Common.{ap, sym}
+use Rattle.std.proofs.Common.{ap}
 use Rattle.guest_code.specs.declared.program.Instruction.TheVariants.{Load}
 use Rattle.semantics.specs.Machine.{Snapshot}
-use Rattle.semantics.proofs.StandingThreads.{enabled_stands, enabled_thread, stands_here, visible_here}
+use Rattle.semantics.proofs.StandingThreads.{enabled_stands, enabled_thread, running_here, stands_here}
 use Rattle.semantics.proofs.state.State.step_into.Goals as goal
 
 pub bounds-code-runner : goal.bounds-code-runner
@@ -24,9 +24,8 @@ step_visible-after-requires c =
       enabled = c.requires.enabled;
       pc = enabled_stands c.args.program.now c.args.self.now c.args.thread c.requires.enabled;
       fine = c.code.ensures.valid.fine c.index-runner.result.now.pc (Load 0 0) stands;
-      next = visible_here c.args.program.now c.args.self.now c.args.thread c.index-runner.result.now
-          c.code.result.now (Load 0 0) runner c.code.ensures.code stands
-          (λ k. let e = sym c.in-Running.is in cc) c.requires.enabled;
+      next = running_here c.args.program.now c.args.self.now c.args.thread c.index-runner.result.now
+          c.code.result.now (Load 0 0) runner c.code.ensures.code stands c.in-Running.is;
     }
 
 pub returns-in-Running-clause-mask : goal.returns-in-Running-clause-mask
