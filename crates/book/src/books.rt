@@ -5,6 +5,7 @@ ghost use Rattle.std.specs.Arc.{arc_value};
 ghost use Rattle.walk.specs.declared.limits.TheConstants.{BOUND};
 ghost use Rattle.walk.specs.declared.mode.Mode.TheVariants.{Bounded};
 ghost use Rattle.walk.specs.Items.{whole};
+ghost use Rattle.walk.specs.Walks.{IsWalked, found_walk};
 ghost use Rattle.book.specs.declared.limits.TheConstants.{ROUND};
 ghost use Rattle.book.specs.Quick.{IsBoundedBy};
 ghost use Rattle.book.specs.Books.{Keeps, drops, thinned, opening, IsWalkOf, IsFoundAt, HasWalkedAt, settled_found, Settles, IsRefused, Raises, IsNotRaised, IsClosed, bound_of};
@@ -318,17 +319,11 @@ impl Book {
         if !same_modes(self.mode, walked.mode()) || !self.program.is_same(walked.program()) {
             return Err(SettleError::Stranger);
         }
-        let _found = self.settle_own(alloc, walked)?;
-        Ok(())
+        self.settle_own(alloc, walked)
     }
 
-    /// The same where the walk is known to be of the book's program and mode: no program is
-    /// compared. Answers the walk's memory, for a later walk.
-    ///
-    /// # Errors
-    ///
-    /// As those of `settle`, but for `Stranger`.
-    pub fn settle_own(&mut self, alloc: Global, walked: Walked) -> Result<Found, SettleError>
+    // The same where the walk is of the book's program and mode.
+    fn settle_own(&mut self, alloc: Global, walked: Walked) -> Result<(), SettleError>
         requires { IsWalkOf self.old walked }
         ensures ok { OnOk result (Settles self.old walked self.new) }
         ensures err { IfErr result (λ e. (self.new ≡ self.old) × IsRefused self.old walked e) }
@@ -338,7 +333,36 @@ impl Book {
         };
         let mut found = walked.into_found();
         match self.take_over(alloc, &mut found, place) {
-            Ok(()) => Ok(found),
+            Ok(()) => Ok(()),
+            Err(AllocError) => Err(SettleError::OutOfMemory),
+        }
+    }
+
+    /// Settles what a walk of an item in the book's mode found, where the item is known to be of
+    /// the book's program: no program is compared, and nothing is moved. The memory of what was
+    /// found serves a later walk.
+    ///
+    /// # Errors
+    ///
+    /// As those of `settle`, but for `Stranger`.
+    pub fn settle_found(
+        &mut self,
+        alloc: Global,
+        item: &Item,
+        found: &mut Found,
+    ) -> Result<(), SettleError>
+        requires program { self.old.program ≡ item.now.program }
+        requires walked { IsWalked (found_walk self.old.mode item.now found.old) }
+        ensures ok { let w = found_walk self.old.mode item.now found.old in
+            OnOk result (Settles self.old w self.new) }
+        ensures err { let w = found_walk self.old.mode item.now found.old in
+            IfErr result (λ e. (self.new ≡ self.old) × IsRefused self.old w e) }
+    {
+        let Some(place) = self.open_items.place_of(item) else {
+            return Err(SettleError::NotOpen);
+        };
+        match self.take_over(alloc, found, place) {
+            Ok(()) => Ok(()),
             Err(AllocError) => Err(SettleError::OutOfMemory),
         }
     }

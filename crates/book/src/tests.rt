@@ -400,18 +400,20 @@ fn is_of(alloc: Global, book: &Book, text: &str) -> Result<bool, Fail> {
     Ok(book.mode() == FIRST && book.program().is_same(&program))
 }
 
-/// Settles a walk of a book's root, which the book doesn't drop, as one of its own.
+/// Walks a book's root, which the book doesn't drop, and settles what the walk found.
 fn settle_root(rt: &(impl Abort + Alloc<A = Global>), book: &mut Book) -> Result<(), Fail> {
     let program = Arc::try_clone(book.program())?;
+    let mut walker = Walker::new(rt.alloc(), Arc::try_clone(&program)?)?;
     let root = Item::root(rt.alloc(), program)?;
     assert!(rt; !book.drops(&root));
-    let walked = walk(rt.alloc(), &root, book.mode(), 256)?;
-    book.settle_own(rt.alloc(), walked)?;
+    let mut found = Found::new(rt.alloc());
+    walker.walk_into(rt.alloc(), &mut found, &root, book.mode(), 256)?;
+    book.settle_found(rt.alloc(), &root, &mut found)?;
     Ok(())
 }
 
 #[test]
-fn walks_of_its_own_are_settled(rt: HostRuntime) -> Result<(), Fail> {
+fn what_was_found_is_settled(rt: HostRuntime) -> Result<(), Fail> {
     let mut book = book_of(rt.alloc(), COUNTERS, FIRST)?;
     assert!(&rt; is_of(rt.alloc(), &book, COUNTERS)?);
     settle_root(&rt, &mut book)?;

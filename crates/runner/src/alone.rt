@@ -57,6 +57,7 @@ fn walk_item(
     alloc: Global,
     book: &mut Book,
     walker: &mut Walker,
+    found: &mut Found,
     item: &Item,
     quota: u32,
 ) -> Result<(), ExploreError>
@@ -71,10 +72,9 @@ fn walk_item(
         let _number = book.drop_later();
         return Ok(());
     }
-    let walked = walker.walk(alloc, item, book.mode(), quota)?;
-    match book.settle_own(alloc, walked) {
-        Ok(found) => {
-            walker.reuse(found);
+    walker.walk_into(alloc, found, item, book.mode(), quota)?;
+    match book.settle_found(alloc, item, found) {
+        Ok(()) => {
             let _number = book.drop_later();
             Ok(())
         }
@@ -89,6 +89,7 @@ fn walk_copies(
     alloc: Global,
     book: &mut Book,
     walker: &mut Walker,
+    found: &mut Found,
     quota: u32,
 ) -> Result<(), ExploreError>
     requires quota { 1 ≤ quota }
@@ -100,7 +101,7 @@ fn walk_copies(
     let _open = book.open_length();
     let items = book.next_round(alloc)?;
     for item in &items {
-        walk_item(alloc, book, walker, item, quota)?;
+        walk_item(alloc, book, walker, found, item, quota)?;
     }
     Ok(())
 }
@@ -143,7 +144,7 @@ fn walk_round(
     ensures error { IfErr result (λ e. e ≡ OutOfMemory) }
 {
     if book.is_quick() {
-        walk_copies(alloc, book, walker, quota)
+        walk_copies(alloc, book, walker, found, quota)
     } else {
         walk_in_place(alloc, book, walker, found, quota)
     }

@@ -10,6 +10,7 @@ ghost use Rattle.runner.specs.inner.Rounds.{IsOn, IsSeated, IsRound, IsCrewOf};
 
 use crate::error::ExploreError;
 use crate::gate::{Answer, Gate};
+use crate::hand::Hand;
 use crate::limits::{SMALL_ROUND, WORKERS};
 use crate::worker::{Ending, Round, Worker, ending_of, work_all};
 use board::{Board, Seat};
@@ -27,7 +28,7 @@ use walk::walker::Walker;
 #[derive(Drop)]
 pub(crate) struct Crew {
     /// One for each worker.
-    pub walkers: Vec<Walker>,
+    pub hands: Vec<Hand>,
     /// Whether the last round had as many items as one can have, and tried few schedules.
     pub was_small: bool,
 }
@@ -40,30 +41,30 @@ pub(crate) struct Left {
     pub ending: Ending,
 }
 
-// The workers of a round: one for each seat, with a walker each.
+// The workers of a round: one for each seat, with a hand each.
 fn seated(
     alloc: Global,
     board: &Board,
     program: &Program,
     seats: Vec<Seat>,
-    mut walkers: Vec<Walker>,
+    mut hands: Vec<Hand>,
 ) -> Result<Vec<Worker>, AllocError>
-    requires count { vec_len walkers ≡ vec_len seats }
+    requires count { vec_len hands ≡ vec_len seats }
     requires seats { All (λ s. s.board ≡ board.now.id) seats.items }
-    requires walkers { All (λ w. w ≡ program.now) walkers.items }
+    requires hands { All (λ h. h.walker ≡ program.now) hands.items }
     ensures seated { IfOk result (λ v. All (IsOn board.now.id program.now) v.items) }
     ensures count { IfOk result (λ v. vec_len v ≡ vec_len seats) }
 {
     let mut workers = Vec::new(alloc);
     let mut number = 0u32;
     for seat in seats {
-        let Some(walker) = walkers.pop() else {
+        let Some(hand) = hands.pop() else {
             unreachable!()
         };
         workers.push(Worker {
             number,
             seat,
-            walker,
+            hand,
             ending: Ending::Drawn,
         })?;
         number = number.wrapping_add(1);
@@ -71,27 +72,27 @@ fn seated(
     Ok(workers)
 }
 
-// Takes the workers of a round apart: the seats go back to the board, and the walkers are kept.
+// Takes the workers of a round apart: the seats go back to the board, and the hands are kept.
 fn disbanded(
     alloc: Global,
     board: &Board,
     program: &Program,
     workers: Vec<Worker>,
-) -> Result<(Vec<Seat>, Vec<Walker>), AllocError>
+) -> Result<(Vec<Seat>, Vec<Hand>), AllocError>
     requires { All (IsOn board.now.id program.now) workers.items }
     ensures seats { IfOk result (λ r. All (λ s. s.board ≡ board.now.id) r.0.items) }
     ensures count { IfOk result (λ r. vec_len r.0 ≡ vec_len workers) }
-    ensures walkers { IfOk result (λ r. All (λ w. w ≡ program.now) r.1.items) }
+    ensures hands { IfOk result (λ r. All (λ h. h.walker ≡ program.now) r.1.items) }
     ensures kept { IfOk result (λ r. vec_len r.1 ≡ vec_len workers) }
 {
     let mut seats = Vec::new(alloc);
-    let mut walkers = Vec::new(alloc);
+    let mut hands = Vec::new(alloc);
     for worker in workers {
-        let Worker { seat, walker, .. } = worker;
+        let Worker { seat, hand, .. } = worker;
         seats.push(seat)?;
-        walkers.push(walker)?;
+        hands.push(hand)?;
     }
-    Ok((seats, walkers))
+    Ok((seats, hands))
 }
 
 // Walks the items of a round in their order, as the first worker, where there is no board.
@@ -144,13 +145,13 @@ fn walk_by_all<G: Gate, R: Threads + Wait + Sync>(
 {
     work_all(rt, alloc, gate, &round, threads, &mut workers);
     let ending = ending_of(workers.as_slice());
-    let (seats, walkers) = disbanded(alloc, &round.board, &round.program, workers)?;
+    let (seats, hands) = disbanded(alloc, &round.board, &round.program, workers)?;
     let Round { board, book, .. } = round;
     let drawn = board.gather(seats).count();
     let left = Left {
         book: book.into_inner(),
         crew: Crew {
-            walkers,
+            hands,
             was_small: false,
         },
         ending,
@@ -164,12 +165,12 @@ impl Crew {
         requires { (0 < workers) × (workers ≤ WORKERS) }
         ensures { IfOk result (IsCrewOf (arc_value program.now)) }
     {
-        let mut walkers = Vec::new(alloc);
+        let mut hands = Vec::new(alloc);
         for _ in 0..workers {
-            walkers.push(Walker::new(alloc, Arc::try_clone(program)?)?)?;
+            hands.push(Hand::new(alloc, Arc::try_clone(program)?)?)?;
         }
         Ok(Crew {
-            walkers,
+            hands,
             was_small: false,
         })
     }
@@ -177,13 +178,13 @@ impl Crew {
     // How many threads a round of so many items is walked by. Making threads costs more than they
     // save where the items are as small as those of the last round were.
     fn threads(&self, items: usize) -> usize
-        requires { 0 < vec_len self.now.walkers }
+        requires { 0 < vec_len self.now.hands }
         ensures { 0 < result }
     {
         if self.was_small && items == ROUND {
             1
         } else {
-            self.walkers.len()
+            self.hands.len()
         }
     }
 
@@ -205,9 +206,9 @@ impl Crew {
     {
         let _open = book.open_length();
         let items = book.next_round(alloc)?;
-        let (count, seats) = (items.len() as u32, self.walkers.len() as u32);
+        let (count, seats) = (items.len() as u32, self.hands.len() as u32);
         let Ok((board, seats)) = Board::new(alloc, count, seats) else {
-            let walker = &mut self.walkers[0];
+            let walker = &mut self.hands[0].walker;
             let ending = walk_in_order(alloc, gate, quota, &mut book, walker, items.as_slice());
             return Ok(Left {
                 book,
@@ -218,8 +219,8 @@ impl Crew {
         let threads = self.threads(items.len());
         let tried = book.finished().tried();
         let program = Arc::try_clone(book.program())?;
-        let Crew { walkers, .. } = self;
-        let workers = seated(alloc, &board, &program, seats, walkers)?;
+        let Crew { hands, .. } = self;
+        let workers = seated(alloc, &board, &program, seats, hands)?;
         let round = Round {
             program,
             mode: book.mode(),

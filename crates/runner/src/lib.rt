@@ -15,6 +15,7 @@ mod alone;
 mod crew;
 mod error;
 mod gate;
+mod hand;
 mod judge;
 pub mod limits;
 mod options;

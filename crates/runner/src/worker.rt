@@ -1,30 +1,23 @@
 //! The workers of a round, each in a thread of its own.
 
-ghost use Rattle.std.specs.Prelude.{◌≡◌, ◌<◌, ◌↔◌, true, vec_len, IfOk, IfErr, IsTrue};
+ghost use Rattle.std.specs.Prelude.{◌≡◌, ◌<◌, true, vec_len, IfOk, IfErr};
 ghost use Rattle.std.specs.List.{All, Any};
-ghost use Rattle.std.specs.Arc.{arc_value};
-ghost use Rattle.book.specs.Books.{IsWalkOf};
 ghost use Rattle.runner.specs.declared.error.ExploreError.TheVariants as explore;
 ghost use Rattle.runner.specs.declared.worker.Ending.TheVariants.{Drawn, Stopped, OutOfMemory};
-ghost use Rattle.runner.specs.inner.Rounds.{IsRound, IsSeated, IsWalkIn};
+ghost use Rattle.runner.specs.inner.Rounds.{IsRound, IsSeated, IsAtWork};
 
 use crate::error::ExploreError;
 use crate::gate::{Answer, Gate};
-use crate::limits::KEPT_WALKS;
+use crate::hand::Hand;
 use board::{Board, NONE_TOLD, Seat};
 use book::books::Book;
-use book::errors::SettleError;
 use guest_code::program::Program;
 use std::alloc::{AllocError, Global};
-use std::collections::VecDeque;
 use std::sync::{Arc, Mutex, Wait};
 use std::thread;
 use std::thread::Threads;
-use walk::found::Found;
 use walk::item::Item;
 use walk::mode::Mode;
-use walk::walked::Walked;
-use walk::walker::Walker;
 
 /// What the workers of a round share: the items, the board that their numbers are drawn from, and
 /// the book that walks are settled in.
@@ -76,23 +69,16 @@ impl Ending {
 pub(crate) struct Worker {
     pub number: u32,
     pub seat: Seat,
-    pub walker: Walker,
+    pub hand: Hand,
     pub ending: Ending,
-}
-
-/// The walks of a worker that are not settled yet, and the memory of some that are.
-#[derive(Drop)]
-struct Kept {
-    walks: VecDeque<Walked>,
-    spares: Vec<Found>,
 }
 
 impl Worker {
     // Whether a quick search leaves an item out for now: one that comes before it, in the order of
     // schedules, has a bad schedule.
     fn leaves_out(&mut self, round: &Round, item: &Item) -> bool
-        requires { IsSeated round.now self.old }
-        ensures { IsSeated round.now self.new }
+        requires { IsAtWork round.now self.old }
+        ensures { IsAtWork round.now self.new }
     {
         if !round.quick {
             return false;
@@ -103,8 +89,8 @@ impl Worker {
 
     // Tells the other workers that an item has a bad schedule.
     fn tells_of(&mut self, round: &Round, item: &Item)
-        requires { IsSeated round.now self.old }
-        ensures { IsSeated round.now self.new }
+        requires { IsAtWork round.now self.old }
+        ensures { IsAtWork round.now self.new }
     {
         let rank = rank_of(round.items.as_slice(), item);
         round.board.tell(&mut self.seat, rank);
@@ -118,70 +104,70 @@ impl Worker {
         ensures seated { IsSeated round.now self.new }
         ensures stopped { result ≡ Stopped → G.stops gate.now ≡ true }
     {
-        let mut kept = Kept {
-            walks: VecDeque::new(alloc),
-            spares: Vec::new(alloc),
-        };
-        let ending = self.walk_items(rt, alloc, gate, round, &mut kept);
-        let settled = settle_all(rt, alloc, round, &mut kept);
-        self.take_back(&mut kept.spares);
-        match settled {
-            Ok(()) => ending,
+        self.hand.forget();
+        let ending = self.walk_items(rt, alloc, gate, round);
+        match self.settle(rt, alloc, round) {
+            Ok(_) => ending,
             Err(AllocError) => Ending::OutOfMemory,
         }
     }
 
-    // Takes the memory of settled walks back, for later ones.
-    fn take_back(&mut self, spares: &mut Vec<Found>)
-        ensures { self.new ≡ self.old }
-    {
-        while let Some(found) = spares.pop() {
-            self.walker.reuse(found);
-        }
-    }
-
-    // Settles a walk that found a bad schedule, and tells the other workers of its item.
+    // Settles the walks that it keeps, under one lock. Answers whether the book took them all.
     //
     // # Errors
     //
-    // `AllocError` where memory runs out.
-    fn settle_bad<R: Wait>(
+    // `AllocError` where memory runs out; some of the walks are given up then.
+    fn settle<R: Wait>(&mut self, rt: &R, alloc: Global, round: &Round) -> Result<bool, AllocError>
+        requires round { IsRound round.now }
+        requires work { IsAtWork round.now self.old }
+        ensures { IsAtWork round.now self.new }
+    {
+        if self.hand.is_empty() {
+            return Ok(true);
+        }
+        let mut book = round.book.lock(rt);
+        self.hand.settle(alloc, &mut book, round)
+    }
+
+    // Settles its walks where the last one, of this item, found a bad schedule in a quick search,
+    // and tells the other workers of the item; or where it keeps as many as it may.
+    //
+    // # Errors
+    //
+    // `AllocError` where memory runs out; some of the walks are given up then.
+    fn settle_early<R: Wait>(
         &mut self,
         rt: &R,
         alloc: Global,
         round: &Round,
         item: &Item,
-        walked: Walked,
+        is_bad: bool,
     ) -> Result<(), AllocError>
-        requires { IsSeated round.now self.old }
-        ensures { IsSeated round.now self.new }
+        requires round { IsRound round.now }
+        requires work { IsAtWork round.now self.old }
+        ensures { IsAtWork round.now self.new }
     {
-        let settled = round.book.lock(rt).settle(alloc, walked);
-        match settled {
-            Ok(()) => self.tells_of(round, item),
-            Err(SettleError::OutOfMemory) => return Err(AllocError),
-            _ => {}
+        if round.quick && is_bad {
+            if self.settle(rt, alloc, round)? {
+                self.tells_of(round, item);
+            }
+        } else if self.hand.is_full() {
+            self.settle(rt, alloc, round)?;
         }
         Ok(())
     }
 
-    // Draws items and walks them, until all are drawn, the gate stops it or memory runs out. A
-    // quick search settles a walk that found a bad schedule at once; of the others some are kept.
+    // Draws items and walks them, until all are drawn, the gate stops it or memory runs out.
     fn walk_items<G: Gate, R: Wait>(
         &mut self,
         rt: &R,
         alloc: Global,
         gate: &G,
         round: &Round,
-        kept: &mut Kept,
     ) -> Ending
         requires round { IsRound round.now }
-        requires seated { IsSeated round.now self.old }
-        requires walks { All (IsWalkIn (arc_value round.now.program) round.now.mode)
-            kept.old.walks.items }
-        ensures seated { IsSeated round.now self.new }
-        ensures walks { All (IsWalkIn (arc_value round.now.program) round.now.mode)
-            kept.new.walks.items }
+        requires work { IsAtWork round.now self.old }
+        ensures work { IsAtWork round.now self.new }
         ensures stopped { result ≡ Stopped → G.stops gate.now ≡ true }
     {
         for _ in rt.forever() {
@@ -195,119 +181,15 @@ impl Worker {
             if gate.before(self.number, k) == Answer::Stop {
                 return Ending::Stopped;
             }
-            self.take_back(&mut kept.spares);
-            let Ok(walked) = self.walker.walk(alloc, item, round.mode, round.quota) else {
+            let Ok(is_bad) = self.hand.walk(alloc, round, k as usize) else {
                 return Ending::OutOfMemory;
             };
             gate.walked(self.number, k);
-            let is_told = round.quick && walked.part().first_bad().is_some();
-            let is_kept = if is_told {
-                self.settle_bad(rt, alloc, round, item, walked).is_ok()
-            } else {
-                keep(rt, alloc, round, kept, walked).is_ok()
-            };
-            if !is_kept {
+            if self.settle_early(rt, alloc, round, item, is_bad).is_err() {
                 return Ending::OutOfMemory;
             }
         }
         unreachable!()
-    }
-}
-
-// Keeps a walk to be settled with others, which are as many as are kept at most.
-//
-// # Errors
-//
-// `AllocError` where memory runs out.
-fn keep<R: Wait>(
-    rt: &R,
-    alloc: Global,
-    round: &Round,
-    kept: &mut Kept,
-    walked: Walked,
-) -> Result<(), AllocError>
-    requires walks { All (IsWalkIn (arc_value round.now.program) round.now.mode)
-        kept.old.walks.items }
-    requires walked { IsWalkIn (arc_value round.now.program) round.now.mode walked }
-    ensures { All (IsWalkIn (arc_value round.now.program) round.now.mode) kept.new.walks.items }
-{
-    kept.walks.push_back(walked)?;
-    if kept.walks.len() < KEPT_WALKS {
-        return Ok(());
-    }
-    settle_all(rt, alloc, round, kept)
-}
-
-// Settles walks of a round under one lock, in their order.
-//
-// # Errors
-//
-// `AllocError` where memory runs out; some of the walks are given up then.
-fn settle_all<R: Wait>(
-    rt: &R,
-    alloc: Global,
-    round: &Round,
-    kept: &mut Kept,
-) -> Result<(), AllocError>
-    requires { All (IsWalkIn (arc_value round.now.program) round.now.mode) kept.old.walks.items }
-    ensures { All (IsWalkIn (arc_value round.now.program) round.now.mode) kept.new.walks.items }
-{
-    if kept.walks.is_empty() {
-        return Ok(());
-    }
-    let mut book = round.book.lock(rt);
-    settle_in(alloc, &mut book, &round.program, round.mode, kept)
-}
-
-// Settles walks in a book, in their order. They are given up where the book is of another program
-// or mode, and so is one whose item isn't open.
-fn settle_in(
-    alloc: Global,
-    book: &mut Book,
-    program: &Program,
-    mode: Mode,
-    kept: &mut Kept,
-) -> Result<(), AllocError>
-    requires { All (IsWalkIn program.now mode) kept.old.walks.items }
-    ensures { All (IsWalkIn program.now mode) kept.new.walks.items }
-{
-    if !is_in(book, program, mode) {
-        kept.walks.clear();
-        return Ok(());
-    }
-    while let Some(walked) = kept.walks.pop_front() {
-        settle_own(alloc, book, &mut kept.spares, walked)?;
-    }
-    Ok(())
-}
-
-// Whether a book is of this program and mode.
-fn is_in(book: &Book, program: &Program, mode: Mode) -> bool
-    ensures { IsTrue result ↔ (book.now.program ≡ program.now) × (book.now.mode ≡ mode) }
-{
-    book.mode() == mode && book.program().is_same(program)
-}
-
-// Settles a walk in a book of its program and mode, and keeps its memory. It is given up where its
-// item isn't open.
-fn settle_own(
-    alloc: Global,
-    book: &mut Book,
-    spares: &mut Vec<Found>,
-    walked: Walked,
-) -> Result<(), AllocError>
-    requires { IsWalkOf book.old walked }
-    ensures program { book.new.program ≡ book.old.program }
-    ensures mode { book.new.mode ≡ book.old.mode }
-{
-    match book.settle_own(alloc, walked) {
-        Err(SettleError::OutOfMemory) => Err(AllocError),
-        Err(SettleError::NotOpen) => Ok(()),
-        Err(SettleError::Stranger) => Ok(()),
-        Ok(found) => {
-            let _ = spares.push(found);
-            Ok(())
-        }
     }
 }
 

@@ -1,13 +1,15 @@
 -- What is known of the rounds of several workers.
-use Rattle.std.specs.Prelude.{◌≡◌, ◌≤◌, ◌<◌, Bool, All, vec_len}
+use Rattle.std.specs.Prelude.{◌≡◌, ◌≤◌, ◌<◌, Bool, All, Some, vec_len, slice_get, take}
 use Rattle.std.specs.Arc.{arc_value}
 use Rattle.guest_code.specs.Program.{Program}
 use Rattle.board.specs.Board.{BoardId}
-use Rattle.walk.specs.declared.mode.Mode.{Mode}
-use Rattle.walk.specs.Walks.{WalkView}
+use Rattle.walk.specs.Items.{ItemView}
+use Rattle.walk.specs.Walks.{IsWalked, found_walk}
 use Rattle.book.specs.Books.{BookView}
 use Rattle.runner.specs.declared.limits.TheConstants.{WORKERS}
 use Rattle.runner.specs.declared.options.Options.{Options}
+use Rattle.runner.specs.declared.hand.Slot.{Slot}
+use Rattle.runner.specs.declared.hand.Hand.{Hand}
 use Rattle.runner.specs.declared.worker.Round.{Round}
 use Rattle.runner.specs.declared.worker.Worker.{Worker}
 use Rattle.runner.specs.declared.crew.Crew.{Crew}
@@ -25,22 +27,34 @@ pub record IsRound (r : Round) : Type 0 where
 -- the worker's seat is of this board, and its walker of this program
 pub record IsOn (board : BoardId) (p : Program) (w : Worker) : Type 0 where
   pub seat : w.seat.board ≡ board
-  pub walker : w.walker ≡ p
+  pub walker : w.hand.walker ≡ p
 
 -- the worker takes part in the round
 abbrev pub IsSeated : Round → Worker → Type 0
 IsSeated r w = IsOn r.board.id (arc_value r.program) w
 
--- the walk is of this program, in this mode
-pub record IsWalkIn (p : Program) (m : Mode) (w : WalkView) : Type 0 where
-  pub program : w.item.program ≡ p
-  pub mode : w.mode ≡ m
+-- the slot has a walk of the round's item of its number
+pub record IsSlotOf (r : Round) (s : Slot) : Type 0 where
+  pub number : s.number < vec_len r.items
+  pub item : ItemView
+  pub of : slice_get r.items.items s.number ≡ Some item
+  pub walked : IsWalked (found_walk r.mode item s.found)
+
+-- the walks that a hand keeps are of the round's items
+pub record AreKept (r : Round) (h : Hand) : Type 0 where
+  pub within : h.count ≤ vec_len h.slots
+  pub walks : All (IsSlotOf r) (take h.count h.slots.items)
+
+-- the worker takes part in the round, and so do the walks that it keeps
+pub record IsAtWork (r : Round) (w : Worker) : Type 0 where
+  pub seated : IsSeated r w
+  pub kept : AreKept r w.hand
 
 -- as many workers as a search may have, each with a walker of the program
 pub record IsCrewOf (p : Program) (c : Crew) : Type 0 where
-  pub some : 0 < vec_len c.walkers
-  pub few : vec_len c.walkers ≤ WORKERS
-  pub of : All (λ w. w ≡ p) c.walkers.items
+  pub some : 0 < vec_len c.hands
+  pub few : vec_len c.hands ≤ WORKERS
+  pub of : All (λ h. h.walker ≡ p) c.hands.items
 
 -- what follows a round: a report, or another round, of which the book is then
 abbrev pub Follows : Bool → Program → Options → BookView → Turn → Type 0

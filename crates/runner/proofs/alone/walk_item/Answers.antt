@@ -1,4 +1,6 @@
 use Rattle.std.proofs.Common.{rules, ◌≡◌, inl, sym, subst, true, Ok}
+use Rattle.walk.specs.declared.mode.Mode.{Mode}
+use Rattle.walk.specs.Walks.{IsWalked, found_walk}
 use Rattle.book.specs.Books.{BookView, drops}
 use Rattle.runner.specs.inner.Shrinking.{HasLess, Went}
 use Rattle.runner.proofs.Shrinks.{walk_ends, settled_less, thinned_less, thinned_went}
@@ -15,10 +17,14 @@ returns-then-drops-clause-book c =
 pub returns-in-Ok-clause-book : goal.returns-in-Ok-clause-book
 returns-in-Ok-clause-book c =
     let b = c.args.book.now in
-    let w = c.in_ok-walked.walked in
-    let settled = c.settle_own.new.self in
-    let walk = c.in_ok-walked.ensures in
+    let item = c.args.item.now in
+    let found = c.walk_into.new.found in
+    let w = found_walk b.mode item found in
+    let settled = c.settle_found.new.self in
+    let walk = c.in_ok-walk_into.ensures in
+    let walked : IsWalked w =
+    subst (λ (m : Mode). IsWalked (found_walk m item found)) c.mode.ensures walk.walked in
     inl (subst (HasLess b) (sym c.drop_later-number-in-Ok.ensures.book)
     (thinned_less b settled
-    (settled_less b settled w c.in-Ok.ensures.ok walk.walked
-    (walk_ends w c.args.quota c.requires.quota walk.walked walk.rest))))
+    (settled_less b settled w c.in-Ok.ensures.ok walked
+    (walk_ends w c.args.quota c.requires.quota walked walk.rest))))

@@ -1,7 +1,7 @@
 use Rattle.std.proofs.Common.{◌≡◌, ap, sym, length, arith}
 use Rattle.std.proofs.lemmas.List.Elements.{All-push, All-same, All-rest, All-head}
-use Rattle.guest_code.specs.Program.{Program}
 use Rattle.board.specs.Board.{SeatView}
+use Rattle.runner.specs.declared.hand.Hand.{Hand}
 use Rattle.runner.specs.declared.worker.Worker.{Worker}
 use Rattle.runner.specs.inner.Rounds.{IsOn}
 use Rattle.runner.proofs.crew.disbanded.Goals as goal
@@ -13,14 +13,13 @@ loop-worker-preserved c =
     let board = c.args.board.now.id in
     let p = c.args.program.now in
     let S : SeatView → Type 0 = λ s. s.board ≡ board in
-    let W : Program → Type 0 = λ w. w ≡ p in
+    let H : Hand → Type 0 = λ h. h.walker ≡ p in
     let left = ap (length {A = Worker}) e in
     let on = All-head (IsOn board p) _ _ (All-same (IsOn board p) _ _ (sym e) i.left) in
     record {
       left = All-rest (IsOn board p) _ _ _ e i.left;
       seats = All-same S _ _ c.in_ok-push.ensures.items (All-push S _ _ i.seats on.seat);
-      walkers =
-          All-same W _ _ c.in_ok-push-2.ensures.items (All-push W _ _ i.walkers on.walker);
+      hands = All-same H _ _ c.in_ok-push-2.ensures.items (All-push H _ _ i.hands on.walker);
       many = let m = i.many in let n = c.in_ok-push.ensures.len in omega (arith, left, m, n);
       kept = let m = i.kept in let n = c.in_ok-push-2.ensures.len in omega (arith, left, m, n);
     }

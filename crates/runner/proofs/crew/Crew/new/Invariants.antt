@@ -5,6 +5,6 @@ use Rattle.runner.proofs.crew.Crew.new.Given as goal
 
 abbrev pub invariant-loop : goal.invariant-loop
 invariant-loop l = record {
-  of : All (λ w. w ≡ arc_value l.fn.program) l.walkers.items;
-  many : vec_len l.walkers ≡ l.counter;
+  of : All (λ h. h.walker ≡ arc_value l.fn.program) l.hands.items;
+  many : vec_len l.hands ≡ l.counter;
 }

@@ -4,13 +4,14 @@ use Rattle.std.specs.List.{All}
 use Rattle.std.proofs.lemmas.List.Elements.{All-same, All-set}
 use Rattle.guest_code.specs.Program.{Program}
 use Rattle.walk.specs.Items.{ItemView}
+use Rattle.runner.specs.declared.hand.Hand.{Hand}
 use Rattle.runner.proofs.RoundItems.{of_program}
 use Rattle.runner.proofs.crew.Crew.walk_round.Goals as goal
 
 pub walk_in_order-ending-requires-clause-items : goal.walk_in_order-ending-requires-clause-items
 walk_in_order-ending-requires-clause-items g c κs within =
     let b = c.args.book in
-    let walker : c.index_mut-walker.result.now ≡ b.program = search rules in
+    let walker : c.index_mut.result.now.walker ≡ b.program = search rules in
     let all = of_program b c.open_length-open.ensures.kept (length b.open_items - 64) in
     subst (λ (p : Program). All (λ (i : ItemView). i.program ≡ p) c.as_slice.result.now)
     (sym walker)
@@ -35,10 +36,11 @@ pub returns-in_default-clause-crew : goal.returns-in_default-clause-crew
 returns-in_default-clause-crew g c =
     let p = c.args.book.program in
     let crew = c.requires.crew in
-    let before : c.index_mut-walker.result.now ≡ p = search rules in
+    let before : c.index_mut.result.now.walker ≡ p = search rules in
     record {
       some = crew.some;
       few = crew.few;
-      of = All-set (λ w. w ≡ p) c.args.self.walkers.items 0 c.walk_in_order-ending.new.walker
+      of = All-set (λ (h : Hand). h.walker ≡ p) c.args.self.hands.items 0
+          (record c.index_mut.result.now { walker = c.walk_in_order-ending.new.walker })
           (c.walk_in_order-ending.ensures.walker ∙ before) crew.of;
     }

@@ -1,0 +1,187 @@
+//! What a worker walks with, from round to round.
+
+ghost use Rattle.std.specs.Prelude.{◌≡◌, ◌<◌, ◌≤◌, ◌↔◌, vec_len, take, IfOk, OnOk, IsTrue};
+ghost use Rattle.std.specs.Arc.{arc_value};
+ghost use Rattle.runner.specs.inner.Rounds.{IsRound, IsSlotOf, AreKept};
+
+use crate::limits::KEPT_WALKS;
+use crate::worker::Round;
+use book::books::Book;
+use book::errors::SettleError;
+use guest_code::program::Program;
+use std::alloc::{AllocError, Global};
+use std::mem;
+use std::sync::Arc;
+use walk::found::Found;
+use walk::mode::Mode;
+use walk::walker::Walker;
+
+/// A walk of an item of a round, which is named by its number, or the memory for one.
+#[derive(Drop)]
+pub(crate) struct Slot {
+    pub number: usize,
+    pub found: Found,
+}
+
+/// A walker, and the walks that it made and that aren't settled yet: so many of the slots, the
+/// first ones. The memory of the others serves later walks.
+#[derive(Drop)]
+pub(crate) struct Hand {
+    pub walker: Walker,
+    pub slots: Vec<Slot>,
+    pub count: usize,
+}
+
+impl Slot {
+    // Walks an item of a round in this slot. Answers whether a bad schedule was found.
+    fn walk(
+        &mut self,
+        alloc: Global,
+        walker: &mut Walker,
+        round: &Round,
+        number: usize,
+    ) -> Result<bool, AllocError>
+        requires round { IsRound round.now }
+        requires walker { walker.old ≡ arc_value round.now.program }
+        requires number { number < vec_len round.now.items }
+        ensures walker { walker.new ≡ walker.old }
+        ensures walk { IfOk result (λ _. IsSlotOf round.now self.new) }
+    {
+        self.number = number;
+        let item = &round.items[number];
+        walker.walk_into(alloc, &mut self.found, item, round.mode, round.quota)?;
+        Ok(self.found.part.first_bad().is_some())
+    }
+
+    // Settles the walk in a book of the round's program and mode. Answers whether the book took it:
+    // it doesn't where the item isn't open.
+    fn settle(&mut self, alloc: Global, book: &mut Book, round: &Round) -> Result<bool, AllocError>
+        requires round { IsRound round.now }
+        requires walk { IsSlotOf round.now self.old }
+        requires program { book.old.program ≡ arc_value round.now.program }
+        requires mode { book.old.mode ≡ round.now.mode }
+        ensures program { book.new.program ≡ book.old.program }
+        ensures mode { book.new.mode ≡ book.old.mode }
+    {
+        let item = &round.items[self.number];
+        match book.settle_found(alloc, item, &mut self.found) {
+            Ok(()) => Ok(true),
+            Err(SettleError::OutOfMemory) => Err(AllocError),
+            Err(SettleError::NotOpen) => Ok(false),
+            Err(SettleError::Stranger) => Ok(false),
+        }
+    }
+}
+
+impl Hand {
+    /// A hand that keeps no walk, for a program.
+    pub fn new(alloc: Global, program: Arc<Program>) -> Result<Hand, AllocError>
+        ensures { IfOk result (λ h. h.walker ≡ arc_value program) }
+    {
+        Ok(Hand {
+            walker: Walker::new(alloc, program)?,
+            slots: Vec::new(alloc),
+            count: 0,
+        })
+    }
+
+    /// Forgets the walks that it keeps.
+    pub fn forget(&mut self)
+        ensures walker { self.new.walker ≡ self.old.walker }
+        ensures count { self.new.count ≡ 0 }
+    {
+        self.count = 0;
+    }
+
+    /// Whether it keeps no walk.
+    pub fn is_empty(&self) -> bool {
+        self.count == 0
+    }
+
+    /// Whether it keeps as many walks as are settled together.
+    pub fn is_full(&self) -> bool {
+        self.count >= KEPT_WALKS
+    }
+
+    // Makes a slot for one more walk where there is none.
+    fn make_room(&mut self, alloc: Global) -> Result<(), AllocError>
+        requires { self.old.count ≤ vec_len self.old.slots }
+        ensures walker { self.new.walker ≡ self.old.walker }
+        ensures count { self.new.count ≡ self.old.count }
+        ensures room { OnOk result (self.old.count < vec_len self.new.slots) }
+        ensures within { self.old.count ≤ vec_len self.new.slots }
+        ensures slots { take self.old.count self.new.slots.items
+            ≡ take self.old.count self.old.slots.items }
+    {
+        if self.count == self.slots.len() {
+            self.slots.push(Slot {
+                number: 0,
+                found: Found::new(alloc),
+            })?;
+        }
+        Ok(())
+    }
+
+    /// Walks an item of a round, by its number, and keeps the walk. Answers whether a bad schedule
+    /// was found.
+    ///
+    /// # Errors
+    ///
+    /// `AllocError` where memory runs out; it keeps those walks that it had then.
+    pub fn walk(
+        &mut self,
+        alloc: Global,
+        round: &Round,
+        number: usize,
+    ) -> Result<bool, AllocError>
+        requires round { IsRound round.now }
+        requires walker { self.old.walker ≡ arc_value round.now.program }
+        requires number { number < vec_len round.now.items }
+        requires kept { AreKept round.now self.old }
+        ensures walker { self.new.walker ≡ self.old.walker }
+        ensures kept { AreKept round.now self.new }
+    {
+        self.make_room(alloc)?;
+        let slot = &mut self.slots[self.count];
+        let is_bad = slot.walk(alloc, &mut self.walker, round, number)?;
+        self.count += 1;
+        Ok(is_bad)
+    }
+
+    /// Settles the walks that it keeps in a book, in their order, and keeps none then. Answers
+    /// whether the book took them all: it takes none where it is of another program or mode, and
+    /// leaves out those whose item isn't open.
+    ///
+    /// # Errors
+    ///
+    /// `AllocError` where memory runs out; some of the walks are given up then.
+    pub fn settle(
+        &mut self,
+        alloc: Global,
+        book: &mut Book,
+        round: &Round,
+    ) -> Result<bool, AllocError>
+        requires round { IsRound round.now }
+        requires kept { AreKept round.now self.old }
+        ensures walker { self.new.walker ≡ self.old.walker }
+        ensures count { self.new.count ≡ 0 }
+    {
+        let count = mem::replace(&mut self.count, 0);
+        if !is_in(book, &round.program, round.mode) {
+            return Ok(false);
+        }
+        let mut all = true;
+        for place in 0..count {
+            let is_taken = self.slots[place].settle(alloc, book, round)?;
+            all &= is_taken;
+        }
+        Ok(all)
+    }
+}
+
+// Whether a book is of this program and mode.
+fn is_in(book: &Book, program: &Program, mode: Mode) -> bool
+    ensures { IsTrue result ↔ (book.now.program ≡ program.now) × (book.now.mode ≡ mode) }
+{
+    book.mode() == mode && book.program().is_same(program)
+}
