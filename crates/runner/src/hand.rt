@@ -128,12 +128,7 @@ impl Hand {
     /// # Errors
     ///
     /// `AllocError` where memory runs out; it keeps those walks that it had then.
-    pub fn walk(
-        &mut self,
-        alloc: Global,
-        round: &Round,
-        number: usize,
-    ) -> Result<bool, AllocError>
+    pub fn walk(&mut self, alloc: Global, round: &Round, number: usize) -> Result<bool, AllocError>
         requires round { IsRound round.now }
         requires walker { self.old.walker ≡ arc_value round.now.program }
         requires number { number < vec_len round.now.items }
