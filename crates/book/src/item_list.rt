@@ -268,6 +268,7 @@ fn push_copies(
     requires { first ≤ length more.now.items }
     ensures { OnOk result (items.new.items ≡ items.old.items ++ drop first more.now.items) }
 {
+    items.reserve(more.len() - first)?;
     for place in first..more.len() {
         items.push(more[place].try_clone(alloc)?)?;
     }

@@ -5,5 +5,5 @@ abbrev pub invariant-loop-place : goal.invariant-loop-place
 invariant-loop-place l = record {
   from : l.first ≤ l.place;
   items : l.items.items
-      ≡ l.initial.items.items ++ take (l.place - l.first) (drop l.first l.more.items);
+      ≡ l.fn.items.items ++ take (l.place - l.first) (drop l.first l.more.items);
 }
