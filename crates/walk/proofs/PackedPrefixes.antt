@@ -216,6 +216,25 @@ packed_pop n b last first l (inl e) more = absurd (omega arith)
 packed_pop n b last first l (inr s) more =
     ⊎_elim (λ h. inr (stack_pop n b last first l s h)) (λ h. inl (omega arith)) (cases_lt 1 n)
 
+-- and where longer schedules are allowed
+pub packed_more : (n : ℕ) (b last first : List ℕ) (l m : ℕ) → l ≤ m → IsPacked n b last first l
+    → IsPacked n b last first m
+packed_more n b last first l m le (inl e) = inl e
+packed_more n b last first l m le (inr s) = inr (record {
+  ways = s.ways;
+  counted = s.counted;
+  spelt = s.spelt;
+  leads = s.leads;
+  sound = more_room s.ways last l m s.sound le;
+})
+
+-- the same bytes and the same last schedule, with as much room or more
+pub with_room : (n front : ℕ) (b last c top : List ℕ) (l m : ℕ) → l ≤ m → c ≡ b → top ≡ last →
+    (front ≤ length b) × IsPacked n (drop front b) last (take front b) l →
+    (front ≤ length c) × IsPacked n (drop front c) top (take front c) m
+with_room n front b last c top l m le e f h =
+    rw (e, f) (h.0, packed_more n (drop front b) last (take front b) l m le h.1)
+
 pub packed_before : (n : ℕ) (b last first : List ℕ) (l : ℕ) → IsPacked n b last first l → 0 < n
     → length (before b last) ≤ l
 packed_before n b last first l (inl e) more = absurd (omega arith)
@@ -594,6 +613,14 @@ counted_few n front bytes last l packed =
       packed_few n (drop front bytes) last (take front bytes) l packed,
       length-drop front bytes,
     )
+
+pub held_more : (n front : ℕ) (b last : List ℕ) (l m : ℕ) (all : List (List ℕ)) → l ≤ m →
+    Holds n front b last l all → Holds n front b last m all
+held_more n front b last l m all le h = record {
+  within = h.within;
+  packed = packed_more n (drop front b) last (take front b) l m le h.packed;
+  view = h.view;
+}
 
 -- bytes after the others leave the first prefix as it is
 pub grown_after : (n front : ℕ) (b w c top : List ℕ) (m : ℕ) (all : List (List ℕ)) →

@@ -35,14 +35,13 @@ const MORE_STEPS: usize = 32;
 const MORE_BYTES: usize = 96;
 
 /// A list of prefixes. Contracts see `List (List ℕ)`. The bytes are the first prefix, which ends at
-/// `front`, and the ways back.
+/// `front`, and the ways back. Where the last prefix stands there is room for each.
 #[derive(Drop)]
 pub struct Prefixes {
     count: usize,
     bytes: Vec<u8>,
     front: usize,
     last: Vec<u8>,
-    longest: usize,
 }
 
 impl Model for Prefixes {
@@ -53,10 +52,9 @@ impl Model for Prefixes {
 
     ghost view = { λ p. listed p.count (drop p.front p.bytes.items) p.last.items };
 
-    ghost invariant = { λ p. (p.longest ≤ vec_capacity p.last)
-        × (p.front ≤ length p.bytes.items)
+    ghost invariant = { λ p. (p.front ≤ length p.bytes.items)
         × IsPacked p.count (drop p.front p.bytes.items) p.last.items
-        (take p.front p.bytes.items) p.longest };
+        (take p.front p.bytes.items) (vec_capacity p.last) };
 }
 
 impl Prefixes {
@@ -69,7 +67,6 @@ impl Prefixes {
             bytes: Vec::new(alloc),
             front: 0,
             last: Vec::new(alloc),
-            longest: 0,
         }
     }
 
@@ -187,7 +184,6 @@ impl Prefixes {
             put_short_way(&mut self.bytes, rest.len(), &self.last[shared..]);
             self.last.truncate(shared);
             put_reserved(&mut self.last, rest);
-            self.longest = self.longest.max(self.last.len());
             self.count += 1;
             return Ok(());
         }
@@ -208,7 +204,6 @@ impl Prefixes {
         put_way(&mut self.bytes, rest.len(), &self.last[shared..])?;
         self.last.truncate(shared);
         let _ = put_few(&mut self.last, rest);
-        self.longest = self.longest.max(self.last.len());
         self.count += 1;
         Ok(())
     }
@@ -256,7 +251,6 @@ impl Prefixes {
             self.bytes.push_reserved(ONE_FOR_TWO);
             self.last[shared] = step;
             self.last.push_reserved(next);
-            self.longest = self.longest.max(self.last.len());
             self.count += 1;
             return Ok(());
         }
@@ -285,7 +279,6 @@ impl Prefixes {
         self.front = prefix.len();
         self.last.clear();
         let _ = self.last.extend_from_slice(prefix);
-        self.longest = self.longest.max(prefix.len());
         self.count = 1;
         Ok(())
     }
@@ -306,8 +299,8 @@ impl Prefixes {
             mem::swap(self, other);
             return Ok(());
         }
-        self.last
-            .reserve(other.longest.saturating_sub(self.last.len()))?;
+        let room = other.last.capacity();
+        self.last.reserve(room.saturating_sub(self.last.len()))?;
         let shared = shared_length(self.last.as_slice(), &other.bytes[..other.front]);
         let len = self.bytes.len();
         put_way(&mut self.bytes, other.front - shared, &self.last[shared..])?;
@@ -317,7 +310,6 @@ impl Prefixes {
         }
         self.last.clear();
         let _ = self.last.extend_from_slice(other.last.as_slice());
-        self.longest = self.longest.max(other.longest);
         self.count += other.count;
         other.count = 0;
         Ok(())
@@ -332,13 +324,12 @@ impl Prefixes {
         ensures { IfOk result (λ p. p ≡ self.now) }
     {
         let bytes = self.bytes.as_slice().to_vec(alloc)?;
-        let last = copy_with_room(alloc, self.last.as_slice(), self.longest)?;
+        let last = copy_with_room(alloc, self.last.as_slice(), self.last.capacity())?;
         Ok(Prefixes {
             count: self.count,
             bytes,
             front: self.front,
             last,
-            longest: self.longest,
         })
     }
 
@@ -350,13 +341,12 @@ impl Prefixes {
     pub fn last_first(&self, alloc: Global) -> Result<LastFirst<'_>, AllocError>
         ensures { IfOk result (λ r. r ≡ self.now) }
     {
-        let last = copy_with_room(alloc, self.last.as_slice(), self.longest)?;
+        let last = copy_with_room(alloc, self.last.as_slice(), self.last.capacity())?;
         Ok(LastFirst {
             count: self.count,
             bytes: &self.bytes[self.front..],
             last,
             first: &self.bytes[..self.front],
-            longest: self.longest,
         })
     }
 }
@@ -379,19 +369,18 @@ pub struct LastFirst<'a> {
     bytes: &'a [u8],
     last: Vec<u8>,
     first: &'a [u8],
-    longest: usize,
 }
 
 impl<'a> Model for LastFirst<'a> {
-    ghost use Rattle.std.specs.Prelude.{List, ℕ, ◌≤◌, vec_capacity};
+    ghost use Rattle.std.specs.Prelude.{List, ℕ, vec_capacity};
     ghost use Rattle.walk.specs.inner.Packed.{listed, IsPacked};
 
     ghost Value = { List (List ℕ) };
 
     ghost view = { λ p. listed p.count p.bytes.now p.last.items };
 
-    ghost invariant = { λ p. (p.longest ≤ vec_capacity p.last)
-        × IsPacked p.count p.bytes.now p.last.items p.first.now p.longest };
+    ghost invariant = { λ p. IsPacked p.count p.bytes.now p.last.items p.first.now
+        (vec_capacity p.last) };
 }
 
 impl<'a> LastFirst<'a> {

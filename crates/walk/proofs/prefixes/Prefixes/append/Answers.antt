@@ -1,8 +1,8 @@
-use Rattle.std.proofs.lemmas.List.{append-nil, take_rest}
+use Rattle.std.proofs.lemmas.List.{take_at, append-nil, take_rest}
 use Rattle.walk.proofs.WayBytes.{length-way}
 use Rattle.std.proofs.Common.{◌≡◌, ◌+◌, ◌-◌, ◌^◌, ◌<◌, ◌≤◌, ◌++◌, length, take, drop, vec_len, vec_capacity, refl, sym, ◌∙◌, ap, arith, append_assoc, length-append, length-take, length-drop}
 use Rattle.walk.specs.inner.Packed.{way_bytes, listed}
-use Rattle.walk.proofs.PackedPrefixes.{if_ok, packed_stack, packed_few, counted_few, listed_none, stack_short, appended, Holds, grown_after}
+use Rattle.walk.proofs.PackedPrefixes.{with_room, if_ok, packed_stack, packed_few, counted_few, listed_none, stack_short, appended, Holds, grown_after}
 use Rattle.walk.proofs.prefixes.Prefixes.append.Goals as goal
 
 pub returns-then-other-eq0-clause-moved : goal.returns-then-other-eq0-clause-moved
@@ -26,7 +26,7 @@ returns-then-self-eq0-clause-all c =
 
 grown_at : (c : goal.After-other-1) → Holds (c.self.inside.count + c.other.inside.count)
     c.self.inside.front c.extend_from_slice.new.self.items c.extend_from_slice-2.new.self.items
-    c.max-self-inside.result
+    (vec_capacity c.extend_from_slice-2.new.self)
     (listed c.self.inside.count (drop c.self.inside.front c.self.inside.bytes.items)
     c.self.inside.last.items
     ++ listed c.other.inside.count (drop c.other.inside.front c.other.inside.bytes.items)
@@ -56,7 +56,7 @@ grown_at c =
     let t = take (length c.deref-2.result.now - k) (drop k c.deref-2.result.now) in
     let tail : t ≡ drop k last = take_rest c.deref-2.result.now k ∙ ap (drop k) whole in
     let count : j.front ≡ length start =
-    omega (arith, length-take j.front j.bytes.items, c.other.invariant.1) in
+    omega (arith, length-take j.front j.bytes.items, c.other.invariant.0) in
     let way = way_bytes (length start - k) t in
     let wrote : c.put_way.new.bytes.items ≡ i.bytes.items ++ way =
     c.in_ok-put_way.ensures ∙ ap (λ n. i.bytes.items ++ way_bytes (n - k) t) count in
@@ -65,7 +65,7 @@ grown_at c =
     take_rest D j.front ∙ ap (drop j.front) c.deref-3.ensures.value in
     let joined : c.extend_from_slice.new.self.items ≡ i.bytes.items ++ (way ++ ways) =
     c.in_default.ensures.items ∙ ((λ x. wrote x ++ read x) ∙ append_assoc i.bytes.items way ways) in
-    let room : j.longest ≤ vec_capacity c.reserve.new.self =
+    let room : (vec_capacity j.last) ≤ vec_capacity c.reserve.new.self =
     omega (
       arith,
       c.in_ok-reserve.ensures.ok,
@@ -73,8 +73,8 @@ grown_at c =
       c.saturating_sub.ensures,
       c.len.ensures,
     ) in
-    let stack = packed_stack i.count b last first i.longest c.self.invariant.2 (omega arith) in
-    let other = packed_stack j.count ways j.last.items start j.longest c.other.invariant.2
+    let stack = packed_stack i.count b last first (vec_capacity i.last) c.self.invariant.1 (omega arith) in
+    let other = packed_stack j.count ways j.last.items start (vec_capacity j.last) c.other.invariant.1
     (omega arith) in
     let fits : vec_len c.clear.new.self + length c.as_slice-2.result.now ≤ vec_capacity
     c.clear.new.self =
@@ -84,14 +84,14 @@ grown_at c =
       c.clear.ensures.len,
       c.clear.ensures.capacity,
       ap length c.as_slice-2.ensures.value,
-      stack_short j.count ways j.last.items start j.longest other,
+      stack_short j.count ways j.last.items start (vec_capacity j.last) other,
     ) in
     let made : c.extend_from_slice-2.new.self.items ≡ j.last.items =
     if_ok c.extend_from_slice-2.result _ _ _ (c.extend_from_slice-2.ensures.succeeds fits)
     c.extend_from_slice-2.ensures.items ∙ (rw (c.clear.ensures.items, c.as_slice-2.ensures.value)
     refl) in
     let long : length start < 2 ^ 64 =
-    omega (arith, count, c.other.invariant.1, j.bytes.ok.0, j.bytes.ok.1, j.bytes.small) in
+    omega (arith, count, c.other.invariant.0, j.bytes.ok.0, j.bytes.ok.1, j.bytes.small) in
     let short : length t < 2 ^ 64 = omega (
       arith,
       ap length tail,
@@ -99,21 +99,31 @@ grown_at c =
       i.last.ok.0,
       i.last.small,
     ) in
-    grown_after (i.count + j.count) i.front i.bytes.items (way ++ ways) _ _ _ _ c.self.invariant.1
+    grown_after (i.count + j.count) i.front i.bytes.items (way ++ ways) _ _ _ _ c.self.invariant.0
     joined
-    (λ d e. appended i.count j.count b ways last first j.last.items start i.longest j.longest
-    (b ++ way) d c.extend_from_slice-2.new.self.items t k c.max-self-inside.result stack other low
+    (λ d e. appended i.count j.count b ways last first j.last.items start (vec_capacity i.last) (vec_capacity j.last)
+    (b ++ way) d c.extend_from_slice-2.new.self.items t k (vec_capacity c.extend_from_slice-2.new.self) stack other low
     within long short alike tail refl (e ∙ sym (append_assoc b way ways)) made
-    (omega (arith, c.max-self-inside.ensures)) (omega (arith, c.max-self-inside.ensures)))
+    (omega (
+      arith,
+      c.reserve.ensures.capacity,
+      c.clear.ensures.capacity,
+      c.extend_from_slice-2.ensures.capacity,
+    )) (omega (
+      arith,
+      room,
+      c.clear.ensures.capacity,
+      c.extend_from_slice-2.ensures.capacity,
+    )))
 
 pub overflow_add-self : goal.overflow_add-self
 overflow_add-self c =
     let i = c.self.inside in
     let j = c.other.inside in
     let k = c.shared_length-shared.result in
-    let n = counted_few i.count i.front i.bytes.items i.last.items i.longest c.self.invariant.2 in
+    let n = counted_few i.count i.front i.bytes.items i.last.items (vec_capacity i.last) c.self.invariant.1 in
     let m = packed_few j.count (drop j.front j.bytes.items) j.last.items
-    (take j.front j.bytes.items) j.longest c.other.invariant.2 in
+    (take j.front j.bytes.items) (vec_capacity j.last) c.other.invariant.1 in
     let t = take (length c.deref-2.result.now - k) (drop k c.deref-2.result.now) in
     let wrote : c.put_way.new.bytes.items ≡ i.bytes.items ++ way_bytes (j.front - k) t =
     c.in_ok-put_way.ensures in
@@ -138,22 +148,7 @@ overflow_add-self c =
     )
 
 pub invariant_of-self-2 : goal.invariant_of-self-2
-invariant_of-self-2 c = (
-  omega (
-    arith,
-    c.self.invariant.0,
-    c.max-self-inside.ensures,
-    c.extend_from_slice-2.ensures.capacity,
-    c.clear.ensures.capacity,
-    c.in_ok-reserve.ensures.ok,
-    c.reserve.ensures.len,
-    c.reserve.ensures.capacity,
-    c.saturating_sub.ensures,
-    c.len.ensures,
-  ),
-  (grown_at c).within,
-  (grown_at c).packed,
-)
+invariant_of-self-2 c = ((grown_at c).within, (grown_at c).packed)
 
 pub returns-clause-all : goal.returns-clause-all
 returns-clause-all c = (grown_at c).view ∙ (rw (← c.self.view_is, ← c.other.view_is) refl)
@@ -161,3 +156,22 @@ returns-clause-all c = (grown_at c).view ∙ (rw (← c.self.view_is, ← c.othe
 pub returns-clause-moved : goal.returns-clause-moved
 returns-clause-moved c = let j = c.other.inside in
     listed_none 0 (drop j.front j.bytes.items) j.last.items refl
+
+pub invariant_of-self-in_err-put_way : goal.invariant_of-self-in_err-put_way
+invariant_of-self-in_err-put_way c =
+    let i = c.self.inside in
+    with_room i.count i.front i.bytes.items i.last.items _ _ (vec_capacity i.last) _
+    (omega (arith, c.reserve.ensures.capacity)) c.in_err-put_way.ensures c.reserve.ensures.items
+    c.self.invariant
+
+pub invariant_of-self-in-Err : goal.invariant_of-self-in-Err
+invariant_of-self-in-Err c =
+    let i = c.self.inside in
+    let k = c.shared_length-shared.result in
+    let t = take (length c.deref-2.result.now - k) (drop k c.deref-2.result.now) in
+    let cut = c.truncate.ensures.items ∙ (ap (take c.len-len.result)
+    (c.in-Err.ensures.items ∙ c.in_ok-put_way.ensures)
+    ∙ take_at i.bytes.items _ c.len-len.result
+    (omega (arith, c.len-len.ensures, i.bytes.ok.0))) in
+    with_room i.count i.front i.bytes.items i.last.items _ _ (vec_capacity i.last) _
+    (omega (arith, c.reserve.ensures.capacity)) cut c.reserve.ensures.items c.self.invariant

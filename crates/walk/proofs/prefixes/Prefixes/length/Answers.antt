@@ -1,4 +1,4 @@
-use Rattle.std.proofs.Common.{arith, sym}
+use Rattle.std.proofs.Common.{arith, sym, vec_capacity}
 use Rattle.walk.proofs.PackedPrefixes.{length-listed, counted_few}
 use Rattle.walk.proofs.prefixes.Prefixes.length.Goals as goal
 
@@ -13,5 +13,5 @@ returns-clause-few c =
       i.bytes.ok.0,
       i.bytes.ok.1,
       i.bytes.small,
-      counted_few i.count i.front i.bytes.items i.last.items i.longest c.self.invariant.2,
+      counted_few i.count i.front i.bytes.items i.last.items (vec_capacity i.last) c.self.invariant.1,
     )

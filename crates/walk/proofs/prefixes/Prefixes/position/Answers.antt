@@ -1,4 +1,4 @@
-use Rattle.std.proofs.Common.{◌≡◌, ◌-◌, length, take, drop, ◌∙◌, true, false, ap, refl, arith}
+use Rattle.std.proofs.Common.{◌≡◌, ◌-◌, length, take, drop, ◌∙◌, true, false, ap, refl, arith, vec_capacity}
 use Rattle.std.proofs.lemmas.List.{take_rest}
 use Rattle.walk.specs.inner.Packed.{common_length}
 use Rattle.walk.proofs.PackedPrefixes.{seek_start, seek_found, seek_before, before_fits}
@@ -8,9 +8,9 @@ pub loop-place-init : goal.loop-place-init
 loop-place-init c =
     let i = c.self.inside in
     let D = c.deref.result.now in
-    seek_start c.args.self.now (take i.front i.bytes.items) c.args.prefix.now i.longest i.count
+    seek_start c.args.self.now (take i.front i.bytes.items) c.args.prefix.now (vec_capacity i.last) i.count
     (drop i.front i.bytes.items) (take (length D - i.front) (drop i.front D)) i.last.items _ _
-    (omega (arith, c.self.invariant.0, i.last.small)) c.self.invariant.2
+    (omega (arith, i.last.small)) c.self.invariant.1
     (take_rest D i.front ∙ ap (drop i.front) c.deref.ensures.value) c.self.view_is
     (omega (arith, c.len.ensures, i.last.ok.0))
     (c.shared_length.ensures.all

@@ -1,5 +1,5 @@
 use Rattle.std.proofs.lemmas.List.{take_rest}
-use Rattle.std.proofs.Common.{◌≡◌, ◌+◌, ◌-◌, ◌^◌, ◌<◌, ◌≤◌, [], ◌∷◌, ◌++◌, length, take, drop, refl, sym, ◌∙◌, ap, arith, length-drop}
+use Rattle.std.proofs.Common.{◌≡◌, ◌+◌, ◌-◌, ◌^◌, ◌<◌, ◌≤◌, [], ◌∷◌, ◌++◌, length, take, drop, refl, sym, ◌∙◌, ap, arith, length-drop, vec_capacity}
 use Rattle.walk.specs.inner.Packed.{way_bytes, listed}
 use Rattle.walk.specs.PrefixLists.{last_of}
 use Rattle.walk.proofs.PackedPrefixes.{packed_stack, counted_few, pushed, Holds, grown_after, last_of_listed}
@@ -8,12 +8,12 @@ use Rattle.walk.proofs.prefixes.Prefixes.push_by.Goals as goal
 pub overflow_add-self : goal.overflow_add-self
 overflow_add-self c =
     let i = c.self.inside in
-    let n = counted_few i.count i.front i.bytes.items i.last.items i.longest c.self.invariant.2 in
+    let n = counted_few i.count i.front i.bytes.items i.last.items (vec_capacity i.last) c.self.invariant.1 in
     omega (arith, n, i.bytes.ok.0, i.bytes.small)
 
-grown : (c : goal.After-self-then-is_short-1)
+grown : (c : goal.After-self-1)
     → Holds (c.self.inside.count + 1) c.self.inside.front c.put_short_way.new.bytes.items
-    c.put_reserved.new.bytes.items c.max-self-inside.result
+    c.put_reserved.new.bytes.items (vec_capacity c.put_reserved.new.bytes)
     (listed c.self.inside.count (drop c.self.inside.front c.self.inside.bytes.items)
     c.self.inside.last.items
     ++ (take c.args.shared c.self.inside.last.items ++ c.args.rest.now) ∷ [])
@@ -32,7 +32,7 @@ grown c =
     c.put_reserved.ensures.items ∙ ap (λ x. x ++ rest) c.truncate.ensures.items in
     let b = drop i.front i.bytes.items in
     let first = take i.front i.bytes.items in
-    let stack = packed_stack i.count b last first i.longest c.self.invariant.2 (omega arith) in
+    let stack = packed_stack i.count b last first (vec_capacity i.last) c.self.invariant.1 (omega arith) in
     let long : length rest < 2 ^ 64 = omega (arith, c.if-is_short.ensures.rest) in
     let short : length t < 2 ^ 64 = omega (
       arith,
@@ -41,28 +41,16 @@ grown c =
       i.last.ok.0,
       i.last.small,
     ) in
-    let fits : length c.put_reserved.new.bytes.items ≤ c.max-self-inside.result
-    = omega (arith, c.max-self-inside.ensures, c.len.ensures, c.put_reserved.new.bytes.ok.0) in
+    let top = c.put_reserved.new.bytes in
+    let fits : length top.items ≤ vec_capacity top = omega (arith, top.ok.0, top.ok.1) in
     grown_after (i.count + 1) i.front i.bytes.items (way_bytes (length rest) t) _ _ _ _
-    c.self.invariant.1 wrote
-    (λ d w. pushed i.count b last first i.longest rest d c.put_reserved.new.bytes.items t k
-    c.max-self-inside.result stack low long short tail w made
-    (omega (arith, c.max-self-inside.ensures)) fits)
+    c.self.invariant.0 wrote
+    (λ d w. pushed i.count b last first (vec_capacity i.last) rest d c.put_reserved.new.bytes.items t k
+    (vec_capacity c.put_reserved.new.bytes) stack low long short tail w made
+    (omega (arith, c.put_reserved.ensures.room, c.truncate.ensures.capacity)) fits)
 
 pub invariant_of-self : goal.invariant_of-self
-invariant_of-self c = (
-  omega (
-    arith,
-    c.self.invariant.0,
-    c.max-self-inside.ensures,
-    c.len.ensures,
-    c.put_reserved.new.bytes.ok.1,
-    c.put_reserved.ensures.room,
-    c.truncate.ensures.capacity,
-  ),
-  (grown c).within,
-  (grown c).packed,
-)
+invariant_of-self c = ((grown c).within, (grown c).packed)
 
 pub returns-then-is_short : goal.returns-then-is_short
 returns-then-is_short c =

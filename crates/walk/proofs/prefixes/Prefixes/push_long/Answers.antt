@@ -2,7 +2,7 @@ use Rattle.std.proofs.lemmas.List.{take_rest}
 use Rattle.std.proofs.Common.{◌≡◌, ◌+◌, ◌-◌, ◌^◌, ◌<◌, ◌≤◌, [], ◌∷◌, ◌++◌, length, take, drop, min, vec_len, vec_capacity, refl, sym, ◌∙◌, ap, arith, length-drop}
 use Rattle.walk.specs.inner.Packed.{way_bytes, listed}
 use Rattle.walk.specs.PrefixLists.{last_of}
-use Rattle.walk.proofs.PackedPrefixes.{went_well, packed_stack, none_listed, counted_few, pushed, Holds, grown_after, last_of_listed, after_none, take_within}
+use Rattle.walk.proofs.PackedPrefixes.{with_room, went_well, packed_stack, none_listed, counted_few, pushed, Holds, grown_after, last_of_listed, after_none, take_within}
 use Rattle.walk.proofs.prefixes.Prefixes.push_long.Goals as goal
 
 pub start-requires : goal.start-requires
@@ -22,11 +22,11 @@ returns-then-self-eq0 c =
 pub overflow_add-self : goal.overflow_add-self
 overflow_add-self c =
     let i = c.self.inside in
-    let n = counted_few i.count i.front i.bytes.items i.last.items i.longest c.self.invariant.2 in
+    let n = counted_few i.count i.front i.bytes.items i.last.items (vec_capacity i.last) c.self.invariant.1 in
     omega (arith, n, i.bytes.ok.0, i.bytes.small)
 
 -- the last prefix after the push
-made : (c : goal.After-self-2-1)
+made : (c : goal.After-self-1)
     → c.put_few.new.bytes.items ≡ take c.min-shared.result c.self.inside.last.items
     ++ c.args.rest.now
 made c =
@@ -46,9 +46,9 @@ made c =
     went_well c.put_few.result _ _ (c.put_few.ensures.succeeds fits) c.put_few.ensures.items
     ∙ ap (λ x. x ++ c.args.rest.now) cut
 
-grown : (c : goal.After-self-2-1)
+grown : (c : goal.After-self-1)
     → Holds (c.self.inside.count + 1) c.self.inside.front c.put_way.new.bytes.items
-    c.put_few.new.bytes.items c.max-self-inside.result
+    c.put_few.new.bytes.items (vec_capacity c.put_few.new.bytes)
     (listed c.self.inside.count (drop c.self.inside.front c.self.inside.bytes.items)
     c.self.inside.last.items
     ++ (take c.min-shared.result c.self.inside.last.items ++ c.args.rest.now) ∷ [])
@@ -65,7 +65,7 @@ grown c =
     c.in_ok-put_way.ensures in
     let b = drop i.front i.bytes.items in
     let first = take i.front i.bytes.items in
-    let stack = packed_stack i.count b last first i.longest c.self.invariant.2 (omega arith) in
+    let stack = packed_stack i.count b last first (vec_capacity i.last) c.self.invariant.1 (omega arith) in
     let long : length rest < 2 ^ 64 = omega
     (arith, c.in_ok-reserve.ensures.ok, c.reserve.new.self.small) in
     let short : length t < 2 ^ 64 = omega (
@@ -75,29 +75,28 @@ grown c =
       i.last.ok.0,
       i.last.small,
     ) in
-    let fits : length c.put_few.new.bytes.items ≤ c.max-self-inside.result
-    = omega (arith, c.max-self-inside.ensures, c.len-2.ensures, c.put_few.new.bytes.ok.0) in
+    let top = c.put_few.new.bytes in
+    let fits : length top.items ≤ vec_capacity top = omega (arith, top.ok.0, top.ok.1) in
     grown_after (i.count + 1) i.front i.bytes.items (way_bytes (length rest) t) _ _ _ _
-    c.self.invariant.1 wrote
-    (λ d w. pushed i.count b last first i.longest rest d c.put_few.new.bytes.items t k
-    c.max-self-inside.result stack low long short tail w (made c)
-    (omega (arith, c.max-self-inside.ensures)) fits)
+    c.self.invariant.0 wrote
+    (λ d w. pushed i.count b last first (vec_capacity i.last) rest d c.put_few.new.bytes.items t k
+    (vec_capacity c.put_few.new.bytes) stack low long short tail w (made c)
+    (omega (
+      arith,
+      c.put_few.ensures.room,
+      c.truncate.ensures.capacity,
+      c.reserve.ensures.capacity,
+    )) fits)
 
 pub invariant_of-self-2 : goal.invariant_of-self-2
-invariant_of-self-2 c = (
-  omega (
-    arith,
-    c.self.invariant.0,
-    c.max-self-inside.ensures,
-    c.len-2.ensures,
-    c.put_few.new.bytes.ok.1,
-    c.put_few.ensures.room,
-    c.truncate.ensures.capacity,
-    c.reserve.ensures.capacity,
-  ),
-  (grown c).within,
-  (grown c).packed,
-)
+invariant_of-self-2 c = ((grown c).within, (grown c).packed)
+
+pub invariant_of-self-in_err-put_way : goal.invariant_of-self-in_err-put_way
+invariant_of-self-in_err-put_way c =
+    let i = c.self.inside in
+    with_room i.count i.front i.bytes.items i.last.items _ _ (vec_capacity i.last) _
+    (omega (arith, c.reserve.ensures.capacity)) c.in_err-put_way.ensures c.reserve.ensures.items
+    c.self.invariant
 
 pub returns : goal.returns
 returns c =

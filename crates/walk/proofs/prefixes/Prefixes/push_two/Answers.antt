@@ -1,4 +1,4 @@
-use Rattle.std.proofs.Common.{◌≡◌, ◌+◌, ◌≤◌, ◌∷◌, [], ◌++◌, length, take, drop, sym, ◌∙◌, refl, ap, arith}
+use Rattle.std.proofs.Common.{◌≡◌, ◌+◌, ◌≤◌, ◌∷◌, [], ◌++◌, length, take, drop, sym, ◌∙◌, refl, ap, arith, vec_capacity}
 use Rattle.walk.specs.inner.Packed.{listed}
 use Rattle.walk.specs.PrefixLists.{last_of}
 use Rattle.walk.proofs.PackedPrefixes.{packed_stack, counted_few, Holds, grown_after, last_of_listed, pushed_two, replaced_by_two}
@@ -7,13 +7,13 @@ use Rattle.walk.proofs.prefixes.Prefixes.push_two.Goals as goal
 pub overflow_add-self : goal.overflow_add-self
 overflow_add-self c =
     let i = c.self.inside in
-    let n = counted_few i.count i.front i.bytes.items i.last.items i.longest c.self.invariant.2 in
+    let n = counted_few i.count i.front i.bytes.items i.last.items (vec_capacity i.last) c.self.invariant.1 in
     omega (arith, n, i.bytes.ok.0, i.bytes.small)
 
-grown : (c : goal.After-self-then-len-capacity-2-1)
+grown : (c : goal.After-self-then-len-capacity-1)
     → Holds (c.self.inside.count + 1) c.self.inside.front
     c.push_reserved-then-len-capacity.new.self.items
-    c.push_reserved-then-len-capacity-2.new.self.items c.max-self-inside.result
+    c.push_reserved-then-len-capacity-2.new.self.items (vec_capacity c.push_reserved-then-len-capacity-2.new.self)
     (listed c.self.inside.count (drop c.self.inside.front c.self.inside.bytes.items)
     c.self.inside.last.items
     ++ (take c.args.shared c.self.inside.last.items ++ c.args.step ∷ c.args.next ∷ []) ∷ [])
@@ -21,35 +21,23 @@ grown c =
     let i = c.self.inside in
     let b = drop i.front i.bytes.items in
     let first = take i.front i.bytes.items in
-    let stack = packed_stack i.count b i.last.items first i.longest c.self.invariant.2 (omega arith)
+    let stack = packed_stack i.count b i.last.items first (vec_capacity i.last) c.self.invariant.1 (omega arith)
     in
     let top = c.push_reserved-then-len-capacity-2.new.self in
     let one : length i.last.items ≡ c.args.shared + 1
     = omega (arith, c.if-is_one_longer.ensures, i.last.ok.0) in
-    let short : length top.items ≤ c.max-self-inside.result
-    = omega (arith, c.max-self-inside.ensures, c.len-then-len-capacity.ensures, top.ok.0) in
+    let short : length top.items ≤ vec_capacity top = omega (arith, top.ok.0, top.ok.1) in
     grown_after (i.count + 1) i.front i.bytes.items (c.index.result.now ∷ 33 ∷ []) _ _ _ _
-    c.self.invariant.1
+    c.self.invariant.0
     (pushed_two i.bytes.items c.index.result.now 33 _ _ c.push_reserved.ensures.items
     c.push_reserved-then-len-capacity.ensures.items)
-    (λ d wrote. replaced_by_two i.count b i.last.items first i.longest c.max-self-inside.result
+    (λ d wrote. replaced_by_two i.count b i.last.items first (vec_capacity i.last) (vec_capacity c.push_reserved-then-len-capacity-2.new.self)
     c.args.shared c.index.result.now c.args.step c.args.next d top.items stack one c.index.ensures
     wrote c.push_reserved-then-len-capacity-2.ensures.items
-    (omega (arith, c.max-self-inside.ensures)) short)
+    (omega (arith, c.push_reserved-then-len-capacity-2.ensures.capacity)) short)
 
 pub invariant_of-self : goal.invariant_of-self
-invariant_of-self c = (
-  omega (
-    arith,
-    c.self.invariant.0,
-    c.max-self-inside.ensures,
-    c.len-then-len-capacity.ensures,
-    c.push_reserved-then-len-capacity-2.new.self.ok.1,
-    c.push_reserved-then-len-capacity-2.ensures.capacity,
-  ),
-  (grown c).within,
-  (grown c).packed,
-)
+invariant_of-self c = ((grown c).within, (grown c).packed)
 
 pub returns-then-len-capacity : goal.returns-then-len-capacity
 returns-then-len-capacity c =

@@ -1,10 +1,10 @@
-use Rattle.std.proofs.Common.{◌≡◌, ◌∷◌, [], length, ◌∙◌, refl, arith}
-use Rattle.walk.proofs.PackedPrefixes.{if_ok, Holds, started_with}
+use Rattle.std.proofs.Common.{◌≡◌, ◌∷◌, [], length, ◌∙◌, refl, arith, vec_capacity, ap}
+use Rattle.walk.proofs.PackedPrefixes.{if_ok, with_room, Holds, started_with}
 use Rattle.walk.proofs.prefixes.Prefixes.start.Goals as goal
 
-started : (c : goal.After-self-3-1) → Holds 1 (length c.args.prefix.now)
+started : (c : goal.After-self-2-1) → Holds 1 (length c.args.prefix.now)
     c.extend_from_slice.new.self.items c.extend_from_slice-2.new.self.items
-    c.max-self-inside.result (c.args.prefix.now ∷ [])
+    (vec_capacity c.extend_from_slice-2.new.self) (c.args.prefix.now ∷ [])
 started c =
     let bytes : c.extend_from_slice.new.self.items ≡ c.args.prefix.now =
     if_ok c.extend_from_slice.result _ _ _
@@ -27,23 +27,18 @@ started c =
       c.reserve.ensures.len,
     ))) c.extend_from_slice-2.ensures.items ∙ (rw c.clear-2.ensures.items refl) in
     started_with _ _ c.args.prefix.now _ _ refl bytes last
-    (omega (arith, c.max-self-inside.ensures))
+    (let top = c.extend_from_slice-2.new.self in
+    omega (arith, ap length last, top.ok.0, top.ok.1))
 
 pub invariant_of-self-2 : goal.invariant_of-self-2
-invariant_of-self-2 c = (
-  omega (
-    arith,
-    c.self.invariant.0,
-    c.max-self-inside.ensures,
-    c.extend_from_slice-2.ensures.capacity,
-    c.clear-2.ensures.capacity,
-    c.in_ok-reserve.ensures.ok,
-    c.reserve.ensures.len,
-    c.reserve.ensures.capacity,
-  ),
-  (started c).within,
-  (started c).packed,
-)
+invariant_of-self-2 c = ((started c).within, (started c).packed)
 
 pub returns : goal.returns
 returns c = (started c).view
+
+pub invariant_of-self-in_err-reserve-2 : goal.invariant_of-self-in_err-reserve-2
+invariant_of-self-in_err-reserve-2 c =
+    let i = c.self.inside in
+    with_room i.count i.front i.bytes.items i.last.items _ _ (vec_capacity i.last) _
+    (omega (arith, c.reserve.ensures.capacity)) c.reserve-2.ensures.items c.reserve.ensures.items
+    c.self.invariant
