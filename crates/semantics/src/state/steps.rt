@@ -392,6 +392,7 @@ impl State {
         ensures free { IsTrue result →
             IsFree (code_of program.now thread) (thread_at self.new thread) }
     {
+        let code = program.code(thread);
         let runner = &mut self.threads[thread as usize];
         match action {
             MutexAction::Lock | MutexAction::Retake => self.owners[m] = Some(thread),
@@ -403,7 +404,7 @@ impl State {
                 self.owners[m] = None;
             }
         }
-        resume(program.code(thread), runner, saved)
+        resume(code, runner, saved)
     }
 
     // The first step of a `wait`.
@@ -530,6 +531,7 @@ impl State {
         ensures free { IsTrue result →
             IsFree (code_of program.now thread) (thread_at self.new thread) }
     {
+        let code = program.code(thread);
         let runner = &mut self.threads[thread as usize];
         match action {
             SemaphoreAction::Acquire => self.counts[k] -= 1,
@@ -541,6 +543,6 @@ impl State {
                 self.counts[k] += 1;
             }
         }
-        resume(program.code(thread), runner, saved)
+        resume(code, runner, saved)
     }
 }
