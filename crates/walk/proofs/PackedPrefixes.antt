@@ -614,6 +614,7 @@ counted_few n front bytes last l packed =
       length-drop front bytes,
     )
 
+-- and it holds the same where longer ones are allowed
 pub held_more : (n front : ℕ) (b last : List ℕ) (l m : ℕ) (all : List (List ℕ)) → l ≤ m →
     Holds n front b last l all → Holds n front b last m all
 held_more n front b last l m all le h = record {

@@ -65,7 +65,7 @@ grown_at c =
     take_rest D j.front ∙ ap (drop j.front) c.deref-3.ensures.value in
     let joined : c.extend_from_slice.new.self.items ≡ i.bytes.items ++ (way ++ ways) =
     c.in_default.ensures.items ∙ ((λ x. wrote x ++ read x) ∙ append_assoc i.bytes.items way ways) in
-    let room : (vec_capacity j.last) ≤ vec_capacity c.reserve.new.self =
+    let room : vec_capacity j.last ≤ vec_capacity c.reserve.new.self =
     omega (
       arith,
       c.in_ok-reserve.ensures.ok,
@@ -73,9 +73,10 @@ grown_at c =
       c.saturating_sub.ensures,
       c.len.ensures,
     ) in
-    let stack = packed_stack i.count b last first (vec_capacity i.last) c.self.invariant.1 (omega arith) in
-    let other = packed_stack j.count ways j.last.items start (vec_capacity j.last) c.other.invariant.1
+    let stack = packed_stack i.count b last first (vec_capacity i.last) c.self.invariant.1
     (omega arith) in
+    let other = packed_stack j.count ways j.last.items start (vec_capacity j.last)
+    c.other.invariant.1 (omega arith) in
     let fits : vec_len c.clear.new.self + length c.as_slice-2.result.now ≤ vec_capacity
     c.clear.new.self =
     omega (
@@ -101,8 +102,9 @@ grown_at c =
     ) in
     grown_after (i.count + j.count) i.front i.bytes.items (way ++ ways) _ _ _ _ c.self.invariant.0
     joined
-    (λ d e. appended i.count j.count b ways last first j.last.items start (vec_capacity i.last) (vec_capacity j.last)
-    (b ++ way) d c.extend_from_slice-2.new.self.items t k (vec_capacity c.extend_from_slice-2.new.self) stack other low
+    (λ d e. appended i.count j.count b ways last first j.last.items start (vec_capacity i.last)
+    (vec_capacity j.last) (b ++ way) d c.extend_from_slice-2.new.self.items t k
+    (vec_capacity c.extend_from_slice-2.new.self) stack other low
     within long short alike tail refl (e ∙ sym (append_assoc b way ways)) made
     (omega (
       arith,
@@ -121,7 +123,8 @@ overflow_add-self c =
     let i = c.self.inside in
     let j = c.other.inside in
     let k = c.shared_length-shared.result in
-    let n = counted_few i.count i.front i.bytes.items i.last.items (vec_capacity i.last) c.self.invariant.1 in
+    let n = counted_few i.count i.front i.bytes.items i.last.items (vec_capacity i.last)
+    c.self.invariant.1 in
     let m = packed_few j.count (drop j.front j.bytes.items) j.last.items
     (take j.front j.bytes.items) (vec_capacity j.last) c.other.invariant.1 in
     let t = take (length c.deref-2.result.now - k) (drop k c.deref-2.result.now) in

@@ -13,5 +13,6 @@ returns-clause-few c =
       i.bytes.ok.0,
       i.bytes.ok.1,
       i.bytes.small,
-      counted_few i.count i.front i.bytes.items i.last.items (vec_capacity i.last) c.self.invariant.1,
+      counted_few i.count i.front i.bytes.items i.last.items (vec_capacity i.last)
+          c.self.invariant.1,
     )

@@ -21,14 +21,15 @@ left c =
     let some : 0 < i.count
     = omega (arith, length-listed i.count b i.last.items, ap length c.self.view_is) in
     let ways = take_rest c.deref.result.now i.front ∙ ap (drop i.front) c.deref.ensures.value in
-    let short = packed_before i.count b i.last.items (take i.front i.bytes.items) (vec_capacity i.last)
-    c.self.invariant.1 some in
+    let short = packed_before i.count b i.last.items (take i.front i.bytes.items)
+    (vec_capacity i.last) c.self.invariant.1 some in
     let back : c.step_back.new.last.items ≡ before b i.last.items
     = rw (← ways) (went_well c.step_back.result _ _
     (c.step_back.ensures.succeeds (rw ways short))
     c.step_back.ensures.done) in
     held_more _ _ _ _ (vec_capacity i.last) _ _ (omega (arith, c.step_back.ensures.room))
-    (popped i.count i.front i.bytes.items i.last.items (vec_capacity i.last) _ _ some c.self.invariant.0
+    (popped i.count i.front i.bytes.items i.last.items (vec_capacity i.last) _ _ some
+    c.self.invariant.0
     c.self.invariant.1
     (rw (← ways) (omega (
       arith,

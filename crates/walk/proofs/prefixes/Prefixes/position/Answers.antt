@@ -8,7 +8,8 @@ pub loop-place-init : goal.loop-place-init
 loop-place-init c =
     let i = c.self.inside in
     let D = c.deref.result.now in
-    seek_start c.args.self.now (take i.front i.bytes.items) c.args.prefix.now (vec_capacity i.last) i.count
+    seek_start c.args.self.now (take i.front i.bytes.items) c.args.prefix.now (vec_capacity i.last)
+    i.count
     (drop i.front i.bytes.items) (take (length D - i.front) (drop i.front D)) i.last.items _ _
     (omega (arith, i.last.small)) c.self.invariant.1
     (take_rest D i.front ∙ ap (drop i.front) c.deref.ensures.value) c.self.view_is

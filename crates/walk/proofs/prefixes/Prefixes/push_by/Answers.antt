@@ -8,7 +8,8 @@ use Rattle.walk.proofs.prefixes.Prefixes.push_by.Goals as goal
 pub overflow_add-self : goal.overflow_add-self
 overflow_add-self c =
     let i = c.self.inside in
-    let n = counted_few i.count i.front i.bytes.items i.last.items (vec_capacity i.last) c.self.invariant.1 in
+    let n = counted_few i.count i.front i.bytes.items i.last.items (vec_capacity i.last)
+    c.self.invariant.1 in
     omega (arith, n, i.bytes.ok.0, i.bytes.small)
 
 grown : (c : goal.After-self-1)
@@ -32,7 +33,8 @@ grown c =
     c.put_reserved.ensures.items ∙ ap (λ x. x ++ rest) c.truncate.ensures.items in
     let b = drop i.front i.bytes.items in
     let first = take i.front i.bytes.items in
-    let stack = packed_stack i.count b last first (vec_capacity i.last) c.self.invariant.1 (omega arith) in
+    let stack = packed_stack i.count b last first (vec_capacity i.last) c.self.invariant.1
+    (omega arith) in
     let long : length rest < 2 ^ 64 = omega (arith, c.if-is_short.ensures.rest) in
     let short : length t < 2 ^ 64 = omega (
       arith,
@@ -45,7 +47,8 @@ grown c =
     let fits : length top.items ≤ vec_capacity top = omega (arith, top.ok.0, top.ok.1) in
     grown_after (i.count + 1) i.front i.bytes.items (way_bytes (length rest) t) _ _ _ _
     c.self.invariant.0 wrote
-    (λ d w. pushed i.count b last first (vec_capacity i.last) rest d c.put_reserved.new.bytes.items t k
+    (λ d w. pushed i.count b last first (vec_capacity i.last) rest d c.put_reserved.new.bytes.items
+    t k
     (vec_capacity c.put_reserved.new.bytes) stack low long short tail w made
     (omega (arith, c.put_reserved.ensures.room, c.truncate.ensures.capacity)) fits)
 

@@ -22,7 +22,8 @@ returns-then-self-eq0 c =
 pub overflow_add-self : goal.overflow_add-self
 overflow_add-self c =
     let i = c.self.inside in
-    let n = counted_few i.count i.front i.bytes.items i.last.items (vec_capacity i.last) c.self.invariant.1 in
+    let n = counted_few i.count i.front i.bytes.items i.last.items (vec_capacity i.last)
+    c.self.invariant.1 in
     omega (arith, n, i.bytes.ok.0, i.bytes.small)
 
 -- the last prefix after the push
@@ -65,7 +66,8 @@ grown c =
     c.in_ok-put_way.ensures in
     let b = drop i.front i.bytes.items in
     let first = take i.front i.bytes.items in
-    let stack = packed_stack i.count b last first (vec_capacity i.last) c.self.invariant.1 (omega arith) in
+    let stack = packed_stack i.count b last first (vec_capacity i.last) c.self.invariant.1
+    (omega arith) in
     let long : length rest < 2 ^ 64 = omega
     (arith, c.in_ok-reserve.ensures.ok, c.reserve.new.self.small) in
     let short : length t < 2 ^ 64 = omega (

@@ -7,7 +7,8 @@ use Rattle.walk.proofs.prefixes.Prefixes.push_step.Goals as goal
 pub overflow_add-self : goal.overflow_add-self
 overflow_add-self c =
     let i = c.self.inside in
-    let n = counted_few i.count i.front i.bytes.items i.last.items (vec_capacity i.last) c.self.invariant.1 in
+    let n = counted_few i.count i.front i.bytes.items i.last.items (vec_capacity i.last)
+    c.self.invariant.1 in
     omega (arith, n, i.bytes.ok.0, i.bytes.small)
 
 grown : (c : goal.After-self-then-has_room_for_two-1)
@@ -21,16 +22,16 @@ grown c =
     let i = c.self.inside in
     let b = drop i.front i.bytes.items in
     let first = take i.front i.bytes.items in
-    let stack = packed_stack i.count b i.last.items first (vec_capacity i.last) c.self.invariant.1 (omega arith)
-    in
+    let stack = packed_stack i.count b i.last.items first (vec_capacity i.last)
+    c.self.invariant.1 (omega arith) in
     let one : length i.last.items ≡ c.args.shared + 1
     = omega (arith, c.if-is_one_longer.ensures, i.last.ok.0) in
     grown_after (i.count + 1) i.front i.bytes.items (c.index.result.now ∷ 17 ∷ []) _ _ _ _
     c.self.invariant.0
     (pushed_two i.bytes.items c.index.result.now 17 _ _ c.push_reserved.ensures.items
     c.push_reserved-then-has_room_for_two.ensures.items)
-    (λ d wrote. replaced i.count b i.last.items first (vec_capacity i.last) c.args.shared c.index.result.now
-    c.args.step d stack one c.index.ensures wrote)
+    (λ d wrote. replaced i.count b i.last.items first (vec_capacity i.last) c.args.shared
+    c.index.result.now c.args.step d stack one c.index.ensures wrote)
 
 pub invariant_of-self : goal.invariant_of-self
 invariant_of-self c = ((grown c).within, (grown c).packed)

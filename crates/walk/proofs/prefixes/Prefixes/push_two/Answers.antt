@@ -7,13 +7,15 @@ use Rattle.walk.proofs.prefixes.Prefixes.push_two.Goals as goal
 pub overflow_add-self : goal.overflow_add-self
 overflow_add-self c =
     let i = c.self.inside in
-    let n = counted_few i.count i.front i.bytes.items i.last.items (vec_capacity i.last) c.self.invariant.1 in
+    let n = counted_few i.count i.front i.bytes.items i.last.items (vec_capacity i.last)
+    c.self.invariant.1 in
     omega (arith, n, i.bytes.ok.0, i.bytes.small)
 
 grown : (c : goal.After-self-then-len-capacity-1)
     → Holds (c.self.inside.count + 1) c.self.inside.front
     c.push_reserved-then-len-capacity.new.self.items
-    c.push_reserved-then-len-capacity-2.new.self.items (vec_capacity c.push_reserved-then-len-capacity-2.new.self)
+    c.push_reserved-then-len-capacity-2.new.self.items
+    (vec_capacity c.push_reserved-then-len-capacity-2.new.self)
     (listed c.self.inside.count (drop c.self.inside.front c.self.inside.bytes.items)
     c.self.inside.last.items
     ++ (take c.args.shared c.self.inside.last.items ++ c.args.step ∷ c.args.next ∷ []) ∷ [])
@@ -21,8 +23,8 @@ grown c =
     let i = c.self.inside in
     let b = drop i.front i.bytes.items in
     let first = take i.front i.bytes.items in
-    let stack = packed_stack i.count b i.last.items first (vec_capacity i.last) c.self.invariant.1 (omega arith)
-    in
+    let stack = packed_stack i.count b i.last.items first (vec_capacity i.last)
+    c.self.invariant.1 (omega arith) in
     let top = c.push_reserved-then-len-capacity-2.new.self in
     let one : length i.last.items ≡ c.args.shared + 1
     = omega (arith, c.if-is_one_longer.ensures, i.last.ok.0) in
@@ -31,8 +33,9 @@ grown c =
     c.self.invariant.0
     (pushed_two i.bytes.items c.index.result.now 33 _ _ c.push_reserved.ensures.items
     c.push_reserved-then-len-capacity.ensures.items)
-    (λ d wrote. replaced_by_two i.count b i.last.items first (vec_capacity i.last) (vec_capacity c.push_reserved-then-len-capacity-2.new.self)
-    c.args.shared c.index.result.now c.args.step c.args.next d top.items stack one c.index.ensures
+    (λ d wrote. replaced_by_two i.count b i.last.items first (vec_capacity i.last)
+    (vec_capacity top) c.args.shared c.index.result.now c.args.step c.args.next d top.items stack
+    one c.index.ensures
     wrote c.push_reserved-then-len-capacity-2.ensures.items
     (omega (arith, c.push_reserved-then-len-capacity-2.ensures.capacity)) short)
 
