@@ -44,6 +44,17 @@ impl EndHints {
         usize::from(self.indexes[place])
     }
 
+    // Where the view of this kind and these values may stand in a list of so many. Where there is
+    // only one, nothing is computed.
+    #[inline(always)]
+    pub(crate) fn hint_in(&self, length: usize, kind: Kind, values: &[i64]) -> usize {
+        if length == 1 {
+            0
+        } else {
+            self.hint(EndHints::place_of(kind, values))
+        }
+    }
+
     // Keeps a hint; an index of 65,536 or more is no hint.
     pub(crate) fn keep(&mut self, place: usize, index: usize)
         requires { place < 256 }

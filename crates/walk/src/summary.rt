@@ -448,7 +448,7 @@ fn is_hinted(ends: &[EndView], hints: &EndHints, kind: Kind, values: &[i64]) -> 
     requires { IsStrictlySortedBy view_cmp ends.now }
     ensures { IsTrue result → with_view (end_with kind values.now) ends.now ≡ ends.now }
 {
-    let hint = hints.hint(EndHints::place_of(kind, values));
+    let hint = hints.hint_in(ends.len(), kind, values);
     stands_at(ends, hint, kind, values)
 }
 
