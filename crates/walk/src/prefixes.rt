@@ -12,9 +12,10 @@ mod tests;
 ghost use Rattle.std.specs.Prelude.{◌≡◌, ℕ, ◌-◌, ◌^◌, ◌<◌, ◌≤◌, ◌==◌, List, [], ◌∷◌, ◌++◌, length, take, is_ok, IfOk, IfSome, IfNone, All, Some, if◌then◌else◌, option_copied, slice_get, vec_capacity};
 ghost use Rattle.walk.specs.PrefixLists.{last_of};
 
+pub(crate) use crate::prefixes::bytes::shared_length;
 use crate::prefixes::bytes::{
     has_room_for_two, is_one_longer, is_short, put_few, put_reserved, put_short_way, put_way,
-    shared_length, step_back, top,
+    step_back, top,
 };
 use crate::prefixes::seeker::Seeker;
 use std::alloc::{AllocError, Global};

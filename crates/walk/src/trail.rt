@@ -8,6 +8,7 @@ ghost use Rattle.semantics.specs.Undoing.{IsTouched, with_all_touched};
 ghost use Rattle.walk.specs.inner.Paths.{touched_from, IsTrail, IsEntered, IsExtended, IsLeft, IsNext, IsOpened, with_node, leaves, HasSwitches};
 
 use crate::hints::EndMemory;
+use crate::prefixes::shared_length;
 use guest_code::laws::programs_are_well_formed;
 use guest_code::program::Program;
 use semantics::contenders::Contenders;
@@ -188,19 +189,6 @@ fn make_place(touched: &mut Vec<Touched>, further: usize) -> Result<(), AllocErr
         touched.push(Touched::Variable(0, 0))?;
     }
     Ok(())
-}
-
-// How many steps two schedules have in common before they differ.
-fn shared_length(first: &[u8], second: &[u8]) -> usize
-    ensures first { result ≤ length first.now }
-    ensures second { result ≤ length second.now }
-    ensures same { take result first.now ≡ take result second.now }
-{
-    let mut shared = 0;
-    while shared < first.len() && shared < second.len() && first[shared] == second[shared] {
-        shared += 1;
-    }
-    shared
 }
 
 impl Trail {
