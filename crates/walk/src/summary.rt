@@ -415,14 +415,13 @@ fn find_view(
     requires { IsStrictlySortedBy view_cmp ends.now }
     ensures { IsPlaceOf (end_with kind values.now) ends.now result }
 {
-    let place = EndHints::place_of(kind, values);
-    let hint = hints.hint(place);
+    let hint = hints.hint_in(ends.len(), kind, values);
     if stands_at(ends, hint, kind, values) {
         return Ok(hint);
     }
     let found = search_view(ends, kind, values);
     match found {
-        Ok(index) | Err(index) => hints.keep(place, index),
+        Ok(index) | Err(index) => hints.keep_in(ends.len(), kind, values, index),
     }
     found
 }
