@@ -25,7 +25,7 @@ impl EndHints {
     }
 
     // The place of the views of this kind and these values of the variables.
-    fn place_of(kind: Kind, values: &[i64]) -> usize
+    pub(crate) fn place_of(kind: Kind, values: &[i64]) -> usize
         ensures { result < 256 }
     {
         let mut hash: u64 = kind as u64;
@@ -45,10 +45,10 @@ impl EndHints {
     }
 
     // Where the view of this kind and these values may stand in a list of so many. Where there is
-    // at most one, nothing is computed.
+    // only one, nothing is computed.
     #[inline(always)]
     pub(crate) fn hint_in(&self, length: usize, kind: Kind, values: &[i64]) -> usize {
-        if length <= 1 {
+        if length == 1 {
             0
         } else {
             self.hint(EndHints::place_of(kind, values))
@@ -56,20 +56,12 @@ impl EndHints {
     }
 
     // Keeps a hint; an index of 65,536 or more is no hint.
-    fn keep(&mut self, place: usize, index: usize)
+    pub(crate) fn keep(&mut self, place: usize, index: usize)
         requires { place < 256 }
     {
         match u16::try_from(index) {
             Ok(index) => self.indexes[place] = index,
             Err(_) => {}
-        }
-    }
-
-    // Keeps where the view of this kind and these values was found, or belongs, in a list of so
-    // many. In an empty one nothing is computed.
-    pub(crate) fn keep_in(&mut self, length: usize, kind: Kind, values: &[i64], index: usize) {
-        if length > 0 {
-            self.keep(EndHints::place_of(kind, values), index);
         }
     }
 }

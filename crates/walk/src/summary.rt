@@ -415,13 +415,16 @@ fn find_view(
     requires { IsStrictlySortedBy view_cmp ends.now }
     ensures { IsPlaceOf (end_with kind values.now) ends.now result }
 {
+    if ends.is_empty() {
+        return search_view(ends, kind, values);
+    }
     let hint = hints.hint_in(ends.len(), kind, values);
     if stands_at(ends, hint, kind, values) {
         return Ok(hint);
     }
     let found = search_view(ends, kind, values);
     match found {
-        Ok(index) | Err(index) => hints.keep_in(ends.len(), kind, values, index),
+        Ok(index) | Err(index) => hints.keep(EndHints::place_of(kind, values), index),
     }
     found
 }
