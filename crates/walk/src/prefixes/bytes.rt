@@ -1,8 +1,30 @@
 // The bytes of ways back, from a prefix to the one before it in a list.
 ghost use Rattle.std.specs.Prelude.{◌≡◌, ◌+◌, ◌-◌, ◌<◌, ◌≤◌, ◌++◌, length, take, drop, is_ok, OnOk, if◌then◌else◌, vec_len, vec_capacity, IsOk, IsTrue};
+ghost use Rattle.std.specs.Int.{to_le_bytes, w64};
 ghost use Rattle.walk.specs.inner.Packed.{way_bytes, dropped_of, start_of, end_of, number_at, before, head_of, common_length};
 
 use std::alloc::AllocError;
+
+// Eight bytes as a number, which tells what they are.
+fn whole(eight: [u8; 8]) -> usize
+    ensures { to_le_bytes w64 result ≡ eight }
+{
+    usize::from_le_bytes(eight)
+}
+
+// Whether two prefixes have the same eight steps from a place on, seen at once.
+fn has_same_eight(a: &[u8], b: &[u8], at: usize) -> bool
+    requires in_a { at + 8 ≤ length a.now }
+    requires in_b { at + 8 ≤ length b.now }
+    ensures { IsTrue result → take 8 (drop at a.now) ≡ take 8 (drop at b.now) }
+{
+    let first = <[u8; 8]>::try_from(&a[at..at + 8]);
+    let second = <[u8; 8]>::try_from(&b[at..at + 8]);
+    match (first, second) {
+        (Ok(first), Ok(second)) => whole(first) == whole(second),
+        _ => false,
+    }
+}
 
 // How many steps two prefixes begin with alike.
 pub fn shared_length(a: &[u8], b: &[u8]) -> usize
@@ -13,8 +35,8 @@ pub fn shared_length(a: &[u8], b: &[u8]) -> usize
 {
     let most = a.len().min(b.len());
     let mut n = 0;
-    while 16 <= most - n && a[n..n + 16] == b[n..n + 16] {
-        n += 16;
+    while 8 <= most - n && has_same_eight(a, b, n) {
+        n += 8;
     }
     while n < most && a[n] == b[n] {
         n += 1;

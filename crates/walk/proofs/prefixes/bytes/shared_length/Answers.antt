@@ -1,24 +1,18 @@
-use Rattle.std.proofs.Common.{◌≡◌, ℕ, ◌+◌, ◌-◌, List, take, drop, refl, sym, arith}
+use Rattle.std.proofs.Common.{◌≡◌, ℕ, ◌+◌, List, take, drop, refl, sym, arith}
 use Rattle.std.proofs.Math.Seq.{take-add}
-use Rattle.std.proofs.lemmas.Slice.Eq.{slice_eq-Decides}
-use Rattle.std.proofs.lemmas.Bool.Decides.{Decides-eqb}
 use Rattle.walk.proofs.CommonSteps.{common_is}
 use Rattle.walk.proofs.prefixes.bytes.shared_length.Goals as goal
 
 more : (n : ℕ) (a b : List ℕ) → take n a ≡ take n b
-    → take (n + 16 - n) (drop n a) ≡ take (n + 16 - n) (drop n b)
-    → take (n + 16) a ≡ take (n + 16) b
-more n a b e f =
-    let k : n + 16 - n ≡ 16 = omega arith in
-    rw (take-add n 16 a, take-add n 16 b, e, ← k, f) refl
+    → take 8 (drop n a) ≡ take 8 (drop n b) → take (n + 8) a ≡ take (n + 8) b
+more n a b e f = rw (take-add n 8 a, take-add n 8 b, e, f) refl
 
 pub loop-n-preserved : goal.loop-n-preserved
 loop-n-preserved c =
     record {
       within = omega arith;
       alike = more c.loop-n.n c.args.a.now c.args.b.now
-          c.loop-n.invariant.alike (((slice_eq-Decides Decides-eqb _ _ _ c.eq.ensures).0)
-          c.if-eq.true);
+          c.loop-n.invariant.alike (c.has_same_eight.ensures c.if-has_same_eight.true);
     }
 
 pub returns-else-a-n-clause-all : goal.returns-else-a-n-clause-all
