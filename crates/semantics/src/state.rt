@@ -426,11 +426,32 @@ fn some_stopped(threads: &[Thread]) -> bool
         .any(|th| matches!(th.status, Status::Stopped(_)))
 }
 
-// Whether all threads ended.
+// Whether a thread ended.
+fn has_ended(thread: &Thread) -> bool
+    ensures { result ≡ is_ended thread.now.status }
+{
+    matches!(thread.status, Status::Ended)
+}
+
+// Whether each of some threads ended.
+fn each_ended(threads: &[Thread]) -> bool
+    ensures { result ≡ list_all (λ th. is_ended th.status) threads.now }
+{
+    threads.iter().all(|th| has_ended(th))
+}
+
+// The same for all threads. Each complete schedule asks, so four are looked at in a turn.
 fn all_ended(threads: &[Thread]) -> bool
     ensures { result ≡ list_all (λ th. is_ended th.status) threads.now }
 {
-    threads.iter().all(|th| matches!(th.status, Status::Ended))
+    let mut left = threads;
+    while let [first, second, third, fourth, rest @ ..] = left {
+        if !has_ended(first) || !has_ended(second) || !has_ended(third) || !has_ended(fourth) {
+            return false;
+        }
+        left = rest;
+    }
+    each_ended(left)
 }
 
 // How a complete schedule ends that leaves the threads so.
