@@ -415,9 +415,6 @@ fn find_view(
     requires { IsStrictlySortedBy view_cmp ends.now }
     ensures { IsPlaceOf (end_with kind values.now) ends.now result }
 {
-    if ends.is_empty() {
-        return search_view(ends, kind, values);
-    }
     let hint = hints.hint_in(ends.len(), kind, values);
     if stands_at(ends, hint, kind, values) {
         return Ok(hint);
@@ -466,12 +463,14 @@ fn add_view(
     ensures { ends.new.items ≡ (if is_ok result
         then with_view (end_with kind values.now) ends.old.items else ends.old.items) }
 {
+    if ends.is_empty() {
+        ends.reserve_exact(FEW_ENDS)?;
+        ends.push(memory.view(alloc, kind, values)?)?;
+        return Ok(());
+    }
     match find_view(ends.as_slice(), &mut memory.hints, kind, values) {
         Ok(_) => Ok(()),
         Err(index) => {
-            if ends.is_empty() {
-                ends.reserve_exact(FEW_ENDS)?;
-            }
             ends.insert(index, memory.view(alloc, kind, values)?)?;
             Ok(())
         }
