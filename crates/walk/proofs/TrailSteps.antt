@@ -24,7 +24,7 @@ use Rattle.semantics.proofs.UnfoldingUnderPrefix.{state_after-push}
 use Rattle.walk.specs.declared.trail.Node.{Node}
 use Rattle.walk.specs.declared.trail.Frame.{Frame}
 use Rattle.walk.specs.declared.trail.Trail.{Trail}
-use Rattle.walk.specs.inner.Paths.{leaves, leaves_last, IsNext, path, run_of, state_at, touched_from, HasSwitches, IsNode, IsFrame, AreFrames, above, touched_above, IsTrail, IsOpened, IsEntered, IsExtended, IsLeft}
+use Rattle.walk.specs.inner.Paths.{leaves, leaves_last, IsNext, path, run_of, state_at, touched_from, HasSwitches, IsNode, IsFrame, AreFrames, above, touched_above, at_frame, IsTrail, IsOpened, IsEntered, IsExtended, IsLeft, IsTakenBack}
 
 pub reversed : {X : Type 0} → (S T : List X) (x : X) → S ≡ T ++ x ∷ []
     → reverse S ≡ x ∷ reverse T
@@ -339,6 +339,33 @@ trail_left p old new n m f h one depth read sum further items frames touched bac
         depth = one ∙ ap (λ k. k + 1) (sym depth);
       },
     )
+
+-- a frame has a step at least
+pub left_fewer : (old new : Trail) → IsLeft old new
+    → length new.steps.items < length old.steps.items
+left_fewer old new h =
+    let f : Frame = h.frame in
+    let a = ap length h.steps ∙ length-append new.steps.items (run_of f) in
+    let b = length_push (replicate f.further f.thread) f.thread in
+    omega (arith, a, b)
+
+-- the same where the walk doesn't stand at that node yet
+pub taken_back : (p : Program) (old new : Trail) (n m : ℕ) (f : Frame) → IsTrail p old →
+    old.depth ≡ n + 1 → new.depth ≡ n → f ≡ get_or old.frames.items n f
+    → old.further ≡ m + f.further → new.further ≡ m →
+    new.steps.items ≡ take (length old.steps.items - f.further - 1) old.steps.items →
+    new.frames.items ≡ old.frames.items → new.touched.items ≡ old.touched.items →
+    new.state ≡ undone f.undo
+    (with_all_touched (reverse (touched_from old m)) old.state) →
+    new.base ≡ old.base → IsTakenBack p old new f
+taken_back p old new n m f h one depth read sum further items frames touched back base =
+    let both = trail_left p old (at_frame new f) n m f h one depth read sum further items frames
+    touched back refl refl base in
+    record {
+      read = read ∙ (λ i. get_or (sym frames i) (sym depth i) f);
+      trail = both.0;
+      left = both.1;
+    }
 
 -- one step down
 pub trail_entered : (p : Program) (old new : Trail) (S : List Frame) (t : ℕ) (u : Undo)

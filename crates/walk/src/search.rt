@@ -464,7 +464,8 @@ impl Trail {
         self.arrive(alloc, found, item, mode)
     }
 
-    // Goes back over the nodes where no child is open, one at least. False where it can't.
+    // Goes back over the nodes where no child is open, one at least. False where it can't. It
+    // stands only at the last of them.
     #[inline(always)]
     fn retreat(&mut self, program: &Program, _mode: Mode) -> bool
         requires place { IsPlace program.now self.old }
@@ -485,9 +486,10 @@ impl Trail {
         }
         let mut going = true;
         while going {
-            self.leave(program);
-            going = self.depth > self.base && has_none(self.node.todo);
+            self.take_back(program);
+            going = self.depth > self.base && has_none(self.frames[self.depth].node.todo);
         }
+        self.stand();
         true
     }
 

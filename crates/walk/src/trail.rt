@@ -1,11 +1,11 @@
 //! The way from the start of a program to where a walk stands, with what takes each step back.
 
-ghost use Rattle.std.specs.Prelude.{◌≡◌, ◌+◌, ◌-◌, ◌<◌, ◌≤◌, ◌^◌, true, false, Some, Ok, IfOk, IfErr, OnOk, IsTrue, All, length, take, reverse};
+ghost use Rattle.std.specs.Prelude.{◌≡◌, ◌+◌, ◌-◌, ◌<◌, ◌≤◌, ◌^◌, true, false, Some, Ok, IfOk, IfErr, OnOk, IsTrue, All, length, take, get_or, reverse};
 ghost use Rattle.semantics.specs.Machine.{start, is_enabled};
 ghost use Rattle.semantics.specs.Mask.{has, no_threads};
 ghost use Rattle.semantics.specs.Schedules.{runs};
 ghost use Rattle.semantics.specs.Undoing.{IsTouched, with_all_touched};
-ghost use Rattle.walk.specs.inner.Paths.{touched_from, IsTrail, IsEntered, IsExtended, IsLeft, IsNext, IsOpened, with_node, leaves, HasSwitches};
+ghost use Rattle.walk.specs.inner.Paths.{touched_from, IsTrail, IsEntered, IsExtended, IsLeft, IsTakenBack, IsNext, IsOpened, with_node, at_node, at_frame, leaves, HasSwitches};
 
 use crate::hints::EndMemory;
 use crate::prefixes::shared_length;
@@ -371,23 +371,46 @@ impl Trail {
         }
     }
 
-    /// Goes back to the node of the last frame.
+    /// Takes back all steps of the last frame. Where the walk stands then is to be read from that
+    /// frame, which is the first one after those in use: see `stand`.
     #[inline(always)]
-    pub fn leave(&mut self, _program: &Program)
-        requires trail { IsTrail _program.now self.old }
+    pub fn take_back(&mut self, _program: &Program)
+        requires trail { (n : Node) × (c : Contenders) × IsTrail _program.now (at_node self.old n c) }
         requires step { 0 < self.old.depth }
-        ensures trail { IsTrail _program.now self.new }
-        ensures left { IsLeft self.old self.new }
+        ensures there { self.new.depth < length self.new.frames.items }
+        ensures left { (n : Node) → (c : Contenders) → IsTrail _program.now (at_node self.old n c) →
+            (f : Frame) × IsTakenBack _program.now (at_node self.old n c) self.new f }
     {
         let depth = self.depth - 1;
         let further = self.frames[depth].further;
         self.put_back(further);
-        let frame = &self.frames[depth];
-        self.state.undo(&frame.undo);
-        self.node = frame.node;
-        self.contenders = frame.contenders;
+        self.state.undo(&self.frames[depth].undo);
         self.steps.pop();
         self.depth = depth;
+    }
+
+    /// Stands at the node of the first frame after those in use.
+    #[inline(always)]
+    pub fn stand(&mut self)
+        requires { self.old.depth < length self.old.frames.items }
+        ensures { (f : Frame) → f ≡ get_or self.old.frames.items self.old.depth f →
+            self.new ≡ at_frame self.old f }
+    {
+        let frame = &self.frames[self.depth];
+        self.node = frame.node;
+        self.contenders = frame.contenders;
+    }
+
+    /// Goes back to the node of the last frame.
+    #[inline(always)]
+    pub fn leave(&mut self, program: &Program)
+        requires trail { IsTrail program.now self.old }
+        requires step { 0 < self.old.depth }
+        ensures trail { IsTrail program.now self.new }
+        ensures left { IsLeft self.old self.new }
+    {
+        self.take_back(program);
+        self.stand();
     }
 
     /// Goes to where a schedule leads: back to what it shares with the steps so far, and then on.

@@ -1,9 +1,10 @@
 -- The way from the start of a program to where a walk stands.
-use Rattle.std.specs.Prelude.{◌≡◌, ℕ, ◌+◌, ◌-◌, ◌<◌, ◌≤◌, Bool, false, not, ◌&&◌, nat_eq, List, [], ◌∷◌, ◌++◌, length, take, drop, reverse, replicate, Option, Some, None}
+use Rattle.std.specs.Prelude.{◌≡◌, ℕ, ◌+◌, ◌-◌, ◌<◌, ◌≤◌, Bool, false, not, ◌&&◌, nat_eq, List, [], ◌∷◌, ◌++◌, length, take, drop, get_or, reverse, replicate, Option, Some, None}
 use Rattle.guest_code.specs.Program.{Program, IsWellFormed}
 use Rattle.semantics.specs.Machine.{Snapshot, start}
 use Rattle.semantics.specs.Reachable.{IsOf}
 use Rattle.semantics.specs.declared.mask.Mask.{Mask}
+use Rattle.semantics.specs.declared.contenders.Contenders.{Contenders}
 use Rattle.semantics.specs.Contenders.{HasContenders}
 use Rattle.semantics.specs.Mask.{has, no_threads, HasEnabled}
 use Rattle.semantics.specs.Schedules.{state_after, one_if}
@@ -131,6 +132,14 @@ pub record IsExtended (old new : Trail) (t : ℕ) (asleep : Mask) : Type 0 where
   pub depth : new.depth ≡ old.depth
   pub within : old.base < old.depth
 
+-- the same way, where the walk stands at this node, and these are about to take what
+abbrev pub at_node : Trail → Node → Contenders → Trail
+at_node t n c = record t { node = n; contenders = c }
+
+-- and where it stands at the node of this frame
+abbrev pub at_frame : Trail → Frame → Trail
+at_frame t f = at_node t f.node f.contenders
+
 -- back to the node above, over all the steps of its frame
 pub record IsLeft (old new : Trail) : Type 0 where
   pub frame : Frame
@@ -139,3 +148,10 @@ pub record IsLeft (old new : Trail) : Type 0 where
   pub node : new.node ≡ frame.node
   pub base : new.base ≡ old.base
   pub depth : old.depth ≡ new.depth + 1
+
+-- the same, where the walk doesn't stand at the node yet: it is in this frame, the first one after
+-- those in use
+pub record IsTakenBack (p : Program) (old new : Trail) (f : Frame) : Type 0 where
+  pub read : f ≡ get_or new.frames.items new.depth f
+  pub trail : IsTrail p (at_frame new f)
+  pub left : IsLeft old (at_frame new f)
