@@ -10,6 +10,8 @@ use Rattle.semantics.specs.declared.action.Others.{Others}
 use Rattle.semantics.specs.declared.action.Others.TheVariants.{Same, More}
 use Rattle.semantics.specs.declared.state.Action.{Action}
 use Rattle.semantics.specs.declared.state.Action.TheVariants.{OnVariable, OnMutex, Wait as Waits, OnCondition, OnSemaphore}
+use Rattle.semantics.specs.declared.state.VariableAction.{VariableAction}
+use Rattle.semantics.specs.declared.state.VariableAction.TheVariants.{Load as Loads, Store as Stores, Add as Adds, Cas as Swaps}
 use Rattle.semantics.specs.declared.state.ConditionAction.{ConditionAction}
 use Rattle.semantics.specs.declared.state.ConditionAction.TheVariants.{Signal as Signals, Broadcast as Broadcasts}
 use Rattle.semantics.specs.declared.state.Thread.{Thread}
@@ -67,17 +69,36 @@ pub empty_queue : (q : List ℕ) → length q ≤ 0 → q ≡ []
 empty_queue [] h = refl
 empty_queue (u ∷ q) h = absurd (omega arith)
 
--- the object that a step touched, given back
-touched_back : (p : Program) (s : Snapshot) (t : ℕ) (a : Action) (o : Touched)
-    → t < length s.threads → HasTouched o s a → with_touched o (performed p s t a)
-    ≡ record s { threads = set s.threads t (thread_at (performed p s t a) t) }
-touched_back p s t (OnVariable x d) o l h =
+-- a variable, given back its value
+variable_back : (p : Program) (s : Snapshot) (t x : ℕ) (d : VariableAction) (o : Touched)
+    → t < length s.threads → o ≡ TheVariable x (value_of s x)
+    → with_touched o (performed p s t (OnVariable x d))
+    ≡ record s { threads = set s.threads t (thread_at (performed p s t (OnVariable x d)) t) }
+variable_back p s t x d o l h =
     let N : Snapshot = performed p s t (OnVariable x d) in
     ap (λ (z : Touched). with_touched z N) h ∙ (λ i. record s {
       vars = set_back s.vars x (var_after d (thread_at s t).locals (value_of s x)) (pos 0) i;
       threads = written s.threads t
           (resumed (code_of p t) (reader_after d (thread_at s t) (value_of s x))) l i;
     })
+
+-- the object that a step touched, given back
+touched_back : (p : Program) (s : Snapshot) (t : ℕ) (a : Action) (o : Touched)
+    → t < length s.threads → HasTouched o s a → with_touched o (performed p s t a)
+    ≡ record s { threads = set s.threads t (thread_at (performed p s t a) t) }
+touched_back p s t (OnVariable x (Loads r)) o l h =
+    let N : Snapshot = performed p s t (OnVariable x (Loads r)) in
+    ap (λ (z : Touched). with_touched z N) h ∙ (λ i. record s {
+      vars = set-get_or s.vars x (pos 0) i;
+      threads = written s.threads t
+          (resumed (code_of p t) (reader_after (Loads r) (thread_at s t) (value_of s x))) l i;
+    })
+touched_back p s t (OnVariable x (Stores a)) o l h =
+    variable_back p s t x (Stores a) o l h
+touched_back p s t (OnVariable x (Adds r a)) o l h =
+    variable_back p s t x (Adds r a) o l h
+touched_back p s t (OnVariable x (Swaps r a b)) o l h =
+    variable_back p s t x (Swaps r a b) o l h
 touched_back p s t (OnMutex m d) o l h =
     let N : Snapshot = performed p s t (OnMutex m d) in
     ap (λ (z : Touched). with_touched z N) h ∙ (λ i. record s {
@@ -104,7 +125,12 @@ touched_back p s t (OnSemaphore k d) o l h =
 -- it is one of the state
 touched_there : (p : Program) (s new : Snapshot) (a : Action) (o : Touched) → IsOf p new
     → IsValidAction p a → HasTouched o s a → IsTouched new o
-touched_there p s new (OnVariable x d) o of' f h =
+touched_there p s new (OnVariable x (Loads r)) o of' f h = subst (IsTouched new) (sym h) tt
+touched_there p s new (OnVariable x (Stores a)) o of' f h =
+    subst (IsTouched new) (sym h) (omega (arith, f.0, of'.variables))
+touched_there p s new (OnVariable x (Adds r a)) o of' f h =
+    subst (IsTouched new) (sym h) (omega (arith, f.0, of'.variables))
+touched_there p s new (OnVariable x (Swaps r a b)) o of' f h =
     subst (IsTouched new) (sym h) (omega (arith, f.0, of'.variables))
 touched_there p s new (OnMutex m d) o of' f h =
     subst (IsTouched new) (sym h) (omega (arith, f, of'.owners))

@@ -4,7 +4,7 @@ use Rattle.std.proofs.lemmas.Bool.{cases_lt, false≢true}
 use Rattle.std.proofs.lemmas.Bool.Decides.{nat_tests}
 use Rattle.semantics.proofs.WorkFalls.{disabled_past}
 use Rattle.std.proofs.lemmas.List.{reverse-append, length-append, length-replicate, length-reverse, append_assoc, length_push, replicate_more, take_more, take_more_set, take_at, drop_at, take-take, take-append-drop, drop-take, get_or_read, get_or-reverse, reverse-reverse}
-use Rattle.std.proofs.lemmas.List.Elements.{All-nil}
+use Rattle.std.proofs.lemmas.List.Elements.{All-nil, All-tail}
 use Rattle.std.specs.List.{All}
 use Rattle.guest_code.specs.Program.{Program}
 use Rattle.semantics.specs.Reachable.{IsOf}
@@ -17,6 +17,7 @@ use Rattle.semantics.specs.Execution.{Reaches}
 use Rattle.semantics.specs.declared.mask.Mask.{Mask}
 use Rattle.semantics.specs.declared.contenders.Contenders.{Contenders}
 use Rattle.semantics.specs.declared.undo.Touched.{Touched}
+use Rattle.semantics.specs.declared.undo.Touched.TheVariants.{Variable, Owner, Count, Nothing}
 use Rattle.semantics.specs.declared.undo.Undo.{Undo}
 use Rattle.semantics.proofs.Executions.{reaches_parts}
 use Rattle.semantics.proofs.PrefixesExtend.{last_of-push}
@@ -24,7 +25,7 @@ use Rattle.semantics.proofs.UnfoldingUnderPrefix.{state_after-push}
 use Rattle.walk.specs.declared.trail.Node.{Node}
 use Rattle.walk.specs.declared.trail.Frame.{Frame}
 use Rattle.walk.specs.declared.trail.Trail.{Trail}
-use Rattle.walk.specs.inner.Paths.{leaves, leaves_last, IsNext, path, run_of, state_at, touched_from, HasSwitches, IsNode, IsFrame, AreFrames, above, touched_above, at_frame, IsTrail, IsOpened, IsEntered, IsExtended, IsLeft, IsTakenBack}
+use Rattle.walk.specs.inner.Paths.{leaves, leaves_last, IsNext, path, run_of, kept_of, state_at, touched_from, HasSwitches, IsNode, IsFrame, AreFrames, above, touched_above, at_frame, IsTrail, IsOpened, IsEntered, IsExtended, IsLeft, IsTakenBack}
 
 pub reversed : {X : Type 0} → (S T : List X) (x : X) → S ≡ T ++ x ∷ []
     → reverse S ≡ x ∷ reverse T
@@ -112,16 +113,16 @@ lone_next n t asleep todo last = record {
 pub frame_entered : (p : Program) (w v : List ℕ) (s z : Snapshot) (n : Node) (t : ℕ) (u : Undo)
     (c : Contenders) → IsNode p w s n → w ≡ v → z ≡ step p s t → undone u z ≡ s → IsOf p s
     → HasContenders c p s → u.thread ≡ t → IsRecordOf u z →
-    IsFrame p v [] (record { node = n; thread = t; further = 0; contenders = c; undo = u })
+    IsFrame p v [] (record { node = n; further = 0; kept = 0; contenders = c; undo = u })
 frame_entered p w v s z n t u c h e stepped back of' contend own r =
     let at : s ≡ state_at p v = h.reaches.state ∙ ap (state_at p) e in
-    let after : z ≡ state_at p (v ++ t ∷ []) =
-    stepped ∙ (ap (λ (q : Snapshot). step p q t) at ∙ sym (state_after-push p (start p) v t)) in
+    let after : z ≡ state_at p (v ++ u.thread ∷ []) =
+    stepped ∙ (ap (λ (q : Snapshot). step p q t) at ∙ (sym (state_after-push p (start p) v t)
+    ∙ ap (λ k. state_at p (v ++ k ∷ [])) (sym own))) in
     record {
       node = node_same p v w (state_at p v) s n n h (sym e) (sym at) refl;
       state = subst (IsOf p) at of';
       contenders = subst (HasContenders c p) at contend;
-      thread = own;
       all = refl;
       back = subst (λ (q : Snapshot). TakesBack u [] q (state_at p v)) after
           (record {
@@ -131,45 +132,94 @@ frame_entered p w v s z n t u c h e stepped back of' contend own r =
           });
     }
 
+-- what is kept of a step comes before what was kept so far
+
+kept_first : (more os : List Touched) (n : ℕ)
+    → take (n + length more) (more ++ os) ≡ more ++ take n os
+kept_first [] os n = ap (λ k. take k os) (let e : n + 0 ≡ n = omega arith in e)
+kept_first (o ∷ more) os n =
+    ap (λ k. take k (o ∷ (more ++ os)))
+    (let e : n + suc (length more) ≡ suc (n + length more) = omega arith in e)
+    ∙ ap (λ (xs : List Touched). o ∷ xs) (kept_first more os n)
+
+kept_before : (more os : List Touched) (n : ℕ)
+    → drop (n + length more) (more ++ os) ≡ drop n os
+kept_before [] os n = ap (λ k. drop k os) (let e : n + 0 ≡ n = omega arith in e)
+kept_before (o ∷ more) os n =
+    ap (λ k. drop k (o ∷ (more ++ os)))
+    (let e : n + suc (length more) ≡ suc (n + length more) = omega arith in e)
+    ∙ kept_before more os n
+
+kept_reversed : (o : Touched) → reverse (kept_of o) ≡ kept_of o
+kept_reversed (Variable x v) = refl
+kept_reversed (Owner m own) = refl
+kept_reversed (Count k n) = refl
+kept_reversed Nothing = refl
+
+-- what touched nothing need not be kept
+pub kept_back : (u : Undo) (o : Touched) (qs : List Touched) (s q : Snapshot)
+    → TakesBack u (o ∷ qs) s q → TakesBack u (kept_of o ++ qs) s q
+kept_back u (Variable x v) qs s q h = h
+kept_back u (Owner m own) qs s q h = h
+kept_back u (Count k n) qs s q h = h
+kept_back u Nothing qs s q h = record {
+  there = All-tail (IsTouched s) Nothing qs h.there;
+  kept = h.kept;
+  back = h.back;
+}
+
 -- the frame of a thread that has taken one more step
 pub frame_extended : (p : Program) (fs : List Frame) (w : List ℕ) (s z : Snapshot) (f : Frame)
-    (u : Undo) (o : Touched) (os : List Touched) →
-    AreFrames p os (f ∷ fs) → w ≡ path (f ∷ fs) → s ≡ state_at p w → z ≡ step p s f.thread
-    → u.thread ≡ f.thread →
-    ((qs : List Touched) → (q : Snapshot) → TakesBack f.undo qs s q → TakesBack u (o ∷ qs) z q) →
-    AreFrames p (o ∷ os) (record f { further = f.further + 1; undo = u } ∷ fs)
-    × (w ++ f.thread ∷ [] ≡ path (record f { further = f.further + 1; undo = u } ∷ fs))
-frame_extended p fs w s z f u o os h items at stepped own further =
-    let g : Frame = record f { further = f.further + 1; undo = u } in
+    (u : Undo) (more os : List Touched) →
+    AreFrames p os (f ∷ fs) → w ≡ path (f ∷ fs) → s ≡ state_at p w
+    → z ≡ step p s f.undo.thread → u.thread ≡ f.undo.thread →
+    ((qs : List Touched) → (q : Snapshot) → TakesBack f.undo qs s q
+    → TakesBack u (more ++ qs) z q) →
+    AreFrames p (more ++ os) (record f {
+      further = f.further + 1;
+      kept = f.kept + length more;
+      undo = u;
+    } ∷ fs)
+    × (w ++ f.undo.thread ∷ [] ≡ path (record f {
+      further = f.further + 1;
+      kept = f.kept + length more;
+      undo = u;
+    } ∷ fs))
+frame_extended p fs w s z f u more os h items at stepped own further =
+    let g : Frame = record f {
+      further = f.further + 1;
+      kept = f.kept + length more;
+      undo = u;
+    } in
     let v : List ℕ = path fs in
-    let n : ℕ = f.further in
-    let t : ℕ = f.thread in
-    let one : n + 1 ≡ suc n = omega arith in
+    let t : ℕ = f.undo.thread in
     let longer : run_of f ++ t ∷ [] ≡ run_of g =
-    ap (λ (x : List ℕ). x ++ t ∷ []) (replicate_more n t) in
+    ap (λ (x : List ℕ). x ++ t ∷ []) (replicate_more f.further t)
+    ∙ ap (λ (k : ℕ). replicate (f.further + 1) k ++ k ∷ []) (sym own) in
     let steps : w ++ t ∷ [] ≡ v ++ run_of g =
     ap (λ (x : List ℕ). x ++ t ∷ []) items
     ∙ (append_assoc v (run_of f) (t ∷ []) ∙ ap (λ (x : List ℕ). v ++ x) longer) in
     let after : z ≡ state_at p (v ++ run_of g) =
     stepped ∙ (ap (λ (q : Snapshot). step p q t) at
     ∙ (sym (state_after-push p (start p) w t) ∙ ap (state_at p) steps)) in
-    let before : state_at p (v ++ run_of f) ≡ s = sym (at ∙ ap (state_at p) items) in (
+    let before : state_at p (v ++ run_of f) ≡ s = sym (at ∙ ap (state_at p) items) in
+    let first : take g.kept (more ++ os) ≡ more ++ take f.kept os =
+    kept_first more os f.kept in (
       (
         record {
           node = h.0.node;
           state = h.0.state;
           contenders = h.0.contenders;
-          thread = own;
-          all = ap (λ m. length (take m (o ∷ os))) one ∙ (ap suc h.0.all ∙ sym one);
+          all = let a = ap length first ∙ length-append more (take f.kept os) in
+              let b = h.0.all in omega (arith, a, b);
           back = subst (λ (qs : List Touched).
-              TakesBack u qs (state_at p (v ++ run_of g)) (state_at p v))
-              (ap (λ m. take m (o ∷ os)) (sym one))
-              (subst (λ (q : Snapshot). TakesBack u (o ∷ take n os) q (state_at p v)) after
-              (further (take n os) (state_at p v)
-              (subst (λ (q : Snapshot). TakesBack f.undo (take n os) q (state_at p v)) before
+              TakesBack u qs (state_at p (v ++ run_of g)) (state_at p v)) (sym first)
+              (subst (λ (q : Snapshot). TakesBack u (more ++ take f.kept os) q (state_at p v))
+              after (further (take f.kept os) (state_at p v)
+              (subst (λ (q : Snapshot). TakesBack f.undo (take f.kept os) q (state_at p v)) before
               h.0.back)));
         },
-        subst (λ m. AreFrames p (drop m (o ∷ os)) fs) (sym one) h.1,
+        subst (λ (qs : List Touched). AreFrames p qs fs) (sym (kept_before more os f.kept)) h.1,
       ),
       steps,
     )
@@ -194,33 +244,34 @@ lowest p t n f h one read =
 
 -- the thread of the lowest frame took the last step
 pub lowest_last : (p : Program) (t : Trail) (n : ℕ) (f : Frame) (u : ℕ) → IsTrail p t
-    → IsLowest p t n f → t.node.last ≡ Some u → f.thread ≡ u
+    → IsLowest p t n f → t.node.last ≡ Some u → f.undo.thread ≡ u
 lowest_last p t n f u h l last =
     let v : List ℕ = path (reverse (take n t.frames.items)) in
-    let e : Some f.thread ≡ Some u =
-    sym (last_of-push (v ++ replicate f.further f.thread) f.thread)
-    ∙ (ap last_of (append_assoc v (replicate f.further f.thread) (f.thread ∷ []) ∙ sym l.steps)
+    let k : ℕ = f.undo.thread in
+    let e : Some k ≡ Some u =
+    sym (last_of-push (v ++ replicate f.further k) k)
+    ∙ (ap last_of (append_assoc v (replicate f.further k) (k ∷ []) ∙ sym l.steps)
     ∙ (sym h.node.reaches.last ∙ last)) in
     cc
 
--- and it has no more further steps than there is memory for
+-- and no more is kept of its further steps than there is memory for
 pub lowest_few : (p : Program) (t : Trail) (n : ℕ) (f : Frame) → IsTrail p t → IsLowest p t n f
-    → f.further ≤ length t.touched.items
+    → f.kept ≤ length t.touched.items
 lowest_few p t n f h l =
     let a = l.frames.0.all in
-    let b = length-take f.further (touched_above t) in
-    let d = length-reverse (take t.further t.touched.items) in
-    let e = length-take t.further t.touched.items in
+    let b = length-take f.kept (touched_above t) in
+    let d = length-reverse (take t.kept t.touched.items) in
+    let e = length-take t.kept t.touched.items in
     omega (arith, a, b, d, e)
 
--- nor than there are in all
+-- nor than is kept in all
 pub lowest_fewer : (p : Program) (t : Trail) (n : ℕ) (f : Frame) → IsTrail p t → IsLowest p t n f
-    → f.further ≤ t.further
+    → f.kept ≤ t.kept
 lowest_fewer p t n f h l =
     let a = l.frames.0.all in
-    let b = length-take f.further (touched_above t) in
-    let d = length-reverse (take t.further t.touched.items) in
-    let e = length-take t.further t.touched.items in
+    let b = length-take f.kept (touched_above t) in
+    let d = length-reverse (take t.kept t.touched.items) in
+    let e = length-take t.kept t.touched.items in
     omega (arith, a, b, d, e)
 
 -- it has a step at least
@@ -229,8 +280,8 @@ pub lowest_steps : (p : Program) (t : Trail) (n : ℕ) (f : Frame) → IsTrail p
 lowest_steps p t n f h l =
     ap length l.steps ∙ (length-append (path (reverse (take n t.frames.items))) (run_of f)
     ∙ ap (λ k. length (path (reverse (take n t.frames.items))) + k)
-    (length_push (replicate f.further f.thread) f.thread
-    ∙ ap (λ k. k + 1) (length-replicate f.further f.thread)))
+    (length_push (replicate f.further f.undo.thread) f.undo.thread
+    ∙ ap (λ k. k + 1) (length-replicate f.further f.undo.thread)))
 
 -- what holds of each from the end holds of each
 pub all_reversed : {X : Type 0} (P : X → Type 0) (xs : List X) → All P (reverse xs) → All P xs
@@ -242,14 +293,14 @@ all_reversed {X} P xs h = λ k d l.
 
 -- what its further steps touched, and what those above it did
 pub record HasParts (t : Trail) (m : ℕ) (f : Frame) : Type 0 where
-  pub own : reverse (touched_from t m) ≡ take f.further (touched_above t)
-  pub others : reverse (take m t.touched.items) ≡ drop f.further (touched_above t)
+  pub own : reverse (touched_from t m) ≡ take f.kept (touched_above t)
+  pub others : reverse (take m t.touched.items) ≡ drop f.kept (touched_above t)
 
-pub touched_parts : (t : Trail) (m : ℕ) (f : Frame) → t.further ≤ length t.touched.items
-    → t.further ≡ m + f.further → HasParts t m f
+pub touched_parts : (t : Trail) (m : ℕ) (f : Frame) → t.kept ≤ length t.touched.items
+    → t.kept ≡ m + f.kept → HasParts t m f
 touched_parts t m f room sum =
     let T : List Touched = t.touched.items in
-    let n : ℕ = t.further in
+    let n : ℕ = t.kept in
     let all : List Touched = take n T in
     let more : m + (n - m) ≡ n = omega (arith, sum) in
     let cut : take m all ≡ take m T = take-take m n T (omega (arith, sum)) in
@@ -257,49 +308,39 @@ touched_parts t m f room sum =
     ap (λ k. drop m (take k T)) (sym more) ∙ drop-take m (n - m) T in
     let parts : reverse all ≡ reverse (drop m all) ++ reverse (take m all) =
     ap reverse (sym (take-append-drop m all)) ∙ reverse-append (take m all) (drop m all) in
-    let long : length (reverse (drop m all)) ≡ f.further =
+    let long : length (reverse (drop m all)) ≡ f.kept =
     let a = length-reverse (drop m all) in let b = length-drop m all in
     let l = length-take n T in omega (arith, a, b, l, room, sum) in
     record {
-      own = ap reverse (sym rest) ∙ sym (ap (take f.further) parts
-          ∙ take_at (reverse (drop m all)) (reverse (take m all)) f.further long);
-      others = ap reverse (sym cut) ∙ sym (ap (drop f.further) parts
-          ∙ drop_at (reverse (drop m all)) (reverse (take m all)) f.further long);
+      own = ap reverse (sym rest) ∙ sym (ap (take f.kept) parts
+          ∙ take_at (reverse (drop m all)) (reverse (take m all)) f.kept long);
+      others = ap reverse (sym cut) ∙ sym (ap (drop f.kept) parts
+          ∙ drop_at (reverse (drop m all)) (reverse (take m all)) f.kept long);
     }
 
 -- it takes all steps of the lowest frame back
 pub lowest_back : (p : Program) (t : Trail) (n m : ℕ) (f : Frame) → IsTrail p t
-    → IsLowest p t n f → t.further ≡ m + f.further
+    → IsLowest p t n f → t.kept ≡ m + f.kept
     → TakesBack f.undo (reverse (touched_from t m)) t.state
     (state_at p (path (reverse (take n t.frames.items))))
 lowest_back p t n m f h l sum =
     let first : Snapshot = state_at p (path (reverse (take n t.frames.items))) in
     subst (λ (os : List Touched). TakesBack f.undo os t.state first)
     (sym (touched_parts t m f h.places sum).own)
-    (subst (λ (q : Snapshot). TakesBack f.undo (take f.further (touched_above t)) q first)
+    (subst (λ (q : Snapshot). TakesBack f.undo (take f.kept (touched_above t)) q first)
     (sym (h.node.reaches.state ∙ ap (state_at p) l.steps)) l.frames.0.back)
-
--- the last step is forgotten after so many others
-pub shorter : (w v x : List ℕ) (n k : ℕ) → v ≡ take (length w - n) w → k ≡ length v
-    → x ≡ take (k - 1) v → x ≡ take (length w - n - 1) w
-shorter w v x n k e count h =
-    let long : length v ≡ length w - n =
-    let a = ap length e in let b = length-take (length w - n) w in omega (arith, a, b) in
-    let same : k - 1 ≡ length w - n - 1 = omega (arith, count, long) in
-    h ∙ ((λ i. take (same i) (e i))
-    ∙ take-take (length w - n - 1) (length w - n) w (omega arith))
 
 -- back to the node above
 pub trail_left : (p : Program) (old new : Trail) (n m : ℕ) (f : Frame) → IsTrail p old →
     old.depth ≡ n + 1 → new.depth ≡ n → f ≡ get_or old.frames.items n f
-    → old.further ≡ m + f.further → new.further ≡ m →
+    → old.kept ≡ m + f.kept → new.kept ≡ m →
     new.steps.items ≡ take (length old.steps.items - f.further - 1) old.steps.items →
     new.frames.items ≡ old.frames.items → new.touched.items ≡ old.touched.items →
     new.state ≡ undone f.undo
     (with_all_touched (reverse (touched_from old m)) old.state) →
     new.node ≡ f.node → new.contenders ≡ f.contenders → new.base ≡ old.base
     → IsTrail p new × IsLeft old new
-trail_left p old new n m f h one depth read sum further items frames touched back node contend
+trail_left p old new n m f h one depth read sum kept items frames touched back node contend
     base =
     let L = lowest p old n f h one read in
     let v : List ℕ = path (reverse (take n old.frames.items)) in
@@ -312,8 +353,8 @@ trail_left p old new n m f h one depth read sum further items frames touched bac
     let up : above new ≡ reverse (take n old.frames.items) =
     λ i. reverse (take (depth i) (frames i)) in
     let parts = touched_parts old m f h.places sum in
-    let rest : touched_above new ≡ drop f.further (touched_above old) =
-    (λ i. reverse (take (further i) (touched i))) ∙ parts.others in
+    let rest : touched_above new ≡ drop f.kept (touched_above old) =
+    (λ i. reverse (take (kept i) (touched i))) ∙ parts.others in
     let at : new.state ≡ state_at p v =
     back ∙ (lowest_back p old n m f h L sum).back in (
       record {
@@ -324,11 +365,11 @@ trail_left p old new n m f h one depth read sum further items frames touched bac
         contenders = subst (λ (c : Contenders). HasContenders c p new.state) (sym contend)
             (subst (HasContenders f.contenders p) (sym at) L.frames.0.contenders);
         frames = subst (λ (os : List Touched). AreFrames p os (above new)) (sym rest)
-            (subst (AreFrames p (drop f.further (touched_above old))) (sym up) L.frames.1);
+            (subst (AreFrames p (drop f.kept (touched_above old))) (sym up) L.frames.1);
         steps = steps ∙ ap path (sym up);
         room = let r = h.room in let k = ap length frames in omega (arith, r, k, one, depth);
         places = let r = h.places in let k = ap length touched in
-            omega (arith, r, k, sum, further);
+            omega (arith, r, k, sum, kept);
       },
       record {
         frame = f;
@@ -346,20 +387,20 @@ pub left_fewer : (old new : Trail) → IsLeft old new
 left_fewer old new h =
     let f : Frame = h.frame in
     let a = ap length h.steps ∙ length-append new.steps.items (run_of f) in
-    let b = length_push (replicate f.further f.thread) f.thread in
+    let b = length_push (replicate f.further f.undo.thread) f.undo.thread in
     omega (arith, a, b)
 
 -- the same where the walk doesn't stand at that node yet
 pub taken_back : (p : Program) (old new : Trail) (n m : ℕ) (f : Frame) → IsTrail p old →
     old.depth ≡ n + 1 → new.depth ≡ n → f ≡ get_or old.frames.items n f
-    → old.further ≡ m + f.further → new.further ≡ m →
+    → old.kept ≡ m + f.kept → new.kept ≡ m →
     new.steps.items ≡ take (length old.steps.items - f.further - 1) old.steps.items →
     new.frames.items ≡ old.frames.items → new.touched.items ≡ old.touched.items →
     new.state ≡ undone f.undo
     (with_all_touched (reverse (touched_from old m)) old.state) →
     new.base ≡ old.base → IsTakenBack p old new f
-taken_back p old new n m f h one depth read sum further items frames touched back base =
-    let both = trail_left p old (at_frame new f) n m f h one depth read sum further items frames
+taken_back p old new n m f h one depth read sum kept items frames touched back base =
+    let both = trail_left p old (at_frame new f) n m f h one depth read sum kept items frames
     touched back refl refl base in
     record {
       read = read ∙ (λ i. get_or (sym frames i) (sym depth i) f);
@@ -376,13 +417,13 @@ pub trail_entered : (p : Program) (old new : Trail) (S : List Frame) (t : ℕ) (
     new.frames.items ≡ set S old.depth
     (record {
       node = old.node;
-      thread = t;
       further = 0;
+      kept = 0;
       contenders = old.contenders;
       undo = u;
     }) →
     new.depth ≡ old.depth + 1 → new.touched.items ≡ old.touched.items
-    → new.further ≡ old.further →
+    → new.kept ≡ old.kept →
     new.state ≡ step p old.state t → IsOf p new.state → HasContenders new.contenders p new.state
     → u.thread ≡ t → IsRecordOf u new.state
     → undone u new.state ≡ old.state →
@@ -390,11 +431,11 @@ pub trail_entered : (p : Program) (old new : Trail) (S : List Frame) (t : ℕ) (
     → new.node ≡ record next { enabled = enabled; switches = switches } → new.base ≡ old.base →
     IsTrail p new × IsEntered old new t next.asleep
 trail_entered p old new S t u next enabled switches h after on there same items frames depth
-    touched further stepped of' contend own r back masked leaving node base =
+    touched kept stepped of' contend own r back masked leaving node base =
     let f : Frame = record {
       node = old.node;
-      thread = t;
       further = 0;
+      kept = 0;
       contenders = old.contenders;
       undo = u;
     } in
@@ -402,7 +443,7 @@ trail_entered p old new S t u next enabled switches h after on there same items 
     (λ i. reverse (take (depth i) (frames i)))
     ∙ one_more S old.frames.items f old.depth there same in
     let rest : touched_above new ≡ touched_above old =
-    λ i. reverse (take (further i) (touched i)) in
+    λ i. reverse (take (kept i) (touched i)) in
     let frame = frame_entered p old.steps.items (path (above old)) old.state new.state old.node t u
     old.contenders h.node h.steps stepped back h.state h.contenders own r in (
       record {
@@ -414,10 +455,11 @@ trail_entered p old new S t u next enabled switches h after on there same items 
         contenders = contend;
         frames = subst (λ (os : List Touched). AreFrames p os (above new)) (sym rest)
             (subst (AreFrames p (touched_above old)) (sym up) (frame, h.frames));
-        steps = items ∙ (ap (λ (x : List ℕ). x ++ t ∷ []) h.steps ∙ ap path (sym up));
+        steps = items ∙ (ap (λ (x : List ℕ). x ++ t ∷ []) h.steps
+            ∙ (ap (λ k. path (above old) ++ k ∷ []) (sym own) ∙ ap path (sym up)));
         room = let k : length new.frames.items ≡ length S =
             ap length frames ∙ length-set S old.depth f in omega (arith, k, depth, there);
-        places = let r = h.places in let k = ap length touched in omega (arith, r, k, further);
+        places = let r = h.places in let k = ap length touched in omega (arith, r, k, kept);
       },
       record {
         steps = items;
@@ -437,15 +479,18 @@ trail_entered p old new S t u next enabled switches h after on there same items 
 
 -- one step further in the lowest frame
 pub trail_extended : (p : Program) (old new : Trail) (n t : ℕ) (f : Frame) (u : Undo)
-    (o : Touched) (T : List Touched) (next : Node) (enabled switches : Mask) →
-    IsTrail p old → f.thread ≡ t → IsNext old.node t next → is_enabled p old.state t ≡ true →
+    (o : Touched) (next : Node) (enabled switches : Mask) →
+    IsTrail p old → f.undo.thread ≡ t → IsNext old.node t next → is_enabled p old.state t ≡ true →
     old.depth ≡ n + 1 → old.base < old.depth → f ≡ get_or old.frames.items n f →
-    old.further < length T → take old.further T ≡ take old.further old.touched.items →
     new.steps.items ≡ old.steps.items ++ t ∷ [] →
-    new.frames.items ≡ set old.frames.items n
-    (record f { further = f.further + 1; undo = u }) →
-    new.depth ≡ old.depth → new.touched.items ≡ set T old.further o
-    → new.further ≡ old.further + 1 →
+    new.frames.items ≡ set old.frames.items n (record f {
+      further = f.further + 1;
+      kept = f.kept + length (kept_of o);
+      undo = u;
+    }) →
+    new.depth ≡ old.depth
+    → take new.kept new.touched.items ≡ take old.kept old.touched.items ++ kept_of o
+    → new.kept ≤ length new.touched.items →
     new.state ≡ step p old.state t → IsOf p new.state → HasContenders new.contenders p new.state
     → u.thread ≡ t →
     ((qs : List Touched) → (q : Snapshot) → TakesBack f.undo qs old.state q
@@ -453,22 +498,26 @@ pub trail_extended : (p : Program) (old new : Trail) (n t : ℕ) (f : Frame) (u 
     HasEnabled enabled p new.state → HasSwitches switches (Some t) enabled
     → new.node ≡ record next { enabled = enabled; switches = switches } → new.base ≡ old.base →
     IsTrail p new × IsExtended old new t next.asleep
-trail_extended p old new n t f u o T next enabled switches h same_thread after on one within read
-    there same
-    items frames depth touched count stepped of' contend own further masked leaving node base =
+trail_extended p old new n t f u o next enabled switches h same_thread after on one within read
+    items frames depth touched places stepped of' contend own further masked leaving node base =
     let L = lowest p old n f h one read in
     let S : List Frame = old.frames.items in
     let fs : List Frame = reverse (take n S) in
-    let g : Frame = record f { further = f.further + 1; undo = u } in
+    let g : Frame = record f {
+      further = f.further + 1;
+      kept = f.kept + length (kept_of o);
+      undo = u;
+    } in
     let below : n < length S = let r = h.room in omega (arith, r, one) in
     let up : above new ≡ g ∷ fs =
     (λ i. reverse (take ((depth ∙ one) i) (frames i))) ∙ one_more S S g n below refl in
-    let more : touched_above new ≡ o ∷ touched_above old =
-    (λ i. reverse (take (count i) (touched i)))
-    ∙ one_more T old.touched.items o old.further there same in
-    let longer = frame_extended p fs old.steps.items old.state new.state f u o (touched_above old)
-    L.frames L.steps h.node.reaches.state (stepped ∙ ap (step p old.state) (sym same_thread))
-    (own ∙ sym same_thread) further in (
+    let more : touched_above new ≡ kept_of o ++ touched_above old =
+    ap reverse touched ∙ (reverse-append (take old.kept old.touched.items) (kept_of o)
+    ∙ ap (λ (os : List Touched). os ++ touched_above old) (kept_reversed o)) in
+    let longer = frame_extended p fs old.steps.items old.state new.state f u (kept_of o)
+    (touched_above old) L.frames L.steps h.node.reaches.state
+    (stepped ∙ ap (step p old.state) (sym same_thread)) (own ∙ sym same_thread)
+    (λ qs q b. kept_back u o qs new.state q (further qs q b)) in (
       record {
         well_formed = h.well_formed;
         node = subst (IsNode p new.steps.items new.state) (sym node)
@@ -477,13 +526,12 @@ trail_extended p old new n t f u o T next enabled switches h same_thread after o
         state = of';
         contenders = contend;
         frames = subst (λ (os : List Touched). AreFrames p os (above new)) (sym more)
-            (subst (AreFrames p (o ∷ touched_above old)) (sym up) longer.0);
+            (subst (AreFrames p (kept_of o ++ touched_above old)) (sym up) longer.0);
         steps = items ∙ (ap (λ u. old.steps.items ++ u ∷ []) (sym same_thread)
             ∙ (longer.1 ∙ ap path (sym up)));
         room = let k : length new.frames.items ≡ length S =
             ap length frames ∙ length-set S n g in omega (arith, k, depth, one, below);
-        places = let k : length new.touched.items ≡ length T =
-            ap length touched ∙ length-set T old.further o in omega (arith, k, count, there);
+        places = places;
       },
       record {
         steps = items;
@@ -513,15 +561,15 @@ extended_asleep old new t a b e h = subst (λ (m : Mask). IsExtended old new t m
 pub trail_same : (p : Program) (old new : Trail) → IsTrail p old
     → new.steps.items ≡ old.steps.items → new.depth ≡ old.depth →
     take old.depth new.frames.items ≡ take old.depth old.frames.items →
-    old.depth ≤ length new.frames.items → new.further ≡ old.further →
-    take old.further new.touched.items ≡ take old.further old.touched.items →
-    old.further ≤ length new.touched.items → new.state ≡ old.state →
+    old.depth ≤ length new.frames.items → new.kept ≡ old.kept →
+    take old.kept new.touched.items ≡ take old.kept old.touched.items →
+    old.kept ≤ length new.touched.items → new.state ≡ old.state →
     new.contenders ≡ old.contenders → IsNode p old.steps.items old.state new.node → IsTrail p new
-trail_same p old new h items depth frames room further touched places state contend node =
+trail_same p old new h items depth frames room kept touched places state contend node =
     let up : above new ≡ above old = (λ i. reverse (take (depth i) new.frames.items)) ∙
     ap reverse frames in
     let rest : touched_above new ≡ touched_above old =
-    (λ i. reverse (take (further i) new.touched.items)) ∙ ap reverse touched in
+    (λ i. reverse (take (kept i) new.touched.items)) ∙ ap reverse touched in
     record {
       well_formed = h.well_formed;
       node = node_same p new.steps.items old.steps.items new.state old.state new.node new.node node
@@ -533,7 +581,7 @@ trail_same p old new h items depth frames room further touched places state cont
           (subst (AreFrames p (touched_above old)) (sym up) h.frames);
       steps = items ∙ (h.steps ∙ ap path (sym up));
       room = omega (arith, depth, room);
-      places = omega (arith, further, places);
+      places = omega (arith, kept, places);
     }
 
 node_opened : (p : Program) (w : List ℕ) (s : Snapshot) (n m : Node) (todo : Mask) → IsNode p w s n
@@ -544,14 +592,14 @@ node_opened p w s n m todo h e = subst (IsNode p w s) (sym e)
 
 -- the same place, where the frames and what was touched are as they were
 pub opened : (p : Program) (old new : Trail) → IsTrail p old → new.steps.items ≡ old.steps.items
-    → new.depth ≡ old.depth → new.frames.items ≡ old.frames.items → new.further ≡ old.further
-    → take old.further new.touched.items ≡ take old.further old.touched.items
-    → old.further ≤ length new.touched.items → new.state ≡ old.state
+    → new.depth ≡ old.depth → new.frames.items ≡ old.frames.items → new.kept ≡ old.kept
+    → take old.kept new.touched.items ≡ take old.kept old.touched.items
+    → old.kept ≤ length new.touched.items → new.state ≡ old.state
     → new.contenders ≡ old.contenders → new.base ≡ old.base
     → new.node ≡ record old.node { todo = new.node.todo } → IsOpened p old new
-opened p old new h items depth frames further touched places state contend base node = record {
+opened p old new h items depth frames kept touched places state contend base node = record {
   trail = trail_same p old new h items depth (ap (take old.depth) frames)
-      (let r = h.room in let e = ap length frames in omega (arith, r, e)) further touched places
+      (let r = h.room in let e = ap length frames in omega (arith, r, e)) kept touched places
       state contend (node_opened p old.steps.items old.state old.node new.node new.node.todo
       h.node node);
   steps = items;
@@ -564,12 +612,12 @@ opened p old new h items depth frames further touched places state contend base 
 -- and where only the steps were written anew, or what is to be tried
 pub opened_here : (p : Program) (old new : Trail) → IsTrail p old
     → new.steps.items ≡ old.steps.items → new.depth ≡ old.depth
-    → new.frames.items ≡ old.frames.items → new.further ≡ old.further
+    → new.frames.items ≡ old.frames.items → new.kept ≡ old.kept
     → new.touched.items ≡ old.touched.items → new.state ≡ old.state
     → new.contenders ≡ old.contenders → new.base ≡ old.base
     → new.node ≡ record old.node { todo = new.node.todo } → IsOpened p old new
-opened_here p old new h items depth frames further touched state contend base node =
-    opened p old new h items depth frames further (ap (take old.further) touched)
+opened_here p old new h items depth frames kept touched state contend base node =
+    opened p old new h items depth frames kept (ap (take old.kept) touched)
     (let r = h.places in let e = ap length touched in omega (arith, r, e)) state contend base node
 
 pub opened_twice : (p : Program) (a b c : Trail) → IsOpened p a b → IsOpened p b c

@@ -118,7 +118,7 @@ back_further mode p first old new place h done below trail left =
     let v : List ℕ = new.steps.items in
     let one : length v + 1 ≤ length w =
     let a = ap length left.steps ∙ length-append v (run_of left.frame) in
-    let b = length_push (replicate left.frame.further left.frame.thread) left.frame.thread in
+    let b = length_push (replicate left.frame.further left.frame.undo.thread) left.frame.undo.thread in
     omega (arith, a, b) in
     let few : length w ≤ length first.steps.items =
     omega (arith, ap length h.steps, length-take (length w) first.steps.items) in

@@ -1,11 +1,11 @@
 //! The way from the start of a program to where a walk stands, with what takes each step back.
 
-ghost use Rattle.std.specs.Prelude.{◌≡◌, ◌+◌, ◌-◌, ◌<◌, ◌≤◌, ◌^◌, true, false, Some, Ok, IfOk, IfErr, OnOk, IsTrue, All, length, take, get_or, reverse};
+ghost use Rattle.std.specs.Prelude.{◌≡◌, ◌+◌, ◌-◌, ◌++◌, ◌<◌, ◌≤◌, ◌^◌, true, false, Some, Ok, IfOk, IfErr, OnOk, IsTrue, All, length, take, get_or, reverse};
 ghost use Rattle.semantics.specs.Machine.{start, is_enabled};
 ghost use Rattle.semantics.specs.Mask.{has, no_threads};
 ghost use Rattle.semantics.specs.Schedules.{runs};
 ghost use Rattle.semantics.specs.Undoing.{IsTouched, with_all_touched};
-ghost use Rattle.walk.specs.inner.Paths.{touched_from, IsTrail, IsEntered, IsExtended, IsLeft, IsTakenBack, IsNext, IsOpened, with_node, at_node, at_frame, leaves, HasSwitches};
+ghost use Rattle.walk.specs.inner.Paths.{touched_from, kept_of, IsTrail, IsEntered, IsExtended, IsLeft, IsTakenBack, IsNext, IsOpened, with_node, at_node, at_frame, leaves, HasSwitches};
 
 use crate::hints::EndMemory;
 use crate::prefixes::shared_length;
@@ -33,14 +33,15 @@ pub struct Node {
     pub used: u32,
 }
 
-/// A node above the one where a walk stands, the thread that went on from there, and how to take
-/// its steps back.
+/// A node above the one where a walk stands, and how to take back the steps of the thread that went
+/// on from there.
 #[derive(Clone, Copy, Debug)]
 pub struct Frame {
     pub node: Node,
-    pub thread: u8,
-    /// How many further steps of the thread came right after the first one.
+    /// How many further steps of its thread came right after the first one.
     pub further: usize,
+    /// How many of these touched more than the thread.
+    pub kept: usize,
     /// Who is about to take what at the node.
     pub contenders: Contenders,
     pub undo: Undo,
@@ -56,11 +57,11 @@ pub struct Trail {
     pub frames: Vec<Frame>,
     /// How many frames are in use.
     pub depth: usize,
-    /// What the further steps of all frames touched; what comes after them is there to be written
+    /// What the further steps of all frames touched; what comes after that is there to be written
     /// over.
     pub touched: Vec<Touched>,
-    /// How many further steps there are in all frames.
-    pub further: usize,
+    /// How much of it is in use.
+    pub kept: usize,
     pub node: Node,
     /// Who is about to take what.
     pub contenders: Contenders,
@@ -155,8 +156,8 @@ impl Frame {
                 last: None,
                 used: 0,
             },
-            thread: 0,
             further: 0,
+            kept: 0,
             contenders: Contenders::none(),
             undo: Undo::new(),
         }
@@ -179,16 +180,37 @@ fn make_frame(frames: &mut Vec<Frame>, depth: usize) -> Result<(), AllocError>
 
 // Sees to it that there is a place for what one more step touches.
 #[inline(always)]
-fn make_place(touched: &mut Vec<Touched>, further: usize) -> Result<(), AllocError>
-    requires { further ≤ length touched.old.items }
-    ensures there { OnOk result (further < length touched.new.items) }
-    ensures room { further ≤ length touched.new.items }
-    ensures same { take further touched.new.items ≡ take further touched.old.items }
+fn make_place(touched: &mut Vec<Touched>, kept: usize) -> Result<(), AllocError>
+    requires { kept ≤ length touched.old.items }
+    ensures there { OnOk result (kept < length touched.new.items) }
+    ensures room { kept ≤ length touched.new.items }
+    ensures same { take kept touched.new.items ≡ take kept touched.old.items }
 {
-    if touched.len() <= further {
-        touched.push(Touched::Variable(0, 0))?;
+    if touched.len() <= kept {
+        touched.push(Touched::Nothing)?;
     }
     Ok(())
+}
+
+// Keeps what a further step touched after so much else, if it touched something, and counts it.
+#[inline(always)]
+fn keep(touched: &mut Vec<Touched>, kept: &mut usize, own: &mut usize, one: Touched)
+    requires there { kept.old < length touched.old.items }
+    requires fits { own.old + 1 < 2 ^ 64 }
+    ensures kept { kept.new ≡ kept.old + length (kept_of one) }
+    ensures own { own.new ≡ own.old + length (kept_of one) }
+    ensures touched { take kept.new touched.new.items
+        ≡ take kept.old touched.old.items ++ kept_of one }
+    ensures room { kept.new ≤ length touched.new.items }
+{
+    match one {
+        Touched::Nothing => {}
+        Touched::Variable(_, _) | Touched::Owner(_, _) | Touched::Count(_, _) => {
+            touched[*kept] = one;
+            *kept += 1;
+            *own += 1;
+        }
+    }
 }
 
 impl Trail {
@@ -218,7 +240,7 @@ impl Trail {
             frames: Vec::new(alloc),
             depth: 0,
             touched: Vec::new(alloc),
-            further: 0,
+            kept: 0,
             node,
             contenders,
             base: 0,
@@ -269,8 +291,8 @@ impl Trail {
         self.steps.push(thread)?;
         let frame = &mut self.frames[depth];
         frame.node = from;
-        frame.thread = thread;
         frame.further = 0;
+        frame.kept = 0;
         frame.contenders = self.contenders;
         let enabled = self.state.step_into(
             program,
@@ -317,7 +339,7 @@ impl Trail {
         ensures same { result ≡ Ok false → IsOpened program.now self.old self.new }
         ensures node { result ≡ Ok false → self.new.node ≡ self.old.node }
     {
-        make_place(&mut self.touched, self.further)?;
+        make_place(&mut self.touched, self.kept)?;
         self.steps.push(thread)?;
         let frame = &mut self.frames[self.depth - 1];
         let mask = self.node.enabled;
@@ -328,8 +350,7 @@ impl Trail {
         {
             Some((touched, enabled)) => {
                 frame.further += 1;
-                self.touched[self.further] = touched;
-                self.further += 1;
+                keep(&mut self.touched, &mut self.kept, &mut frame.kept, touched);
                 self.node.asleep = Mask::empty();
                 self.node.enabled = enabled;
                 self.node.switches = switches_after(enabled, thread);
@@ -342,32 +363,24 @@ impl Trail {
         }
     }
 
-    // Gives back what so many further steps touched, and forgets the steps.
+    // Gives back the last that was kept of what further steps touched, so much of it.
     #[inline(always)]
     fn put_back(&mut self, count: usize)
-        requires count { count ≤ self.old.further }
-        requires steps { count ≤ length self.old.steps.items }
-        requires places { self.old.further ≤ length self.old.touched.items }
+        requires count { count ≤ self.old.kept }
+        requires places { self.old.kept ≤ length self.old.touched.items }
         requires there { All (IsTouched self.old.state)
-            (touched_from self.old (self.old.further - count)) }
+            (touched_from self.old (self.old.kept - count)) }
         ensures state { self.new.state ≡ with_all_touched
-            (reverse (touched_from self.old (self.old.further - count))) self.old.state }
-        ensures steps { self.new.steps.items
-            ≡ take (length self.old.steps.items - count) self.old.steps.items }
-        ensures further { self.new.further ≡ self.old.further - count }
-        ensures same { self.new ≡ record self.old {
-          state = self.new.state;
-          steps = self.new.steps;
-          further = self.new.further;
-        } }
+            (reverse (touched_from self.old (self.old.kept - count))) self.old.state }
+        ensures kept { self.new.kept ≡ self.old.kept - count }
+        ensures same { self.new
+            ≡ record self.old { state = self.new.state; kept = self.new.kept } }
     {
         if count > 0 {
-            let end = self.further;
+            let end = self.kept;
             let start = end - count;
             self.state.put_back(&self.touched[start..end]);
-            let shorter = self.steps.len() - count;
-            self.steps.truncate(shorter);
-            self.further = start;
+            self.kept = start;
         }
     }
 
@@ -382,10 +395,12 @@ impl Trail {
             (f : Frame) × IsTakenBack _program.now (at_node self.old n c) self.new f }
     {
         let depth = self.depth - 1;
-        let further = self.frames[depth].further;
-        self.put_back(further);
-        self.state.undo(&self.frames[depth].undo);
-        self.steps.pop();
+        let kept = self.frames[depth].kept;
+        self.put_back(kept);
+        let frame = &self.frames[depth];
+        self.state.undo(&frame.undo);
+        let shorter = self.steps.len() - frame.further - 1;
+        self.steps.truncate(shorter);
         self.depth = depth;
     }
 

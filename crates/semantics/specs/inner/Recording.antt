@@ -1,5 +1,5 @@
 -- What a step writes into its record.
-use Rattle.std.specs.Prelude.{◌≡◌, ◌≢◌, ℕ, ◌<◌, ◌≤◌, Bool, true, false, nat_eq, nat_lt, ◌&&◌, ◌||◌, List, [], length, Option, Some, slice_get, slice_set, IsTrue, if◌then◌else◌}
+use Rattle.std.specs.Prelude.{◌≡◌, ◌≢◌, ℕ, ℤ, ◌<◌, ◌≤◌, Bool, true, false, nat_eq, nat_lt, ◌&&◌, ◌||◌, List, [], length, Option, Some, slice_get, slice_set, IsTrue, if◌then◌else◌}
 use Rattle.guest_code.specs.declared.limits.TheConstants.{THREADS, LOCALS, OBJECTS}
 use Rattle.guest_code.specs.declared.program.Instruction.{Instruction}
 use Rattle.guest_code.specs.declared.program.Instruction.TheVariants.{Load, Store, Add, Cas, Lock, Unlock, Wait as WaitFor, Signal, Broadcast, Acquire, Release, Set, Assert, SkipIfZero, Skip}
@@ -15,6 +15,8 @@ use Rattle.semantics.specs.declared.contenders.Contenders.{Contenders}
 use Rattle.semantics.specs.declared.contenders.Resource.{Resource}
 use Rattle.semantics.specs.declared.contenders.Resource.TheVariants.{Mutex, Semaphore}
 use Rattle.semantics.specs.declared.mask.Mask.{Mask}
+use Rattle.semantics.specs.declared.state.VariableAction.{VariableAction}
+use Rattle.semantics.specs.declared.state.VariableAction.TheVariants.{Load as Loads, Store as Stores, Add as Adds, Cas as Swaps}
 use Rattle.semantics.specs.declared.state.Action.{Action}
 use Rattle.semantics.specs.declared.state.Action.TheVariants.{OnVariable, OnMutex, Wait as Waits, OnCondition, OnSemaphore}
 use Rattle.semantics.specs.declared.undo.Saved.{Saved}
@@ -172,9 +174,16 @@ pub record HasGoneOn (p : Program) (s : Snapshot) (t : ℕ) (old kept : Saved) (
   pub resource : HasResource after.others new
   pub free : IsTrue after.free → IsFree (code_of p t) (thread_at new t)
 
+-- what an action on a variable of this value touches: a load leaves it as it is
+abbrev pub touched_by : VariableAction → ℕ → ℤ → Touched
+touched_by (Loads r) x v = Nothing
+touched_by (Stores a) x v = TheVariable x v
+touched_by (Adds r a) x v = TheVariable x v
+touched_by (Swaps r a b) x v = TheVariable x v
+
 -- what an action touches alone, as it is
 abbrev pub HasTouched : Touched → Snapshot → Action → Type 0
-HasTouched o s (OnVariable x d) = o ≡ TheVariable x (value_of s x)
+HasTouched o s (OnVariable x d) = o ≡ touched_by d x (value_of s x)
 HasTouched o s (OnMutex m d) = o ≡ TheOwner m (owner_of s m)
 HasTouched o s (Waits c m) = ⊥
 HasTouched o s (OnCondition c d) = (o ≡ Nothing) × (queue_of s c ≡ [])

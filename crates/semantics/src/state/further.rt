@@ -8,10 +8,10 @@ ghost use Rattle.semantics.specs.Reachable.{IsOf, IsValidAction, StandsInCode};
 ghost use Rattle.semantics.specs.Contenders.{HasContenders};
 ghost use Rattle.semantics.specs.Mask.{HasEnabled};
 ghost use Rattle.semantics.specs.Undoing.{IsTouched, TakesBack, restored, touches_one, with_all_touched, with_touched};
-ghost use Rattle.semantics.specs.inner.Recording.{HasGoneOn, IsFree, is_access};
+ghost use Rattle.semantics.specs.inner.Recording.{HasGoneOn, IsFree, is_access, touched_by};
 ghost use Rattle.semantics.specs.declared.state.Action.TheVariants.{OnVariable, OnMutex, OnCondition, OnSemaphore};
 ghost use Rattle.semantics.specs.declared.undo.Touched.{Touched};
-ghost use Rattle.semantics.specs.declared.undo.Touched.TheVariants.{Variable as TheVariable, Owner as TheOwner, Count as TheCount};
+ghost use Rattle.semantics.specs.declared.undo.Touched.TheVariants.{Owner as TheOwner, Count as TheCount};
 
 use crate::action::{After, Others};
 use crate::contenders::Contenders;
@@ -26,7 +26,8 @@ use guest_code::program::{Instruction, Program};
 
 impl State {
     /// One more step of the thread whose step this record takes back, so that the record and what
-    /// further steps touched take them all back. Answers what it touched and, where the mask has
+    /// further steps touched take them all back. Answers what it changed but for its thread, as it
+    /// was, and, where the mask has
     /// the threads that are enabled before the step, and the contenders are those before it, the
     /// threads that are enabled after it; the contenders are those after it then. It takes no
     /// memory. `None` where threads are called, or where the thread waits or was woken: such a step
@@ -211,13 +212,18 @@ impl State {
         }
     }
 
-    // A variable, as it is.
+    // A variable, as it is, where a step doesn't leave it so.
     #[inline(always)]
-    fn variable_as_is(&self, x: usize) -> Touched
+    fn variable_as_is(&self, x: usize, action: VariableAction) -> Touched
         requires { x < length self.now.vars }
-        ensures { result ≡ TheVariable x (value_of self.now x) }
+        ensures { result ≡ touched_by action x (value_of self.now x) }
     {
-        Touched::Variable(x, self.variables[x])
+        match action {
+            VariableAction::Load(_) => Touched::Nothing,
+            VariableAction::Store(_) | VariableAction::Add(_, _) | VariableAction::Cas(_, _, _) => {
+                Touched::Variable(x, self.variables[x])
+            }
+        }
     }
 
     // A mutex, as it is.
@@ -257,7 +263,7 @@ impl State {
         ensures { HasGoneOn program.now self.old thread saved.old saved.new result.0 self.new
             result.1 }
     {
-        let touched = self.variable_as_is(x);
+        let touched = self.variable_as_is(x, action);
         let others = Others::Same;
         let free = self.touch_variable(program, thread, x, action, saved);
         (touched, After { others, free })

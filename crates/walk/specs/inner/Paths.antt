@@ -10,6 +10,7 @@ use Rattle.semantics.specs.Mask.{has, no_threads, HasEnabled}
 use Rattle.semantics.specs.Schedules.{state_after, one_if}
 use Rattle.semantics.specs.Execution.{Reaches}
 use Rattle.semantics.specs.declared.undo.Touched.{Touched}
+use Rattle.semantics.specs.declared.undo.Touched.TheVariants.{Variable, Owner, Count, Nothing}
 use Rattle.semantics.specs.Undoing.{TakesBack}
 use Rattle.walk.specs.declared.trail.Node.{Node}
 use Rattle.walk.specs.declared.trail.Frame.{Frame}
@@ -37,7 +38,7 @@ pub record IsNext (n : Node) (t : ℕ) (next : Node) : Type 0 where
 
 -- the steps of a frame, all of one thread
 abbrev pub run_of : Frame → List ℕ
-run_of f = replicate f.further f.thread ++ f.thread ∷ []
+run_of f = replicate f.further f.undo.thread ++ f.undo.thread ∷ []
 
 -- the steps to the node below these frames, of which the lowest comes first
 abbrev pub path : List Frame → List ℕ
@@ -60,15 +61,14 @@ pub record IsFrame (p : Program) (w : List ℕ) (os : List Touched) (f : Frame) 
   pub node : IsNode p w (state_at p w) f.node
   pub state : IsOf p (state_at p w)
   pub contenders : HasContenders f.contenders p (state_at p w)
-  pub thread : f.undo.thread ≡ f.thread
-  pub all : length os ≡ f.further
+  pub all : length os ≡ f.kept
   pub back : TakesBack f.undo os (state_at p (w ++ run_of f)) (state_at p w)
 
 -- of these frames, the lowest first, and of what their further steps touched, the last one first
 abbrev pub AreFrames : Program → List Touched → List Frame → Type 0
 AreFrames p os [] = Unit {0}
 AreFrames p os (f ∷ fs) =
-    IsFrame p (path fs) (take f.further os) f × AreFrames p (drop f.further os) fs
+    IsFrame p (path fs) (take f.kept os) f × AreFrames p (drop f.kept os) fs
 
 -- the frames of the nodes above, the lowest first
 abbrev pub above : Trail → List Frame
@@ -76,11 +76,18 @@ above t = reverse (take t.depth t.frames.items)
 
 -- what further steps touched, the last one first
 abbrev pub touched_above : Trail → List Touched
-touched_above t = reverse (take t.further t.touched.items)
+touched_above t = reverse (take t.kept t.touched.items)
 
 -- what further steps touched from the place m on
 abbrev pub touched_from : Trail → ℕ → List Touched
-touched_from t m = take (t.further - m) (drop m t.touched.items)
+touched_from t m = take (t.kept - m) (drop m t.touched.items)
+
+-- what is kept of a step that touched this
+abbrev pub kept_of : Touched → List Touched
+kept_of (Variable x v) = Variable x v ∷ []
+kept_of (Owner m o) = Owner m o ∷ []
+kept_of (Count k n) = Count k n ∷ []
+kept_of Nothing = []
 
 -- the steps lead to the state and the node, and each frame leads back to the node above
 pub record IsTrail (p : Program) (t : Trail) : Type 0 where
@@ -91,7 +98,7 @@ pub record IsTrail (p : Program) (t : Trail) : Type 0 where
   pub frames : AreFrames p (touched_above t) (above t)
   pub steps : t.steps.items ≡ path (above t)
   pub room : t.depth ≤ length t.frames.items
-  pub places : t.further ≤ length t.touched.items
+  pub places : t.kept ≤ length t.touched.items
 
 -- the same way, where the walk stands at this node
 abbrev pub with_node : Trail → Node → Trail

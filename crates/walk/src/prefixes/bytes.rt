@@ -49,7 +49,7 @@ pub fn shared_length(a: &[u8], b: &[u8]) -> usize
 pub fn is_one_longer(prefix: &Vec<u8>, steps: usize) -> bool
     ensures { IsTrue result → vec_len prefix.now ≡ steps + 1 }
 {
-    prefix.len() == steps.saturating_add(1)
+    steps < prefix.len() && prefix.len() - steps == 1
 }
 
 // Whether there is room for two more bytes.

@@ -1,8 +1,10 @@
-use Rattle.std.proofs.Common.{◌≡◌, ◌<◌, ◌∙◌, ◌-◌, ◌+◌, ℕ, ap, arith, refl, set, List, [], ◌∷◌, length, take}
+use Rattle.std.proofs.Common.{◌≡◌, ◌<◌, ◌∙◌, ◌-◌, ◌+◌, ℕ, ap, arith, refl, set, List, [], ◌∷◌, ◌++◌, length, take}
 use Rattle.std.proofs.lemmas.List.{length_push, set-get_or, take_at}
+use Rattle.semantics.specs.declared.undo.Touched.{Touched}
 use Rattle.semantics.specs.declared.undo.Undo.{Undo}
 use Rattle.semantics.specs.Mask.{no_threads}
-use Rattle.walk.proofs.TrailSteps.{extended_asleep, lone_next, lowest, lowest_last, lowest_few, opened, trail_extended}
+use Rattle.walk.specs.inner.Paths.{kept_of}
+use Rattle.walk.proofs.TrailSteps.{extended_asleep, lone_next, lowest, lowest_last, lowest_few, lowest_steps, opened, trail_extended}
 use Rattle.walk.proofs.trail.Trail.extend.Goals as goal
 
 pub step_further-requires-clause-thread : goal.step_further-requires-clause-thread
@@ -12,9 +14,9 @@ step_further-requires-clause-thread c =
     let f = c.index_mut-frame.result.now in
     let one : t.depth ≡ n + 1 = omega (arith, c.requires.base) in
     let L = lowest c.args.program.now t n f c.requires.trail one c.index_mut-frame.ensures.value in
-    let own : f.thread ≡ c.args.thread =
+    let own : f.undo.thread ≡ c.args.thread =
     lowest_last c.args.program.now t n f c.args.thread c.requires.trail L c.requires.last in
-    L.frames.0.thread ∙ own
+    own
 
 pub step_further-requires-clause-few : goal.step_further-requires-clause-few
 step_further-requires-clause-few c =
@@ -32,6 +34,16 @@ overflow_add-frame c =
     let f = c.index_mut-frame.result.now in
     let one : t.depth ≡ n + 1 = omega (arith, c.requires.base) in
     let L = lowest c.args.program.now t n f c.requires.trail one c.index_mut-frame.ensures.value in
+    let few = lowest_steps c.args.program.now t n f c.requires.trail L in
+    omega (arith, few, t.steps.ok.0, t.steps.small)
+
+pub keep-requires-clause-fits : goal.keep-requires-clause-fits
+keep-requires-clause-fits c =
+    let t = c.args.self.now in
+    let n : ℕ = t.depth - 1 in
+    let f = c.index_mut-frame.result.now in
+    let one : t.depth ≡ n + 1 = omega (arith, c.requires.base) in
+    let L = lowest c.args.program.now t n f c.requires.trail one c.index_mut-frame.ensures.value in
     let few = lowest_few c.args.program.now t n f c.requires.trail L in
     omega (arith, few, t.touched.ok.0, t.touched.small)
 
@@ -42,17 +54,24 @@ returns-in-Some-clause-trail c =
     let f = c.index_mut-frame.result.now in
     let one : t.depth ≡ n + 1 = omega (arith, c.requires.base) in
     let L = lowest c.args.program.now t n f c.requires.trail one c.index_mut-frame.ensures.value in
-    let own : f.thread ≡ c.args.thread =
+    let own : f.undo.thread ≡ c.args.thread =
     lowest_last c.args.program.now t n f c.args.thread c.requires.trail L c.requires.last in
     let within : t.base < t.depth = omega (arith, c.requires.base) in
     let next = lone_next t.node c.args.thread c.empty-self.result c.requires.todo
     c.requires.last in
+    let o = c.in-Some.touched in
+    let frames = ap (λ (k : ℕ). set t.frames.items n (record f {
+      further = f.further + 1;
+      kept = k;
+      undo = c.step_further.new.undo;
+    })) c.keep.ensures.own in
+    let touched = c.keep.ensures.touched
+    ∙ ap (λ (os : List Touched). os ++ kept_of o) c.in_ok-make_place.ensures.same in
     let both = trail_extended c.args.program.now t _ n c.args.thread f c.step_further.new.undo
-    c.in-Some.touched c.make_place.new.touched.items
-    (record t.node { asleep = c.empty-self.result }) c.in-Some.enabled
+    c.in-Some.touched (record t.node { asleep = c.empty-self.result }) c.in-Some.enabled
     c.switches_after-self.result c.requires.trail own next c.requires.enabled one
-    within c.index_mut-frame.ensures.value c.in_ok-make_place.ensures.there
-    c.in_ok-make_place.ensures.same c.in_ok-push.ensures.items refl refl refl refl
+    within c.index_mut-frame.ensures.value c.in_ok-push.ensures.items
+    frames refl touched c.keep.ensures.room
     c.in-Some.ensures.value c.in-Some.ensures.of
     (c.in-Some.ensures.contenders c.requires.trail.node.enabled c.requires.trail.contenders)
     c.in-Some.ensures.thread c.in-Some.ensures.back
@@ -68,17 +87,24 @@ returns-in-Some-clause-extended c = λ e.
     let f = c.index_mut-frame.result.now in
     let one : t.depth ≡ n + 1 = omega (arith, c.requires.base) in
     let L = lowest c.args.program.now t n f c.requires.trail one c.index_mut-frame.ensures.value in
-    let own : f.thread ≡ c.args.thread =
+    let own : f.undo.thread ≡ c.args.thread =
     lowest_last c.args.program.now t n f c.args.thread c.requires.trail L c.requires.last in
     let within : t.base < t.depth = omega (arith, c.requires.base) in
     let next = lone_next t.node c.args.thread c.empty-self.result c.requires.todo
     c.requires.last in
+    let o = c.in-Some.touched in
+    let frames = ap (λ (k : ℕ). set t.frames.items n (record f {
+      further = f.further + 1;
+      kept = k;
+      undo = c.step_further.new.undo;
+    })) c.keep.ensures.own in
+    let touched = c.keep.ensures.touched
+    ∙ ap (λ (os : List Touched). os ++ kept_of o) c.in_ok-make_place.ensures.same in
     let both = trail_extended c.args.program.now t _ n c.args.thread f c.step_further.new.undo
-    c.in-Some.touched c.make_place.new.touched.items
-    (record t.node { asleep = c.empty-self.result }) c.in-Some.enabled
+    c.in-Some.touched (record t.node { asleep = c.empty-self.result }) c.in-Some.enabled
     c.switches_after-self.result c.requires.trail own next c.requires.enabled one
-    within c.index_mut-frame.ensures.value c.in_ok-make_place.ensures.there
-    c.in_ok-make_place.ensures.same c.in_ok-push.ensures.items refl refl refl refl
+    within c.index_mut-frame.ensures.value c.in_ok-push.ensures.items
+    frames refl touched c.keep.ensures.room
     c.in-Some.ensures.value c.in-Some.ensures.of
     (c.in-Some.ensures.contenders c.requires.trail.node.enabled c.requires.trail.contenders)
     c.in-Some.ensures.thread c.in-Some.ensures.back
