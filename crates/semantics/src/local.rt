@@ -188,8 +188,10 @@ fn take_turn(code: &[Instruction], pc: usize, thread: &mut Thread, saved: &mut S
             Turn::On(pc + 1)
         }
         Instruction::SkipIfZero(e, n) => {
-            let skip = if is_zero_at(&thread.locals, e) { *n } else { 0 };
-            Turn::On(passed(code, pc, skip))
+            if is_zero_at(&thread.locals, e) {
+                return Turn::On(passed(code, pc, *n));
+            }
+            Turn::On(pc + 1)
         }
         Instruction::Skip(n) => Turn::On(passed(code, pc, *n)),
         Instruction::Lock(_) | Instruction::Acquire(_) => {

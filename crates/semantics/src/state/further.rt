@@ -2,9 +2,9 @@
 
 ghost use Rattle.std.specs.Prelude.{◌≡◌, ◌<◌, ◌≤◌, ◌∷◌, List, None, Some, IfSome, IsTrue, All, length, reverse, slice_set};
 ghost use Rattle.std.specs.Option.{is_some};
-ghost use Rattle.guest_code.specs.Program.{code_of, IsValid};
-ghost use Rattle.semantics.specs.Machine.{Snapshot, step, action_of, is_enabled, next_of, resumed, thread_at, value_of, owner_of, count_of};
-ghost use Rattle.semantics.specs.Reachable.{IsOf, IsValidAction, StandsInCode};
+ghost use Rattle.guest_code.specs.Program.{code_of, IsValid, IsValidCode};
+ghost use Rattle.semantics.specs.Machine.{Snapshot, step, performed, action_of, is_enabled, next_of, resumed, thread_at, value_of, owner_of, count_of};
+ghost use Rattle.semantics.specs.Reachable.{IsOf, IsReady, IsValidAction, StandsInCode};
 ghost use Rattle.semantics.specs.Contenders.{HasContenders};
 ghost use Rattle.semantics.specs.Mask.{HasEnabled};
 ghost use Rattle.semantics.specs.Undoing.{IsTouched, TakesBack, restored, touches_one, with_all_touched, with_touched};
@@ -15,7 +15,7 @@ ghost use Rattle.semantics.specs.declared.undo.Touched.TheVariants.{Owner as The
 
 use crate::action::{After, Others};
 use crate::contenders::Contenders;
-use crate::local::resume;
+use crate::local::{access, resume};
 use crate::mask::Mask;
 use crate::state::{
     Action, ConditionAction, MutexAction, SemaphoreAction, State, Status, VariableAction,
@@ -244,6 +244,34 @@ impl State {
         Touched::Count(k, self.counts[k])
     }
 
+    // A further step on a variable, before which the locals that it writes are kept. It is handed
+    // the thread's code: once a variable is written, the code would have to be read again.
+    #[inline(always)]
+    fn touch_variable_by(
+        &mut self,
+        _program: &Program,
+        thread: u8,
+        code: &[Instruction],
+        x: usize,
+        action: VariableAction,
+        saved: &mut Saved,
+    ) -> bool
+        requires ready { IsReady _program.now self.old thread (OnVariable x action) }
+        requires code { code.now ≡ code_of _program.now thread }
+        requires valid { IsValidCode _program.now code.now }
+        requires few { saved.old.count ≤ LOCALS }
+        ensures value { self.new ≡ performed _program.now self.old thread (OnVariable x action) }
+        ensures few { saved.new.count ≤ LOCALS }
+        ensures locals { restored saved.new (thread_at self.new thread).locals
+            ≡ restored saved.old (thread_at self.old thread).locals }
+        ensures free { IsTrue result →
+            IsFree (code_of _program.now thread) (thread_at self.new thread) }
+    {
+        let runner = &mut self.threads[thread as usize];
+        access(&mut self.variables[x], runner, saved, action);
+        resume(code, runner, saved)
+    }
+
     // A further step, on a variable.
     #[inline(always)]
     fn go_on_variable(
@@ -263,9 +291,10 @@ impl State {
         ensures { HasGoneOn program.now self.old thread saved.old saved.new result.0 self.new
             result.1 }
     {
+        let code = program.code(thread);
         let touched = self.variable_as_is(x, action);
         let others = Others::Same;
-        let free = self.touch_variable(program, thread, x, action, saved);
+        let free = self.touch_variable_by(program, thread, code, x, action, saved);
         (touched, After { others, free })
     }
 
