@@ -15,6 +15,7 @@ pub const WORKERS: u32 = 16;
 pub const SMALL_ROUND: u64 = 2048;
 
 /// How many walks a worker keeps at most before it settles them under one lock, for which programs
-/// are compared once: as many as a round has items. Measured: with 16 of them, a search takes 1 to
-/// 3 % more instructions.
-pub const KEPT_WALKS: usize = 64;
+/// are compared once. Measured: with as many as a round has items they don't fit into a processor's
+/// first cache, of which a model counts 1.8 times as many misses; with fewer of them a search takes
+/// half a percent more instructions.
+pub const KEPT_WALKS: usize = 16;

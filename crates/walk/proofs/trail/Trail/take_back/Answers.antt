@@ -116,7 +116,9 @@ returns-clause-left c = λ node contenders trail.
     let shorter : c.len.result - c.index-frame.result.now.further - 1
     ≡ length t.steps.items - f.further - 1 =
     let a = c.len.ensures in let b = ap length items in omega (arith, a, b, further) in
-    let steps = c.truncate.ensures.items ∙ (λ i. take (shorter i) (items i)) in
-    (f, taken_back p t _ n m f trail one refl c.index.ensures sum c.put_back.ensures.kept
-    steps frames (ap (λ (x : Trail). x.touched.items) c.put_back.ensures.same) state
-    (ap (λ (x : Trail). x.base) c.put_back.ensures.same))
+    let steps = c.truncate.ensures.items ∙ (λ i. take (shorter i) (items i)) in (
+      f,
+      taken_back p t _ n m f trail one refl c.index.ensures sum c.put_back.ensures.kept
+          steps frames (ap (λ (x : Trail). x.touched.items) c.put_back.ensures.same) state
+          (ap (λ (x : Trail). x.base) c.put_back.ensures.same),
+    )
