@@ -142,16 +142,14 @@ pub fn restore(locals: &mut [i64; LOCALS], saved: &Saved)
     if saved.count == 0 {
         return;
     }
+    locals[0] = saved.locals[0];
     if saved.count == 1 {
-        locals[0] = saved.locals[0];
         return;
     }
-    if saved.count == 2 {
-        locals[0] = saved.locals[0];
-        locals[1] = saved.locals[1];
-        return;
+    locals[1] = saved.locals[1];
+    if saved.count > 2 {
+        restore_many(locals, saved);
     }
-    restore_many(locals, saved);
 }
 
 // The same, however many they are.
