@@ -435,6 +435,12 @@ settled_there p new t old c h joined resource there u = joined resource u ∙ el
       (has (contenders_at old resource) u) (another t u ne) ∙ h.others resource there u ne
 ]
 
+-- a thread that takes no step joins nobody
+pub settled_over : (p : Program) (new : Snapshot) (t : ℕ) (c : Contenders) → HasRest c p new t
+    → next_of p new t ≡ None → HasContenders c p new
+settled_over p new t c h over =
+    settled_there p new t c c h (subst (λ o. HasJoined c t o c) (sym over) (λ resource u. refl))
+
 -- where threads were called
 
 pub more_enabled : (p : Program) (s new : Snapshot) (t : ℕ) (mask some result : Mask)

@@ -1,5 +1,5 @@
 -- Further steps of a thread, and what takes them back.
-use Rattle.std.proofs.Common.{◌≡◌, ◌<◌, ◌≤◌, ℕ, Bool, true, nat_eq, pos, List, [], ◌∷◌, length, get_or, set, Some, None, refl, ap, ◌∙◌, sym, arith, subst}
+use Rattle.std.proofs.Common.{◌≡◌, ◌<◌, ◌≤◌, ℕ, true, nat_eq, pos, List, [], ◌∷◌, length, get_or, set, Some, None, refl, ap, ◌∙◌, sym, arith, subst}
 use Rattle.std.specs.Prelude.{All, if◌then◌else◌}
 use Rattle.std.proofs.lemmas.List.{get_or-set_same, length-set, set-get_or, set-set}
 use Rattle.std.proofs.lemmas.List.Elements.{All-cons, All-weaker}
@@ -7,6 +7,7 @@ use Rattle.guest_code.specs.declared.limits.TheConstants.{LOCALS}
 use Rattle.guest_code.specs.Program.{Program, code_of}
 use Rattle.semantics.specs.declared.action.After.{After}
 use Rattle.semantics.specs.declared.action.Others.{Others}
+use Rattle.semantics.specs.declared.action.Standing.{Standing}
 use Rattle.semantics.specs.declared.action.Others.TheVariants.{Same, More}
 use Rattle.semantics.specs.declared.state.Action.{Action}
 use Rattle.semantics.specs.declared.state.Action.TheVariants.{OnVariable, OnMutex, Wait as Waits, OnCondition, OnSemaphore}
@@ -24,7 +25,7 @@ use Rattle.semantics.specs.declared.undo.Undo.{Undo}
 use Rattle.semantics.specs.Machine.{Snapshot, acts, performed, step, is_enabled, next_of, thread_at, missing_thread, value_of, owner_of, queue_of, count_of, queue_after, threads_to_wake, wake, resumed, reader_after, taker_after, counter_after, var_after, owner_after, count_after}
 use Rattle.semantics.specs.Reachable.{IsOf, IsValidAction}
 use Rattle.semantics.specs.Undoing.{restored, thread_before, with_change, with_thread_before, undone, old_queue, IsInRange, IsRecordOf, with_touched, with_all_touched, IsTouched, TakesBack}
-use Rattle.semantics.specs.inner.Recording.{Changes, HasResource, HasGoneOn, HasTouched, IsFree, others_after}
+use Rattle.semantics.specs.inner.Recording.{Changes, HasResource, HasGoneOn, HasTouched, Stands, others_after}
 use Rattle.semantics.proofs.EnabledAfter.{changes, resource_there}
 use Rattle.semantics.proofs.StepsKeepStates.{step_is_of}
 use Rattle.semantics.proofs.Undone.{set_back}
@@ -141,13 +142,13 @@ touched_there p s new (OnSemaphore k d) o of' f h =
 
 -- a further step, by what its parts wrote
 pub gone_on : (p : Program) (s : Snapshot) (t : ℕ) (a : Action) (old kept : Saved) (o : Touched)
-    (new : Snapshot) (others : Others) (free : Bool) → IsOf p s → is_enabled p s t ≡ true
+    (new : Snapshot) (others : Others) (standing : Standing) → IsOf p s → is_enabled p s t ≡ true
     → IsValidAction p a → next_of p s t ≡ Some a → others ≡ others_after s a
     → new ≡ performed p s t a → HasTouched o s a → kept.count ≤ LOCALS
     → restored kept (thread_at new t).locals ≡ restored old (thread_at s t).locals
-    → (free ≡ true → IsFree (code_of p t) (thread_at new t))
-    → HasGoneOn p s t old kept o new (record { others = others; free = free })
-gone_on p s t a old kept o new others free of' h fine next as_told is touched few locals goes_on =
+    → Stands standing (code_of p t) (thread_at new t)
+    → HasGoneOn p s t old kept o new (record { others = others; standing = standing })
+gone_on p s t a old kept o new others standing of' h fine next as_told is touched few locals goes_on =
     record {
       value = value;
       of = new_of;
@@ -163,7 +164,7 @@ gone_on p s t a old kept o new others free of' h fine next as_told is touched fe
           (changes p s t a next));
       resource = subst (λ (x : Others). HasResource x new) (sym as_told)
           (resource_there p s new a new_of fine);
-      free = goes_on;
+      standing = goes_on;
     }
   where
     value : new ≡ step p s t

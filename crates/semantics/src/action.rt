@@ -91,11 +91,21 @@ pub enum Others {
     More,
 }
 
+/// Where a thread has come to by its step.
+#[derive(Clone, Copy, Debug, PartialEq, Eq)]
+pub enum Standing {
+    /// It is at a visible statement that no object holds up.
+    Free,
+    /// It may be at one that an object holds up.
+    Bound,
+    /// It takes no step as it is: it ended, stopped, or waits.
+    Over,
+}
+
 /// What a step does to which threads are enabled.
 #[derive(Clone, Copy, Debug)]
 pub struct After {
     pub others: Others,
-    /// Its own thread is enabled after it, whatever the objects are. One that isn't free may be
-    /// enabled, too.
-    pub free: bool,
+    /// Where its own thread has come to.
+    pub standing: Standing,
 }

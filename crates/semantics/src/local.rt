@@ -5,12 +5,13 @@ ghost use Rattle.guest_code.specs.Program.{Program, IsValidCode, IsValidValue, I
 ghost use Rattle.semantics.specs.Machine.{value_of_operand, of_both, value_of_expression, is_zero, run_from, run_past, resumed, var_after, reader_after, is_expected};
 ghost use Rattle.semantics.specs.Reachable.{IsValidAccess};
 ghost use Rattle.semantics.specs.Undoing.{restored};
-ghost use Rattle.semantics.specs.inner.Recording.{IsFree, HasRun};
+ghost use Rattle.semantics.specs.inner.Recording.{Stands, HasRun};
 ghost use Rattle.semantics.specs.declared.local.Turn.TheVariants.{On};
 ghost use Rattle.semantics.specs.declared.state.Status.TheVariants.{Running};
 ghost use Rattle.semantics.specs.declared.state.Thread.{Thread};
 ghost use Rattle.semantics.specs.declared.state.VariableAction.TheVariants.{Add as Adds, Cas as Swaps};
 
+use crate::action::Standing;
 use crate::state::{Status, Stop, Thread, VariableAction};
 use crate::undo::{Saved, keep, put};
 use guest_code::limits::LOCALS;
@@ -149,10 +150,8 @@ fn passed(code: &[Instruction], pc: usize, skip: usize) -> usize
 pub enum Turn {
     /// The run goes on at the instruction of this number.
     On(usize),
-    /// The thread is at a visible statement that no object holds up.
-    Free,
-    /// It is at one that an object may hold up, or its run is over.
-    Over,
+    /// The run is over, and the thread stands so.
+    At(Standing),
 }
 
 // A local run comes to this instruction, and carries it out where it is the thread's own.
@@ -171,7 +170,7 @@ fn take_turn(code: &[Instruction], pc: usize, thread: &mut Thread, saved: &mut S
     if pc >= code.len() {
         thread.pc = pc;
         thread.status = Status::Ended;
-        return Turn::Over;
+        return Turn::At(Standing::Over);
     }
     match &code[pc] {
         Instruction::Set { local, value } => {
@@ -183,7 +182,7 @@ fn take_turn(code: &[Instruction], pc: usize, thread: &mut Thread, saved: &mut S
             if is_zero_at(&thread.locals, e) {
                 thread.pc = pc;
                 thread.status = Status::Stopped(Stop::Assert);
-                return Turn::Over;
+                return Turn::At(Standing::Over);
             }
             Turn::On(pc + 1)
         }
@@ -196,7 +195,7 @@ fn take_turn(code: &[Instruction], pc: usize, thread: &mut Thread, saved: &mut S
         Instruction::Skip(n) => Turn::On(passed(code, pc, *n)),
         Instruction::Lock(_) | Instruction::Acquire(_) => {
             thread.pc = pc;
-            Turn::Over
+            Turn::At(Standing::Bound)
         }
         Instruction::Load { .. }
         | Instruction::Store { .. }
@@ -208,15 +207,15 @@ fn take_turn(code: &[Instruction], pc: usize, thread: &mut Thread, saved: &mut S
         | Instruction::Broadcast(_)
         | Instruction::Release(_) => {
             thread.pc = pc;
-            Turn::Free
+            Turn::At(Standing::Free)
         }
     }
 }
 
-/// Runs a thread's own instructions, up to a visible statement, the end or a failed assertion. The
-/// answer is true where it is at a statement then that no object holds up.
+/// Runs a thread's own instructions, up to a visible statement, the end or a failed assertion, and
+/// answers where the thread stands then.
 #[inline(never)]
-pub fn run_on(code: &[Instruction], thread: &mut Thread, saved: &mut Saved) -> bool
+pub fn run_on(code: &[Instruction], thread: &mut Thread, saved: &mut Saved) -> Standing
     requires fine { (p : Program) × IsValidCode p code.now }
     requires pc { thread.old.pc ≤ length code.now }
     requires running { thread.old.status ≡ Running }
@@ -224,31 +223,33 @@ pub fn run_on(code: &[Instruction], thread: &mut Thread, saved: &mut Saved) -> b
     ensures value { thread.new ≡ run_from code.now thread.old }
     ensures few { saved.new.count ≤ LOCALS }
     ensures kept { restored saved.new thread.new.locals ≡ restored saved.old thread.old.locals }
-    ensures free { IsTrue result → IsFree code.now thread.new }
+    ensures standing { Stands result code.now thread.new }
 {
     let mut turned = Turn::On(thread.pc);
     while let Turn::On(pc) = turned {
         turned = take_turn(code, pc, thread, saved);
     }
-    turned == Turn::Free
+    match turned {
+        Turn::At(standing) => standing,
+        Turn::On(_) => Standing::Bound,
+    }
 }
 
-/// After its visible statement a thread runs on. The answer is true where it is at a statement then
-/// that no object holds up.
+/// After its visible statement a thread runs on. The answer is where it stands then.
 #[inline(always)]
-pub fn resume(code: &[Instruction], thread: &mut Thread, saved: &mut Saved) -> bool
+pub fn resume(code: &[Instruction], thread: &mut Thread, saved: &mut Saved) -> Standing
     requires fine { (p : Program) × IsValidCode p code.now }
     requires pc { thread.old.pc < length code.now }
     requires few { saved.old.count ≤ LOCALS }
     ensures value { thread.new ≡ resumed code.now thread.old }
     ensures few { saved.new.count ≤ LOCALS }
     ensures kept { restored saved.new thread.new.locals ≡ restored saved.old thread.old.locals }
-    ensures free { IsTrue result → IsFree code.now thread.new }
+    ensures standing { Stands result code.now thread.new }
 {
     thread.pc += 1;
     if thread.pc == code.len() {
         thread.status = Status::Ended;
-        return false;
+        return Standing::Over;
     }
     thread.status = Status::Running;
     match &code[thread.pc] {
@@ -260,8 +261,8 @@ pub fn resume(code: &[Instruction], thread: &mut Thread, saved: &mut Saved) -> b
         | Instruction::Wait { .. }
         | Instruction::Signal(_)
         | Instruction::Broadcast(_)
-        | Instruction::Release(_) => true,
-        Instruction::Lock(_) | Instruction::Acquire(_) => false,
+        | Instruction::Release(_) => Standing::Free,
+        Instruction::Lock(_) | Instruction::Acquire(_) => Standing::Bound,
         Instruction::Set { .. }
         | Instruction::Assert(_)
         | Instruction::SkipIfZero(_, _)

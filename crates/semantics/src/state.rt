@@ -440,13 +440,20 @@ fn each_ended(threads: &[Thread]) -> bool
     threads.iter().all(|th| has_ended(th))
 }
 
-// The same for all threads. Each complete schedule asks, so four are looked at in a turn.
+// The same for all threads. Each complete schedule asks, so four are looked at in a turn, and then
+// two.
 fn all_ended(threads: &[Thread]) -> bool
     ensures { result ≡ list_all (λ th. is_ended th.status) threads.now }
 {
     let mut left = threads;
     while let [first, second, third, fourth, rest @ ..] = left {
         if !has_ended(first) || !has_ended(second) || !has_ended(third) || !has_ended(fourth) {
+            return false;
+        }
+        left = rest;
+    }
+    if let [first, second, rest @ ..] = left {
+        if !has_ended(first) || !has_ended(second) {
             return false;
         }
         left = rest;

@@ -1,5 +1,5 @@
 -- What a step writes into its record.
-use Rattle.std.specs.Prelude.{◌≡◌, ◌≢◌, ℕ, ℤ, ◌<◌, ◌≤◌, Bool, true, false, nat_eq, nat_lt, ◌&&◌, ◌||◌, List, [], length, Option, Some, slice_get, slice_set, IsTrue, if◌then◌else◌}
+use Rattle.std.specs.Prelude.{◌≡◌, ◌≢◌, ℕ, ℤ, ◌<◌, ◌≤◌, Bool, true, false, nat_eq, nat_lt, ◌&&◌, ◌||◌, List, [], length, Option, Some, None, slice_get, slice_set, if◌then◌else◌}
 use Rattle.guest_code.specs.declared.limits.TheConstants.{THREADS, LOCALS, OBJECTS}
 use Rattle.guest_code.specs.declared.program.Instruction.{Instruction}
 use Rattle.guest_code.specs.declared.program.Instruction.TheVariants.{Load, Store, Add, Cas, Lock, Unlock, Wait as WaitFor, Signal, Broadcast, Acquire, Release, Set, Assert, SkipIfZero, Skip}
@@ -7,9 +7,11 @@ use Rattle.guest_code.specs.Program.{Program, code_of}
 use Rattle.semantics.specs.declared.state.Thread.{Thread}
 use Rattle.semantics.specs.declared.state.Status.TheVariants.{Running}
 use Rattle.semantics.specs.declared.local.Turn.{Turn}
-use Rattle.semantics.specs.declared.local.Turn.TheVariants.{On, Free, Over}
+use Rattle.semantics.specs.declared.local.Turn.TheVariants.{On, At as Stood}
 use Rattle.semantics.specs.declared.action.After.{After}
 use Rattle.semantics.specs.declared.action.Others.{Others}
+use Rattle.semantics.specs.declared.action.Standing.{Standing}
+use Rattle.semantics.specs.declared.action.Standing.TheVariants.{Free, Bound, Over}
 use Rattle.semantics.specs.declared.action.Others.TheVariants.{Same, At, More}
 use Rattle.semantics.specs.declared.contenders.Contenders.{Contenders}
 use Rattle.semantics.specs.declared.contenders.Resource.{Resource}
@@ -120,13 +122,18 @@ others_after s (OnSemaphore k d) = At (Semaphore k)
 abbrev pub IsFree : List Instruction → Thread → Type 0
 IsFree code th = (s : Snapshot) → can_do s (action_at th.status (slice_get code th.pc)) ≡ true
 
+-- what is known of a thread that stands so
+abbrev pub Stands : Standing → List Instruction → Thread → Type 0
+Stands Free code th = IsFree code th
+Stands Bound code th = Unit {0}
+Stands Over code th = action_at th.status (slice_get code th.pc) ≡ None
+
 -- a local run that makes this of its thread has come so far: it goes on at an instruction, or is
 -- over
 abbrev pub HasRun : Turn → List Instruction → Thread → Thread → Type 0
 HasRun (On n) code whole th =
     (n ≤ length code) × (th.status ≡ Running) × (run_from code (record th { pc = n }) ≡ whole)
-HasRun Free code whole th = (th ≡ whole) × IsFree code th
-HasRun Over code whole th = th ≡ whole
+HasRun (Stood standing) code whole th = (th ≡ whole) × Stands standing code th
 
 -- a step of thread t led from the first state to the second one: its record, and what it did to
 -- which threads are enabled
@@ -139,7 +146,7 @@ pub record HasStepped (p : Program) (s : Snapshot) (t : ℕ) (u : Undo) (new : S
   pub back : undone u new ≡ s
   pub changes : Changes after.others p s t new
   pub resource : HasResource after.others new
-  pub free : IsTrue after.free → IsFree (code_of p t) (thread_at new t)
+  pub standing : Stands after.standing (code_of p t) (thread_at new t)
 
 -- the instruction is on a variable
 abbrev pub is_access : Instruction → Bool
@@ -172,7 +179,7 @@ pub record HasGoneOn (p : Program) (s : Snapshot) (t : ℕ) (old kept : Saved) (
   pub few : kept.count ≤ LOCALS
   pub changes : Changes after.others p s t new
   pub resource : HasResource after.others new
-  pub free : IsTrue after.free → IsFree (code_of p t) (thread_at new t)
+  pub standing : Stands after.standing (code_of p t) (thread_at new t)
 
 -- what an action on a variable of this value touches: a load leaves it as it is
 abbrev pub touched_by : VariableAction → ℕ → ℤ → Touched

@@ -8,12 +8,12 @@ ghost use Rattle.semantics.specs.Reachable.{IsOf, IsReady, IsValidAction, Stands
 ghost use Rattle.semantics.specs.Contenders.{HasContenders};
 ghost use Rattle.semantics.specs.Mask.{HasEnabled};
 ghost use Rattle.semantics.specs.Undoing.{IsTouched, TakesBack, restored, touches_one, with_all_touched, with_touched};
-ghost use Rattle.semantics.specs.inner.Recording.{HasGoneOn, IsFree, is_access, touched_by};
+ghost use Rattle.semantics.specs.inner.Recording.{HasGoneOn, Stands, is_access, touched_by};
 ghost use Rattle.semantics.specs.declared.state.Action.TheVariants.{OnVariable, OnMutex, OnCondition, OnSemaphore};
 ghost use Rattle.semantics.specs.declared.undo.Touched.{Touched};
 ghost use Rattle.semantics.specs.declared.undo.Touched.TheVariants.{Owner as TheOwner, Count as TheCount};
 
-use crate::action::{After, Others};
+use crate::action::{After, Others, Standing};
 use crate::contenders::Contenders;
 use crate::local::{access, resume};
 use crate::mask::Mask;
@@ -205,7 +205,7 @@ impl State {
                     Touched::Nothing,
                     After {
                         others,
-                        free: false,
+                        standing: Standing::Bound,
                     },
                 )
             }
@@ -255,7 +255,7 @@ impl State {
         x: usize,
         action: VariableAction,
         saved: &mut Saved,
-    ) -> bool
+    ) -> Standing
         requires ready { IsReady _program.now self.old thread (OnVariable x action) }
         requires code { code.now ≡ code_of _program.now thread }
         requires valid { IsValidCode _program.now code.now }
@@ -264,8 +264,7 @@ impl State {
         ensures few { saved.new.count ≤ LOCALS }
         ensures locals { restored saved.new (thread_at self.new thread).locals
             ≡ restored saved.old (thread_at self.old thread).locals }
-        ensures free { IsTrue result →
-            IsFree (code_of _program.now thread) (thread_at self.new thread) }
+        ensures standing { Stands result (code_of _program.now thread) (thread_at self.new thread) }
     {
         let runner = &mut self.threads[thread as usize];
         access(&mut self.variables[x], runner, saved, action);
@@ -294,8 +293,8 @@ impl State {
         let code = program.code(thread);
         let touched = self.variable_as_is(x, action);
         let others = Others::Same;
-        let free = self.touch_variable_by(program, thread, code, x, action, saved);
-        (touched, After { others, free })
+        let standing = self.touch_variable_by(program, thread, code, x, action, saved);
+        (touched, After { others, standing })
     }
 
     // A further step, on a mutex alone.
@@ -319,8 +318,8 @@ impl State {
     {
         let touched = self.owner_as_is(m);
         let others = self.others_after(program, thread, Action::OnMutex(m, action));
-        let free = self.touch_mutex(program, thread, m, action, saved);
-        (touched, After { others, free })
+        let standing = self.touch_mutex(program, thread, m, action, saved);
+        (touched, After { others, standing })
     }
 
     // A further step, on a semaphore.
@@ -344,8 +343,8 @@ impl State {
     {
         let touched = self.count_as_is(k);
         let others = self.others_after(program, thread, Action::OnSemaphore(k, action));
-        let free = self.touch_semaphore(program, thread, k, action, saved);
-        (touched, After { others, free })
+        let standing = self.touch_semaphore(program, thread, k, action, saved);
+        (touched, After { others, standing })
     }
 
     // A further step, on a condition for which nobody waits: the thread just runs on.
@@ -375,13 +374,13 @@ impl State {
             return None;
         }
         let others = Others::Same;
-        let free = self.touch_nothing(program, thread, saved);
-        Some((Touched::Nothing, After { others, free }))
+        let standing = self.touch_nothing(program, thread, saved);
+        Some((Touched::Nothing, After { others, standing }))
     }
 
     // A step that touches nothing but its thread, which runs on.
     #[inline(always)]
-    fn touch_nothing(&mut self, program: &Program, thread: u8, saved: &mut Saved) -> bool
+    fn touch_nothing(&mut self, program: &Program, thread: u8, saved: &mut Saved) -> Standing
         requires of { IsOf program.now self.old }
         requires thread { thread < length program.now.threads }
         requires pc { StandsInCode program.now self.old thread }
@@ -393,8 +392,7 @@ impl State {
         ensures few { saved.new.count ≤ LOCALS }
         ensures locals { restored saved.new (thread_at self.new thread).locals
             ≡ restored saved.old (thread_at self.old thread).locals }
-        ensures free { IsTrue result →
-            IsFree (code_of program.now thread) (thread_at self.new thread) }
+        ensures standing { Stands result (code_of program.now thread) (thread_at self.new thread) }
     {
         let runner = &mut self.threads[thread as usize];
         resume(program.code(thread), runner, saved)

@@ -7,10 +7,10 @@ ghost use Rattle.semantics.specs.Contenders.{contenders_at, takes, IsResource, H
 ghost use Rattle.semantics.specs.Machine.{Snapshot, action_at, action_of, can_do, is_enabled, next_of, retake_of, thread_at};
 ghost use Rattle.semantics.specs.Reachable.{IsOf};
 ghost use Rattle.semantics.specs.Mask.{has, HasEnabled};
-ghost use Rattle.semantics.specs.inner.Recording.{Changes, HasResource, HasJoined, HasNear, HasRest, IsFree, is_available};
+ghost use Rattle.semantics.specs.inner.Recording.{Changes, HasResource, HasJoined, HasNear, HasRest, Stands, is_available};
 ghost use Rattle.semantics.specs.declared.action.Others.TheVariants.{At, More};
 
-use crate::action::{After, Others};
+use crate::action::{After, Others, Standing};
 use crate::contenders::{Contenders, Resource};
 use crate::mask::Mask;
 use crate::state::{State, Status};
@@ -39,8 +39,8 @@ impl State {
     ) -> Mask
         requires of { IsOf program.now self.now }
         requires thread { thread < length program.now.threads }
-        requires free { IsTrue after.free →
-            IsFree (code_of program.now thread) (thread_at self.now thread) }
+        requires standing { Stands after.standing (code_of program.now thread)
+            (thread_at self.now thread) }
         requires resource { HasResource after.others self.now }
         ensures mask { (s : Snapshot) → IsOf program.now s →
             is_enabled program.now s thread ≡ true →
@@ -60,7 +60,7 @@ impl State {
             }
             Others::Same | Others::At(_) => {
                 let near = self.renew_others(program, thread, mask, after.others, contenders);
-                self.settle(program, thread, near, after.free, contenders)
+                self.settle(program, thread, near, after.standing, contenders)
             }
         }
     }
@@ -128,30 +128,30 @@ impl State {
         }
     }
 
-    // The set, where a thread that has taken a step is put in or out: one that isn't free comes to
-    // where it is, and is asked.
+    // The set, where a thread that has taken a step is put in or out: one that may be held up comes
+    // to where it is, and is asked.
     #[inline(always)]
     fn settle(
         &self,
         program: &Program,
         thread: u8,
         near: Mask,
-        free: bool,
+        standing: Standing,
         contenders: &mut Contenders,
     ) -> Mask
         requires of { IsOf program.now self.now }
         requires thread { thread < length program.now.threads }
-        requires free { IsTrue free →
-            IsFree (code_of program.now thread) (thread_at self.now thread) }
+        requires standing { Stands standing (code_of program.now thread)
+            (thread_at self.now thread) }
         ensures mask { HasNear near program.now self.now thread →
             HasEnabled result program.now self.now }
         ensures contenders { HasRest contenders.old program.now self.now thread →
             HasContenders contenders.new program.now self.now }
     {
-        let on = if free {
-            true
-        } else {
-            self.arrive(program, thread, contenders)
+        let on = match standing {
+            Standing::Free => true,
+            Standing::Over => false,
+            Standing::Bound => self.arrive(program, thread, contenders),
         };
         kept_where(near, thread, on)
     }

@@ -6,11 +6,11 @@ ghost use Rattle.semantics.specs.Machine.{step, performed, action_of, is_enabled
 ghost use Rattle.semantics.specs.Reachable.{IsOf, IsValidAction, StandsInCode, IsReady};
 ghost use Rattle.semantics.specs.Contenders.{HasContenders};
 ghost use Rattle.semantics.specs.Mask.{HasEnabled};
-ghost use Rattle.semantics.specs.Undoing.{undone, restored, IsRecordOf};
-ghost use Rattle.semantics.specs.inner.Recording.{HasBegun, HasObject, HasStepped, IsFree, is_access, others_after};
+ghost use Rattle.semantics.specs.Undoing.{undone, restored, with_change, IsInRange, IsRecordOf};
+ghost use Rattle.semantics.specs.inner.Recording.{HasBegun, HasObject, HasStepped, Stands, is_access, others_after};
 ghost use Rattle.semantics.specs.declared.state.Action.TheVariants.{OnVariable, OnMutex, Wait as Waits, OnCondition, OnSemaphore};
 
-use crate::action::{After, Others, action_of, owns};
+use crate::action::{After, Others, Standing, action_of, owns};
 use crate::contenders::{Contenders, Resource};
 use crate::local::{access, resume};
 use crate::mask::Mask;
@@ -133,7 +133,7 @@ impl State {
                 Some(action) => self.act(program, thread, action, undo),
                 None => After {
                     others: Others::Same,
-                    free: false,
+                    standing: Standing::Bound,
                 },
             },
         }
@@ -184,7 +184,7 @@ impl State {
             }
             _ => After {
                 others: Others::Same,
-                free: false,
+                standing: Standing::Bound,
             },
         }
     }
@@ -206,10 +206,10 @@ impl State {
         requires next { next_of program.now self.old thread ≡ Some (OnVariable x action) }
         ensures { HasStepped program.now self.old thread undo.new self.new result }
     {
-        let free = self.step_variable(program, thread, x, action, undo);
+        let standing = self.step_variable(program, thread, x, action, undo);
         After {
             others: Others::Same,
-            free,
+            standing,
         }
     }
 
@@ -224,8 +224,8 @@ impl State {
         ensures { HasStepped program.now self.old thread undo.new self.new result }
     {
         let others = self.others_after(program, thread, action);
-        let free = self.execute(program, thread, action, undo);
-        After { others, free }
+        let standing = self.execute(program, thread, action, undo);
+        After { others, standing }
     }
 
     // What the step that a thread is about to take does to which other threads are enabled.
@@ -254,6 +254,18 @@ impl State {
         runner.pc = undo.pc;
         runner.status = undo.status;
         restore(&mut runner.locals, &undo.saved);
+        match undo.change {
+            Change::Variable | Change::Owner | Change::Count => self.put_object_back(undo),
+            Change::Wait | Change::Call => self.put_object_back_apart(undo),
+        }
+    }
+
+    // The object that a step touched is as it was.
+    #[inline(always)]
+    fn put_object_back(&mut self, undo: &Undo)
+        requires { IsInRange undo.now.change undo.now self.old }
+        ensures { self.new ≡ with_change undo.now.change undo.now self.old }
+    {
         let object = undo.object as usize;
         match undo.change {
             Change::Variable => self.variables[object] = undo.value,
@@ -271,9 +283,24 @@ impl State {
         }
     }
 
+    // The same out of the way of steps that touch no queue.
+    #[inline(never)]
+    fn put_object_back_apart(&mut self, undo: &Undo)
+        requires { IsInRange undo.now.change undo.now self.old }
+        ensures { self.new ≡ with_change undo.now.change undo.now self.old }
+    {
+        self.put_object_back(undo)
+    }
+
     // What the thread is about to do.
     #[inline(always)]
-    fn execute(&mut self, program: &Program, thread: u8, action: Action, undo: &mut Undo) -> bool
+    fn execute(
+        &mut self,
+        program: &Program,
+        thread: u8,
+        action: Action,
+        undo: &mut Undo,
+    ) -> Standing
         requires { IsReady program.now self.old thread action }
         ensures value { self.new ≡ performed program.now self.old thread action }
         ensures begun { HasBegun undo.new thread (thread_at self.old thread) }
@@ -281,8 +308,7 @@ impl State {
         ensures object { HasObject undo.new self.old action }
         ensures locals { restored undo.new.saved (thread_at self.new thread).locals
             ≡ (thread_at self.old thread).locals }
-        ensures free { IsTrue result →
-            IsFree (code_of program.now thread) (thread_at self.new thread) }
+        ensures standing { Stands result (code_of program.now thread) (thread_at self.new thread) }
     {
         match action {
             Action::OnVariable(x, action) => self.step_variable(program, thread, x, action, undo),
@@ -302,7 +328,7 @@ impl State {
         x: usize,
         action: VariableAction,
         undo: &mut Undo,
-    ) -> bool
+    ) -> Standing
         requires { IsReady program.now self.old thread (OnVariable x action) }
         ensures value { self.new ≡ performed program.now self.old thread (OnVariable x action) }
         ensures begun { HasBegun undo.new thread (thread_at self.old thread) }
@@ -310,8 +336,7 @@ impl State {
         ensures object { HasObject undo.new self.old (OnVariable x action) }
         ensures locals { restored undo.new.saved (thread_at self.new thread).locals
             ≡ (thread_at self.old thread).locals }
-        ensures free { IsTrue result →
-            IsFree (code_of program.now thread) (thread_at self.new thread) }
+        ensures standing { Stands result (code_of program.now thread) (thread_at self.new thread) }
     {
         undo.begin(thread, &self.threads[thread as usize]);
         program.keeps_limits();
@@ -330,15 +355,14 @@ impl State {
         x: usize,
         action: VariableAction,
         saved: &mut Saved,
-    ) -> bool
+    ) -> Standing
         requires ready { IsReady program.now self.old thread (OnVariable x action) }
         requires few { saved.old.count ≤ LOCALS }
         ensures value { self.new ≡ performed program.now self.old thread (OnVariable x action) }
         ensures few { saved.new.count ≤ LOCALS }
         ensures locals { restored saved.new (thread_at self.new thread).locals
             ≡ restored saved.old (thread_at self.old thread).locals }
-        ensures free { IsTrue result →
-            IsFree (code_of program.now thread) (thread_at self.new thread) }
+        ensures standing { Stands result (code_of program.now thread) (thread_at self.new thread) }
     {
         let runner = &mut self.threads[thread as usize];
         access(&mut self.variables[x], runner, saved, action);
@@ -354,7 +378,7 @@ impl State {
         m: usize,
         action: MutexAction,
         undo: &mut Undo,
-    ) -> bool
+    ) -> Standing
         requires { IsReady program.now self.old thread (OnMutex m action) }
         ensures value { self.new ≡ performed program.now self.old thread (OnMutex m action) }
         ensures begun { HasBegun undo.new thread (thread_at self.old thread) }
@@ -362,8 +386,7 @@ impl State {
         ensures object { HasObject undo.new self.old (OnMutex m action) }
         ensures locals { restored undo.new.saved (thread_at self.new thread).locals
             ≡ (thread_at self.old thread).locals }
-        ensures free { IsTrue result →
-            IsFree (code_of program.now thread) (thread_at self.new thread) }
+        ensures standing { Stands result (code_of program.now thread) (thread_at self.new thread) }
     {
         undo.begin(thread, &self.threads[thread as usize]);
         program.keeps_limits();
@@ -382,15 +405,14 @@ impl State {
         m: usize,
         action: MutexAction,
         saved: &mut Saved,
-    ) -> bool
+    ) -> Standing
         requires ready { IsReady program.now self.old thread (OnMutex m action) }
         requires few { saved.old.count ≤ LOCALS }
         ensures value { self.new ≡ performed program.now self.old thread (OnMutex m action) }
         ensures few { saved.new.count ≤ LOCALS }
         ensures locals { restored saved.new (thread_at self.new thread).locals
             ≡ restored saved.old (thread_at self.old thread).locals }
-        ensures free { IsTrue result →
-            IsFree (code_of program.now thread) (thread_at self.new thread) }
+        ensures standing { Stands result (code_of program.now thread) (thread_at self.new thread) }
     {
         let code = program.code(thread);
         let runner = &mut self.threads[thread as usize];
@@ -399,7 +421,7 @@ impl State {
             MutexAction::Unlock => {
                 if !owns(thread, self.owners[m]) {
                     runner.status = Status::Stopped(Stop::NotHeld);
-                    return false;
+                    return Standing::Over;
                 }
                 self.owners[m] = None;
             }
@@ -416,7 +438,7 @@ impl State {
         c: usize,
         m: usize,
         undo: &mut Undo,
-    ) -> bool
+    ) -> Standing
         requires { IsReady program.now self.old thread (Waits c m) }
         ensures value { self.new ≡ performed program.now self.old thread (Waits c m) }
         ensures begun { HasBegun undo.new thread (thread_at self.old thread) }
@@ -424,8 +446,7 @@ impl State {
         ensures object { HasObject undo.new self.old (Waits c m) }
         ensures locals { restored undo.new.saved (thread_at self.new thread).locals
             ≡ (thread_at self.old thread).locals }
-        ensures free { IsTrue result →
-            IsFree (code_of program.now thread) (thread_at self.new thread) }
+        ensures standing { Stands result (code_of program.now thread) (thread_at self.new thread) }
     {
         let runner = &mut self.threads[thread as usize];
         undo.begin(thread, runner);
@@ -444,7 +465,7 @@ impl State {
         } else {
             runner.status = Status::Stopped(Stop::NotHeld);
         }
-        false
+        Standing::Over
     }
 
     // A step on a condition alone.
@@ -456,7 +477,7 @@ impl State {
         c: usize,
         action: ConditionAction,
         undo: &mut Undo,
-    ) -> bool
+    ) -> Standing
         requires { IsReady program.now self.old thread (OnCondition c action) }
         ensures value { self.new ≡ performed program.now self.old thread (OnCondition c action) }
         ensures begun { HasBegun undo.new thread (thread_at self.old thread) }
@@ -464,8 +485,7 @@ impl State {
         ensures object { HasObject undo.new self.old (OnCondition c action) }
         ensures locals { restored undo.new.saved (thread_at self.new thread).locals
             ≡ (thread_at self.old thread).locals }
-        ensures free { IsTrue result →
-            IsFree (code_of program.now thread) (thread_at self.new thread) }
+        ensures standing { Stands result (code_of program.now thread) (thread_at self.new thread) }
     {
         undo.begin(thread, &self.threads[thread as usize]);
         program.keeps_limits();
@@ -493,7 +513,7 @@ impl State {
         k: usize,
         action: SemaphoreAction,
         undo: &mut Undo,
-    ) -> bool
+    ) -> Standing
         requires { IsReady program.now self.old thread (OnSemaphore k action) }
         ensures value { self.new ≡ performed program.now self.old thread (OnSemaphore k action) }
         ensures begun { HasBegun undo.new thread (thread_at self.old thread) }
@@ -501,8 +521,7 @@ impl State {
         ensures object { HasObject undo.new self.old (OnSemaphore k action) }
         ensures locals { restored undo.new.saved (thread_at self.new thread).locals
             ≡ (thread_at self.old thread).locals }
-        ensures free { IsTrue result →
-            IsFree (code_of program.now thread) (thread_at self.new thread) }
+        ensures standing { Stands result (code_of program.now thread) (thread_at self.new thread) }
     {
         undo.begin(thread, &self.threads[thread as usize]);
         program.keeps_limits();
@@ -521,15 +540,14 @@ impl State {
         k: usize,
         action: SemaphoreAction,
         saved: &mut Saved,
-    ) -> bool
+    ) -> Standing
         requires ready { IsReady program.now self.old thread (OnSemaphore k action) }
         requires few { saved.old.count ≤ LOCALS }
         ensures value { self.new ≡ performed program.now self.old thread (OnSemaphore k action) }
         ensures few { saved.new.count ≤ LOCALS }
         ensures locals { restored saved.new (thread_at self.new thread).locals
             ≡ restored saved.old (thread_at self.old thread).locals }
-        ensures free { IsTrue result →
-            IsFree (code_of program.now thread) (thread_at self.new thread) }
+        ensures standing { Stands result (code_of program.now thread) (thread_at self.new thread) }
     {
         let code = program.code(thread);
         let runner = &mut self.threads[thread as usize];
@@ -538,7 +556,7 @@ impl State {
             SemaphoreAction::Release => {
                 if self.counts[k] == COUNT {
                     runner.status = Status::Stopped(Stop::SemFull);
-                    return false;
+                    return Standing::Over;
                 }
                 self.counts[k] += 1;
             }

@@ -1,7 +1,7 @@
 use Rattle.std.proofs.Common.{◌≡◌, ℕ, ◌≤◌, ◌+◌, ◌-◌, length}
 use Rattle.guest_code.specs.declared.limits.TheConstants.{LOCALS}
 use Rattle.semantics.specs.declared.local.Turn.{Turn}
-use Rattle.semantics.specs.declared.local.Turn.TheVariants.{On, Free, Over}
+use Rattle.semantics.specs.declared.local.Turn.TheVariants.{On, At as Stood}
 use Rattle.semantics.specs.Machine.{run_from}
 use Rattle.semantics.specs.Undoing.{restored}
 use Rattle.semantics.specs.inner.Recording.{HasRun}
@@ -17,8 +17,7 @@ invariant-loop-turned l = record {
 -- how many instructions are left, at most
 abbrev left : ℕ → Turn → ℕ
 left n (On pc) = n + 1 - pc
-left n Free = 0
-left n Over = 0
+left n (Stood standing) = 0
 
 abbrev pub decreases-loop-turned : goal.decreases-loop-turned
 decreases-loop-turned l = left (length l.code) l.turned

@@ -1,7 +1,8 @@
 use Rattle.std.proofs.Common.{refl, inl, inr, true, ◌≡◌, ◌<◌, length, get_or}
 use Rattle.guest_code.specs.declared.program.Instruction.{Instruction}
 use Rattle.guest_code.specs.declared.program.Instruction.TheVariants.{Load}
-use Rattle.semantics.specs.declared.local.Turn.TheVariants.{Free}
+use Rattle.semantics.specs.declared.action.Standing.TheVariants.{Free}
+use Rattle.semantics.specs.declared.local.Turn.TheVariants.{At as Stood}
 use Rattle.semantics.specs.declared.state.Thread.{Thread}
 use Rattle.semantics.specs.Machine.{run_from}
 use Rattle.semantics.specs.inner.Recording.{HasRun}
@@ -39,5 +40,5 @@ returns-in-Load-clause-run c = elim c.in-Load.is [
     inside = c.if-pc-code.false
 
     at : (i : Instruction) → is_passable i ≡ true → get_or c.args.code.now c.args.pc (Load 0 0) ≡ i
-        → HasRun Free c.args.code.now (run_from c.args.code.now th) th
+        → HasRun (Stood Free) c.args.code.now (run_from c.args.code.now th) th
     at i h e = runs_to_passable c.args.code.now th (Load 0 0) i inside c.requires.running h e

@@ -7,8 +7,8 @@ use Rattle.semantics.proofs.state.State.act_on_variable.Goals as goal
 pub returns : goal.returns
 returns c =
     stepped c.args.program.now c.args.self.now c.args.thread (OnVariable c.args.x c.args.action)
-    c.step_variable-free.new.undo c.step_variable-free.new.self Same c.step_variable-free.result
+    c.step_variable-standing.new.undo c.step_variable-standing.new.self Same c.step_variable-standing.result
     c.requires.of c.requires.enabled c.requires.fine c.requires.next refl
-    c.step_variable-free.ensures.value c.step_variable-free.ensures.begun
-    c.step_variable-free.ensures.few c.step_variable-free.ensures.object
-    c.step_variable-free.ensures.locals c.step_variable-free.ensures.free
+    c.step_variable-standing.ensures.value c.step_variable-standing.ensures.begun
+    c.step_variable-standing.ensures.few c.step_variable-standing.ensures.object
+    c.step_variable-standing.ensures.locals c.step_variable-standing.ensures.standing

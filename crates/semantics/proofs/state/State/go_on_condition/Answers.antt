@@ -13,9 +13,9 @@ returns-clause-further c =
     let none : queue_of s c.args.c ≡ [] =
     empty_queue (queue_of s c.args.c) (omega (arith, c.if-queue_length-gt0.false, c.queue_length.ensures)) in
     gone_on p s c.args.thread (OnCondition c.args.c c.args._action) c.args.saved.now
-    c.touch_nothing-free.new.saved Nothing c.touch_nothing-free.new.self Same
-    c.touch_nothing-free.result c.requires.of c.requires.enabled c.requires.fine c.requires.next
+    c.touch_nothing-standing.new.saved Nothing c.touch_nothing-standing.new.self Same
+    c.touch_nothing-standing.result c.requires.of c.requires.enabled c.requires.fine c.requires.next
     (sym (others_same s c.args.c c.args._action none))
-    (c.touch_nothing-free.ensures.value ∙ sym (none_called p s c.args.thread c.args.c
-    c.args._action none)) (refl, none) c.touch_nothing-free.ensures.few
-    c.touch_nothing-free.ensures.locals c.touch_nothing-free.ensures.free
+    (c.touch_nothing-standing.ensures.value ∙ sym (none_called p s c.args.thread c.args.c
+    c.args._action none)) (refl, none) c.touch_nothing-standing.ensures.few
+    c.touch_nothing-standing.ensures.locals c.touch_nothing-standing.ensures.standing

@@ -5,7 +5,7 @@ use Rattle.semantics.proofs.state.State.go_on_semaphore.Goals as goal
 pub returns : goal.returns
 returns c =
     gone_on c.args.program.now c.args.self.now c.args.thread (OnSemaphore c.args.k c.args.action)
-    c.args.saved.now c.touch_semaphore-free.new.saved c.count_as_is-touched.result c.touch_semaphore-free.new.self c.others_after-others.result
-    c.touch_semaphore-free.result c.requires.of c.requires.enabled c.requires.fine c.requires.next c.others_after-others.ensures
-    c.touch_semaphore-free.ensures.value c.count_as_is-touched.ensures c.touch_semaphore-free.ensures.few
-    c.touch_semaphore-free.ensures.locals c.touch_semaphore-free.ensures.free
+    c.args.saved.now c.touch_semaphore-standing.new.saved c.count_as_is-touched.result c.touch_semaphore-standing.new.self c.others_after-others.result
+    c.touch_semaphore-standing.result c.requires.of c.requires.enabled c.requires.fine c.requires.next c.others_after-others.ensures
+    c.touch_semaphore-standing.ensures.value c.count_as_is-touched.ensures c.touch_semaphore-standing.ensures.few
+    c.touch_semaphore-standing.ensures.locals c.touch_semaphore-standing.ensures.standing
