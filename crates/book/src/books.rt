@@ -1,6 +1,6 @@
 //! Books.
 
-ghost use Rattle.std.specs.Prelude.{true, false, None, count_by, ◌≡◌, ◌<◌, ◌≤◌, ◌+◌, ◌-◌, ◌&&◌, ◌↔◌, [], length, drop, is_ok, if◌then◌else◌, IfOk, OnOk, IfErr, IfSome, IfNone, IsTrue, slice_get, Some};
+ghost use Rattle.std.specs.Prelude.{true, false, None, count_by, ◌≡◌, ◌<◌, ◌≤◌, ◌+◌, ◌-◌, ◌&&◌, ◌↔◌, [], length, drop, is_ok, if◌then◌else◌, IfOk, OnOk, IfErr, IfSome, IfNone, IsTrue, slice_get, Some, All};
 ghost use Rattle.std.specs.Arc.{arc_value};
 ghost use Rattle.walk.specs.declared.limits.TheConstants.{BOUND};
 ghost use Rattle.walk.specs.declared.mode.Mode.TheVariants.{Bounded};
@@ -46,7 +46,7 @@ pub struct Book {
     // Nothing that is open is to be dropped.
     swept: bool,
     // Where end views were found in the finished summary, for the next look-up.
-    hints: EndHints,
+    hints: Box<EndHints>,
 }
 
 impl Model for Book {
@@ -96,21 +96,23 @@ impl Book {
     ) -> Result<Book, AllocError>
         ensures { IfOk result (λ b. b ≡ opening (arc_value program) mode quick) }
     {
+        let hints = Box::new(alloc, EndHints::new())?;
         let root = Item::root(alloc, Arc::try_clone(&program)?)?;
         let mut roots = Vec::new(alloc);
         roots.push(root)?;
         let mut open_items = ItemList::new(alloc);
         open_items.append(alloc, &mut roots)?;
+        let deferred = ItemList::new(alloc);
         Ok(Book {
             program,
             mode,
             finished: Summary::empty(alloc),
             open_items,
-            deferred: ItemList::new(alloc),
+            deferred,
             quick,
             dropped: false,
             swept: false,
-            hints: EndHints::new(),
+            hints,
         })
     }
 
@@ -201,27 +203,23 @@ impl Book {
         self.open_items.last(alloc, &self.program, ROUND)
     }
 
-    /// The same, for a caller that settles their walks next: the items are unpacked for it. No
-    /// contract sees that.
+    /// Writes copies of the last open items over these, in their order: at most `ROUND`. The memory
+    /// of these serves the copies. The open items are unpacked, for a caller that settles their
+    /// walks next; no contract sees that.
     ///
     /// # Errors
     ///
-    /// `AllocError` where memory runs out.
-    pub fn next_round(&mut self, alloc: Global) -> Result<Vec<Item>, AllocError>
-        ensures items { IfOk result (λ v. v.items
+    /// `AllocError` where memory runs out. There are some items of the program then.
+    pub fn next_round(&mut self, alloc: Global, items: &mut Vec<Item>) -> Result<(), AllocError>
+        requires { All (λ i. i.program ≡ self.old.program) items.old.items }
+        ensures items { OnOk result (items.new.items
             ≡ drop (length self.old.open_items - ROUND) self.old.open_items) }
+        ensures program { All (λ i. i.program ≡ self.old.program) items.new.items }
         ensures book { self.new ≡ self.old }
     {
-        self.prepare_round(alloc)?;
-        self.round(alloc)
-    }
-
-    // Unpacks the last open items, at most `ROUND`.
-    fn prepare_round(&mut self, alloc: Global) -> Result<(), AllocError>
-        ensures { self.new ≡ self.old }
-    {
         let first = self.open_items.length().saturating_sub(ROUND);
-        self.open_items.unpack_from(alloc, &self.program, first)
+        self.open_items.unpack_from(alloc, &self.program, first)?;
+        self.open_items.copy_from(alloc, first, items)
     }
 
     /// The summary of the whole program in its mode, where nothing is open and program and mode are

@@ -1,6 +1,6 @@
 // Lists of a book's items.
 
-ghost use Rattle.std.specs.Prelude.{◌≡◌, ℕ, ◌+◌, ◌-◌, ◌<◌, ◌≤◌, ◌↔◌, [], ◌++◌, false, not, length, take, drop, filter, count_by, is_ok, if◌then◌else◌, IfOk, OnOk, IfSome, IfNone, IsTrue, Some, slice_get, slice_index_or, All};
+ghost use Rattle.std.specs.Prelude.{◌≡◌, ℕ, ◌+◌, ◌-◌, ◌<◌, ◌≤◌, ◌↔◌, [], ◌++◌, ◌∷◌, false, not, max, length, vec_len, take, drop, filter, count_by, is_ok, if◌then◌else◌, IfOk, OnOk, IfSome, IfNone, IsTrue, Some, slice_get, slice_index_or, All};
 ghost use Rattle.std.specs.Arc.{arc_value};
 ghost use Rattle.std.specs.List.{remove};
 ghost use Rattle.guest_code.specs.Program.{Program};
@@ -98,6 +98,25 @@ impl ItemList {
         let mut items = last_items(alloc, program, &self.packed, count)?;
         push_copies(alloc, &mut items, &self.loose, loose.saturating_sub(most))?;
         Ok(items)
+    }
+
+    // Writes copies of the items from a place on, which aren't packed, over others of their program.
+    pub(crate) fn copy_from(
+        &self,
+        alloc: Global,
+        place: usize,
+        items: &mut Vec<Item>,
+    ) -> Result<(), AllocError>
+        requires loose { length self.now.packed ≤ place }
+        requires place { place ≤ length self.now.packed + length self.now.loose }
+        requires program { (p : Program) × All (λ i. i.program ≡ p) self.now.loose
+            × All (λ i. i.program ≡ p) items.old.items }
+        ensures items { (p : Program) → OnOk result
+            (items.new.items ≡ drop place (all_of p self.now)) }
+        ensures program { (p : Program) → All (λ i. i.program ≡ p) self.now.loose →
+            All (λ i. i.program ≡ p) items.old.items → All (λ i. i.program ≡ p) items.new.items }
+    {
+        copy_over(alloc, items, &self.loose, place - self.packed.length())
     }
 
     // An item that isn't packed, by its place among all.
@@ -273,6 +292,50 @@ fn push_copies(
         items.push(more[place].try_clone(alloc)?)?;
     }
     Ok(())
+}
+
+// Writes copies of the items from a place on over others of their program.
+fn copy_over(
+    alloc: Global,
+    items: &mut Vec<Item>,
+    more: &VecDeque<Item>,
+    first: usize,
+) -> Result<(), AllocError>
+    requires first { first ≤ length more.now.items }
+    requires program { (p : Program) × All (λ i. i.program ≡ p) more.now.items
+        × All (λ i. i.program ≡ p) items.old.items }
+    ensures items { OnOk result (items.new.items ≡ drop first more.now.items) }
+    ensures program { (p : Program) → All (λ i. i.program ≡ p) more.now.items →
+        All (λ i. i.program ≡ p) items.old.items → All (λ i. i.program ≡ p) items.new.items }
+{
+    items.truncate(more.len() - first);
+    for place in first..more.len() {
+        copy_at(alloc, items, place - first, &more[place])?;
+    }
+    Ok(())
+}
+
+// Writes a copy of an item over the one at a place, or after the others.
+fn copy_at(
+    alloc: Global,
+    items: &mut Vec<Item>,
+    place: usize,
+    item: &Item,
+) -> Result<(), AllocError>
+    requires place { place ≤ vec_len items.old }
+    requires program { All (λ i. i.program ≡ item.now.program) items.old.items }
+    ensures items { OnOk result (take (place + 1) items.new.items
+        ≡ take place items.old.items ++ item.now ∷ []) }
+    ensures program { All (λ i. i.program ≡ item.now.program) items.new.items }
+    ensures length { OnOk result (length items.new.items
+        ≡ max (length items.old.items) (place + 1)) }
+{
+    if place < items.len() {
+        items[place].try_clone_from(item)
+    } else {
+        items.push(item.try_clone(alloc)?)?;
+        Ok(())
+    }
 }
 
 // Where an item stands among others of its program: looked for from this place on, and else in the

@@ -222,6 +222,20 @@ fn items_are_walked_where_they_stand(rt: HostRuntime) -> Result<(), Fail> {
     Ok(())
 }
 
+#[test]
+fn a_round_is_written_over_another(rt: HostRuntime) -> Result<(), Fail> {
+    let mut book = book_of(rt.alloc(), COUNTERS, FIRST)?;
+    let mut items = Vec::new(rt.alloc());
+    book.next_round(rt.alloc(), &mut items)?;
+    book.next_round(rt.alloc(), &mut items)?;
+    let mut line = String::new(rt.alloc());
+    for item in &items {
+        add_prefix(rt.alloc(), &mut line, "item", item)?;
+    }
+    assert_eq!(rt; line.as_str(), " item []");
+    Ok(())
+}
+
 /// Walks of another program, of another mode, and of an item that isn't open.
 const STRANGERS: [Settlement; 3] = [
     Settlement {

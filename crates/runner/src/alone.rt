@@ -99,7 +99,8 @@ fn walk_copies(
     ensures error { IfErr result (λ e. e ≡ OutOfMemory) }
 {
     let _open = book.open_length();
-    let items = book.next_round(alloc)?;
+    let mut items = Vec::new(alloc);
+    book.next_round(alloc, &mut items)?;
     for item in &items {
         walk_item(alloc, book, walker, found, item, quota)?;
     }

@@ -27,8 +27,10 @@ use walk::walker::Walker;
 /// What is kept from one round of several workers to the next.
 #[derive(Drop)]
 pub(crate) struct Crew {
-    /// One for each worker.
-    pub hands: Vec<Hand>,
+    /// One for each worker, in a box: from round to round only the box is moved.
+    pub hands: Vec<Box<Hand>>,
+    /// Memory for the items of a round.
+    pub items: Vec<Item>,
     /// Whether the last round had as many items as one can have, and tried few schedules.
     pub was_small: bool,
 }
@@ -47,11 +49,11 @@ fn seated(
     board: &Board,
     program: &Program,
     seats: Vec<Seat>,
-    mut hands: Vec<Hand>,
+    mut hands: Vec<Box<Hand>>,
 ) -> Result<Vec<Worker>, AllocError>
     requires count { vec_len hands ≡ vec_len seats }
     requires seats { All (λ s. s.board ≡ board.now.id) seats.items }
-    requires hands { All (λ h. h.walker ≡ program.now) hands.items }
+    requires hands { All (λ h. h.value.walker ≡ program.now) hands.items }
     ensures seated { IfOk result (λ v. All (IsOn board.now.id program.now) v.items) }
     ensures count { IfOk result (λ v. vec_len v ≡ vec_len seats) }
 {
@@ -78,11 +80,11 @@ fn disbanded(
     board: &Board,
     program: &Program,
     workers: Vec<Worker>,
-) -> Result<(Vec<Seat>, Vec<Hand>), AllocError>
+) -> Result<(Vec<Seat>, Vec<Box<Hand>>), AllocError>
     requires { All (IsOn board.now.id program.now) workers.items }
     ensures seats { IfOk result (λ r. All (λ s. s.board ≡ board.now.id) r.0.items) }
     ensures count { IfOk result (λ r. vec_len r.0 ≡ vec_len workers) }
-    ensures hands { IfOk result (λ r. All (λ h. h.walker ≡ program.now) r.1.items) }
+    ensures hands { IfOk result (λ r. All (λ h. h.value.walker ≡ program.now) r.1.items) }
     ensures kept { IfOk result (λ r. vec_len r.1 ≡ vec_len workers) }
 {
     let mut seats = Vec::new(alloc);
@@ -146,12 +148,18 @@ fn walk_by_all<G: Gate, R: Threads + Wait + Sync>(
     work_all(rt, alloc, gate, &round, threads, &mut workers);
     let ending = ending_of(workers.as_slice());
     let (seats, hands) = disbanded(alloc, &round.board, &round.program, workers)?;
-    let Round { board, book, .. } = round;
+    let Round {
+        items,
+        board,
+        book,
+        ..
+    } = round;
     let drawn = board.gather(seats).count();
     let left = Left {
         book: book.into_inner(),
         crew: Crew {
             hands,
+            items,
             was_small: false,
         },
         ending,
@@ -167,10 +175,12 @@ impl Crew {
     {
         let mut hands = Vec::new(alloc);
         for _ in 0..workers {
-            hands.push(Hand::new(alloc, Arc::try_clone(program)?)?)?;
+            let hand = Hand::new(alloc, Arc::try_clone(program)?)?;
+            hands.push(Box::new(alloc, hand)?)?;
         }
         Ok(Crew {
             hands,
+            items: Vec::new(alloc),
             was_small: false,
         })
     }
@@ -205,21 +215,22 @@ impl Crew {
         ensures error { IfErr result (λ e. e ≡ OutOfMemory) }
     {
         let _open = book.open_length();
-        let items = book.next_round(alloc)?;
-        let (count, seats) = (items.len() as u32, self.hands.len() as u32);
+        book.next_round(alloc, &mut self.items)?;
+        let (count, seats) = (self.items.len() as u32, self.hands.len() as u32);
         let Ok((board, seats)) = Board::new(alloc, count, seats) else {
             let walker = &mut self.hands[0].walker;
-            let ending = walk_in_order(alloc, gate, quota, &mut book, walker, items.as_slice());
+            let items = self.items.as_slice();
+            let ending = walk_in_order(alloc, gate, quota, &mut book, walker, items);
             return Ok(Left {
                 book,
                 crew: self,
                 ending,
             });
         };
-        let threads = self.threads(items.len());
+        let threads = self.threads(self.items.len());
         let tried = book.finished().tried();
         let program = Arc::try_clone(book.program())?;
-        let Crew { hands, .. } = self;
+        let Crew { hands, items, .. } = self;
         let workers = seated(alloc, &board, &program, seats, hands)?;
         let round = Round {
             program,

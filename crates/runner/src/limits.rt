@@ -1,5 +1,6 @@
 //! The limits of a search, beside those of a walk.
 
+use book::limits::ROUND;
 pub use walk::limits::BOUND;
 
 /// How many complete schedules one walk tries at most, where nothing else is asked for.
@@ -15,7 +16,6 @@ pub const WORKERS: u32 = 16;
 pub const SMALL_ROUND: u64 = 2048;
 
 /// How many walks a worker keeps at most before it settles them under one lock, for which programs
-/// are compared once. Measured: with as many as a round has items they don't fit into a processor's
-/// first cache, of which a model counts 1.8 times as many misses; with fewer of them a search takes
-/// half a percent more instructions.
-pub const KEPT_WALKS: usize = 16;
+/// are compared once: as many as a round has items. Measured: to compare programs costs more than
+/// it does to walk an item that is small.
+pub const KEPT_WALKS: usize = ROUND;

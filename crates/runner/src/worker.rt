@@ -69,7 +69,7 @@ impl Ending {
 pub(crate) struct Worker {
     pub number: u32,
     pub seat: Seat,
-    pub hand: Hand,
+    pub hand: Box<Hand>,
     pub ending: Ending,
 }
 

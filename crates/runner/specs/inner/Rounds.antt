@@ -27,7 +27,7 @@ pub record IsRound (r : Round) : Type 0 where
 -- the worker's seat is of this board, and its walker of this program
 pub record IsOn (board : BoardId) (p : Program) (w : Worker) : Type 0 where
   pub seat : w.seat.board ≡ board
-  pub walker : w.hand.walker ≡ p
+  pub walker : w.hand.value.walker ≡ p
 
 -- the worker takes part in the round
 abbrev pub IsSeated : Round → Worker → Type 0
@@ -48,13 +48,14 @@ pub record AreKept (r : Round) (h : Hand) : Type 0 where
 -- the worker takes part in the round, and so do the walks that it keeps
 pub record IsAtWork (r : Round) (w : Worker) : Type 0 where
   pub seated : IsSeated r w
-  pub kept : AreKept r w.hand
+  pub kept : AreKept r w.hand.value
 
--- as many workers as a search may have, each with a walker of the program
+-- as many workers as a search may have, each with a walker of the program, and items of it
 pub record IsCrewOf (p : Program) (c : Crew) : Type 0 where
   pub some : 0 < vec_len c.hands
   pub few : vec_len c.hands ≤ WORKERS
-  pub of : All (λ h. h.walker ≡ p) c.hands.items
+  pub of : All (λ h. h.value.walker ≡ p) c.hands.items
+  pub items : All (λ i. i.program ≡ p) c.items.items
 
 -- what follows a round: a report, or another round, of which the book is then
 abbrev pub Follows : Bool → Program → Options → BookView → Turn → Type 0

@@ -8,6 +8,7 @@ use crate::tests::{COUNTERS, found, program_of, shown};
 use crate::walker::walk;
 use std::alloc::{Alloc, Global};
 use std::process::Abort;
+use std::sync::Arc;
 use std::test::*;
 
 /// What the walk of the counters' schedules that begin with a prefix finds within a bound.
@@ -129,4 +130,15 @@ fn refuses(rt: &(impl Abort + Alloc<A = Global>), prefix: &[u8], want: &str) -> 
 fn prefixes_that_do_not_run(rt: HostRuntime) -> Result<(), Fail> {
     refuses(&rt, &[1], "schedule P1 NoSuchThread at 0")?;
     refuses(&rt, &[0, 0], "schedule P2 NotEnabled at 1")
+}
+
+#[test]
+fn an_item_becomes_another(rt: HostRuntime) -> Result<(), Fail> {
+    let program = program_of(rt.alloc(), COUNTERS)?;
+    let mut item = Item::root(rt.alloc(), Arc::try_clone(&program)?)?;
+    let other = Item::at(rt.alloc(), program, &[0, 1])?;
+    item.try_clone_from(&other)?;
+    let line = format!(in rt.alloc(); "{:?} {}", item.prefix(), item.is_same(&other))?;
+    assert_eq!(rt; line.as_str(), "[0, 1] true");
+    Ok(())
 }

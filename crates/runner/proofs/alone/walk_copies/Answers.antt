@@ -6,13 +6,13 @@ use Rattle.runner.proofs.alone.walk_copies.Goals as goal
 pub walk_item-requires-clause-item : goal.walk_item-requires-clause-item
 walk_item-requires-clause-item c =
     let b = c.args.book.now in
-    let items = c.in_ok-items.items.items in
+    let items = c.next_round.new.items.items in
     let item : ItemView = c.item-item.result in
     let j = c.loop-item.item-index in
     let at : item ≡ get_or items j item = search rules in
     let lt : j < length items = search rules in
     let l =
-    last_at b.open_items items (length b.open_items - 64) j item c.in_ok-items.ensures.items
+    last_at b.open_items items (length b.open_items - 64) j item c.in_ok-next_round.ensures.items
     lt at in
     of_book b c.open_length-open.ensures.kept (length b.open_items - 64 + j) item l.0 l.1
     ∙ c.requires.book ∙ sym c.loop-item.invariant.walker
@@ -20,13 +20,13 @@ walk_item-requires-clause-item c =
 pub loop-item-preserved : goal.loop-item-preserved
 loop-item-preserved c =
     let b = c.args.book.now in
-    let items = c.in_ok-items.items.items in
+    let items = c.next_round.new.items.items in
     let item : ItemView = c.item-item.result in
     let j = c.loop-item.item-index in
     let at : item ≡ get_or items j item = search rules in
     let lt : j < length items = search rules in
     let l =
-    last_at b.open_items items (length b.open_items - 64) j item c.in_ok-items.ensures.items
+    last_at b.open_items items (length b.open_items - 64) j item c.in_ok-next_round.ensures.items
     lt at in
     let less =
     round_less b c.loop-item.book c.walk_item.new.book item j c.loop-item.invariant.start

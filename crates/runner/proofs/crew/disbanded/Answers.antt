@@ -1,6 +1,7 @@
-use Rattle.std.proofs.Common.{◌≡◌, ap, sym, length, arith}
+use Rattle.std.proofs.Common.{Box, ◌≡◌, ap, sym, length, arith}
 use Rattle.std.proofs.lemmas.List.Elements.{All-push, All-same, All-rest, All-head}
 use Rattle.board.specs.Board.{SeatView}
+use Rattle.std.specs.declared.alloc.Global.{Global}
 use Rattle.runner.specs.declared.hand.Hand.{Hand}
 use Rattle.runner.specs.declared.worker.Worker.{Worker}
 use Rattle.runner.specs.inner.Rounds.{IsOn}
@@ -13,7 +14,7 @@ loop-worker-preserved c =
     let board = c.args.board.now.id in
     let p = c.args.program.now in
     let S : SeatView → Type 0 = λ s. s.board ≡ board in
-    let H : Hand → Type 0 = λ h. h.walker ≡ p in
+    let H : Box Hand Global → Type 0 = λ h. h.value.walker ≡ p in
     let left = ap (length {A = Worker}) e in
     let on = All-head (IsOn board p) _ _ (All-same (IsOn board p) _ _ (sym e) i.left) in
     record {

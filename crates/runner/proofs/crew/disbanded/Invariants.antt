@@ -7,7 +7,7 @@ abbrev pub invariant-loop-worker : goal.invariant-loop-worker
 invariant-loop-worker l = let rest = l.worker-iterator.rest.items in record {
   left : All (IsOn l.board.id l.program) rest;
   seats : All (λ s. s.board ≡ l.board.id) l.seats.items;
-  hands : All (λ h. h.walker ≡ l.program) l.hands.items;
+  hands : All (λ h. h.value.walker ≡ l.program) l.hands.items;
   many : vec_len l.seats + length rest ≡ vec_len l.fn.workers;
   kept : vec_len l.hands + length rest ≡ vec_len l.fn.workers;
 }

@@ -1,0 +1,31 @@
+use Rattle.std.proofs.Common.{◌≡◌, sym, subst, All}
+use Rattle.walk.specs.Items.{ItemView}
+use Rattle.book.specs.Books.{BookView, book_view}
+use Rattle.book.proofs.OpenItems.{loose_own}
+use Rattle.book.proofs.books.Book.next_round.Goals as goal
+
+pub copy_from-requires-clause-program : goal.copy_from-requires-clause-program
+copy_from-requires-clause-program c =
+    let i = c.self.inside in
+    let b : BookView = book_view i.program i.mode i.finished i.open_items i.deferred i.quick
+    i.dropped in
+    let own = loose_own b c.unpack_from.new.self (sym c.in_ok-unpack_from.ensures.same)
+    c.self.invariant.0 in (
+      b.program,
+      own,
+      subst (λ (v : BookView). All (λ (j : ItemView). j.program ≡ v.program) c.args.items.now.items)
+          (sym c.self.view_is) c.requires,
+    )
+
+pub returns-clause-program : goal.returns-clause-program
+returns-clause-program c =
+    let i = c.self.inside in
+    let b : BookView = book_view i.program i.mode i.finished i.open_items i.deferred i.quick
+    i.dropped in
+    let own = loose_own b c.unpack_from.new.self (sym c.in_ok-unpack_from.ensures.same)
+    c.self.invariant.0 in
+    subst (λ (v : BookView). All (λ (j : ItemView). j.program ≡ v.program) c.copy_from.new.items.items)
+    c.self.view_is
+    (c.copy_from.ensures.program b.program own
+    (subst (λ (v : BookView). All (λ (j : ItemView). j.program ≡ v.program) c.args.items.now.items)
+    (sym c.self.view_is) c.requires))

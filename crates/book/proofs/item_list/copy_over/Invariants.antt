@@ -1,0 +1,14 @@
+use Rattle.std.proofs.Common.{◌≡◌, ◌≤◌, ◌-◌, take, drop, length, All}
+use Rattle.guest_code.specs.Program.{Program}
+use Rattle.book.proofs.item_list.copy_over.Given as goal
+
+abbrev pub invariant-loop-place : goal.invariant-loop-place
+invariant-loop-place l = record {
+  from : l.first ≤ l.place;
+  few : length l.items.items ≤ length l.more.items - l.first;
+  there : l.place - l.first ≤ length l.items.items;
+  items : take (l.place - l.first) l.items.items
+      ≡ take (l.place - l.first) (drop l.first l.more.items);
+  program : (p : Program) → All (λ i. i.program ≡ p) l.more.items →
+      All (λ i. i.program ≡ p) l.fn.items.items → All (λ i. i.program ≡ p) l.items.items;
+}
