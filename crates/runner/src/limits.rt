@@ -16,6 +16,6 @@ pub const WORKERS: u32 = 16;
 pub const SMALL_ROUND: u64 = 2048;
 
 /// How many walks a worker keeps at most before it settles them under one lock, for which programs
-/// are compared once: as many as a round has items. Measured: to compare programs costs more than
-/// it does to walk an item that is small.
+/// are compared once: as many as a round has items. Measured: to compare programs takes more than
+/// half as many instructions as to walk an item that is small.
 pub const KEPT_WALKS: usize = ROUND;
