@@ -247,7 +247,7 @@ impl State {
     // A further step on a variable, before which the locals that it writes are kept. It is handed
     // the thread's code: once a variable is written, the code would have to be read again.
     #[inline(always)]
-    fn touch_variable_by(
+    fn touch_variable(
         &mut self,
         _program: &Program,
         thread: u8,
@@ -293,7 +293,7 @@ impl State {
         let code = program.code(thread);
         let touched = self.variable_as_is(x, action);
         let others = Others::Same;
-        let standing = self.touch_variable_by(program, thread, code, x, action, saved);
+        let standing = self.touch_variable(program, thread, code, x, action, saved);
         (touched, After { others, standing })
     }
 

@@ -338,35 +338,15 @@ impl State {
             ≡ (thread_at self.old thread).locals }
         ensures standing { Stands result (code_of program.now thread) (thread_at self.new thread) }
     {
-        undo.begin(thread, &self.threads[thread as usize]);
+        let cell = &mut self.variables[x];
+        let runner = &mut self.threads[thread as usize];
+        undo.begin(thread, runner);
         program.keeps_limits();
         undo.change = Change::Variable;
         undo.object = x as u8;
-        undo.value = self.variables[x];
-        self.touch_variable(program, thread, x, action, &mut undo.saved)
-    }
-
-    // A step on a variable, before which the locals that it writes are kept.
-    #[inline(always)]
-    pub(crate) fn touch_variable(
-        &mut self,
-        program: &Program,
-        thread: u8,
-        x: usize,
-        action: VariableAction,
-        saved: &mut Saved,
-    ) -> Standing
-        requires ready { IsReady program.now self.old thread (OnVariable x action) }
-        requires few { saved.old.count ≤ LOCALS }
-        ensures value { self.new ≡ performed program.now self.old thread (OnVariable x action) }
-        ensures few { saved.new.count ≤ LOCALS }
-        ensures locals { restored saved.new (thread_at self.new thread).locals
-            ≡ restored saved.old (thread_at self.old thread).locals }
-        ensures standing { Stands result (code_of program.now thread) (thread_at self.new thread) }
-    {
-        let runner = &mut self.threads[thread as usize];
-        access(&mut self.variables[x], runner, saved, action);
-        resume(program.code(thread), runner, saved)
+        undo.value = *cell;
+        access(cell, runner, &mut undo.saved, action);
+        resume(program.code(thread), runner, &mut undo.saved)
     }
 
     // A step on a mutex alone.
