@@ -2,7 +2,7 @@
 use Rattle.std.proofs.Common.{◌≡◌, ℕ, ◌<◌, Bool, true, false, ◌++◌, length, get_or, slice_get, Some, sym, ◌∙◌, subst, append_assoc}
 use Rattle.std.specs.List.{All}
 use Rattle.std.proofs.lemmas.List.Elements.{All-weaker}
-use Rattle.walk.specs.Items.{ItemView, IsItem, root_of}
+use Rattle.walk.specs.Items.{ItemView, AreOf, IsItem, root_of}
 use Rattle.walk.specs.Walks.{IsBelow, items_at}
 use Rattle.walk.proofs.ListParts.{all_left, all_right}
 use Rattle.book.specs.ItemLists.{ListView, all_of}
@@ -38,7 +38,7 @@ deferred_run b l e h =
     (all_right (IsBelow (root_of b.program)) b.open_items b.deferred (left_below b h))))
 
 pub loose_own : (b : BookView) (l : ListView) → b.open_items ≡ all_of b.program l → Keeps b →
-    All (λ i. i.program ≡ b.program) l.loose
+    AreOf b.program l.loose
 loose_own b l e h =
     All-weaker (IsBelow (root_of b.program)) (λ i. i.program ≡ b.program) (λ i g. g.program) l.loose
     (all_right (IsBelow (root_of b.program)) (items_at b.program l.packed) l.loose

@@ -7,7 +7,7 @@ use Rattle.std.proofs.lemmas.Bool.{cases_lt}
 use Rattle.std.proofs.lemmas.List.{reverse-append, take_all, drop_at, drop_all, drop-drop, drop-append-le, length-map, take-map, take-append-drop, get_or-take}
 use Rattle.guest_code.specs.Program.{Program}
 use Rattle.semantics.specs.Mask.{no_threads}
-use Rattle.walk.specs.Items.{ItemView, IsItem, item_at}
+use Rattle.walk.specs.Items.{ItemView, AreOf, IsItem, item_at}
 use Rattle.walk.specs.PrefixLists.{last_of}
 use Rattle.walk.specs.Walks.{IsBelow, items_at}
 use Rattle.walk.proofs.ListParts.{all_left, all_right}
@@ -210,7 +210,7 @@ first_run p ws n h =
 
 -- an item is known by its prefix and its mask, where the program is known
 pub same_item : (items : List ItemView) (k : ℕ) (x item : ItemView) →
-    All (λ i. i.program ≡ item.program) items → k < length items → x ≡ get_or items k x →
+    AreOf item.program items → k < length items → x ≡ get_or items k x →
     x.prefix ≡ item.prefix → x.mask ≡ item.mask → slice_get items k ≡ Some item
 same_item items k x item own h is e f =
     let g : x.program ≡ item.program = ap (λ i. i.program) is ∙ own k x h in

@@ -4,7 +4,7 @@ ghost use Rattle.std.specs.Prelude.{true, false, None, count_by, ◌≡◌, ◌<
 ghost use Rattle.std.specs.Arc.{arc_value};
 ghost use Rattle.walk.specs.declared.limits.TheConstants.{BOUND};
 ghost use Rattle.walk.specs.declared.mode.Mode.TheVariants.{Bounded};
-ghost use Rattle.walk.specs.Items.{whole};
+ghost use Rattle.walk.specs.Items.{whole, AreOf};
 ghost use Rattle.walk.specs.Walks.{IsWalked, found_walk};
 ghost use Rattle.book.specs.declared.limits.TheConstants.{ROUND};
 ghost use Rattle.book.specs.Quick.{IsBoundedBy};
@@ -211,10 +211,10 @@ impl Book {
     ///
     /// `AllocError` where memory runs out. There are some items of the program then.
     pub fn next_round(&mut self, alloc: Global, items: &mut Vec<Item>) -> Result<(), AllocError>
-        requires { All (λ i. i.program ≡ self.old.program) items.old.items }
+        requires { AreOf self.old.program items.old.items }
         ensures items { OnOk result (items.new.items
             ≡ drop (length self.old.open_items - ROUND) self.old.open_items) }
-        ensures program { All (λ i. i.program ≡ self.old.program) items.new.items }
+        ensures program { AreOf self.old.program items.new.items }
         ensures book { self.new ≡ self.old }
     {
         let first = self.open_items.length().saturating_sub(ROUND);

@@ -4,7 +4,7 @@ ghost use Rattle.std.specs.Prelude.{◌≡◌, ℕ, ◌+◌, ◌-◌, ◌<◌, �
 ghost use Rattle.std.specs.Arc.{arc_value};
 ghost use Rattle.std.specs.List.{remove};
 ghost use Rattle.guest_code.specs.Program.{Program};
-ghost use Rattle.walk.specs.Items.{ItemView, IsItem};
+ghost use Rattle.walk.specs.Items.{ItemView, AreOf, IsItem};
 ghost use Rattle.walk.specs.Walks.{items_at};
 ghost use Rattle.book.specs.Quick.{is_later};
 ghost use Rattle.book.specs.ItemLists.{all_of};
@@ -109,12 +109,11 @@ impl ItemList {
     ) -> Result<(), AllocError>
         requires loose { length self.now.packed ≤ place }
         requires place { place ≤ length self.now.packed + length self.now.loose }
-        requires program { (p : Program) × All (λ i. i.program ≡ p) self.now.loose
-            × All (λ i. i.program ≡ p) items.old.items }
+        requires program { (p : Program) × AreOf p self.now.loose × AreOf p items.old.items }
         ensures items { (p : Program) → OnOk result
             (items.new.items ≡ drop place (all_of p self.now)) }
-        ensures program { (p : Program) → All (λ i. i.program ≡ p) self.now.loose →
-            All (λ i. i.program ≡ p) items.old.items → All (λ i. i.program ≡ p) items.new.items }
+        ensures program { (p : Program) → AreOf p self.now.loose →
+            AreOf p items.old.items → AreOf p items.new.items }
     {
         copy_over(alloc, items, &self.loose, place - self.packed.length())
     }
@@ -130,7 +129,7 @@ impl ItemList {
 
     // The place of an item of the list's program.
     pub(crate) fn place_of(&self, item: &Item) -> Option<usize>
-        requires { All (λ i. i.program ≡ item.now.program) self.now.loose }
+        requires { AreOf item.now.program self.now.loose }
         ensures some { IfSome result (λ k.
             (k < length (all_of item.now.program self.now)) ×
             (slice_get (all_of item.now.program self.now) k ≡ Some item.now)) }
@@ -302,11 +301,10 @@ fn copy_over(
     first: usize,
 ) -> Result<(), AllocError>
     requires first { first ≤ length more.now.items }
-    requires program { (p : Program) × All (λ i. i.program ≡ p) more.now.items
-        × All (λ i. i.program ≡ p) items.old.items }
+    requires program { (p : Program) × AreOf p more.now.items × AreOf p items.old.items }
     ensures items { OnOk result (items.new.items ≡ drop first more.now.items) }
-    ensures program { (p : Program) → All (λ i. i.program ≡ p) more.now.items →
-        All (λ i. i.program ≡ p) items.old.items → All (λ i. i.program ≡ p) items.new.items }
+    ensures program { (p : Program) → AreOf p more.now.items →
+        AreOf p items.old.items → AreOf p items.new.items }
 {
     items.truncate(more.len() - first);
     for place in first..more.len() {
@@ -323,10 +321,10 @@ fn copy_at(
     item: &Item,
 ) -> Result<(), AllocError>
     requires place { place ≤ vec_len items.old }
-    requires program { All (λ i. i.program ≡ item.now.program) items.old.items }
+    requires program { AreOf item.now.program items.old.items }
     ensures items { OnOk result (take (place + 1) items.new.items
         ≡ take place items.old.items ++ item.now ∷ []) }
-    ensures program { All (λ i. i.program ≡ item.now.program) items.new.items }
+    ensures program { AreOf item.now.program items.new.items }
     ensures length { OnOk result (length items.new.items
         ≡ max (length items.old.items) (place + 1)) }
 {
@@ -341,7 +339,7 @@ fn copy_at(
 // Where an item stands among others of its program: looked for from this place on, and else in the
 // places before it from the last one on.
 fn find(items: &VecDeque<Item>, first: usize, item: &Item) -> Option<usize>
-    requires { All (λ i. i.program ≡ item.now.program) items.now.items }
+    requires { AreOf item.now.program items.now.items }
     ensures some { IfSome result (λ k.
         (k < length items.now.items) × (slice_get items.now.items k ≡ Some item.now)) }
     ensures none { IfNone result (All (λ i. i ≡ item.now → ⊥) items.now.items) }
@@ -357,7 +355,7 @@ fn find(items: &VecDeque<Item>, first: usize, item: &Item) -> Option<usize>
 
 // Where an item stands among others of its program before a place.
 fn find_before(items: &VecDeque<Item>, end: usize, item: &Item) -> Option<usize>
-    requires program { All (λ i. i.program ≡ item.now.program) items.now.items }
+    requires program { AreOf item.now.program items.now.items }
     requires end { end ≤ length items.now.items }
     ensures some { IfSome result (λ k.
         (k < length items.now.items) × (slice_get items.now.items k ≡ Some item.now)) }
@@ -376,7 +374,7 @@ fn find_before(items: &VecDeque<Item>, end: usize, item: &Item) -> Option<usize>
 
 // Whether an item stands at a place among others of its program. Their programs aren't compared.
 fn is_at(items: &VecDeque<Item>, place: usize, item: &Item) -> bool
-    requires program { All (λ i. i.program ≡ item.now.program) items.now.items }
+    requires program { AreOf item.now.program items.now.items }
     requires place { place < length items.now.items }
     ensures { IsTrue result ↔ (slice_get items.now.items place ≡ Some item.now) }
 {

@@ -25,7 +25,7 @@ use Rattle.semantics.proofs.UnfoldingUnderPrefix.{schedules_within-past, exceeds
 use Rattle.walk.specs.declared.mode.Mode.{Mode}
 use Rattle.walk.specs.declared.mode.Mode.TheVariants.{Bounded, Reduced}
 use Rattle.walk.specs.Summaries.{SummaryView, cut, greatest_count, nothing, sum_of, join, with_beyond}
-use Rattle.walk.specs.Items.{ItemView, IsItem, IsScheduleOf, state_of, root_of, schedules_of, goes_beyond, item_sum, item_sums, schedule_count, covers, is_under}
+use Rattle.walk.specs.Items.{ItemView, AreOf, IsItem, IsScheduleOf, state_of, root_of, schedules_of, goes_beyond, item_sum, item_sums, schedule_count, covers, is_under}
 use Rattle.walk.specs.Walks.{WalkView, IsWalked, IsBelow, IsCut, tried_by}
 pub use Rattle.walk.specs.Walks.{HasItsOf}
 use Rattle.walk.proofs.Covers.{at_most_one}
@@ -193,13 +193,13 @@ nothing_of : (p : Program) → with_beyond (sum_of p []) false ≡ nothing
 unfolding sum_of
 nothing_of p = refl
 
-joined_is : (p : Program) (mode : Mode) (items : List ItemView) → All (λ r. r.program ≡ p) items →
+joined_is : (p : Program) (mode : Mode) (items : List ItemView) → AreOf p items →
     with_beyond (sum_of p (flat_map (schedules_of mode) items)) (list_any (goes_beyond mode) items)
     ≡ item_sums mode items
 joined_is p mode [] h = nothing_of p
 joined_is p mode (x ∷ xs) h =
     let same : x.program ≡ p = All-head (λ (r : ItemView). r.program ≡ p) x xs h in
-    let rest : All (λ (r : ItemView). r.program ≡ p) xs =
+    let rest : AreOf p xs =
     All-tail (λ (r : ItemView). r.program ≡ p) x xs h in
     join-beyond p (schedules_of mode x) (flat_map (schedules_of mode) xs) (goes_beyond mode x)
     (list_any (goes_beyond mode) xs)

@@ -1,5 +1,6 @@
-use Rattle.std.proofs.Common.{◌≡◌, ◌≤◌, ◌-◌, take, drop, length, All}
+use Rattle.std.proofs.Common.{◌≡◌, ◌≤◌, ◌-◌, take, drop, length}
 use Rattle.guest_code.specs.Program.{Program}
+use Rattle.walk.specs.Items.{AreOf}
 use Rattle.book.proofs.item_list.copy_over.Given as goal
 
 abbrev pub invariant-loop-place : goal.invariant-loop-place
@@ -9,6 +10,5 @@ invariant-loop-place l = record {
   there : l.place - l.first ≤ length l.items.items;
   items : take (l.place - l.first) l.items.items
       ≡ take (l.place - l.first) (drop l.first l.more.items);
-  program : (p : Program) → All (λ i. i.program ≡ p) l.more.items →
-      All (λ i. i.program ≡ p) l.fn.items.items → All (λ i. i.program ≡ p) l.items.items;
+  program : (p : Program) → AreOf p l.more.items → AreOf p l.fn.items.items → AreOf p l.items.items;
 }

@@ -1,6 +1,6 @@
 use Rattle.std.proofs.Common.{refl, ◌≡◌, ◌∙◌, ap, subst}
-use Rattle.std.specs.List.{All}
 use Rattle.guest_code.specs.Program.{Program}
+use Rattle.walk.specs.Items.{AreOf}
 use Rattle.book.specs.Books.{BookView, book_view}
 use Rattle.book.proofs.OpenItems.{loose_own}
 use Rattle.book.proofs.books.Book.settle_found.Goals as goal
@@ -11,5 +11,5 @@ place_of-requires c =
     c.self.inside.open_items c.self.inside.deferred c.self.inside.quick c.self.inside.dropped in
     let e : b.program ≡ c.args.item.now.program =
     ap (λ (z : BookView). z.program) c.self.view_is ∙ c.requires.program in
-    subst (λ (p : Program). All (λ i. i.program ≡ p) c.self.inside.open_items.loose) e
+    subst (λ (p : Program). AreOf p c.self.inside.open_items.loose) e
     (loose_own b c.self.inside.open_items refl c.self.invariant.0)

@@ -1,7 +1,7 @@
-use Rattle.std.proofs.Common.{◌≡◌, ◌∙◌, ◌-◌, ◌+◌, ◌++◌, ap, sym, subst, arith, drop, length, List, OnOk, All}
+use Rattle.std.proofs.Common.{◌≡◌, ◌∙◌, ◌-◌, ◌+◌, ◌++◌, ap, sym, subst, arith, drop, length, List, OnOk}
 use Rattle.std.proofs.lemmas.List.{length-map}
 use Rattle.std.proofs.Math.Seq.{drop-append-add}
-use Rattle.walk.specs.Items.{ItemView, item_at}
+use Rattle.walk.specs.Items.{ItemView, item_at, AreOf}
 use Rattle.walk.specs.Walks.{items_at}
 use Rattle.book.specs.ItemLists.{ListView, all_of}
 use Rattle.book.proofs.item_list.ItemList.copy_from.Goals as goal
@@ -25,5 +25,5 @@ returns-clause-items c = λ p.
 pub returns-clause-program : goal.returns-clause-program
 returns-clause-program c = λ p loose items.
     c.copy_over.ensures.program p
-    (subst (λ (l : ListView). All (λ (i : ItemView). i.program ≡ p) l.loose) (sym c.self.view_is) loose)
+    (subst (λ (l : ListView). AreOf p l.loose) (sym c.self.view_is) loose)
     items
