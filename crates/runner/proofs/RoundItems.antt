@@ -1,14 +1,13 @@
 -- The items of a round are of the book's program, and they are few.
 use Rattle.std.proofs.Common.{◌≡◌, ℕ, ◌-◌, ◌≤◌, List, arith, length, drop, length-drop}
-use Rattle.std.specs.List.{All}
 use Rattle.std.proofs.lemmas.List.Elements.{All-weaker, All-drop}
-use Rattle.walk.specs.Items.{ItemView, root_of}
+use Rattle.walk.specs.Items.{ItemView, root_of, AreOf}
 use Rattle.walk.specs.Walks.{IsBelow}
 use Rattle.book.specs.Books.{BookView, Keeps}
 use Rattle.runner.proofs.Shrinks.{keeps_below}
 
 pub of_program : (b : BookView) → Keeps b → (first : ℕ)
-    → All (λ i. i.program ≡ b.program) (drop first b.open_items)
+    → AreOf b.program (drop first b.open_items)
 of_program b keeps first =
     All-drop (λ (i : ItemView). i.program ≡ b.program) first b.open_items
     (All-weaker (IsBelow (root_of b.program)) (λ (i : ItemView). i.program ≡ b.program)

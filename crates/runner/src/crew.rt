@@ -3,22 +3,26 @@
 ghost use Rattle.std.specs.Prelude.{◌≡◌, ◌<◌, ◌≤◌, true, IfOk, IfErr, vec_len};
 ghost use Rattle.std.specs.List.{All};
 ghost use Rattle.std.specs.Arc.{arc_value};
+ghost use Rattle.walk.specs.Items.{AreOf};
 ghost use Rattle.runner.specs.declared.limits.TheConstants.{WORKERS};
 ghost use Rattle.runner.specs.declared.error.ExploreError.TheVariants.{OutOfMemory};
 ghost use Rattle.runner.specs.declared.worker.Ending.TheVariants.{Stopped};
-ghost use Rattle.runner.specs.inner.Rounds.{IsOn, IsSeated, IsRound, IsCrewOf};
+ghost use Rattle.runner.specs.inner.Judging.{IsOf};
+ghost use Rattle.runner.specs.inner.Rounds.{IsOn, IsSeated, IsRound, IsRoundOf, IsCrewOf};
 
 use crate::error::ExploreError;
 use crate::gate::{Answer, Gate};
 use crate::hand::Hand;
 use crate::limits::{SMALL_ROUND, WORKERS};
-use crate::worker::{Ending, Round, Worker, ending_of, work_all};
+use crate::shared::{NamedBook, Naming, Round, Shared};
+use crate::worker::{Ending, Worker, ending_of, work_all};
 use board::{Board, Seat};
 use book::books::Book;
 use book::errors::SettleError;
 use book::limits::ROUND;
 use guest_code::program::Program;
 use std::alloc::{AllocError, Global};
+use std::marker::Brand;
 use std::sync::{Arc, Mutex, Wait};
 use std::thread::Threads;
 use walk::item::Item;
@@ -107,8 +111,9 @@ fn walk_in_order<G: Gate>(
     items: &[Item],
 ) -> Ending
     requires quota { 1 ≤ quota }
-    requires items { All (λ i. i.program ≡ walker.old) items.now }
+    requires items { AreOf walker.old items.now }
     ensures walker { walker.new ≡ walker.old }
+    ensures book { IsOf book.new book.old.program book.old.mode book.old.quick }
     ensures stopped { result ≡ Stopped → G.stops gate.now ≡ true }
 {
     let mode = book.mode();
@@ -127,36 +132,36 @@ fn walk_in_order<G: Gate>(
     Ending::Drawn
 }
 
-// Walks the items of a round by all its workers, in at most so many threads. Answers, beside what
-// is left, how many items were drawn.
-fn walk_by_all<G: Gate, R: Threads + Wait + Sync>(
+// Walks the items of a round of this book by all its workers. Answers, beside what is left, how many
+// items were drawn.
+fn walk_by_all<N: Naming + Send + Sync, G: Gate, R: Threads + Wait + Sync>(
     rt: &R,
     alloc: Global,
     gate: &G,
     round: Round,
-    threads: usize,
+    book: Book,
     mut workers: Vec<Worker>,
 ) -> Result<(Left, u64), AllocError>
-    requires threads { 0 < threads }
     requires round { IsRound round }
+    requires named { IsRoundOf N.program N.mode round }
+    requires book { IsOf book N.program N.mode N.quick }
     requires seated { All (IsSeated round) workers.items }
     requires count { vec_len workers ≡ round.board.seats }
     requires few { (0 < vec_len workers) × (vec_len workers ≤ WORKERS) }
+    ensures book { IfOk result (λ r. IsOf r.0.book N.program N.mode N.quick) }
     ensures crew { IfOk result (λ r. IsCrewOf (arc_value round.program) r.0.crew) }
     ensures stopped { IfOk result (λ r. r.0.ending ≡ Stopped → G.stops gate.now ≡ true) }
 {
-    work_all(rt, alloc, gate, &round, threads, &mut workers);
+    let book = Mutex::new(NamedBook::<N>::new(book));
+    let shared = Shared { round, book };
+    work_all(rt, alloc, gate, &shared, &mut workers);
     let ending = ending_of(workers.as_slice());
+    let Shared { round, book } = shared;
     let (seats, hands) = disbanded(alloc, &round.board, &round.program, workers)?;
-    let Round {
-        items,
-        board,
-        book,
-        ..
-    } = round;
+    let Round { items, board, .. } = round;
     let drawn = board.gather(seats).count();
     let left = Left {
-        book: book.into_inner(),
+        book: book.into_inner().into_book(),
         crew: Crew {
             hands,
             items,
@@ -198,8 +203,8 @@ impl Crew {
         }
     }
 
-    /// Walks the items of a round of a book and settles the walks. Nothing is known of the book
-    /// then but what its type keeps.
+    /// Walks the items of a round of a book and settles the walks. It is known of the book then
+    /// that it is of the same search, and what its type keeps.
     pub fn walk_round<G: Gate, R: Threads + Wait + Sync>(
         mut self,
         rt: &R,
@@ -210,6 +215,7 @@ impl Crew {
     ) -> Result<Left, ExploreError>
         requires quota { 1 ≤ quota }
         requires crew { IsCrewOf book.program self }
+        ensures book { IfOk result (λ l. IsOf l.book book.program book.mode book.quick) }
         ensures crew { IfOk result (λ l. IsCrewOf book.program l.crew) }
         ensures stopped { IfOk result (λ l. l.ending ≡ Stopped → G.stops gate.now ≡ true) }
         ensures error { IfErr result (λ e. e ≡ OutOfMemory) }
@@ -237,11 +243,11 @@ impl Crew {
             mode: book.mode(),
             quick: book.is_quick(),
             quota,
+            threads,
             items,
             board,
-            book: Mutex::new(book),
         };
-        let (mut left, drawn) = walk_by_all(rt, alloc, gate, round, threads, workers)?;
+        let (mut left, drawn) = walk_by_all::<Brand, G, R>(rt, alloc, gate, round, book, workers)?;
         let tried = left.book.finished().tried().saturating_sub(tried);
         left.crew.was_small = drawn == ROUND as u64 && tried < SMALL_ROUND;
         Ok(left)

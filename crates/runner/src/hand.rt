@@ -1,19 +1,16 @@
 //! What a worker walks with, from round to round.
 
-ghost use Rattle.std.specs.Prelude.{◌≡◌, ◌<◌, ◌≤◌, ◌↔◌, vec_len, take, IfOk, OnOk, IsTrue};
+ghost use Rattle.std.specs.Prelude.{◌≡◌, ◌<◌, ◌≤◌, vec_len, take, IfOk, OnOk};
 ghost use Rattle.std.specs.Arc.{arc_value};
-ghost use Rattle.runner.specs.inner.Rounds.{IsRound, IsSlotOf, AreKept};
+ghost use Rattle.runner.specs.inner.Rounds.{IsRound, IsRoundOf, IsSlotOf, AreKept};
 
 use crate::limits::KEPT_WALKS;
-use crate::worker::Round;
-use book::books::Book;
-use book::errors::SettleError;
+use crate::shared::{NamedBook, Naming, Round};
 use guest_code::program::Program;
 use std::alloc::{AllocError, Global};
 use std::mem;
 use std::sync::Arc;
 use walk::found::Found;
-use walk::mode::Mode;
 use walk::walker::Walker;
 
 /// A walk of an item of a round, which is named by its number, or the memory for one.
@@ -53,23 +50,19 @@ impl Slot {
         Ok(self.found.part.first_bad().is_some())
     }
 
-    // Settles the walk in a book of the round's program and mode. Answers whether the book took it:
-    // it doesn't where the item isn't open.
-    fn settle(&mut self, alloc: Global, book: &mut Book, round: &Round) -> Result<bool, AllocError>
+    // Settles the walk in the round's book. Answers whether the book took it: it doesn't where the
+    // item isn't open.
+    fn settle<N: Naming>(
+        &mut self,
+        alloc: Global,
+        book: &mut NamedBook<N>,
+        round: &Round,
+    ) -> Result<bool, AllocError>
         requires round { IsRound round.now }
+        requires named { IsRoundOf N.program N.mode round.now }
         requires walk { IsSlotOf round.now self.old }
-        requires program { book.old.program ≡ arc_value round.now.program }
-        requires mode { book.old.mode ≡ round.now.mode }
-        ensures program { book.new.program ≡ book.old.program }
-        ensures mode { book.new.mode ≡ book.old.mode }
     {
-        let item = &round.items[self.number];
-        match book.settle_found(alloc, item, &mut self.found) {
-            Ok(()) => Ok(true),
-            Err(SettleError::OutOfMemory) => Err(AllocError),
-            Err(SettleError::NotOpen) => Ok(false),
-            Err(SettleError::Stranger) => Ok(false),
-        }
+        book.settle(alloc, &round.items[self.number], &mut self.found)
     }
 }
 
@@ -143,28 +136,25 @@ impl Hand {
         Ok(is_bad)
     }
 
-    /// Settles the walks that it keeps in a book, in their order, and keeps none then. Answers
-    /// whether the book took them all: it takes none where it is of another program or mode, and
-    /// leaves out those whose item isn't open.
+    /// Settles the walks that it keeps in the round's book, in their order, and keeps none then.
+    /// Answers whether the book took them all: it leaves out those whose item isn't open.
     ///
     /// # Errors
     ///
     /// `AllocError` where memory runs out; some of the walks are given up then.
-    pub fn settle(
+    pub fn settle<N: Naming>(
         &mut self,
         alloc: Global,
-        book: &mut Book,
+        book: &mut NamedBook<N>,
         round: &Round,
     ) -> Result<bool, AllocError>
         requires round { IsRound round.now }
+        requires named { IsRoundOf N.program N.mode round.now }
         requires kept { AreKept round.now self.old }
         ensures walker { self.new.walker ≡ self.old.walker }
         ensures count { self.new.count ≡ 0 }
     {
         let count = mem::replace(&mut self.count, 0);
-        if !is_in(book, &round.program, round.mode) {
-            return Ok(false);
-        }
         let mut all = true;
         for place in 0..count {
             let is_taken = self.slots[place].settle(alloc, book, round)?;
@@ -172,11 +162,4 @@ impl Hand {
         }
         Ok(all)
     }
-}
-
-// Whether a book is of this program and mode.
-fn is_in(book: &Book, program: &Program, mode: Mode) -> bool
-    ensures { IsTrue result ↔ (book.now.program ≡ program.now) × (book.now.mode ≡ mode) }
-{
-    book.mode() == mode && book.program().is_same(program)
 }

@@ -21,6 +21,7 @@ pub mod limits;
 mod options;
 mod printing;
 mod report;
+mod shared;
 #[cfg(test)]
 mod tests;
 mod text;

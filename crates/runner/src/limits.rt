@@ -1,6 +1,5 @@
 //! The limits of a search, beside those of a walk.
 
-use book::limits::ROUND;
 pub use walk::limits::BOUND;
 
 /// How many complete schedules one walk tries at most, where nothing else is asked for.
@@ -15,7 +14,6 @@ pub const WORKERS: u32 = 16;
 /// worker.
 pub const SMALL_ROUND: u64 = 2048;
 
-/// How many walks a worker keeps at most before it settles them under one lock, for which programs
-/// are compared once: as many as a round has items. Measured: to compare programs takes more than
-/// half as many instructions as to walk an item that is small.
-pub const KEPT_WALKS: usize = ROUND;
+/// How many walks a worker keeps at most before it settles them under one lock. Measured: the memory
+/// of so many stays in a processor's first cache.
+pub const KEPT_WALKS: usize = 8;

@@ -1,6 +1,6 @@
 //! The search of several threads.
 
-ghost use Rattle.std.specs.Prelude.{◌≡◌, ◌↔◌, ◌≤◌, Bool, true, IfOk, IfErr, IsTrue};
+ghost use Rattle.std.specs.Prelude.{◌≡◌, ◌≤◌, Bool, true, IfOk, IfErr};
 ghost use Rattle.std.specs.Arc.{arc_value};
 ghost use Rattle.runner.specs.declared.error.ExploreError.TheVariants.{OutOfMemory};
 ghost use Rattle.runner.specs.declared.limits.TheConstants.{WORKERS};
@@ -30,15 +30,6 @@ pub(crate) enum Turn {
     Ends(Report),
     /// There is another round, in this mode.
     Goes(Mode),
-    /// The book is of another search.
-    Stranger,
-}
-
-// Whether a book is of this program and mode, and a quick one or not.
-fn is_of(book: &Book, program: &Program, mode: Mode, quick: bool) -> bool
-    ensures { IsTrue result ↔ IsOf book.now program.now mode quick }
-{
-    book.mode() == mode && book.is_quick() == quick && book.program().is_same(program)
 }
 
 // What follows a round whose workers settled what they walked in this book, where one of them was
@@ -53,13 +44,11 @@ fn after_round(
 ) -> Result<Turn, ExploreError>
     requires search { IsSearch options.search }
     requires stage { IsStage program.now options.search mode }
+    requires of { IsOf book.old program.now mode options.quick }
     ensures turn { IfOk result (λ t. (may : Bool) → (stopped ≡ true → may ≡ true) →
         Follows may program.now options book.new t) }
     ensures error { IfErr result (λ e. e ≡ OutOfMemory) }
 {
-    if !is_of(book, program, mode, options.quick) {
-        return Ok(Turn::Stranger);
-    }
     let _number = book.drop_later();
     match judge(alloc, program, options, mode, book, stopped)? {
         Next::Answer(report) => Ok(Turn::Ends(report)),
@@ -117,7 +106,6 @@ pub fn explore<G: Gate, R: Threads + Wait + Sync>(
         match after_round(alloc, program, options, mode, &mut book, stopped)? {
             Turn::Ends(report) => return Ok(report),
             Turn::Goes(next) => mode = next,
-            Turn::Stranger => return explore_alone(alloc, program, options),
         }
     }
     unreachable!()

@@ -9,28 +9,13 @@ ghost use Rattle.runner.specs.inner.Rounds.{IsRound, IsSeated, IsAtWork};
 use crate::error::ExploreError;
 use crate::gate::{Answer, Gate};
 use crate::hand::Hand;
-use board::{Board, NONE_TOLD, Seat};
-use book::books::Book;
-use guest_code::program::Program;
+use crate::shared::{Naming, Round, Shared};
+use board::{NONE_TOLD, Seat};
 use std::alloc::{AllocError, Global};
-use std::sync::{Arc, Mutex, Wait};
+use std::sync::Wait;
 use std::thread;
 use std::thread::Threads;
 use walk::item::Item;
-use walk::mode::Mode;
-
-/// What the workers of a round share: the items, the board that their numbers are drawn from, and
-/// the book that walks are settled in.
-#[derive(Drop)]
-pub(crate) struct Round {
-    pub program: Arc<Program>,
-    pub mode: Mode,
-    pub quick: bool,
-    pub quota: u32,
-    pub items: Vec<Item>,
-    pub board: Board,
-    pub book: Mutex<Book>,
-}
 
 /// How a worker, or all of them, ended a round.
 #[derive(Clone, Copy, Debug, PartialEq, Eq)]
@@ -98,15 +83,21 @@ impl Worker {
 
     // Works until all items are drawn, the gate stops it or memory runs out, and then settles what
     // it has walked and not settled yet.
-    fn work<G: Gate, R: Wait>(&mut self, rt: &R, alloc: Global, gate: &G, round: &Round) -> Ending
-        requires round { IsRound round.now }
-        requires seated { IsSeated round.now self.old }
-        ensures seated { IsSeated round.now self.new }
+    fn work<N: Naming, G: Gate, R: Wait>(
+        &mut self,
+        rt: &R,
+        alloc: Global,
+        gate: &G,
+        shared: &Shared<N>,
+    ) -> Ending
+        requires round { IsRound shared.now.round }
+        requires seated { IsSeated shared.now.round self.old }
+        ensures seated { IsSeated shared.now.round self.new }
         ensures stopped { result ≡ Stopped → G.stops gate.now ≡ true }
     {
         self.hand.forget();
-        let ending = self.walk_items(rt, alloc, gate, round);
-        match self.settle(rt, alloc, round) {
+        let ending = self.walk_items(rt, alloc, gate, shared);
+        match self.settle(rt, alloc, shared) {
             Ok(_) => ending,
             Err(AllocError) => Ending::OutOfMemory,
         }
@@ -117,16 +108,21 @@ impl Worker {
     // # Errors
     //
     // `AllocError` where memory runs out; some of the walks are given up then.
-    fn settle<R: Wait>(&mut self, rt: &R, alloc: Global, round: &Round) -> Result<bool, AllocError>
-        requires round { IsRound round.now }
-        requires work { IsAtWork round.now self.old }
-        ensures { IsAtWork round.now self.new }
+    fn settle<N: Naming, R: Wait>(
+        &mut self,
+        rt: &R,
+        alloc: Global,
+        shared: &Shared<N>,
+    ) -> Result<bool, AllocError>
+        requires round { IsRound shared.now.round }
+        requires work { IsAtWork shared.now.round self.old }
+        ensures { IsAtWork shared.now.round self.new }
     {
         if self.hand.is_empty() {
             return Ok(true);
         }
-        let mut book = round.book.lock(rt);
-        self.hand.settle(alloc, &mut book, round)
+        let mut book = shared.book.lock(rt);
+        self.hand.settle(alloc, &mut book, &shared.round)
     }
 
     // Settles its walks where the last one, of this item, found a bad schedule in a quick search,
@@ -135,41 +131,42 @@ impl Worker {
     // # Errors
     //
     // `AllocError` where memory runs out; some of the walks are given up then.
-    fn settle_early<R: Wait>(
+    fn settle_early<N: Naming, R: Wait>(
         &mut self,
         rt: &R,
         alloc: Global,
-        round: &Round,
+        shared: &Shared<N>,
         item: &Item,
         is_bad: bool,
     ) -> Result<(), AllocError>
-        requires round { IsRound round.now }
-        requires work { IsAtWork round.now self.old }
-        ensures { IsAtWork round.now self.new }
+        requires round { IsRound shared.now.round }
+        requires work { IsAtWork shared.now.round self.old }
+        ensures { IsAtWork shared.now.round self.new }
     {
-        if round.quick && is_bad {
-            if self.settle(rt, alloc, round)? {
-                self.tells_of(round, item);
+        if shared.round.quick && is_bad {
+            if self.settle(rt, alloc, shared)? {
+                self.tells_of(&shared.round, item);
             }
         } else if self.hand.is_full() {
-            self.settle(rt, alloc, round)?;
+            self.settle(rt, alloc, shared)?;
         }
         Ok(())
     }
 
     // Draws items and walks them, until all are drawn, the gate stops it or memory runs out.
-    fn walk_items<G: Gate, R: Wait>(
+    fn walk_items<N: Naming, G: Gate, R: Wait>(
         &mut self,
         rt: &R,
         alloc: Global,
         gate: &G,
-        round: &Round,
+        shared: &Shared<N>,
     ) -> Ending
-        requires round { IsRound round.now }
-        requires work { IsAtWork round.now self.old }
-        ensures work { IsAtWork round.now self.new }
+        requires round { IsRound shared.now.round }
+        requires work { IsAtWork shared.now.round self.old }
+        ensures work { IsAtWork shared.now.round self.new }
         ensures stopped { result ≡ Stopped → G.stops gate.now ≡ true }
     {
+        let round = &shared.round;
         for _ in rt.forever() {
             let Some(k) = round.board.claim(&mut self.seat) else {
                 return Ending::Drawn;
@@ -185,7 +182,7 @@ impl Worker {
                 return Ending::OutOfMemory;
             };
             gate.walked(self.number, k);
-            if self.settle_early(rt, alloc, round, item, is_bad).is_err() {
+            if self.settle_early(rt, alloc, shared, item, is_bad).is_err() {
                 return Ending::OutOfMemory;
             }
         }
@@ -199,28 +196,26 @@ fn rank_of(items: &[Item], item: &Item) -> u64 {
     before.count() as u64
 }
 
-/// Lets all workers of a round work, in at most so many threads.
-pub(crate) fn work_all<G: Gate, R: Threads + Wait + Sync>(
+/// Lets all workers of a round work, in the round's threads.
+pub(crate) fn work_all<N: Naming + Send + Sync, G: Gate, R: Threads + Wait + Sync>(
     rt: &R,
     alloc: Global,
     gate: &G,
-    round: &Round,
-    threads: usize,
+    shared: &Shared<N>,
     workers: &mut Vec<Worker>,
 )
-    requires threads { 0 < threads }
-    requires round { IsRound round.now }
-    requires seated { All (IsSeated round.now) workers.old.items }
-    ensures seated { All (IsSeated round.now) workers.new.items }
+    requires round { IsRound shared.now.round }
+    requires seated { All (IsSeated shared.now.round) workers.old.items }
+    ensures seated { All (IsSeated shared.now.round) workers.new.items }
     ensures stopped { All (λ w. w.ending ≡ Stopped → G.stops gate.now ≡ true) workers.new.items }
     ensures count { vec_len workers.new ≡ vec_len workers.old }
 {
     let one = |_: usize, w: &mut Worker|
-        requires { IsRound round.now × IsSeated round.now w.old }
-        ensures { IsSeated round.entry.now w.new
+        requires { IsRound shared.now.round × IsSeated shared.now.round w.old }
+        ensures { IsSeated shared.entry.now.round w.new
             × (w.new.ending ≡ Stopped → G.stops gate.entry.now ≡ true) }
-    { w.ending = w.work(rt, alloc, gate, round) };
-    thread::for_each_mut(rt, workers.as_mut_slice(), threads, &one);
+    { w.ending = w.work(rt, alloc, gate, shared) };
+    thread::for_each_mut(rt, workers.as_mut_slice(), shared.round.threads, &one);
 }
 
 /// How the workers ended a round together: out of memory where one of them was, else stopped where

@@ -3,26 +3,32 @@ use Rattle.std.specs.Prelude.{◌≡◌, ◌≤◌, ◌<◌, Bool, All, Some, ve
 use Rattle.std.specs.Arc.{arc_value}
 use Rattle.guest_code.specs.Program.{Program}
 use Rattle.board.specs.Board.{BoardId}
-use Rattle.walk.specs.Items.{ItemView}
+use Rattle.walk.specs.Items.{ItemView, AreOf}
+use Rattle.walk.specs.declared.mode.Mode.{Mode}
 use Rattle.walk.specs.Walks.{IsWalked, found_walk}
 use Rattle.book.specs.Books.{BookView}
 use Rattle.runner.specs.declared.limits.TheConstants.{WORKERS}
 use Rattle.runner.specs.declared.options.Options.{Options}
 use Rattle.runner.specs.declared.hand.Slot.{Slot}
 use Rattle.runner.specs.declared.hand.Hand.{Hand}
-use Rattle.runner.specs.declared.worker.Round.{Round}
+use Rattle.runner.specs.declared.shared.Round.{Round}
 use Rattle.runner.specs.declared.worker.Worker.{Worker}
 use Rattle.runner.specs.declared.crew.Crew.{Crew}
 use Rattle.runner.specs.declared.together.Turn.{Turn}
-use Rattle.runner.specs.declared.together.Turn.TheVariants.{Ends, Goes, Stranger}
+use Rattle.runner.specs.declared.together.Turn.TheVariants.{Ends, Goes}
 use Rattle.runner.specs.Promises.{IsReport}
 use Rattle.runner.specs.inner.Judging.{IsStage, IsOf}
+
+-- the round is of this program and mode
+abbrev pub IsRoundOf : Program → Mode → Round → Type 0
+IsRoundOf p mode r = (arc_value r.program ≡ p) × (r.mode ≡ mode)
 
 -- the board has a number for each item, and each item is of the round's program
 pub record IsRound (r : Round) : Type 0 where
   pub numbers : r.board.id.limit ≡ vec_len r.items
-  pub items : All (λ i. i.program ≡ arc_value r.program) r.items.items
+  pub items : AreOf (arc_value r.program) r.items.items
   pub quota : 1 ≤ r.quota
+  pub threads : 0 < r.threads
 
 -- the worker's seat is of this board, and its walker of this program
 pub record IsOn (board : BoardId) (p : Program) (w : Worker) : Type 0 where
@@ -55,10 +61,9 @@ pub record IsCrewOf (p : Program) (c : Crew) : Type 0 where
   pub some : 0 < vec_len c.hands
   pub few : vec_len c.hands ≤ WORKERS
   pub of : All (λ h. h.value.walker ≡ p) c.hands.items
-  pub items : All (λ i. i.program ≡ p) c.items.items
+  pub items : AreOf p c.items.items
 
 -- what follows a round: a report, or another round, of which the book is then
 abbrev pub Follows : Bool → Program → Options → BookView → Turn → Type 0
 Follows may p o book (Ends r) = IsReport may p o r
 Follows may p o book (Goes mode) = IsStage p o.search mode × IsOf book p mode o.quick
-Follows may p o book Stranger = Unit {0}

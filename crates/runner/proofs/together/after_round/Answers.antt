@@ -1,4 +1,4 @@
-use Rattle.std.proofs.Common.{rules, ◌≡◌, ◌≤◌, sym, ◌∙◌, subst, refl, true, false}
+use Rattle.std.proofs.Common.{◌≡◌, ◌≤◌, sym, ◌∙◌, subst, refl, true, false}
 use Rattle.walk.specs.declared.limits.TheConstants.{BOUND}
 use Rattle.walk.specs.declared.mode.Mode.{Mode}
 use Rattle.book.specs.Books.{IsNotRaised, bound_of}
@@ -32,7 +32,7 @@ unreachable-requires-in-Err-LastBound c =
     let o = c.args.options in
     let mode = c.args.mode in
     let b = c.drop_later-number.new.self in
-    let was : IsOf c.args.book.now c.args.program.now mode o.quick = search rules in
+    let was : IsOf c.args.book.now c.args.program.now mode o.quick = c.requires.of in
     let of =
     thinned_of c.args.book.now b c.args.program.now mode o c.drop_later-number.ensures.book was in
     let comes = subst (λ (n : Next). Comes true c.args.program.now o mode b n)
@@ -52,7 +52,7 @@ returns-in-Ok-clause-turn c may h =
     let o = c.args.options in
     let mode = c.args.mode in
     let b = c.drop_later-number.new.self in
-    let was : IsOf c.args.book.now c.args.program.now mode o.quick = search rules in
+    let was : IsOf c.args.book.now c.args.program.now mode o.quick = c.requires.of in
     let of =
     thinned_of c.args.book.now b c.args.program.now mode o c.drop_later-number.ensures.book was in
     let comes = subst (λ (n : Next). Comes true c.args.program.now o mode b n)

@@ -1,12 +1,9 @@
-use Rattle.std.proofs.Common.{◌≡◌, subst, true, false}
-use Rattle.std.specs.Arc.{arc_value}
-use Rattle.std.proofs.lemmas.Result.{IfOk-weaker}
+use Rattle.std.proofs.Common.{◌≡◌, subst, true}
 use Rattle.guest_code.specs.Program.{Program}
 use Rattle.runner.specs.declared.together.Turn.{Turn}
 use Rattle.runner.specs.Promises.{IsReport}
 use Rattle.runner.specs.inner.Judging.{IsStage, IsOf}
 use Rattle.runner.specs.inner.Rounds.{Follows, IsCrewOf}
-use Rattle.runner.proofs.Unstopped.{unstopped}
 use Rattle.runner.proofs.together.explore.Goals as goal
 
 pub returns-in-Ends-clause-report : goal.returns-in-Ends-clause-report
@@ -36,11 +33,3 @@ loop-preserved g c =
       subst (λ (p : Program). IsCrewOf p c.in_ok-left.left.crew) of.program
           c.in_ok-left.ensures.crew,
     )
-
-pub returns-in-Stranger-clause-report : goal.returns-in-Stranger-clause-report
-returns-in-Stranger-clause-report g c =
-    let o = c.args.options in
-    let p = arc_value c.args.program.now in
-    let may = g.G.Gate.stops c.args.gate.now in
-    IfOk-weaker c.explore_alone-in-Stranger.result (IsReport false p o) (IsReport may p o)
-    (unstopped may p o) c.explore_alone-in-Stranger.ensures.report

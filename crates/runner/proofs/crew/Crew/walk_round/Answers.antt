@@ -1,9 +1,8 @@
 use Rattle.std.proofs.Common.{Box, rules, ◌≡◌, ◌∙◌, ◌-◌, sym, subst, length}
 use Rattle.std.specs.Arc.{arc_value}
-use Rattle.std.specs.List.{All}
 use Rattle.std.proofs.lemmas.List.Elements.{All-same, All-set}
 use Rattle.guest_code.specs.Program.{Program}
-use Rattle.walk.specs.Items.{ItemView}
+use Rattle.walk.specs.Items.{ItemView, AreOf}
 use Rattle.std.specs.declared.alloc.Global.{Global}
 use Rattle.runner.specs.declared.hand.Hand.{Hand}
 use Rattle.runner.proofs.RoundItems.{of_program}
@@ -14,7 +13,7 @@ walk_in_order-ending-requires-clause-items g c κs within =
     let b = c.args.book in
     let walker : c.deref_mut.result.now.walker ≡ b.program = search rules in
     let all = of_program b c.open_length-open.ensures.kept (length b.open_items - 64) in
-    subst (λ (p : Program). All (λ (i : ItemView). i.program ≡ p) c.as_slice-items.result.now)
+    subst (λ (p : Program). AreOf p c.as_slice-items.result.now)
     (sym walker)
     (All-same (λ (i : ItemView). i.program ≡ b.program) _ _
     (c.as_slice-items.ensures.value ∙ c.in_ok-next_round.ensures.items) all)
@@ -26,11 +25,10 @@ walk_by_all-requires-clause-round g c κs within =
     let all = of_program b c.open_length-open.ensures.kept (length b.open_items - 64) in
     record {
       numbers = search rules;
-      items = subst
-          (λ (p : Program). All (λ (i : ItemView). i.program ≡ p) c.next_round.new.items.items)
-          (sym program)
+      items = subst (λ (p : Program). AreOf p c.next_round.new.items.items) (sym program)
           (All-same (λ (i : ItemView). i.program ≡ b.program) _ _ c.in_ok-next_round.ensures.items all);
       quota = c.requires.quota;
+      threads = c.threads-threads.ensures;
     }
 
 pub returns-in_default-clause-crew : goal.returns-in_default-clause-crew

@@ -1,0 +1,135 @@
+//! What the workers of a round share.
+
+ghost use Rattle.std.specs.Prelude.{◌≡◌, true, Ok};
+ghost use Rattle.walk.specs.Walks.{IsWalked, found_walk};
+ghost use Rattle.book.specs.Books.{Settles};
+ghost use Rattle.runner.specs.inner.Judging.{IsOf};
+ghost use Rattle.runner.specs.inner.Rounds.{IsRoundOf};
+
+use board::Board;
+use book::books::Book;
+use book::errors::SettleError;
+use guest_code::program::Program;
+use std::alloc::{AllocError, Global};
+use std::marker::{Brand, Model, PhantomData};
+use std::sync::{Arc, Mutex};
+use walk::found::Found;
+use walk::item::Item;
+use walk::mode::Mode;
+
+/// The items of a round, how they are walked, and the board that their numbers are drawn from.
+#[derive(Drop)]
+pub(crate) struct Round {
+    pub program: Arc<Program>,
+    pub mode: Mode,
+    pub quick: bool,
+    pub quota: u32,
+    /// How many threads walk them at most.
+    pub threads: usize,
+    pub items: Vec<Item>,
+    pub board: Board,
+}
+
+/// Which search a book is of. Each round picks it.
+pub(crate) trait Naming {
+    ghost use Rattle.std.specs.Prelude.{Bool};
+    ghost use Rattle.guest_code.specs.Program.{Program};
+    ghost use Rattle.walk.specs.declared.mode.Mode.{Mode};
+
+    ghost program: { Program };
+
+    ghost mode: { Mode };
+
+    ghost quick: { Bool };
+}
+
+impl Naming for Brand {
+    ghost use Rattle.std.specs.Prelude.{[], false};
+    ghost use Rattle.walk.specs.declared.mode.Mode.TheVariants.{Reduced};
+
+    ghost program = { record {
+      variables = [];
+      mutexes = [];
+      conditions = [];
+      semaphores = [];
+      threads = [];
+    } };
+
+    ghost mode = { Reduced };
+
+    ghost quick = { false };
+}
+
+/// A book that is known to be of one search. So whoever gets it from a lock has nothing to compare.
+/// Contracts see the book.
+#[derive(Drop)]
+pub(crate) struct NamedBook<N: Naming> {
+    book: Book,
+    of: PhantomData<N>,
+}
+
+impl<N: Naming> Model for NamedBook<N> {
+    ghost use Rattle.book.specs.Books.{BookView};
+    ghost use Rattle.runner.specs.inner.Judging.{IsOf};
+
+    ghost Value = { BookView };
+
+    ghost view = { λ n. n.book };
+
+    ghost invariant = { λ n. IsOf n.book N.program N.mode N.quick };
+}
+
+impl<N: Naming> NamedBook<N> {
+    /// A book of this search.
+    pub fn new(book: Book) -> NamedBook<N>
+        requires { IsOf book N.program N.mode N.quick }
+        ensures { result ≡ book }
+    {
+        NamedBook {
+            book,
+            of: PhantomData,
+        }
+    }
+
+    /// The book.
+    pub fn into_book(self) -> Book
+        ensures same { result ≡ self }
+        ensures of { IsOf result N.program N.mode N.quick }
+    {
+        self.book
+    }
+
+    /// Settles what a walk of an item found. Answers whether the book took it: it doesn't where the
+    /// item isn't open. The memory of what was found serves a later walk.
+    ///
+    /// # Errors
+    ///
+    /// `AllocError` where memory runs out. The book is as before then.
+    pub fn settle(
+        &mut self,
+        alloc: Global,
+        item: &Item,
+        found: &mut Found,
+    ) -> Result<bool, AllocError>
+        requires program { item.now.program ≡ N.program }
+        requires walked { IsWalked (found_walk N.mode item.now found.old) }
+        ensures taken { result ≡ Ok true →
+            Settles self.old (found_walk N.mode item.now found.old) self.new }
+        ensures same { (result ≡ Ok true → ⊥) → self.new ≡ self.old }
+    {
+        match self.book.settle_found(alloc, item, found) {
+            Ok(()) => Ok(true),
+            Err(SettleError::OutOfMemory) => Err(AllocError),
+            Err(SettleError::NotOpen) => Ok(false),
+            Err(SettleError::Stranger) => unreachable!(),
+        }
+    }
+}
+
+/// A round, and the book that its walks are settled in.
+#[derive(Drop)]
+pub(crate) struct Shared<N: Naming> {
+    pub round: Round,
+    pub book: Mutex<NamedBook<N>>,
+    pub ghost named: { IsRoundOf N.program N.mode round },
+}
