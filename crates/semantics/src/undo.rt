@@ -19,12 +19,12 @@ pub struct Saved {
 /// What a step changes beside the thread that takes it.
 #[derive(Clone, Copy, Debug, PartialEq, Eq)]
 pub enum Change {
-    /// The value of a variable.
-    Variable,
     /// The owner of a mutex.
     Owner,
     /// The count of a semaphore.
     Count,
+    /// The value of a variable.
+    Variable,
     /// The queue of a condition, and the owner of a mutex.
     Wait,
     /// The queue of a condition, and those of the threads in it that are woken.
