@@ -1,6 +1,6 @@
 //! What the workers of a round share.
 
-ghost use Rattle.std.specs.Prelude.{◌≡◌, true, Ok};
+ghost use Rattle.std.specs.Prelude.{◌≡◌, true, false, Ok, All};
 ghost use Rattle.walk.specs.Walks.{IsWalked, found_walk};
 ghost use Rattle.book.specs.Books.{Settles};
 ghost use Rattle.runner.specs.inner.Judging.{IsOf};
@@ -115,6 +115,7 @@ impl<N: Naming> NamedBook<N> {
         requires walked { IsWalked (found_walk N.mode item.now found.old) }
         ensures taken { result ≡ Ok true →
             Settles self.old (found_walk N.mode item.now found.old) self.new }
+        ensures not_open { result ≡ Ok false → All (λ i. i ≡ item.now → ⊥) self.old.open_items }
         ensures same { (result ≡ Ok true → ⊥) → self.new ≡ self.old }
     {
         match self.book.settle_found(alloc, item, found) {
