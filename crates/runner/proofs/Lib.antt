@@ -8,4 +8,3 @@ pub mod ReportTexts
 pub mod RoundItems
 pub mod Shrinks
 pub mod Unbounded
-pub mod Unstopped

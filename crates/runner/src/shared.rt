@@ -43,6 +43,7 @@ pub(crate) trait Naming {
     ghost quick: { Bool };
 }
 
+// What stands here is never used: each call picks its own.
 impl Naming for Brand {
     ghost use Rattle.std.specs.Prelude.{[], false};
     ghost use Rattle.walk.specs.declared.mode.Mode.TheVariants.{Reduced};

@@ -23,7 +23,8 @@ use Rattle.runner.specs.inner.Judging.{IsStage, IsOf}
 abbrev pub IsRoundOf : Program → Mode → Round → Type 0
 IsRoundOf p mode r = (arc_value r.program ≡ p) × (r.mode ≡ mode)
 
--- the board has a number for each item, and each item is of the round's program
+-- the board has a number for each item, each item is of the round's program, and quota and threads
+-- are not 0
 pub record IsRound (r : Round) : Type 0 where
   pub numbers : r.board.id.limit ≡ vec_len r.items
   pub items : AreOf (arc_value r.program) r.items.items
