@@ -1,22 +1,39 @@
-# run      searches an example for a deadlock and replays the schedule found, without proofs,
-#          in some two minutes from a fresh clone
-# try      does the same with a guest of yours: make try GUEST=file; with SCHEDULE=0,1,0 it only
-#          replays that schedule
-# build    proves and builds the program, and leaves it at build/ctxbound
-# install  copies build/ctxbound to $(DESTDIR)$(PREFIX)/bin
-# check    proves one crate over what earlier checks kept: make check C=semantics
-# test     the gate: every proof from scratch, the must-fail edits, the tests, then `shown` and
-#          refused memory
-# shown    runs the documents' commands by build/ctxbound
-# bench    how fast a subtree is walked and, where the program is built, how much sooner several
-#          workers end a search
-.PHONY: run try build install check test shown bench clean
+# `make help`, which is what a bare `make` does, lists the targets with what each costs.
+.PHONY: help run try quick build install check test shown bench clean
 
 PREFIX ?= /usr/local
 GUEST ?=
 SCHEDULE ?=
 EXAMPLE = examples/lock_order.guest
 export GUEST SCHEDULE
+
+define HELP
+  make run        searches an example for a deadlock and replays it; nothing is proved
+                    2 minutes, 2 GB of memory
+  make try GUEST=file [SCHEDULE=0,1,0]
+                  the same with a guest of yours; with SCHEDULE it only replays that
+                    1 to 2 minutes, 2 GB
+  make quick      all that needs no proof: the tests, the commands that the documents show,
+                  the table of wrong bodies
+                    up to 6 minutes on four processors, 5 GB
+  make check C=crate
+                  proves one crate, over what earlier checks kept
+                    at first 1 to 10 minutes and those of the crates below it, then seconds
+                    to minutes; 4 GB, and up to 2 GB on disk
+  make build      proves and builds the program, and leaves it at build/ctxbound
+                    half an hour at first, 6 GB, and 2 GB on disk
+  make test       the gate: each proof from nothing, each wrong body, each test, the commands
+                  that the documents show, and refused memory
+                    MEASURE minutes on four processors, MEASURE on two; MEASURE GB, and MEASURE GB on disk
+  make shown      runs the documents' commands by build/ctxbound: a minute
+  make bench      times walks and searches: minutes after `make build`
+  make install    copies build/ctxbound to $$(DESTDIR)$$(PREFIX)/bin
+  make clean      removes what was built: build and crates/*/out
+endef
+export HELP
+
+help:
+	@echo "$$HELP"
 
 # `rt try` runs the program without proofs, on a copy of the guest. Standard error, kept in
 # build/log, has what the program writes there and then, from `checked: ` on, what `rt try` says of
@@ -51,6 +68,21 @@ try:
 	@guest=$$(realpath -- "$$GUEST"); if test -z "$$SCHEDULE"; then $(SEARCH); \
 	else words="replay program.guest $$SCHEDULE"; $(TRY); fi
 
+# The crates with tests; those of up to four are run side by side.
+TESTED = $(sort $(shell grep -rl --include=*.rt '^\#\[test\]' crates | cut -d/ -f2))
+
+quick:
+	python3 tests/edits.py
+	@$(MAKE) --no-print-directory -k -j4 -Otarget quick-shown $(TESTED:%=quick-%)
+
+quick-shown:
+	@python3 tests/docs.py --unproved
+
+quick-%:
+	@mkdir -p build
+	@cd crates/$* && rt try --test > ../../build/quick-$* 2>&1 || { cat ../../build/quick-$*; exit 1; }
+	@echo "$*: $$(grep '^test result: ' build/quick-$*)"
+
 build:
 	@mkdir -p build
 	@echo "Proving and building the program and what it is built from: about half an hour at first,"
@@ -71,11 +103,7 @@ check:
 
 # The programs that `rt ci` proved and built stay in their crates' folders.
 test:
-	rt ci
-	@mkdir -p build
-	@cp crates/ctxbound/out/ctxbound build/ctxbound
-	@$(MAKE) --no-print-directory shown
-	python3 tests/allocations.py build/ctxbound crates/walk_bench/out/walk_bench
+	@python3 tests/gate.py
 
 shown:
 	@$(NEEDS_PROGRAM)

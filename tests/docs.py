@@ -2,6 +2,10 @@
 """Runs every command that the documents and the examples show, and compares what it prints.
 
 Usage: tests/docs.py BINARY
+       tests/docs.py --unproved
+
+With --unproved the program is built without proofs, by `rt try`, which runs all commands over one
+build. It checks each access to memory as it runs and is slow, so each command is run once.
 
 In README.md and docs/*.md, fenced blocks are read by their first line:
 
@@ -16,6 +20,7 @@ shown that no command runs, and where nothing was run at all.
 
 Each search that is shown is made again by several workers, and must print the same.
 """
+import re
 import shlex
 import subprocess
 import sys
@@ -72,91 +77,145 @@ def commented_commands(text):
     return found
 
 
-def run(binary, folder, command):
-    """What a shown command prints, as the documents write it: lines, and a status unless 0."""
-    words = shlex.split(command)
-    if words[:1] not in (["ctxbound"], ["build/ctxbound"]):
-        return ["(not a command of ctxbound: it belongs in another kind of block)"]
-    try:
-        done = subprocess.run([binary] + words[1:], cwd=folder, stdin=subprocess.DEVNULL,
-                              stdout=subprocess.PIPE, stderr=subprocess.PIPE, timeout=SECONDS)
-    except subprocess.TimeoutExpired:
-        return ["(no end within %d seconds)" % SECONDS]
-    printed = (done.stdout + done.stderr).decode("utf-8", "replace")
-    lines = printed.split("\n")
+def lines_of(printed, status):
+    """What a command prints, as the documents write it: lines, and a status unless 0."""
+    lines = printed.decode("utf-8", "replace").split("\n")
     if lines.pop():
         return lines + ["(the last line doesn't end)"]
-    return lines + ["[status %d]" % done.returncode] if done.returncode else lines
+    return lines + ["[status %d]" % status] if status else lines
 
 
-def by_workers(command):
-    """The same search by several workers, if the command is a search whose output is theirs, too."""
-    words = shlex.split(command)
-    if words[1:2] not in (["explore"], ["unbounded"]) or DEPENDS.intersection(words):
+def run(binary, asked):
+    """What a command prints, run by the program."""
+    with tempfile.TemporaryDirectory() as folder:
+        (Path(folder) / "examples").symlink_to(ROOT / "examples")
+        for name, text in asked.programs.items():
+            (Path(folder) / name).write_text(text, encoding="utf-8")
+        try:
+            done = subprocess.run([binary] + asked.words, cwd=folder, stdin=subprocess.DEVNULL,
+                                  stdout=subprocess.PIPE, stderr=subprocess.PIPE, timeout=SECONDS)
+        except subprocess.TimeoutExpired:
+            return ["(no end within %d seconds)" % SECONDS]
+    return lines_of(done.stdout + done.stderr, done.returncode)
+
+
+def write_case(folder, number, asked):
+    """The files of a case for `rt try`: its words, and a document's program where it has one."""
+    named = [word for word in asked.words if word in asked.programs]
+    case = folder / ("c%04d" % number)
+    case.write_text("".join(asked.programs[word] for word in named[:1]), encoding="utf-8")
+    words = ["{}" if word in named else word for word in asked.words]
+    Path(str(case) + ".args").write_text("\n".join(words) + "\n", encoding="utf-8")
+
+
+def run_unproved(all_asked):
+    """What each of these commands prints, all run over one build without proofs."""
+    examples = [word for path in sorted((ROOT / "examples").glob("*.guest"))
+                for word in ("--data", "examples/%s=%s" % (path.name, path))]
+    with tempfile.TemporaryDirectory() as folder:
+        for number, asked in enumerate(all_asked):
+            write_case(Path(folder), number, asked)
+        done = subprocess.run(["rt", "try", *examples, "--cases", folder], cwd=ROOT / "crates/ctxbound",
+                              stdin=subprocess.DEVNULL, stdout=subprocess.PIPE, stderr=subprocess.PIPE)
+    # Output comes behind a line `== CASE`; what else is written, before a line `case=CASE ..`.
+    outs = dict(re.findall(rb"^== (c\d{4})\n(.*?)(?=^== c\d{4}\n|\Z)", done.stdout, re.M | re.S))
+    errors = {case: (text, int(status)) for text, case, status in re.findall(
+        rb"(.*?)case=(c\d{4}) run=ended status=(\d+) [^\n]*\n", done.stderr, re.S)}
+    if not errors:
+        raise SystemExit(done.stderr.decode("utf-8", "replace") + "rt try: no answer")
+    for number in range(len(all_asked)):
+        case = b"c%04d" % number
+        text, status = errors.get(case, (b"(no answer)\n", 0))
+        yield lines_of(outs.get(case, b"") + text, status)
+
+
+def by_workers(words):
+    """The same search by several workers, if this is a search whose output is theirs, too."""
+    if words[:1] not in (["explore"], ["unbounded"]) or DEPENDS.intersection(words):
         return []
-    return ["%s --workers %d" % (command, workers) for workers in WORKERS]
+    return [words + ["--workers", str(workers)] for workers in WORKERS]
 
 
-class Checker:
-    def __init__(self, binary):
-        self.binary, self.passed, self.failed = binary, 0, 0
+class Asked:
+    """A command that is shown: where, its words, what it prints, and the programs that it finds."""
 
-    def complain(self, place, lines):
-        self.failed += 1
-        print("\n    ".join([place] + lines))
+    def __init__(self, place, words, expected, programs):
+        self.place, self.words, self.expected, self.programs = place, words, expected, programs
 
-    def compare(self, path, folder, shown):
+
+class Reader:
+    """Reads the documents: the commands that they show, and what is wrong in them."""
+
+    def __init__(self, workers):
+        self.workers, self.asked, self.faults = workers, [], []
+
+    def take(self, path, shown, programs):
+        """The words of a command, which is put to the others."""
         number, command, expected = shown
-        for asked in [command] + by_workers(command):
-            printed = run(self.binary, folder, asked)
-            if printed == expected:
-                self.passed += 1
-            else:
-                self.complain("%s:%d: $ %s" % (path.name, number, asked),
-                              ["-- shown:"] + expected + ["-- printed:"] + printed)
+        place = "%s:%d: $ %s" % (path.name, number, command)
+        program, *words = shlex.split(command) or [""]
+        if program not in ("ctxbound", "build/ctxbound"):
+            self.faults.append(place + "\n    not a command of ctxbound: it belongs in another kind of block")
+            return words
+        for asked in [words] + (by_workers(words) if self.workers else []):
+            self.asked.append(Asked("%s%s" % (place, "" if asked == words else " --workers " + asked[-1]),
+                                    asked, expected, programs))
+        return words
 
-    def document(self, path, folder):
-        unused = {}
+    def document(self, path):
+        programs, unused = {}, {}
         for number, language, name, lines in fenced_blocks(path.read_text(encoding="utf-8")):
             if language == "guest":
                 if not name or "/" in name:
                     raise ValueError("line %d: a program needs a file name" % number)
-                text = "".join(line + "\n" for line in lines)
-                (folder / name).write_text(text, encoding="utf-8")
+                programs = {**programs, name: "".join(line + "\n" for line in lines)}
                 unused[name] = number
             elif language == "console":
                 for shown in commands(lines, number):
-                    self.compare(path, folder, shown)
-                    for word in shlex.split(shown[1]):
+                    for word in self.take(path, shown, programs):
                         unused.pop(word, None)
         for name, number in unused.items():
-            self.complain("%s:%d" % (path.name, number), ["no command runs the program " + name])
+            self.faults.append("%s:%d\n    no command runs the program %s" % (path.name, number, name))
 
-    def example(self, path, folder):
+    def example(self, path):
         words = []
         for shown in commented_commands(path.read_text(encoding="utf-8")):
-            self.compare(path, folder, shown)
-            words += shlex.split(shown[1])
+            words += self.take(path, shown, {})
         if "examples/" + path.name not in words:
-            self.complain(path.name, ["no command runs this example"])
+            self.faults.append(path.name + "\n    no command runs this example")
+
+    def read(self):
+        documents = [ROOT / "README.md"] + sorted((ROOT / "docs").glob("*.md"))
+        work = [(self.document, path) for path in documents if path.exists()]
+        work += [(self.example, path) for path in sorted((ROOT / "examples").glob("*.guest"))]
+        for take_in, path in work:
+            try:
+                take_in(path)
+            except ValueError as fault:
+                self.faults.append("%s\n    %s" % (path.name, fault))
 
 
 def main():
-    if len(sys.argv) != 2 or not Path(sys.argv[1]).is_file():
-        raise SystemExit("usage: tests/docs.py BINARY")
-    checker = Checker(str(Path(sys.argv[1]).resolve()))
-    documents = [ROOT / "README.md"] + sorted((ROOT / "docs").glob("*.md"))
-    work = [(checker.document, path) for path in documents if path.exists()]
-    work += [(checker.example, path) for path in sorted((ROOT / "examples").glob("*.guest"))]
-    for check, path in work:
-        with tempfile.TemporaryDirectory() as folder:
-            (Path(folder) / "examples").symlink_to(ROOT / "examples")
-            try:
-                check(path, Path(folder))
-            except ValueError as fault:
-                checker.complain(path.name, [str(fault)])
-    print("%d passed, %d failed" % (checker.passed, checker.failed))
-    raise SystemExit(1 if checker.failed or not checker.passed else 0)
+    if len(sys.argv) != 2 or sys.argv[1] != "--unproved" and not Path(sys.argv[1]).is_file():
+        raise SystemExit("usage: tests/docs.py BINARY, or tests/docs.py --unproved")
+    unproved = sys.argv[1] == "--unproved"
+    reader = Reader(workers=not unproved)
+    reader.read()
+    if unproved:
+        answers = run_unproved(reader.asked)
+    else:
+        binary = str(Path(sys.argv[1]).resolve())
+        answers = (run(binary, asked) for asked in reader.asked)
+    faults, passed = reader.faults, 0
+    for asked, printed in zip(reader.asked, answers):
+        if printed == asked.expected:
+            passed += 1
+        else:
+            faults.append("\n    ".join([asked.place, "-- shown:"] + asked.expected + ["-- printed:"] + printed))
+    for fault in faults:
+        print(fault)
+    print("%d passed, %d failed" % (passed, len(faults)))
+    raise SystemExit(1 if faults or not passed else 0)
 
 
 if __name__ == "__main__":

@@ -1,0 +1,96 @@
+#!/usr/bin/env python3
+"""The gate: runs its parts one after the other, and says where it is.
+
+Usage: tests/gate.py
+
+Each line of a part is passed on as it comes, behind the minute of the gate at which it came, but for
+a part's closing line `N passed, M failed`, which stays alone. Before the last closing line stands one
+line on the whole. The first part that fails ends the gate, with its status.
+"""
+import re
+import shutil
+import signal
+import subprocess
+import sys
+import time
+from pathlib import Path
+
+ROOT = Path(__file__).resolve().parent.parent
+CLOSING = re.compile(r"(\d+) passed, (\d+) failed$")
+PROGRAM = "build/ctxbound"
+BENCHMARK = "crates/walk_bench/out/walk_bench"
+# What the gate counts in the lines that it passes on.
+COUNTED = {
+    "proved": re.compile(r"rt: \w+ proved$"),
+    "kept": re.compile(r"rt: \w+ is kept: "),
+    "refused": re.compile(r"rt: must-fail \S+: refused"),
+    "tests": re.compile(r"test .* \.\.\. ok$"),
+}
+
+
+class Gate:
+    def __init__(self):
+        self.begun = time.monotonic()
+        self.counts = dict.fromkeys(COUNTED, 0)
+        self.passed = {}
+
+    def minute(self):
+        return int(time.monotonic() - self.begun) // 60
+
+    def say(self, line):
+        print("%3d min  %s" % (self.minute(), line), flush=True)
+
+    def count(self, line):
+        for name, form in COUNTED.items():
+            self.counts[name] += bool(form.match(line))
+
+    def part(self, name, words):
+        """Runs a part and answers its closing line; where it fails, the gate ends."""
+        self.say("== " + name)
+        started = subprocess.Popen(words, cwd=ROOT, stdin=subprocess.DEVNULL, stdout=subprocess.PIPE,
+                                   stderr=subprocess.STDOUT, text=True, errors="replace")
+        closing = None
+        try:
+            for line in started.stdout:
+                line = line.rstrip("\n")
+                if CLOSING.match(line):
+                    closing = line
+                else:
+                    self.count(line)
+                    self.say(line)
+            status = started.wait()
+        finally:
+            started.terminate()
+        if status:
+            self.say("FAILED: " + name)
+            print(closing or "0 passed, 1 failed", flush=True)
+            sys.exit(status if 0 < status < 256 else 1)
+        self.passed[name] = int(CLOSING.match(closing)[1]) if closing else 0
+        return closing
+
+    def whole(self):
+        kept = self.counts["kept"]
+        earlier = " (%d of them by an earlier run on this machine)" % kept if kept else ""
+        return ("proved: %d crates%s; refused: %d wrong bodies; passed: %d tests, %d commands that are "
+                "shown, and %d runs with each request for memory refused in turn; %d minutes"
+                % (self.counts["proved"] + kept, earlier, self.counts["refused"], self.counts["tests"],
+                   self.passed["shown commands"], self.passed["refused memory"], self.minute()))
+
+
+def main():
+    # So that the part that runs is ended, too.
+    signal.signal(signal.SIGTERM, lambda number, _: sys.exit(128 + number))
+    gate = Gate()
+    gate.part("the table of wrong bodies", [sys.executable, "tests/edits.py"])
+    print(gate.part("proofs, wrong bodies and tests", ["rt", "ci"]), flush=True)
+    (ROOT / "build").mkdir(exist_ok=True)
+    shutil.copyfile(ROOT / "crates/ctxbound/out/ctxbound", ROOT / PROGRAM)
+    (ROOT / PROGRAM).chmod(0o755)
+    print(gate.part("shown commands", [sys.executable, "tests/docs.py", PROGRAM]), flush=True)
+    closing = gate.part("refused memory", [sys.executable, "tests/allocations.py", PROGRAM, BENCHMARK])
+    gate.say(gate.whole())
+    print(closing, flush=True)
+
+
+if __name__ == "__main__":
+    main()
