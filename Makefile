@@ -19,9 +19,9 @@ define HELP
   make check C=crate
                   proves one crate, over what earlier checks kept
                     at first 1 to 10 minutes and those of the crates below it, then seconds
-                    to minutes; 4 GB, and up to 2 GB on disk
+                    to minutes; up to 4 GB, and up to 2 GB on disk
   make build      proves and builds the program, and leaves it at build/ctxbound
-                    half an hour at first, 6 GB, and 2 GB on disk
+                    half an hour at first, MEASURE GB, and 2 GB on disk
   make test       the gate: each proof from nothing, each wrong body, each test, the commands
                   that the documents show, and refused memory
                     MEASURE minutes on four processors, MEASURE on two; MEASURE GB, and MEASURE GB on disk

@@ -153,13 +153,6 @@ fn first_faults(rt: HostRuntime) -> Result<(), Fail> {
     Ok(())
 }
 
-#[test]
-fn a_lack_of_memory_is_named(rt: HostRuntime) -> Result<(), Fail> {
-    let line = format!(in rt.alloc(); "{}", CheckError::OutOfMemory)?;
-    assert_eq!(rt; line.as_str(), "memory");
-    Ok(())
-}
-
 /// One for a text that is accepted, and one for a text whose fault is that it has no threads; none
 /// where it has another fault.
 fn counted(alloc: Global, text: &[u8]) -> Option<(u32, u32)> {
@@ -206,14 +199,6 @@ fn nested_copies_of_nothing(rt: HostRuntime) -> Result<(), Fail> {
     let text = nested(rt.alloc(), "")?;
     let program = program_of(rt.alloc(), &text)?;
     assert_eq!(rt; program.code(0).len(), 0);
-    Ok(())
-}
-
-#[test]
-fn long_code(rt: HostRuntime) -> Result<(), Fail> {
-    let text = "var x; thread A { repeat 100 { store x 1; store x 2; store x 3; } }";
-    let program = program_of(rt.alloc(), text)?;
-    assert_eq!(rt; program.code(0).len(), 300);
     Ok(())
 }
 
@@ -368,19 +353,5 @@ fn code_is_shown(rt: HostRuntime) -> Result<(), Fail> {
         shown.as_str(),
         "[Wait { condition: 1, mutex: 1 }, Acquire(1), Set { local: 0, value: Both(Local(1), Add, Literal(2)) }]"
     );
-    Ok(())
-}
-
-/// Whether the programs of two texts are the same.
-fn are_same(alloc: Global, first: &str, second: &str) -> Result<bool, Fail> {
-    let one = program_of(alloc, first)?;
-    let other = program_of(alloc, second)?;
-    Ok(one.is_same(&other))
-}
-
-#[test]
-fn programs_are_compared(rt: HostRuntime) -> Result<(), Fail> {
-    assert!(rt; are_same(rt.alloc(), PARTS, PARTS)?);
-    assert!(rt; !are_same(rt.alloc(), PARTS, "thread A { }")?);
     Ok(())
 }

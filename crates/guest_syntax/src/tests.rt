@@ -269,13 +269,6 @@ fn first_faults(rt: HostRuntime) -> Result<(), Fail> {
     Ok(())
 }
 
-#[test]
-fn a_lack_of_memory_is_named(rt: HostRuntime) -> Result<(), Fail> {
-    let line = format!(in rt.alloc(); "{}", SyntaxError::OutOfMemory)?;
-    assert_eq!(rt; line.as_str(), "memory");
-    Ok(())
-}
-
 /// A text has this line.
 fn check_answer(rt: &impl Abort, alloc: Global, text: &[u8], want: &str) -> Result<(), Fail> {
     let line = answer(alloc, text)?;

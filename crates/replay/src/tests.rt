@@ -1,4 +1,4 @@
-//! Spellings of schedules, one run with its trace, and what the errors print. More runs and
+//! Spellings of schedules, and one run with its trace. More runs and
 //! traces are tested through the program.
 
 use crate::{
@@ -9,7 +9,7 @@ use guest_code::program::Program;
 use guest_syntax::parse;
 use semantics::state::Stop;
 use semantics::view::Kind;
-use std::alloc::{AllocError, Global};
+use std::alloc::Global;
 use std::process::Abort;
 use std::test::*;
 
@@ -192,25 +192,6 @@ fn reads_and_writes_the_longest_schedule(rt: HostRuntime) -> Result<(), Fail> {
     Ok(())
 }
 
-/// A hundred and fifty times one thread and then another.
-fn turns(alloc: Global) -> Result<Vec<u8>, AllocError> {
-    let mut turns = Vec::new(alloc);
-    for _ in 0..150 {
-        turns.extend_from_slice(&[0, 1])?;
-    }
-    Ok(turns)
-}
-
-#[test]
-fn writes_and_reads_a_long_schedule(rt: HostRuntime) -> Result<(), Fail> {
-    let turns = turns(rt.alloc())?;
-    let text = schedule_text(rt.alloc(), turns.as_slice())?;
-    assert_eq!(rt; text.len(), 599);
-    let read = schedule_from(rt.alloc(), text.as_slice())?;
-    assert_eq!(rt; read.as_slice(), turns.as_slice());
-    Ok(())
-}
-
 /// The program that a text spells.
 fn program_of(alloc: Global, text: &[u8]) -> Result<Program, Fail> {
     let tree = parse(alloc, text)?;
@@ -257,97 +238,4 @@ fn replays_and_prints_atomic_updates(rt: HostRuntime) -> Result<(), Fail> {
         assert_eq!(rt; trace.as_slice(), *want);
     }
     Ok(())
-}
-
-/// A thread with three hundred steps.
-const STORES: &[u8] = b"var x; thread A { repeat 100 { store x 1; store x 2; store x 3; } }";
-
-/// All steps of `STORES` were taken.
-fn check_stores(rt: &impl Abort, run: &Run) {
-    assert_eq!(rt; run.lines().len(), 300);
-    assert_eq!(rt; run.variables(), &[3][..]);
-    assert_eq!(rt; run.kind(), Some(Kind::Done));
-}
-
-#[test]
-fn replays_long_schedules(rt: HostRuntime) -> Result<(), Fail> {
-    let program = program_of(rt.alloc(), STORES)?;
-    let schedule = schedule_from(rt.alloc(), b"0x300")?;
-    let run = replay(rt.alloc(), &program, schedule.as_slice())?;
-    check_stores(&rt, &run);
-    Ok(())
-}
-
-#[test]
-fn prints_long_schedules(rt: HostRuntime) -> Result<(), Fail> {
-    let schedule = schedule_from(rt.alloc(), b"0x300")?;
-    let trace = trace_of(rt.alloc(), STORES, schedule.as_slice())?;
-    // The places have 10, 90 and 200 numbers of one, two and three digits; the rest of a line has
-    // 13 bytes, and the three lines at the end have 33.
-    assert_eq!(rt; trace.len(), 790 + 300 * 13 + 33);
-    Ok(())
-}
-
-/// A refusal of a replay is printed so.
-fn check_refusal(
-    rt: &impl Abort,
-    alloc: Global,
-    error: &ReplayError,
-    want: &str,
-) -> Result<(), Fail> {
-    let text = error.to_string(alloc)?;
-    assert_eq!(rt; text.as_str(), want);
-    Ok(())
-}
-
-#[test]
-fn refusals_are_named_with_their_place(rt: HostRuntime) -> Result<(), Fail> {
-    check_refusal(
-        &rt,
-        rt.alloc(),
-        &ReplayError::NoSuchThread(0),
-        "schedule P1 NoSuchThread at 0",
-    )?;
-    check_refusal(
-        &rt,
-        rt.alloc(),
-        &ReplayError::NotEnabled(1),
-        "schedule P2 NotEnabled at 1",
-    )?;
-    check_refusal(
-        &rt,
-        rt.alloc(),
-        &ReplayError::NotEnabled(7),
-        "schedule P2 NotEnabled at 7",
-    )?;
-    check_refusal(&rt, rt.alloc(), &ReplayError::OutOfMemory, "memory")
-}
-
-/// A fault of a text is printed so.
-fn check_fault(
-    rt: &impl Abort,
-    alloc: Global,
-    error: &ScheduleError,
-    want: &str,
-) -> Result<(), Fail> {
-    let text = error.to_string(alloc)?;
-    assert_eq!(rt; text.as_str(), want);
-    Ok(())
-}
-
-#[test]
-fn faults_are_named_with_their_place(rt: HostRuntime) -> Result<(), Fail> {
-    check_fault(
-        &rt,
-        rt.alloc(),
-        &ScheduleError::BadSchedule(2),
-        "schedule Q1 BadSchedule at 2",
-    )?;
-    check_fault(
-        &rt,
-        rt.alloc(),
-        &ScheduleError::TooLong(8),
-        "schedule Q3 TooLong at 8",
-    )?;
-    check_fault(&rt, rt.alloc(), &ScheduleError::OutOfMemory, "memory")
 }
