@@ -26,7 +26,8 @@ define HELP
                   that the documents show, and refused memory
                     MEASURE minutes on four processors, MEASURE on two; MEASURE GB, and MEASURE GB on disk
   make shown      runs the documents' commands by build/ctxbound: a minute
-  make bench      times walks and searches: minutes after `make build`
+  make bench      times walks, and searches where build/ctxbound is there; it proves the benchmark
+                  first, so it takes some minutes after `make build`, and else as long as that
   make install    copies build/ctxbound to $$(DESTDIR)$$(PREFIX)/bin
   make clean      removes what was built: build and crates/*/out
 endef
