@@ -11,8 +11,9 @@ In README.md and docs/*.md, fenced blocks are read by their first line:
 
 In examples/*.guest the same stands in comments; there, a line that is no comment, or an empty
 one, ends what a command prints. `build/ctxbound` means the same as `ctxbound`, and every command
-finds the folder `examples`. It fails where an output or a status differs, where a program is
-shown that no command runs, and where nothing was run at all.
+finds the folder `examples`. A command may read what the preprocessor makes of a program:
+`cpp -P NAME | ctxbound ..`. It fails where an output or a status differs, where a program is shown
+or lies in examples/real that no command runs, and where nothing was run at all.
 
 Each search that is shown is made again by several workers, and must print the same.
 """
@@ -72,13 +73,21 @@ def commented_commands(text):
     return found
 
 
+def preprocessed(folder, words):
+    """What `cpp -P NAME |` before a command gives it to read, and the words of the command."""
+    if words[:2] != ["cpp", "-P"] or words[3:4] != ["|"]:
+        return b"", words
+    made = subprocess.run(words[:3], cwd=folder, stdout=subprocess.PIPE, check=True, timeout=SECONDS)
+    return made.stdout, words[4:]
+
+
 def run(binary, folder, command):
     """What a shown command prints, as the documents write it: lines, and a status unless 0."""
-    words = shlex.split(command)
+    given, words = preprocessed(folder, shlex.split(command))
     if words[:1] not in (["ctxbound"], ["build/ctxbound"]):
         return ["(not a command of ctxbound: it belongs in another kind of block)"]
     try:
-        done = subprocess.run([binary] + words[1:], cwd=folder, stdin=subprocess.DEVNULL,
+        done = subprocess.run([binary] + words[1:], cwd=folder, input=given,
                               stdout=subprocess.PIPE, stderr=subprocess.PIPE, timeout=SECONDS)
     except subprocess.TimeoutExpired:
         return ["(no end within %d seconds)" % SECONDS]
@@ -91,7 +100,7 @@ def run(binary, folder, command):
 
 def by_workers(command):
     """The same search by several workers, if the command is a search whose output is theirs, too."""
-    words = shlex.split(command)
+    words = shlex.split(command.rpartition("|")[2])
     if words[1:2] not in (["explore"], ["unbounded"]) or DEPENDS.intersection(words):
         return []
     return ["%s --workers %d" % (command, workers) for workers in WORKERS]
@@ -100,6 +109,7 @@ def by_workers(command):
 class Checker:
     def __init__(self, binary):
         self.binary, self.passed, self.failed = binary, 0, 0
+        self.run_words = set()
 
     def complain(self, place, lines):
         self.failed += 1
@@ -107,6 +117,7 @@ class Checker:
 
     def compare(self, path, folder, shown):
         number, command, expected = shown
+        self.run_words.update(shlex.split(command))
         for asked in [command] + by_workers(command):
             printed = run(self.binary, folder, asked)
             if printed == expected:
@@ -155,6 +166,9 @@ def main():
                 check(path, Path(folder))
             except ValueError as fault:
                 checker.complain(path.name, [str(fault)])
+    for path in sorted((ROOT / "examples" / "real").glob("*.guest")):
+        if "examples/real/" + path.name not in checker.run_words:
+            checker.complain(path.name, ["no document runs this example"])
     print("%d passed, %d failed" % (checker.passed, checker.failed))
     raise SystemExit(1 if checker.failed or not checker.passed else 0)
 
