@@ -20,6 +20,7 @@ from collections import namedtuple
 BOUNDS = (0, 1, 2, 3, 4, 64)
 WORKERS = (1, 2, 3, 8, 16)
 MOST_SCHEDULES = 1500
+MOST_OF_LARGE = 100000
 MOST_COUNT = 65535
 SECONDS = 60
 
@@ -214,12 +215,12 @@ class TooMany(Exception):
     pass
 
 
-def all_complete(program):
-    """All complete schedules, in rising order."""
+def all_complete(program, most):
+    """All complete schedules, in rising order, where there are no more than `most`."""
     found = []
 
     def go_on(state, schedule, preemptions):
-        if len(found) > MOST_SCHEDULES:
+        if len(found) > most:
             raise TooMany
         able = enabled(program, state)
         if not able:
@@ -353,8 +354,50 @@ def trace_of(program, schedule):
 
 # ---- programs at random: a tree, its text and its flat code
 
-class Maker:
-    """Makes a program at random, as a text and as a Program."""
+class Guest:
+    """A program as a tree: its text, and its flat code."""
+
+    def __init__(self, variables, mutexes, conditions, semaphores, trees):
+        self.variables, self.mutexes, self.conditions = variables, mutexes, conditions
+        self.semaphores, self.trees = semaphores, trees
+
+    def text(self):
+        declared = ["var %s = %d;" % pair for pair in self.variables]
+        declared += ["mutex %s;" % name for name in self.mutexes]
+        declared += ["cond %s;" % name for name in self.conditions]
+        declared += ["sem %s = %d;" % pair for pair in self.semaphores]
+        threads = ["thread T%d {\n%s}" % (k, self.text_of(tree, 1)) for k, tree in enumerate(self.trees)]
+        return "\n".join(declared + threads) + "\n"
+
+    def text_of(self, tree, depth):
+        return "".join("    " * depth + self.statement_text(one, depth) + "\n" for one in tree)
+
+    def statement_text(self, statement, depth):
+        word, *rest = statement
+        shown = lambda expression: " ".join(str(part) for part in expression)
+        braced = lambda tree: "{\n" + self.text_of(tree, depth + 1) + "    " * depth + "}"
+        if word == "if":
+            test, then, other = rest
+            return "if %s %s" % (shown(test), braced(then)) + (" else " + braced(other) if other else "")
+        if word == "repeat":
+            return "repeat %d %s" % (rest[0], braced(rest[1]))
+        if word in ("set", "assert"):
+            return "%s %s;" % (word, " ".join(list(rest[:-1]) + [shown(rest[-1])]))
+        named = {"load": "lv", "store": "vo", "add": "lvo", "cas": "lvoo", "lock": "m", "unlock": "m",
+                 "wait": "cm", "signal": "c", "broadcast": "c", "acquire": "s", "release": "s",
+                 "leave": ""}[word]
+        names = {"v": lambda k: self.variables[k][0], "m": lambda k: self.mutexes[k],
+                 "c": lambda k: self.conditions[k], "s": lambda k: self.semaphores[k][0],
+                 "l": str, "o": str}
+        return " ".join([word] + [names[which](part) for which, part in zip(named, rest)]) + ";"
+
+    def program(self):
+        threads = [Thread("T%d" % k, flat(tree)) for k, tree in enumerate(self.trees)]
+        return Program(self.variables, self.mutexes, self.conditions, self.semaphores, threads)
+
+
+class Maker(Guest):
+    """A program made at random."""
 
     def __init__(self, seed):
         self.random = random.Random(seed)
@@ -434,45 +477,6 @@ class Maker:
                 made.append(("leave",))
         return made
 
-    def text(self):
-        declared = ["var %s = %d;" % pair for pair in self.variables]
-        declared += ["mutex %s;" % name for name in self.mutexes]
-        declared += ["cond %s;" % name for name in self.conditions]
-        declared += ["sem %s = %d;" % pair for pair in self.semaphores]
-        threads = ["thread T%d {\n%s}" % (k, self.text_of(tree, 1)) for k, tree in enumerate(self.trees)]
-        return "\n".join(declared + threads) + "\n"
-
-    def text_of(self, tree, depth):
-        return "".join("    " * depth + self.statement_text(one, depth) + "\n" for one in tree)
-
-    def statement_text(self, statement, depth):
-        word, *rest = statement
-        shown = lambda expression: " ".join(str(part) for part in expression)
-        braced = lambda tree: "{\n" + self.text_of(tree, depth + 1) + "    " * depth + "}"
-        if word == "if":
-            test, then, other = rest
-            return "if %s %s" % (shown(test), braced(then)) + (" else " + braced(other) if other else "")
-        if word == "repeat":
-            return "repeat %d %s" % (rest[0], braced(rest[1]))
-        if word in ("set", "assert"):
-            return "%s %s;" % (word, " ".join(list(rest[:-1]) + [shown(rest[-1])]))
-        named = {"load": "lv", "store": "vo", "add": "lvo", "cas": "lvoo", "lock": "m", "unlock": "m",
-                 "wait": "cm", "signal": "c", "broadcast": "c", "acquire": "s", "release": "s",
-                 "leave": ""}[word]
-        names = {"v": lambda k: self.variables[k][0], "m": lambda k: self.mutexes[k],
-                 "c": lambda k: self.conditions[k], "s": lambda k: self.semaphores[k][0],
-                 "l": str, "o": str}
-        return " ".join([word] + [names[which](part) for which, part in zip(named, rest)]) + ";"
-
-    def program(self):
-        threads = [Thread("T%d" % k, code_of(tree)) for k, tree in enumerate(self.trees)]
-        return Program(self.variables, self.mutexes, self.conditions, self.semaphores, threads)
-
-
-def code_of(tree):
-    """The flat code of a block outside every repeat."""
-    return [part for part in flat(tree)]
-
 
 def flat(tree):
     """The flat code of a block; a `leave` is left as a word, with no number."""
@@ -492,6 +496,23 @@ def flat(tree):
             code.append((word, *rest))
     return code
 
+
+def updates(times, factor):
+    """A thread that reads, computes and writes some times, so that each order has ends of its own."""
+    return [("load", "r", 0), ("set", "r", ("r", "*", factor)), ("set", "r", ("r", "+", factor)),
+            ("store", 0, "r")] * times
+
+
+# Programs with more schedules than a round tries, reports of many ends, or more open items than a round has.
+LARGE = [
+    Guest([("v0", 1)], [], [], [], [updates(2, 1009), updates(2, 10007), updates(2, 100003)]),
+    Guest([("v%d" % k, 0) for k in range(4)], [], [], [],
+          [[("store", k, one) for one in range(2)] for k in range(4)]),
+    Guest([("v0", 0)], ["m0"], ["c0"], [("s0", 0)],
+          [[("lock", 0), ("wait", 0, 0), ("unlock", 0), ("load", "r", 0)],
+           [("lock", 0), ("signal", 0), ("unlock", 0), ("store", 0, 1), ("release", 0)],
+           [("acquire", 0), ("load", "r", 0), ("assert", ("r", "==", 1)), ("store", 0, 2)]]),
+]
 
 # ---- comparing
 
@@ -549,17 +570,16 @@ class Comparer:
                 printed = self.run("replay", [spelled(asked)])
                 self.check(printed == wanted, "replay program.guest " + spelled(asked), printed, wanted)
 
-    def program(self, seed):
+    def guest(self, guest, seed, most=MOST_SCHEDULES):
         """Compares all that is asked of one program; False where it has too many schedules."""
-        maker = Maker(seed)
-        program, self.text = maker.program(), maker.text()
+        program, self.text = guest.program(), guest.text()
         try:
-            everything = all_complete(program)
+            everything = all_complete(program, most)
         except TooMany:
             return False
         with open(self.file, "w") as file:
             file.write(self.text)
-        chance = random.Random(seed + 1)
+        chance = random.Random(seed)
         self.searches(program, everything, chance)
         self.replays(program, everything, chance)
         return True
@@ -575,10 +595,12 @@ def main():
     until = time.monotonic() + 60 * asked.minutes if asked.minutes else None
     with tempfile.TemporaryDirectory() as folder:
         comparer, compared, seed = Comparer(os.path.abspath(asked.binary), folder), 0, 1000003 * asked.seed
+        for guest in LARGE:
+            comparer.guest(guest, seed, MOST_OF_LARGE)
         while (time.monotonic() < until) if until else (compared < asked.programs):
-            compared += comparer.program(seed)
+            compared += comparer.guest(Maker(seed), seed)
             seed += 1
-    print("%d programs" % compared)
+    print("%d programs, and %d large ones" % (compared, len(LARGE)))
     print("%d passed, %d failed" % (comparer.passed, comparer.failed))
     sys.exit(1 if comparer.failed or not comparer.passed else 0)
 
