@@ -15,7 +15,8 @@ In README.md and docs/*.md, fenced blocks are read by their first line:
 
 In examples/*.guest the same stands in comments; there, a line that is no comment, or an empty
 one, ends what a command prints. `build/ctxbound` means the same as `ctxbound`, and every command
-finds the folder `examples`. It fails where an output or a status differs, where a program is
+finds the folder `examples`. `cpp -P NAME | ctxbound .. -` reads what the C preprocessor makes of a
+program. It fails where an output or a status differs, where a program is
 shown that no command runs, and where nothing was run at all.
 
 Each search that is shown is made again by several workers, and must print the same.
@@ -85,6 +86,11 @@ def lines_of(printed, status):
     return lines + ["[status %d]" % status] if status else lines
 
 
+def preprocessed(text):
+    """What the C preprocessor makes of a program."""
+    return subprocess.run(["cpp", "-P"], input=text, capture_output=True, text=True, check=True).stdout
+
+
 def run(binary, asked):
     """What a command prints, run by the program."""
     with tempfile.TemporaryDirectory() as folder:
@@ -92,7 +98,7 @@ def run(binary, asked):
         for name, text in asked.programs.items():
             (Path(folder) / name).write_text(text, encoding="utf-8")
         try:
-            done = subprocess.run([binary] + asked.words, cwd=folder, stdin=subprocess.DEVNULL,
+            done = subprocess.run([binary] + asked.words, cwd=folder, input=asked.programs.get("-", "").encode(),
                                   stdout=subprocess.PIPE, stderr=subprocess.PIPE, timeout=SECONDS)
         except subprocess.TimeoutExpired:
             return ["(no end within %d seconds)" % SECONDS]
@@ -110,8 +116,8 @@ def write_case(folder, number, asked):
 
 def run_unproved(all_asked):
     """What each of these commands prints, all run over one build without proofs."""
-    examples = [word for path in sorted((ROOT / "examples").glob("*.guest"))
-                for word in ("--data", "examples/%s=%s" % (path.name, path))]
+    examples = [word for path in sorted((ROOT / "examples").glob("**/*.guest"))
+                for word in ("--data", "%s=%s" % (path.relative_to(ROOT), path))]
     with tempfile.TemporaryDirectory() as folder:
         for number, asked in enumerate(all_asked):
             write_case(Path(folder), number, asked)
@@ -154,6 +160,9 @@ class Reader:
         number, command, expected = shown
         place = "%s:%d: $ %s" % (path.name, number, command)
         program, *words = shlex.split(command) or [""]
+        if [program] + words[:1] == ["cpp", "-P"] and words[2:3] == ["|"] and words[1] in programs:
+            source, program, *words = words[1], *words[3:]
+            programs = {**programs, "-": preprocessed(programs[source])}
         if program not in ("ctxbound", "build/ctxbound"):
             self.faults.append(place + "\n    not a command of ctxbound: it belongs in another kind of block")
             return words
@@ -172,7 +181,8 @@ class Reader:
                 unused[name] = number
             elif language == "console":
                 for shown in commands(lines, number):
-                    for word in self.take(path, shown, programs):
+                    self.take(path, shown, programs)
+                    for word in shlex.split(shown[1]):
                         unused.pop(word, None)
         for name, number in unused.items():
             self.faults.append("%s:%d\n    no command runs the program %s" % (path.name, number, name))
@@ -193,6 +203,10 @@ class Reader:
                 take_in(path)
             except ValueError as fault:
                 self.faults.append("%s\n    %s" % (path.name, fault))
+        run = {word for asked in self.asked for word in asked.words}
+        self.faults += ["examples/real/%s\n    no document runs this example" % path.name
+                        for path in sorted((ROOT / "examples" / "real").glob("*.guest"))
+                        if "examples/real/" + path.name not in run]
 
 
 def main():
