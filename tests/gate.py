@@ -4,8 +4,9 @@
 Usage: tests/gate.py
 
 Each line of a part is passed on as it comes, behind the minute of the gate at which it came, but for
-a part's closing line `N passed, M failed`, which stays alone. Before the last closing line stands one
-line on the whole. The first part that fails ends the gate, with its status.
+a part's closing line `N passed, M failed`, which stays alone, and for lines that say of one function
+or type that it is proved, which are left out. Before the last closing line there is one line on the
+whole. The first part that fails ends the gate, with its status.
 """
 import re
 import shutil
@@ -19,6 +20,7 @@ ROOT = Path(__file__).resolve().parent.parent
 CLOSING = re.compile(r"(\d+) passed, (\d+) failed$")
 PROGRAM = "build/ctxbound"
 BENCHMARK = "crates/walk_bench/out/walk_bench"
+LEFT_OUT = re.compile(r"\w+ \S+: proved$")
 # What the gate counts in the lines that it passes on.
 COUNTED = {
     "proved": re.compile(r"rt: \w+ proved$"),
@@ -55,7 +57,7 @@ class Gate:
                 line = line.rstrip("\n")
                 if CLOSING.match(line):
                     closing = line
-                else:
+                elif not LEFT_OUT.match(line):
                     self.count(line)
                     self.say(line)
             status = started.wait()

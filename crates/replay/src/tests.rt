@@ -1,9 +1,7 @@
 //! Spellings of schedules, and one run with its trace. More runs and
 //! traces are tested through the program.
 
-use crate::{
-    Act, Line, ReplayError, Run, ScheduleError, replay, schedule_from, schedule_text, trace_text,
-};
+use crate::{Act, Line, Run, ScheduleError, replay, schedule_from, schedule_text, trace_text};
 use guest_code::lowering::lower;
 use guest_code::program::Program;
 use guest_syntax::parse;
