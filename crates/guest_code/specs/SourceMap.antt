@@ -1,9 +1,10 @@
 -- The places of a text that the code of its program was made of, and the names of its locals.
-use Rattle.std.specs.Prelude.{◌≡◌, ℕ, zero, suc, List, [], ◌∷◌, ◌++◌, length, map, slice_index_or}
+use Rattle.std.specs.Prelude.{◌≡◌, ℕ, zero, suc, List, [], ◌∷◌, ◌++◌, length, map, slice_index_or, All}
 use Rattle.std.proofs.Common.{Vec, Global}
 use Rattle.guest_syntax.specs.declared.place.Pos.{Pos}
 use Rattle.guest_syntax.specs.Tree as tree
-use Rattle.guest_syntax.specs.Tree.{Stmt, Block, Tree}
+use Rattle.guest_syntax.specs.Tree.{Stmt, Block, Thread, Tree}
+use Rattle.guest_syntax.specs.StatementPlaces.{IsInThread}
 use Rattle.guest_code.specs.Program.{Program, names_view, thread_at}
 use Rattle.guest_code.specs.Uses.{tree_locals}
 
@@ -52,6 +53,11 @@ places_of m t = slice_index_or m.places t []
 
 abbrev pub locals_of : SourceMap → ℕ → List (List ℕ)
 locals_of m t = slice_index_or m.locals t []
+
+-- the places of each thread are in its text
+abbrev pub ArePlacesInThreads : List Thread → Type 0
+ArePlacesInThreads [] = Unit {0}
+ArePlacesInThreads (t ∷ ts) = All (IsInThread t ts) (block_places t.body) × ArePlacesInThreads ts
 
 -- there is a place for each instruction of the program, and a name for each local
 pub record IsMapOf (m : SourceMap) (p : Program) : Type 0 where
