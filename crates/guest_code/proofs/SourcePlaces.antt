@@ -1,5 +1,5 @@
 -- The places of instructions, one statement after the other, and how many there are.
-use Rattle.std.proofs.Common.{◌≡◌, ℕ, zero, suc, ◌+◌, ◌-◌, ◌*◌, ◌<◌, ◌≤◌, List, [], ◌∷◌, ◌++◌, length, get_or, slice_index_or, drop, map, All, refl, sym, ◌∙◌, arith, add-one, drop-cons, append_assoc, length-append}
+use Rattle.std.proofs.Common.{◌≡◌, ℕ, zero, suc, ◌+◌, ◌-◌, ◌*◌, ◌<◌, ◌≤◌, List, [], ◌∷◌, ◌++◌, length, get_or, slice_index_or, drop, map, All, refl, sym, ap, ◌∙◌, arith, add-one, drop-cons, append_assoc, length-append}
 use Rattle.std.proofs.lemmas.List.{drop_all, nil_from_length, append-nil}
 use Rattle.std.proofs.lemmas.List.Elements.{All-nil, All-cons, All-append}
 use Rattle.guest_syntax.specs.declared.place.Pos.{Pos}
@@ -9,10 +9,10 @@ use Rattle.guest_syntax.specs.Tree as tree
 use Rattle.guest_syntax.specs.Tree.{Stmt, Block, Declaration, Thread, Tree, stmt_view, block_view}
 use Rattle.guest_syntax.proofs.StatementView.{view-placed}
 use Rattle.guest_code.specs.Sizes.{size, block_size}
-use Rattle.guest_code.specs.Uses.{thread_locals}
+use Rattle.guest_code.specs.Uses.{thread_locals, tree_locals}
 use Rattle.guest_code.specs.Code.{Names, thread_code, code}
 use Rattle.guest_code.specs.Program.{no_thread}
-use Rattle.guest_code.specs.SourceMap.{stmt_places, block_places, copies, source_map, ArePlacesInThreads, IsMapOf}
+use Rattle.guest_code.specs.SourceMap.{stmt_places, block_places, thread_places, copies, source_map, ArePlacesInThreads, IsMapOf}
 use Rattle.guest_code.proofs.CodeLengths.{block_length}
 
 pub block_places_at : (ss : List Placed) (i : ℕ) (x : Placed) → i < length ss
@@ -70,10 +70,6 @@ copies_each : (P : Pos → Type 0) (ps : List Pos) (n : ℕ) → All P ps → Al
 copies_each P ps zero h = All-nil P
 copies_each P ps (suc n) h = All-append P ps (copies ps n) h (copies_each P ps n h)
 
-pub copies_end : (ps : List Pos) (all total : List Pos) → all ++ copies ps 0 ≡ total
-    → all ≡ total
-copies_end ps all total h = sym (append-nil all) ∙ h
-
 -- ---- in their threads
 
 mutual
@@ -101,7 +97,7 @@ places_in_threads (t ∷ ts) h =
 -- ---- beside the program
 
 places_fit : (ds : List Declaration) (ts : List Thread) (k : ℕ)
-    → length (slice_index_or (map (λ (t : Thread). block_places t.body) ts) k [])
+    → length (slice_index_or (map thread_places ts) k [])
     ≡ length (slice_index_or (map (thread_code ds) ts) k no_thread).code
 places_fit ds [] k = refl
 places_fit ds (t ∷ ts) zero = block_many t.body
@@ -114,6 +110,14 @@ locals_fit : (ds : List Declaration) (ts : List Thread) (k : ℕ)
 locals_fit ds [] k = refl
 locals_fit ds (t ∷ ts) zero = refl
 locals_fit ds (t ∷ ts) (suc k) = locals_fit ds ts k
+
+-- the map of parts that are as the tree says
+pub map_is : (t : Tree) (ts : List Thread) (places : List (List Pos))
+    (locals : List (List (List ℕ))) → ts ≡ t.threads → places ≡ map thread_places ts
+    → locals ≡ tree_locals t → record { places = places; locals = locals } ≡ source_map t
+map_is t ts places locals e p l =
+    let p' = p ∙ ap (map thread_places) e in
+    λ i. record { places = p' i; locals = l i }
 
 pub map_fits : (t : Tree) → IsMapOf (source_map t) (code t)
 map_fits t = record {
