@@ -23,7 +23,8 @@ use Rattle.runner.specs.Reports.{IsBad, HasItems, IsReached, IsCause}
 use Rattle.runner.specs.Unbounded.{IsFirstBad}
 use Rattle.runner.specs.Promises.{IsSearch, IsReportFor, IsReport}
 use Rattle.runner.specs.inner.Judging.{HasPassed, IsModeOf, IsStage, IsLast, IsFound, IsFinishedIn, IsFirstMode}
-use Rattle.runner.specs.inner.Judging.{mode_bound, CanRaise, IsVerdictOn, report_in, bounds_left, IsBoundBelow}
+use Rattle.runner.specs.Progress.{mode_bound}
+use Rattle.runner.specs.inner.Judging.{CanRaise, IsVerdictOn, report_in, bounds_left, IsBoundBelow}
 use Rattle.runner.specs.inner.Judging.{ComesWhole, ComesOpen, Comes}
 use Rattle.runner.proofs.Promises.{passed_next, found_bad, found_none, finished_here}
 use Rattle.runner.proofs.Promises.{finished_below, passed_none, same_bad, least_within}

@@ -9,8 +9,10 @@ ghost use Rattle.runner.specs.inner.Judging.{IsFirstMode, IsStage, IsOf, ComesAf
 ghost use Rattle.runner.specs.inner.Shrinking.{Went, Goes};
 
 use crate::error::ExploreError;
+use crate::gate::{Gate, Open};
 use crate::judge::{Next, judge};
 use crate::options::{Options, Search};
+use crate::progress::Progress;
 use crate::report::Report;
 use book::books::Book;
 use book::errors::{RaiseError, SettleError};
@@ -151,14 +153,15 @@ fn walk_round(
     }
 }
 
-// The rounds of a search in one mode.
-fn search_mode(
+// The rounds of a search in one mode. The gate is told how far it is, and asked nothing.
+fn search_mode<G: Gate>(
     alloc: Global,
     program: &Program,
     options: Options,
     mode: Mode,
     book: &mut Book,
     walker: &mut Walker,
+    gate: &G,
 ) -> Result<Next, ExploreError>
     requires quota { 1 ≤ options.quota }
     requires stage { IsStage program.now options.search mode }
@@ -172,6 +175,7 @@ fn search_mode(
     loop {
         walk_round(alloc, book, walker, &mut found, options.quota)?;
         let _open = book.open_length();
+        gate.after_round(Progress::of(book));
         match judge(alloc, program, options, mode, book, false)? {
             Next::Again => {}
             Next::Raise => return Ok(Next::Raise),
@@ -201,11 +205,26 @@ pub fn explore_alone(
     ensures report { IfOk result (IsReport false (arc_value program.now) options) }
     ensures error { IfErr result (λ e. e ≡ OutOfMemory) }
 {
+    search_alone(alloc, program, options, &Open)
+}
+
+/// The report of [`explore_alone`], with a gate that is told after each round how far the search is.
+pub(crate) fn search_alone<G: Gate>(
+    alloc: Global,
+    program: &Arc<Program>,
+    options: Options,
+    gate: &G,
+) -> Result<Report, ExploreError>
+    requires search { IsSearch options.search }
+    requires quota { 1 ≤ options.quota }
+    ensures report { IfOk result (IsReport false (arc_value program.now) options) }
+    ensures error { IfErr result (λ e. e ≡ OutOfMemory) }
+{
     let mut mode = first_mode(options.search);
     let mut book = open_book(alloc, program, mode, options.quick)?;
     let mut walker = Walker::new(alloc, Arc::try_clone(program)?)?;
     loop {
-        match search_mode(alloc, program, options, mode, &mut book, &mut walker)? {
+        match search_mode(alloc, program, options, mode, &mut book, &mut walker, gate)? {
             Next::Answer(report) => return Ok(report),
             Next::Raise => match book.raise() {
                 Ok(()) => mode = book.mode(),

@@ -3,6 +3,8 @@
 ghost use Rattle.std.specs.Prelude.{◌≡◌, Bool, true};
 ghost use Rattle.runner.specs.declared.gate.Answer.TheVariants.{Stop};
 
+use crate::progress::Progress;
+
 /// What a gate answers to a worker that is about to walk an item.
 #[derive(Clone, Copy, Debug, PartialEq, Eq)]
 pub enum Answer {
@@ -13,7 +15,8 @@ pub enum Answer {
 }
 
 /// What the workers of a search share beside its items: each asks it before it walks an item, and
-/// tells it after. No lock is held during these calls, so a gate may keep a worker waiting.
+/// tells it after. No lock is held during these calls, so a gate may keep a worker waiting. After each
+/// round it is told how far the search is.
 ///
 /// A contract sees of a gate whether it may stop a worker, which never changes.
 pub trait Gate: Sync {
@@ -30,6 +33,10 @@ pub trait Gate: Sync {
 
     /// Is told that a worker has walked an item. The walk is not settled yet.
     fn walked(&self, worker: u32, item: u64);
+
+    /// Is told how far the search is after a round, when all its workers have ended. This is told by a
+    /// single worker, too.
+    fn after_round(&self, _progress: Progress) {}
 }
 
 /// The gate that never stops a worker.

@@ -8,7 +8,8 @@ ghost use Rattle.book.specs.Books.{Keeps, IsClosed};
 ghost use Rattle.runner.specs.declared.error.ExploreError.TheVariants.{OutOfMemory};
 ghost use Rattle.runner.specs.declared.judge.Next.TheVariants.{Answer};
 ghost use Rattle.runner.specs.Reports.{HasItems, IsReached, IsCause};
-ghost use Rattle.runner.specs.inner.Judging.{IsModeOf, IsStage, IsOf, IsLast, IsFound, IsBoundBelow, IsVerdictOn, ComesWhole, ComesOpen, Comes, mode_bound, report_in};
+ghost use Rattle.runner.specs.inner.Judging.{IsModeOf, IsStage, IsOf, IsLast, IsFound, IsBoundBelow, IsVerdictOn, ComesWhole, ComesOpen, Comes, report_in};
+ghost use Rattle.runner.specs.Progress.{mode_bound};
 
 use crate::error::ExploreError;
 use crate::options::{Options, Search};
@@ -96,8 +97,8 @@ fn report_in(
     }))
 }
 
-// The bound of a mode, if it has one.
-fn mode_bound(mode: Mode) -> Option<u32>
+/// The bound of a mode, if it has one.
+pub(crate) fn mode_bound(mode: Mode) -> Option<u32>
     ensures { result ≡ mode_bound mode }
 {
     match mode {

@@ -20,6 +20,7 @@ mod judge;
 pub mod limits;
 mod options;
 mod printing;
+mod progress;
 mod report;
 mod shared;
 #[cfg(test)]
@@ -34,6 +35,7 @@ pub use gate::{Answer, Gate, Open};
 pub use limits::{BOUND, QUOTA, WORKERS};
 pub use options::{Options, Search};
 pub use printing::report_text;
+pub use progress::Progress;
 pub use report::{Cause, Report, Verdict};
 pub use text::{explore_text, explore_text_alone};
 pub use together::explore;

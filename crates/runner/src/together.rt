@@ -8,12 +8,13 @@ ghost use Rattle.runner.specs.Promises.{IsSearch, IsReport};
 ghost use Rattle.runner.specs.inner.Judging.{IsStage, IsOf};
 ghost use Rattle.runner.specs.inner.Rounds.{Follows};
 
-use crate::alone::{explore_alone, first_mode, open_book};
+use crate::alone::{first_mode, open_book, search_alone};
 use crate::crew::Crew;
 use crate::error::ExploreError;
 use crate::gate::Gate;
 use crate::judge::{Next, judge};
 use crate::options::Options;
+use crate::progress::Progress;
 use crate::report::Report;
 use book::books::Book;
 use book::errors::RaiseError;
@@ -70,7 +71,8 @@ fn after_round(
 /// numbers of an incomplete one, and for what a quick search leaves out.
 ///
 /// A worker that the gate stops walks no more in its round. Where the search has no answer then, it
-/// is cut short. A single worker asks no gate.
+/// is cut short. A single worker asks no gate, and tells it after each round how far the search is, as
+/// several do.
 ///
 /// The contract holds if the call returns. That it does is not proved: it waits for the lock of the
 /// book, and for the gate.
@@ -93,7 +95,7 @@ pub fn explore<G: Gate, R: Threads + Wait + Sync>(
     ensures error { IfErr result (λ e. e ≡ OutOfMemory) }
 {
     if workers == 1 {
-        return explore_alone(alloc, program, options);
+        return search_alone(alloc, program, options, gate);
     }
     let mut mode = first_mode(options.search);
     let mut book = open_book(alloc, program, mode, options.quick)?;
@@ -103,6 +105,7 @@ pub fn explore<G: Gate, R: Threads + Wait + Sync>(
         let stopped = left.ending.is_stopped()?;
         book = left.book;
         crew = left.crew;
+        gate.after_round(Progress::of(&book));
         match after_round(alloc, program, options, mode, &mut book, stopped)? {
             Turn::Ends(report) => return Ok(report),
             Turn::Goes(next) => mode = next,

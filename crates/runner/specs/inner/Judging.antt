@@ -17,6 +17,7 @@ use Rattle.runner.specs.declared.report.Report.{Report}
 use Rattle.runner.specs.declared.report.Verdict.{Verdict}
 use Rattle.runner.specs.declared.report.Verdict.TheVariants.{Clean, Bad, Incomplete}
 use Rattle.runner.specs.Reports.{NoBadBelow, SomeExceeds, IsSummaryOf, IsReached, IsFinished}
+use Rattle.runner.specs.Progress.{mode_bound}
 use Rattle.runner.specs.Promises.{IsReport}
 
 -- the bounds below this one were finished without a bad schedule, and some schedule exceeds each
@@ -60,11 +61,6 @@ IsLast (UpTo last) (Bounded bound) = bound ≡ last
 IsLast (UpTo last) Reduced = ⊥
 IsLast Unbounded (Bounded bound) = ⊥
 IsLast Unbounded Reduced = Unit {0}
-
--- the bound of a mode, if it has one
-abbrev pub mode_bound : Mode → Option ℕ
-mode_bound (Bounded bound) = Some bound
-mode_bound Reduced = None
 
 -- the bound below that of a mode, if there is one
 abbrev pub IsBoundBelow : Mode → Option ℕ → Type 0

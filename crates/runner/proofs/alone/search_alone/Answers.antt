@@ -8,7 +8,7 @@ use Rattle.runner.specs.declared.error.ExploreError.TheVariants.{OutOfMemory}
 use Rattle.runner.specs.declared.judge.Next.{Next}
 use Rattle.runner.specs.inner.Judging.{IsStage, ComesAfter, bounds_left}
 use Rattle.runner.proofs.Judgments.{next_stage, fewer_left}
-use Rattle.runner.proofs.alone.explore_alone.Goals as goal
+use Rattle.runner.proofs.alone.search_alone.Goals as goal
 
 pub loop-walker-smaller : goal.loop-walker-smaller
 loop-walker-smaller c =

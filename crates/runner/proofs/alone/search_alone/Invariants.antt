@@ -1,7 +1,7 @@
 use Rattle.std.proofs.Common.{◌≡◌}
 use Rattle.std.specs.Arc.{arc_value}
 use Rattle.runner.specs.inner.Judging.{IsStage, IsOf, bounds_left}
-use Rattle.runner.proofs.alone.explore_alone.Given as goal
+use Rattle.runner.proofs.alone.search_alone.Given as goal
 
 abbrev pub invariant-loop-walker : goal.invariant-loop-walker
 invariant-loop-walker l = record {
