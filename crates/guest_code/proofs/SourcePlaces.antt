@@ -1,6 +1,6 @@
 -- The places of instructions, one statement after the other, and how many there are.
 use Rattle.std.proofs.Common.{◌≡◌, ℕ, zero, suc, ◌+◌, ◌-◌, ◌*◌, ◌<◌, ◌≤◌, List, [], ◌∷◌, ◌++◌, length, get_or, slice_index_or, drop, map, All, refl, sym, ap, ◌∙◌, arith, add-one, drop-cons, append_assoc, length-append}
-use Rattle.std.proofs.lemmas.List.{drop_all, nil_from_length, append-nil}
+use Rattle.std.proofs.lemmas.List.{drop_all, nil_from_length}
 use Rattle.std.proofs.lemmas.List.Elements.{All-nil, All-cons, All-append}
 use Rattle.guest_syntax.specs.declared.place.Pos.{Pos}
 use Rattle.guest_syntax.specs.declared.tree.Placed.{Placed}
@@ -10,7 +10,7 @@ use Rattle.guest_syntax.specs.Tree.{Stmt, Block, Declaration, Thread, Tree, stmt
 use Rattle.guest_syntax.proofs.StatementView.{view-placed}
 use Rattle.guest_code.specs.Sizes.{size, block_size}
 use Rattle.guest_code.specs.Uses.{thread_locals, tree_locals}
-use Rattle.guest_code.specs.Code.{Names, thread_code, code}
+use Rattle.guest_code.specs.Code.{thread_code, code}
 use Rattle.guest_code.specs.Program.{no_thread}
 use Rattle.guest_code.specs.SourceMap.{stmt_places, block_places, thread_places, copies, source_map, ArePlacesInThreads, IsMapOf}
 use Rattle.guest_code.proofs.CodeLengths.{block_length}
