@@ -11,7 +11,7 @@ use crate::check::check;
 use crate::error::CheckError;
 use crate::lengths::size_of_block;
 use guest_syntax::place::Pos;
-use guest_syntax::tree::{Placed, Statement, Thread, Tree};
+use guest_syntax::tree::{Placed, Statement, Tree};
 use std::alloc::{AllocError, Global};
 use std::marker::Model;
 
@@ -33,7 +33,8 @@ impl Model for SourceMap {
     ghost view = { λ m. source_map_view m.places m.locals };
 }
 
-/// Adds the places of a statement's instructions.
+/// Adds the places of a statement's instructions. Those of an `if` are its test and, where it has an
+/// `else`, the skip after its first block.
 #[cycle(places)]
 fn place_statement(places: &mut Vec<Pos>, placed: &Placed) -> Result<(), AllocError>
     ensures { OnOk result (places.new.items
@@ -44,45 +45,18 @@ fn place_statement(places: &mut Vec<Pos>, placed: &Placed) -> Result<(), AllocEr
             then,
             otherwise,
             ..
-        } => match otherwise {
-            None => place_if(places, placed.at, then),
-            Some(other) => place_choice(places, placed.at, then, other),
-        },
-        Statement::Repeat { times, body } => place_copies(places, body, *times),
-        _ => {
+        } => {
             places.push(placed.at)?;
+            place_block(places, then)?;
+            if let Some(other) = otherwise {
+                places.push(placed.at)?;
+                place_block(places, other)?;
+            }
             Ok(())
         }
+        Statement::Repeat { times, body } => place_copies(places, body, *times),
+        _ => Ok(places.push(placed.at)?),
     }
-}
-
-/// Adds the places of an `if` with no `else`: its test, and its block.
-#[cycle(places)]
-fn place_if(places: &mut Vec<Pos>, at: Pos, then: &[Placed]) -> Result<(), AllocError>
-    ensures { OnOk result (places.new.items
-        ≡ places.old.items ++ (at ∷ block_places (block_view then.now))) }
-{
-    places.push(at)?;
-    place_block(places, then)
-}
-
-/// Adds the places of an `if` with an `else`: its test, its block, the skip after that, and the
-/// other block.
-#[cycle(places)]
-fn place_choice(
-    places: &mut Vec<Pos>,
-    at: Pos,
-    then: &[Placed],
-    other: &[Placed],
-) -> Result<(), AllocError>
-    ensures { OnOk result (places.new.items ≡ places.old.items
-        ++ (at ∷ (block_places (block_view then.now)
-        ++ (at ∷ block_places (block_view other.now))))) }
-{
-    places.push(at)?;
-    place_block(places, then)?;
-    places.push(at)?;
-    place_block(places, other)
 }
 
 /// Adds the places of copies of a block. Copies of an empty block cost no time.
@@ -114,20 +88,6 @@ fn place_block(places: &mut Vec<Pos>, block: &[Placed]) -> Result<(), AllocError
     Ok(())
 }
 
-/// The places of each thread's instructions.
-fn place_threads(alloc: Global, threads: &[Thread]) -> Result<Vec<Vec<Pos>>, AllocError>
-    ensures { IfOk result (λ v. map (λ p. p.items) v.items
-        ≡ map thread_places (map thread_view threads.now)) }
-{
-    let mut all = Vec::new(alloc);
-    for thread in threads {
-        let mut places = Vec::new(alloc);
-        place_block(&mut places, &thread.body)?;
-        all.push(places)?;
-    }
-    Ok(all)
-}
-
 impl SourceMap {
     /// The map of a tree that has no fault. That no code is too long is known before any copy of a
     /// `repeat` is written.
@@ -142,7 +102,12 @@ impl SourceMap {
         ensures fits { IfOk result (λ m. IsMapOf m (code (tree_view tree.now))) }
     {
         let locals = check(alloc, tree)?;
-        let places = place_threads(alloc, tree.threads())?;
+        let mut places = Vec::new(alloc);
+        for thread in tree.threads() {
+            let mut of_thread = Vec::new(alloc);
+            place_block(&mut of_thread, &thread.body)?;
+            places.push(of_thread)?;
+        }
         Ok(SourceMap { places, locals })
     }
 

@@ -1,6 +1,4 @@
-use Rattle.std.proofs.Common.{◌≡◌, ◌+◌, ◌*◌, ◌++◌, max, drop}
-use denote.Param.Weighed.{most}
-use Rattle.guest_syntax.proofs.tree.Placed.TheLaws.{the_size}
+use Rattle.std.proofs.Common.{◌≡◌, ◌+◌, ◌*◌, ◌++◌, drop}
 use Rattle.guest_syntax.specs.Tree.{block_view}
 use Rattle.guest_code.specs.SourceMap.{block_places, copies}
 use Rattle.guest_code.proofs.source_map.+places.Given as goal
@@ -10,12 +8,6 @@ decreases-place_block l = 3 * goal.size-place_block l + 1
 
 abbrev pub decreases-place_statement : goal.decreases-place_statement
 decreases-place_statement l = 3 * goal.size-place_statement l
-
-abbrev pub decreases-place_if : goal.decreases-place_if
-decreases-place_if l = 3 * goal.size-place_if l + 2
-
-abbrev pub decreases-place_choice : goal.decreases-place_choice
-decreases-place_choice l = 3 * max (most the_size l.then.now) (most the_size l.other.now) + 2
 
 abbrev pub decreases-place_copies : goal.decreases-place_copies
 decreases-place_copies l = 3 * goal.size-place_copies l + 2
