@@ -175,7 +175,7 @@ fn search_mode<G: Gate>(
     loop {
         walk_round(alloc, book, walker, &mut found, options.quota)?;
         let _open = book.open_length();
-        gate.after_round(Progress::of(book));
+        gate.round_ended(Progress::of(book));
         match judge(alloc, program, options, mode, book, false)? {
             Next::Again => {}
             Next::Raise => return Ok(Next::Raise),

@@ -36,7 +36,7 @@ pub trait Gate: Sync {
 
     /// Is told how far the search is after a round, when all its workers have ended. This is told by a
     /// single worker, too.
-    fn after_round(&self, _progress: Progress) {}
+    fn round_ended(&self, _progress: Progress) {}
 }
 
 /// The gate that never stops a worker.

@@ -105,7 +105,7 @@ pub fn explore<G: Gate, R: Threads + Wait + Sync>(
         let stopped = left.ending.is_stopped()?;
         book = left.book;
         crew = left.crew;
-        gate.after_round(Progress::of(&book));
+        gate.round_ended(Progress::of(&book));
         match after_round(alloc, program, options, mode, &mut book, stopped)? {
             Turn::Ends(report) => return Ok(report),
             Turn::Goes(next) => mode = next,

@@ -11,7 +11,7 @@ use Rattle.runner.proofs.Judgments.{next_stage, fewer_left}
 use Rattle.runner.proofs.alone.search_alone.Goals as goal
 
 pub loop-walker-smaller : goal.loop-walker-smaller
-loop-walker-smaller c =
+loop-walker-smaller g c =
     let o = c.args.options in
     let p = c.deref.result.now in
     let mode = c.loop-walker.mode in
@@ -25,7 +25,7 @@ loop-walker-smaller c =
     (fewer_left p o.search mode comes.1.3)
 
 pub loop-walker-preserved : goal.loop-walker-preserved
-loop-walker-preserved c =
+loop-walker-preserved g c =
     let o = c.args.options in
     let p = c.deref.result.now in
     let mode = c.loop-walker.mode in
@@ -55,6 +55,6 @@ err_is (Ok x) P Q f h = tt
 err_is (Err e) P Q f h = f e h
 
 pub returns-in_err-report-clause-error : goal.returns-in_err-report-clause-error
-returns-in_err-report-clause-error c =
+returns-in_err-report-clause-error g c =
     err_is c.from_residual-in_err-report.result _ (λ e. e ≡ OutOfMemory)
     (λ e p. p ∙ c.in_err-report.ensures.error) c.from_residual-in_err-report.ensures.1

@@ -5,7 +5,7 @@ use Rattle.runner.proofs.Shrinks.{round_shrinks, round_keeps}
 use Rattle.runner.proofs.alone.search_mode.Goals as goal
 
 pub loop-found-smaller : goal.loop-found-smaller
-loop-found-smaller c =
+loop-found-smaller g c =
     let b = c.walk_round.new.book in
     let next = c.in_ok-judge.ensures.next false (λ e. absurd cc) in
     let again =
@@ -17,7 +17,7 @@ loop-found-smaller c =
     c.in_ok-walk_round.ensures.book again.0 fits
 
 pub returns-in-Raise-clause-next : goal.returns-in-Raise-clause-next
-returns-in-Raise-clause-next c =
+returns-in-Raise-clause-next g c =
     let b = c.walk_round.new.book in
     let next = c.in_ok-judge.ensures.next false (λ e. absurd cc) in (
       round_keeps c.loop-found.book b c.args.program.now c.args.mode c.args.options.quick
@@ -27,7 +27,7 @@ returns-in-Raise-clause-next c =
     )
 
 pub returns-in-Answer-clause-next : goal.returns-in-Answer-clause-next
-returns-in-Answer-clause-next c =
+returns-in-Answer-clause-next g c =
     let b = c.walk_round.new.book in
     let next = c.in_ok-judge.ensures.next false (λ e. absurd cc) in
     subst (λ (n : Next). Comes false c.args.program.now c.args.options c.args.mode b n)
