@@ -1,0 +1,25 @@
+//! Text that is put together of pieces.
+
+ghost use Rattle.std.specs.Prelude.{◌≡◌, IfOk};
+
+use guest_syntax::place::Pos;
+use std::alloc::{AllocError, Global};
+
+/// These one after the other.
+pub fn joined(alloc: Global, parts: &[&[u8]]) -> Result<Vec<u8>, AllocError> {
+    let mut all = Vec::new(alloc);
+    for part in parts {
+        all.extend_from_slice(part)?;
+    }
+    Ok(all)
+}
+
+/// A number in decimal.
+pub fn decimal(alloc: Global, number: u64) -> Result<String, AllocError> {
+    format!(in alloc; "{number}")
+}
+
+/// A place as `2:47`.
+pub fn place(alloc: Global, at: Pos) -> Result<String, AllocError> {
+    format!(in alloc; "{at}")
+}
