@@ -29,5 +29,6 @@ pub mod limits;
 pub mod lowering;
 mod names;
 pub mod program;
+pub mod source_map;
 #[cfg(test)]
 mod tests;

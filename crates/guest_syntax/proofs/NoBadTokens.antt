@@ -95,13 +95,12 @@ mutual
       (then_c _ _ (token_c _ refl) (braces_c _ room (λ less. statements_c c less)))))
   statement_c (repeat n b) room = then_c _ _ (token_c _ refl)
       (then_c _ _ (times_c n) (braces_c _ room (λ less. statements_c b less)))
-  statement_c (leave at) room = λ ts rest h. then_c _ _ (token_c _ refl) (token_c _ refl) ts rest
-      (h.0, (at, h.1), h.2)
+  statement_c leave room = then_c _ _ (token_c _ refl) (token_c _ refl)
 
   statements_c : (b : Block) (room : ℕ) → Cleans (AreStatements b room)
   statements_c nothing room ts rest h c = subst Clean (sym h) c
-  statements_c (next s b) room ts rest h c =
-      statement_c s room ts h.0 h.1 (statements_c b room h.0 rest h.2 c)
+  statements_c (next at s b) room ts rest h c =
+      statement_c s room ts h.0 h.1.1 (statements_c b room h.0 rest h.2 c)
 
 object_c : (n : Name) (o : Object) → Cleans (IsObject n o)
 object_c n (objects.Variable z) ts rest (inl h) c =
