@@ -45,35 +45,39 @@ pub fn first_declared<'a>(tree: &'a Tree, name: &[u8]) -> Option<Declared<'a>> {
     None
 }
 
-/// How many edits at most lead from a name to one that is near it.
-fn reach(name: &[u8]) -> usize {
-    match name.len() {
-        0..=2 => 1,
-        3..=5 => 2,
-        _ => 3,
+/// How many edits lead from a name to another one, where that is near: at most a third of its bytes
+/// are edited, or one of a short one.
+pub fn near_name(alloc: Global, name: &[u8], other: &[u8]) -> Result<Option<usize>, AllocError> {
+    let distance = generic_levenshtein(alloc, name, other)?;
+    if 3 * distance <= name.len() + 2 && distance < other.len() {
+        Ok(Some(distance))
+    } else {
+        Ok(None)
     }
 }
 
-/// The object of a kind whose name is nearest by edit distance, the first of them, where one is near.
+/// The object of a kind whose name is nearest, the first of them, where one is near.
 pub fn nearest<'a>(
     alloc: Global,
     tree: &'a Tree,
     kind: &str,
     name: &[u8],
 ) -> Result<Option<Declared<'a>>, AllocError> {
-    let mut best = None;
-    let mut least = reach(name);
+    let mut best: Option<Declared<'a>> = None;
+    let mut least = 0;
     for declaration in tree.declarations() {
-        let found: &'a [u8] = &declaration.name.text;
-        let distance = generic_levenshtein(alloc, name, found)?;
-        let is_near = distance < least || distance == least && best.is_none();
-        if kind_of(declaration.object) == kind && is_near && distance < found.len() {
-            least = distance;
-            best = Some(Declared {
-                name: found,
-                kind: kind_of(declaration.object),
-                at: declaration.name.at,
-            });
+        let other: &'a [u8] = &declaration.name.text;
+        if kind_of(declaration.object) == kind {
+            if let Some(distance) = near_name(alloc, name, other)? {
+                if best.is_none() || distance < least {
+                    least = distance;
+                    best = Some(Declared {
+                        name: other,
+                        kind: kind_of(declaration.object),
+                        at: declaration.name.at,
+                    });
+                }
+            }
         }
     }
     Ok(best)

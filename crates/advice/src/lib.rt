@@ -3,27 +3,36 @@
 //! [`check`] answers why a text is refused, with a hint, or the warnings of its program.
 #![tactic(auto)]
 
+ghost use Rattle.guest_code.specs.SourceMap.{IsMapOf};
+
 mod advice;
 mod braces;
 mod declared;
+mod findings;
 mod forms;
 mod paths;
 mod pieces;
 mod refusal;
+mod remarks;
 #[cfg(test)]
 mod tests;
+mod told;
 mod uses;
 mod warning;
 mod warnings;
 mod words;
 
 pub use crate::advice::{Advice, Note, Span};
+use crate::findings::Source;
+use crate::pieces::pieces;
 use crate::refusal::{check_advice, syntax_advice};
 pub use crate::warning::{Kind, Warning};
 pub use crate::warnings::warnings;
 use guest_code::error::CheckError;
 use guest_code::lowering::lower;
 use guest_code::program::Program;
+use guest_code::source_map::SourceMap;
+use guest_syntax::tree::Tree;
 use guest_syntax::{SyntaxError, parse};
 use std::alloc::{AllocError, Global};
 
@@ -52,8 +61,35 @@ pub fn check(alloc: Global, text: &[u8]) -> Result<Checked, AllocError> {
         Err(CheckError::OutOfMemory) => return Err(AllocError),
         Err(error) => return Ok(Checked::Refused(check_advice(alloc, text, &tree, error)?)),
     };
-    let _ = program;
-    Ok(Checked::Sound(Vec::new(alloc)))
+    let map = match SourceMap::new(alloc, &tree) {
+        Ok(map) => map,
+        Err(_) => return Err(AllocError),
+    };
+    Ok(Checked::Sound(all_advice(alloc, text, &tree, &program, &map)?))
+}
+
+/// All warnings of a program.
+fn all_advice(
+    alloc: Global,
+    text: &[u8],
+    tree: &Tree,
+    program: &Program,
+    map: &SourceMap,
+) -> Result<Vec<Advice>, AllocError>
+    requires { IsMapOf map.now program.now }
+{
+    let pieces = pieces(alloc, text)?;
+    let source = Source {
+        tree,
+        program,
+        map,
+        pieces: &pieces,
+    };
+    let mut all = Vec::new(alloc);
+    for found in &source.findings(alloc)? {
+        all.push(source.advice(alloc, *found)?)?;
+    }
+    Ok(all)
 }
 
 /// The lines of what was found, for standard error.

@@ -90,3 +90,14 @@ pub fn pieces<'a>(alloc: Global, text: &'a [u8]) -> Result<Vec<Piece<'a>>, Alloc
     }
     Ok(all)
 }
+
+/// The number of the first piece that doesn't come before a place.
+pub fn piece_at(pieces: &[Piece<'_>], at: Pos) -> usize {
+    for (i, piece) in pieces.iter().enumerate() {
+        let later = piece.at.line > at.line || piece.at.line == at.line && piece.at.col >= at.col;
+        if later {
+            return i;
+        }
+    }
+    pieces.len()
+}

@@ -4,7 +4,8 @@ use crate::advice::{Advice, Note, Span};
 use crate::braces::missing_brace;
 use crate::declared::{first_declared, nearest};
 use crate::forms::{Slot, slots, statement_start, wanted, written};
-use crate::pieces::{Piece, pieces};
+use crate::pieces::{Piece, piece_at, pieces};
+use crate::told::{Told, note};
 use crate::words::{joined, place};
 use guest_code::error::CheckError;
 use guest_syntax::SyntaxError;
@@ -21,17 +22,6 @@ pub struct Context<'a> {
     pub at: usize,
     /// The number of the first piece of the statement.
     pub start: usize,
-}
-
-/// The number of the first piece that doesn't come before a place.
-fn piece_at(pieces: &[Piece<'_>], at: Pos) -> usize {
-    for (i, piece) in pieces.iter().enumerate() {
-        let later = piece.at.line > at.line || piece.at.line == at.line && piece.at.col >= at.col;
-        if later {
-            return i;
-        }
-    }
-    pieces.len()
 }
 
 impl<'a> Context<'a> {
@@ -105,44 +95,6 @@ impl<'a> Context<'a> {
             _ => 1,
         };
         Span { at: place, length }
-    }
-}
-
-/// A remark without a place.
-pub fn note(alloc: Global, parts: &[&[u8]]) -> Result<Note, AllocError> {
-    Ok(Note {
-        span: None,
-        text: joined(alloc, parts)?,
-    })
-}
-
-/// What is told beside the short form.
-#[derive(Debug, Drop)]
-pub struct Told {
-    pub message: Vec<u8>,
-    pub notes: Vec<Note>,
-}
-
-impl Told {
-    /// A message with no note.
-    pub fn new(alloc: Global, parts: &[&[u8]]) -> Result<Told, AllocError> {
-        Ok(Told {
-            message: joined(alloc, parts)?,
-            notes: Vec::new(alloc),
-        })
-    }
-
-    /// A message with a note.
-    pub fn with(alloc: Global, parts: &[&[u8]], more: &[&[u8]]) -> Result<Told, AllocError> {
-        let mut told = Told::new(alloc, parts)?;
-        told.add(note(alloc, more)?)?;
-        Ok(told)
-    }
-
-    /// One more note.
-    pub fn add(&mut self, note: Note) -> Result<(), AllocError> {
-        self.notes.push(note)?;
-        Ok(())
     }
 }
 
