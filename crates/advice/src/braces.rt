@@ -1,6 +1,6 @@
 //! Which brace seems to be missing.
 
-use crate::advice::{Note, Span};
+use crate::message::{Note, Span};
 use crate::pieces::Piece;
 use crate::words::{decimal, joined, place};
 use guest_syntax::place::Pos;
@@ -25,7 +25,7 @@ fn indent(pieces: &[Piece<'_>], line: u32) -> u32 {
 }
 
 /// The number of the piece that closes the block that this piece opens.
-fn closing(pieces: &[Piece<'_>], open: usize) -> Option<usize> {
+pub fn closing(pieces: &[Piece<'_>], open: usize) -> Option<usize> {
     let mut depth = 0_usize;
     for (i, piece) in pieces.iter().enumerate() {
         if i >= open && matches!(piece.text, b"{") {

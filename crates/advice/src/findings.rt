@@ -6,7 +6,7 @@ ghost use Rattle.guest_code.specs.SourceMap.{IsMapOf};
 use crate::pieces::Piece;
 use crate::uses::Use;
 use crate::warning::{Kind, Warning};
-use crate::warnings::warnings;
+use crate::warnings::all_warnings;
 use guest_code::program::{Instruction, Program};
 use guest_code::source_map::SourceMap;
 use guest_syntax::place::Pos;
@@ -88,7 +88,7 @@ impl<'a> Source<'a> {
     }
 
     /// The place of an instruction.
-    fn place(&self, thread: u8, at: usize) -> Pos {
+    pub fn place(&self, thread: u8, at: usize) -> Pos {
         if thread < self.program.threads() && at < self.program.code(thread).len() {
             return self.map.place(thread, at);
         }
@@ -172,7 +172,7 @@ impl<'a> Source<'a> {
     /// The warnings with their places.
     fn placed(&self, alloc: Global) -> Result<Vec<Finding>, AllocError> {
         let mut all = Vec::new(alloc);
-        for warning in &warnings(alloc, self.program)? {
+        for warning in &all_warnings(alloc, self.program)? {
             let at = self.place_of(*warning);
             all.push(Finding {
                 warning: *warning,

@@ -5,15 +5,20 @@
 
 ghost use Rattle.guest_code.specs.SourceMap.{IsMapOf};
 
-mod advice;
 mod braces;
 mod declared;
+mod deep;
+mod depths;
 mod findings;
 mod forms;
+mod locals;
+mod message;
 mod paths;
 mod pieces;
 mod refusal;
 mod remarks;
+mod seen;
+mod spins;
 #[cfg(test)]
 mod tests;
 mod told;
@@ -22,12 +27,10 @@ mod warning;
 mod warnings;
 mod words;
 
-pub use crate::advice::{Advice, Note, Span};
 use crate::findings::Source;
+pub use crate::message::{Advice, Note, Span};
 use crate::pieces::pieces;
 use crate::refusal::{check_advice, syntax_advice};
-pub use crate::warning::{Kind, Warning};
-pub use crate::warnings::warnings;
 use guest_code::error::CheckError;
 use guest_code::lowering::lower;
 use guest_code::program::Program;
@@ -50,7 +53,7 @@ pub enum Checked {
 /// # Errors
 ///
 /// `AllocError` where memory runs out.
-pub fn check(alloc: Global, text: &[u8]) -> Result<Checked, AllocError> {
+pub fn check(alloc: Global, text: &[u8], depth: Option<u64>) -> Result<Checked, AllocError> {
     let tree = match parse(alloc, text) {
         Ok(tree) => tree,
         Err(SyntaxError::OutOfMemory) => return Err(AllocError),
@@ -65,19 +68,20 @@ pub fn check(alloc: Global, text: &[u8]) -> Result<Checked, AllocError> {
         Ok(map) => map,
         Err(_) => return Err(AllocError),
     };
-    Ok(Checked::Sound(all_advice(alloc, text, &tree, &program, &map)?))
+    Ok(Checked::Sound(all_advice(alloc, &tree, &program, &map, (text, depth))?))
 }
 
 /// All warnings of a program.
 fn all_advice(
     alloc: Global,
-    text: &[u8],
     tree: &Tree,
     program: &Program,
     map: &SourceMap,
+    asked: (&[u8], Option<u64>),
 ) -> Result<Vec<Advice>, AllocError>
     requires { IsMapOf map.now program.now }
 {
+    let (text, depth) = asked;
     let pieces = pieces(alloc, text)?;
     let source = Source {
         tree,
@@ -88,6 +92,9 @@ fn all_advice(
     let mut all = Vec::new(alloc);
     for found in &source.findings(alloc)? {
         all.push(source.advice(alloc, *found)?)?;
+    }
+    if let Some(limit) = depth {
+        source.depths(alloc, limit, &mut all)?;
     }
     Ok(all)
 }

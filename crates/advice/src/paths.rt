@@ -4,7 +4,7 @@ ghost use Rattle.std.specs.Prelude.{◌≡◌, ◌+◌, ◌<◌, ◌≤◌, ◌�
 ghost use Rattle.guest_code.specs.Program.{JumpsWithin, skip_of};
 ghost use Rattle.guest_code.specs.declared.program.Instruction.{Instruction};
 ghost use Rattle.advice.specs.Paths.{is_test, owned_after};
-ghost use Rattle.advice.specs.inner.Marks.{Keeps, Marked, AddsOne, AddsNext, AddsAll, Marks};
+ghost use Rattle.advice.specs.inner.Marks.{AddsOne, AddsNext, AddsAll, Marks};
 
 use guest_code::program::Instruction;
 use std::alloc::{AllocError, Global};

@@ -1,9 +1,9 @@
 //! Why a text is refused, in more words.
 
-use crate::advice::{Advice, Note, Span};
 use crate::braces::missing_brace;
 use crate::declared::{first_declared, nearest};
 use crate::forms::{Slot, slots, statement_start, wanted, written};
+use crate::message::{Advice, Note, Span};
 use crate::pieces::{Piece, piece_at, pieces};
 use crate::told::{Told, note};
 use crate::words::{joined, place};

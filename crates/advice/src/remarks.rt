@@ -1,9 +1,9 @@
 //! The words of a warning.
 
-use crate::advice::{Advice, Span};
 use crate::declared::near_name;
 use crate::findings::{Finding, Source};
 use crate::forms::is_boundary;
+use crate::message::{Advice, Span};
 use crate::pieces::piece_at;
 use crate::told::{Told, note};
 use crate::uses::Use;

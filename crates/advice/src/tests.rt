@@ -1,4 +1,5 @@
-use crate::{advice_text, check, warnings};
+use crate::warnings::all_warnings;
+use crate::{advice_text, check};
 use guest_code::lowering::lower;
 use guest_syntax::parse;
 use std::test::*;
@@ -13,7 +14,7 @@ fn tries(rt: HostRuntime) -> Result<(), Fail> {
         "mutex m; thread A { lock(m); }",
         "var x; thread A { add x 1; }",
     ] {
-        let found = check(rt.alloc(), text.as_bytes())?;
+        let found = check(rt.alloc(), text.as_bytes(), Some(100000))?;
         let lines = advice_text(rt.alloc(), text.as_bytes(), &found)?;
         println!(rt; "{}", String::from_utf8(lines)?.as_str())?;
     }
@@ -21,7 +22,7 @@ fn tries(rt: HostRuntime) -> Result<(), Fail> {
         "var x; mutex m; mutex n; thread A { lock m; if r { unlock m; } assert 1; unlock n; load q x; }";
     let tree = parse(rt.alloc(), text.as_bytes())?;
     let program = lower(rt.alloc(), &tree)?;
-    let all = warnings(rt.alloc(), &program)?;
+    let all = all_warnings(rt.alloc(), &program)?;
     println!(rt; "{all:?}")?;
     Ok(())
 }

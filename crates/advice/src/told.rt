@@ -1,6 +1,6 @@
 //! Words and remarks of an advice.
 
-use crate::advice::Note;
+use crate::message::Note;
 use crate::words::joined;
 use std::alloc::{AllocError, Global};
 

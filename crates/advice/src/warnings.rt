@@ -51,7 +51,7 @@ fn warnings_of(alloc: Global, program: &Program, kind: Kind) -> Result<Vec<Warni
 }
 
 /// The warnings of a program, one kind after the other: exactly those that are so.
-pub fn warnings(alloc: Global, program: &Program) -> Result<Vec<Warning>, AllocError>
+pub fn all_warnings(alloc: Global, program: &Program) -> Result<Vec<Warning>, AllocError>
     ensures { IfOk result (λ v. Listed program.now (kinds_of program.now) v.items) }
 {
     let mut all = Vec::new(alloc);

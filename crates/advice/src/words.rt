@@ -23,3 +23,8 @@ pub fn decimal(alloc: Global, number: u64) -> Result<String, AllocError> {
 pub fn place(alloc: Global, at: Pos) -> Result<String, AllocError> {
     format!(in alloc; "{at}")
 }
+
+/// A number with its sign.
+pub fn signed(alloc: Global, number: i64) -> Result<String, AllocError> {
+    format!(in alloc; "{number}")
+}
