@@ -112,6 +112,9 @@ abbrev pub kinds_of_threads : ℕ → List Kind
 kinds_of_threads zero = []
 kinds_of_threads (suc n) = kinds_of_threads n ++ kinds_of_thread n
 
+abbrev pub kinds_of_objects : List Kind
+kinds_of_objects = kinds.UnusedVariable ∷ kinds.NeverStored ∷ kinds.NeverLoaded
+    ∷ kinds.UnusedMutex ∷ kinds.UnusedCondition ∷ kinds.UnusedSemaphore ∷ []
+
 abbrev pub kinds_of : Program → List Kind
-kinds_of p = (kinds.UnusedVariable ∷ kinds.NeverStored ∷ kinds.NeverLoaded ∷ kinds.UnusedMutex
-    ∷ kinds.UnusedCondition ∷ kinds.UnusedSemaphore ∷ []) ++ kinds_of_threads (length p.threads)
+kinds_of p = kinds_of_objects ++ kinds_of_threads (length p.threads)

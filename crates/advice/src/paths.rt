@@ -1,10 +1,9 @@
 //! Paths through the code of a thread, found in one pass: jumps go forwards.
 
-ghost use Rattle.std.specs.Prelude.{◌≡◌, ◌+◌, ◌<◌, ◌≤◌, ◌⊎◌, ℕ, Bool, IsTrue, IfOk, length};
+ghost use Rattle.std.specs.Prelude.{◌≡◌, ◌+◌, ◌<◌, ◌≤◌, ◌^◌, ℕ, Bool, IfOk, length};
 ghost use Rattle.guest_code.specs.Program.{JumpsWithin, skip_of};
-ghost use Rattle.guest_code.specs.declared.program.Instruction.{Instruction};
 ghost use Rattle.advice.specs.Paths.{is_test, owned_after};
-ghost use Rattle.advice.specs.inner.Marks.{AddsOne, AddsNext, AddsAll, Marks};
+ghost use Rattle.advice.specs.inner.Marks.{Marked, AddsOne, AddsNext, AddsAll, Marks};
 
 use guest_code::program::Instruction;
 use std::alloc::{AllocError, Global};
@@ -93,9 +92,24 @@ fn pass(marks: &mut [Mark], at: usize, instruction: &Instruction, mutex: usize)
     }
 }
 
+/// Marks how a thread may come to each instruction, and to the end, from this one, where it owns a
+/// mutex or not.
+fn mark_paths(marks: &mut [Mark], code: &[Instruction], mutex: usize, start: usize, owned: bool)
+    requires none { (j : ℕ) (b : Bool) → ¬ Marked marks.old j b }
+    requires length { length marks.old ≡ length code.now + 1 }
+    requires jumps { JumpsWithin code.now }
+    requires start { start ≤ length code.now }
+    ensures { Marks marks.new code.now mutex start owned }
+{
+    add(marks, start, owned);
+    for (at, instruction) in code.iter().enumerate() {
+        pass(marks, at, instruction, mutex);
+    }
+}
+
 /// How a thread may come to each instruction, and to the end, from this one, where it owns a mutex
 /// or not.
-pub fn from(
+pub fn paths(
     alloc: Global,
     code: &[Instruction],
     mutex: usize,
@@ -113,9 +127,6 @@ pub fn from(
         free: false,
     };
     let mut marks = vec![in alloc; none; code.len() + 1]?;
-    add(&mut marks, start, owned);
-    for (at, instruction) in code.iter().enumerate() {
-        pass(&mut marks, at, instruction, mutex);
-    }
+    mark_paths(&mut marks, code, mutex, start, owned);
     Ok(marks)
 }

@@ -521,7 +521,12 @@ fn wrong_kind(alloc: Global, context: Context<'_>, tree: &Tree) -> Result<Told, 
                     kind_wanted(Some(slot)).as_bytes(),
                     b" must be here",
                 ],
-                &[written(context.keyword()).as_bytes()],
+                &[
+                    b"`",
+                    context.keyword(),
+                    b"` is written: ",
+                    written(context.keyword()).as_bytes(),
+                ],
             )
         }
         _ => not_a_local(alloc, context, &joined(alloc, &is)?),

@@ -6,8 +6,9 @@ ghost use Rattle.guest_code.specs.Program.{code_of, JumpsWithin};
 ghost use Rattle.advice.specs.Paths.{IsReached};
 ghost use Rattle.advice.specs.Warnings.{UsesIn, UsesAnywhere, IsSo, MayKeep, MayLack, IsOfThread, count_of};
 
-use crate::paths::from;
+use crate::paths::paths;
 use crate::uses::{Use, is_constant};
+use guest_code::limits::INSTRUCTIONS;
 use guest_code::program::{Instruction, Program};
 use std::alloc::{AllocError, Global};
 
@@ -67,6 +68,17 @@ fn is_used(program: &Program, use_: Use, number: usize) -> bool
     false
 }
 
+/// The code of a thread.
+fn code_of(program: &Program, thread: u8) -> &[Instruction]
+    requires { thread < length program.now.threads }
+    ensures code { result.now ≡ code_of program.now thread }
+    ensures jumps { JumpsWithin result.now }
+    ensures short { length result.now ≤ INSTRUCTIONS }
+{
+    program.keeps_limits();
+    program.code(thread)
+}
+
 /// Whether some path leads to an instruction.
 fn is_reached(alloc: Global, code: &[Instruction], at: usize) -> Result<bool, AllocError>
     requires jumps { JumpsWithin code.now }
@@ -74,7 +86,7 @@ fn is_reached(alloc: Global, code: &[Instruction], at: usize) -> Result<bool, Al
     requires at { at < length code.now }
     ensures { IfOk result (λ b. IsTrue b ↔ IsReached code.now at) }
 {
-    let marks = from(alloc, code, 0, 0, false)?;
+    let marks = paths(alloc, code, 0, 0, false)?;
     Ok(marks[at].owned || marks[at].free)
 }
 
@@ -91,7 +103,7 @@ fn may_keep(alloc: Global, code: &[Instruction], at: usize) -> Result<bool, Allo
     if !is_reached(alloc, code, at)? {
         return Ok(false);
     }
-    let marks = from(alloc, code, mutex, at + 1, true)?;
+    let marks = paths(alloc, code, mutex, at + 1, true)?;
     Ok(marks[code.len()].owned)
 }
 
@@ -107,7 +119,7 @@ fn may_lack(alloc: Global, code: &[Instruction], at: usize) -> Result<bool, Allo
         Instruction::Wait { mutex, .. } => mutex,
         _ => return Ok(false),
     };
-    let marks = from(alloc, code, mutex, 0, false)?;
+    let marks = paths(alloc, code, mutex, 0, false)?;
     Ok(marks[at].free)
 }
 
@@ -160,9 +172,9 @@ impl Kind {
             Kind::UnusedCondition => Ok(!is_used(program, Use::OfCondition, number)),
             Kind::UnusedSemaphore => Ok(!is_used(program, Use::OfSemaphore, number)),
             Kind::Constant(thread) => Ok(is_constant(&program.code(thread)[number])),
-            Kind::Unreached(thread) => Ok(!is_reached(alloc, program.code(thread), number)?),
-            Kind::MayKeep(thread) => may_keep(alloc, program.code(thread), number),
-            Kind::MayLack(thread) => may_lack(alloc, program.code(thread), number),
+            Kind::Unreached(thread) => Ok(!is_reached(alloc, code_of(program, thread), number)?),
+            Kind::MayKeep(thread) => may_keep(alloc, code_of(program, thread), number),
+            Kind::MayLack(thread) => may_lack(alloc, code_of(program, thread), number),
         }
     }
 }
