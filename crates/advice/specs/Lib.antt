@@ -1,3 +1,4 @@
+pub mod Near
 pub mod Uses
 pub mod Paths
 pub mod Warnings

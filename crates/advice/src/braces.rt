@@ -57,34 +57,52 @@ fn last_deeper(pieces: &[Piece<'_>], line: u32) -> u32 {
     last
 }
 
-/// What is said of a `{` whose `}` begins a line at another depth than its own line, or that has none.
-fn said_of(
+/// What is said of a `{` whose `}`, which is this piece, begins a line at a lesser depth than its
+/// own line.
+fn said_of_closed(
     alloc: Global,
     pieces: &[Piece<'_>],
-    open: usize,
     at: Pos,
+    close: usize,
 ) -> Result<Option<Vec<u8>>, AllocError> {
-    let Some(close) = closing(pieces, open) else {
-        return Ok(Some(joined(alloc, &[b"this `{` is never closed"])?));
-    };
     let Some(end) = pieces.get(close) else {
         return Ok(None);
     };
     if !is_first(pieces, close) || end.at.col >= indent(pieces, at.line) {
         return Ok(None);
     }
-    let line = last_deeper(pieces, at.line);
+    let closed_at = place(alloc, end.at)?;
+    let line = decimal(alloc, last_deeper(pieces, at.line) as u64)?;
+    let front = joined(
+        alloc,
+        &[b"this `{` is closed by the `}` at ", closed_at.as_bytes()],
+    )?;
     let text = joined(
         alloc,
         &[
-            b"this `{` is closed by the `}` at ",
-            place(alloc, end.at)?.as_bytes(),
+            &front,
             b": is one missing after line ",
-            decimal(alloc, line as u64)?.as_bytes(),
+            line.as_bytes(),
             b"?",
         ],
     )?;
     Ok(Some(text))
+}
+
+/// What is said of a `{` that seems to be closed too late, or that is never closed.
+fn said_of(
+    alloc: Global,
+    pieces: &[Piece<'_>],
+    open: usize,
+    at: Pos,
+) -> Result<Option<Vec<u8>>, AllocError> {
+    match closing(pieces, open) {
+        Some(close) => said_of_closed(alloc, pieces, at, close),
+        None => {
+            let text = joined(alloc, &[b"this `{` is never closed"])?;
+            Ok(Some(text))
+        }
+    }
 }
 
 /// The first `{` that its lines say is closed too late, or not at all.

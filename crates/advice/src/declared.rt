@@ -1,5 +1,8 @@
 //! The names that a text declares.
 
+ghost use Rattle.std.specs.Prelude.{◌≡◌, IfOk};
+ghost use Rattle.advice.specs.Near.{near};
+
 use guest_syntax::place::Pos;
 use guest_syntax::tree::{Object, Tree};
 use std::alloc::{AllocError, Global};
@@ -45,11 +48,13 @@ pub fn first_declared<'a>(tree: &'a Tree, name: &[u8]) -> Option<Declared<'a>> {
     None
 }
 
-/// How many edits lead from a name to another one, where that is near: at most a third of its bytes
-/// are edited, or one of a short one.
-pub fn near_name(alloc: Global, name: &[u8], other: &[u8]) -> Result<Option<usize>, AllocError> {
+/// How many edits of single bytes lead from a name to another one, where that is near: at most a
+/// third as many as the bytes of the name, rounded up, and fewer than those of the other one.
+pub fn near_name(alloc: Global, name: &[u8], other: &[u8]) -> Result<Option<usize>, AllocError>
+    ensures { IfOk result (λ n. n ≡ near name.now other.now) }
+{
     let distance = generic_levenshtein(alloc, name, other)?;
-    if 3 * distance <= name.len() + 2 && distance < other.len() {
+    if distance <= (name.len() + 2) / 3 && distance < other.len() {
         Ok(Some(distance))
     } else {
         Ok(None)

@@ -1,7 +1,7 @@
 //! Why a text is refused, in more words.
 
 use crate::braces::missing_brace;
-use crate::declared::{first_declared, nearest};
+use crate::declared::{Declared, first_declared, nearest};
 use crate::forms::{Slot, slots, statement_start, wanted, written};
 use crate::message::{Advice, Note, Span};
 use crate::pieces::{Piece, piece_at, pieces};
@@ -347,16 +347,16 @@ fn expected_in_statement(alloc: Global, context: Context<'_>) -> Result<Told, Al
         Some(slot) => wanted(slot),
         None => "`;`",
     };
-    let mut told = Told::with(
+    let mut told = Told::new(alloc, &[want.as_bytes(), b" was expected"])?;
+    told.add(note(
         alloc,
-        &[want.as_bytes(), b" was expected"],
         &[
             b"`",
-            keyword,
+            context.keyword(),
             b"` is written: ",
-            written(keyword).as_bytes(),
+            written(context.keyword()).as_bytes(),
         ],
-    )?;
+    )?)?;
     add_hint(alloc, context, &mut told)?;
     Ok(told)
 }
@@ -470,21 +470,29 @@ fn declaration_of(slot: Option<Slot>) -> (&'static str, &'static str) {
     }
 }
 
+/// The question whether a declared name is meant.
+fn meant(alloc: Global, near: Declared<'_>) -> Result<Note, AllocError> {
+    let name = joined(alloc, &[b"did you mean `", near.name, b"` (declared at "])?;
+    let at = place(alloc, near.at)?;
+    note(alloc, &[&name, at.as_bytes(), b")?"])
+}
+
+/// What a declared name is, and where it is declared, but for a closing parenthesis.
+fn is_a(alloc: Global, found: Declared<'_>) -> Result<Vec<u8>, AllocError> {
+    let name = joined(
+        alloc,
+        &[b"`", found.name, b"` is a ", found.kind.as_bytes()],
+    )?;
+    let at = place(alloc, found.at)?;
+    joined(alloc, &[&name, b" (", at.as_bytes()])
+}
+
 fn unknown(alloc: Global, context: Context<'_>, tree: &Tree) -> Result<Told, AllocError> {
     let kind = kind_wanted(context.slot());
     let name = context.found();
     let mut told = Told::new(alloc, &[b"no ", kind.as_bytes(), b" has this name"])?;
     let hint = match nearest(alloc, tree, kind, name)? {
-        Some(near) => note(
-            alloc,
-            &[
-                b"did you mean `",
-                near.name,
-                b"` (declared at ",
-                place(alloc, near.at)?.as_bytes(),
-                b")?",
-            ],
-        )?,
+        Some(near) => meant(alloc, near)?,
         None => {
             let (word, end) = declaration_of(context.slot());
             note(
@@ -502,21 +510,13 @@ fn wrong_kind(alloc: Global, context: Context<'_>, tree: &Tree) -> Result<Told, 
     let Some(found) = first_declared(tree, name) else {
         return Told::new(alloc, &[]);
     };
-    let at = place(alloc, found.at)?;
-    let is = [
-        b"`".as_slice(),
-        name,
-        b"` is a ",
-        found.kind.as_bytes(),
-        b" (",
-        at.as_bytes(),
-    ];
+    let is = is_a(alloc, found)?;
     match context.slot() {
         Some(slot @ (Slot::Variable | Slot::Mutex | Slot::Condition | Slot::Semaphore)) => {
             Told::with(
                 alloc,
                 &[
-                    &joined(alloc, &is)?,
+                    &is,
                     b"); a ",
                     kind_wanted(Some(slot)).as_bytes(),
                     b" must be here",
@@ -529,33 +529,45 @@ fn wrong_kind(alloc: Global, context: Context<'_>, tree: &Tree) -> Result<Told, 
                 ],
             )
         }
-        _ => not_a_local(alloc, context, &joined(alloc, &is)?),
+        _ => not_a_local(alloc, context, &is),
     }
 }
 
 /// Of an object where a local or a number must be.
-fn not_a_local(alloc: Global, context: Context<'_>, is: &[u8]) -> Result<Told, AllocError> {
-    let name = context.found();
-    let keyword = context.keyword();
-    match keyword {
+fn not_a_local(alloc: Global, context: Context<'_>, is: &Vec<u8>) -> Result<Told, AllocError> {
+    match context.keyword() {
         b"if" | b"assert" => Told::with(
             alloc,
-            &[is, b"); only locals and numbers can be tested"],
-            &[b"write: load r ", name, b"; ", keyword, b" r .."],
+            &[is.as_slice(), b"); only locals and numbers can be tested"],
+            &[
+                b"write: load r ",
+                context.found(),
+                b"; ",
+                context.keyword(),
+                b" r ..",
+            ],
         ),
         b"store" | b"add" | b"cas" | b"set" if context.slot() != Some(Slot::Local) => Told::with(
             alloc,
-            &[is, b"); a local or a number must be here"],
-            &[b"write: load r ", name, b"; and then r in place of ", name],
+            &[is.as_slice(), b"); a local or a number must be here"],
+            &[
+                b"write: load r ",
+                context.found(),
+                b"; and then r in place of ",
+                context.found(),
+            ],
         ),
         _ => Told::with(
             alloc,
-            &[is, b"); a local must be here, with a name of its own"],
+            &[
+                is.as_slice(),
+                b"); a local must be here, with a name of its own",
+            ],
             &[
                 b"`",
-                keyword,
+                context.keyword(),
                 b"` is written: ",
-                written(keyword).as_bytes(),
+                written(context.keyword()).as_bytes(),
             ],
         ),
     }
