@@ -1,4 +1,6 @@
+pub mod Lines
 pub mod Near
+pub mod Puts
 pub mod Uses
 pub mod Paths
 pub mod Warnings

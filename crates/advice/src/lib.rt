@@ -28,6 +28,7 @@ mod warnings;
 mod words;
 
 use crate::findings::Source;
+use crate::message::texts::put_all;
 pub use crate::message::{Advice, Note, Span};
 use crate::pieces::pieces;
 use crate::refusal::{check_advice, syntax_advice};
@@ -107,12 +108,8 @@ fn all_advice(
 pub fn advice_text(alloc: Global, text: &[u8], checked: &Checked) -> Result<Vec<u8>, AllocError> {
     let mut out = Vec::new(alloc);
     match checked {
-        Checked::Refused(advice) => advice.put(alloc, &mut out, text)?,
-        Checked::Sound(all) => {
-            for advice in all {
-                advice.put(alloc, &mut out, text)?;
-            }
-        }
+        Checked::Refused(advice) => advice.put(&mut out, text)?,
+        Checked::Sound(all) => put_all(&mut out, text, all)?,
     }
     Ok(out)
 }

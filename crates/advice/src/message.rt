@@ -1,13 +1,17 @@
 //! Advice as a value, and its lines.
 
-ghost use Rattle.std.specs.Prelude.{◌≡◌, ◌+◌, ◌<◌, ◌≤◌, length};
+ghost use Rattle.std.specs.Prelude.{◌≡◌, ◌+◌, ◌-◌, ◌≤◌, ◌∷◌, [], ◌++◌, length, map, take, drop, replicate, codes, OnOk};
+ghost use Rattle.advice.specs.Lines.{from_line, line_of, first_line, shown, left_out, margin, said_line, source_line, marks_line};
+ghost use Rattle.advice.specs.Puts.{Puts};
 
-use crate::words::{decimal, place};
+use crate::words::decimal;
 use guest_syntax::place::Pos;
 use std::alloc::{AllocError, Global};
 
+pub mod texts;
+
 /// How many bytes of a source line are shown at most.
-const SHOWN: usize = 92;
+pub const SHOWN: usize = 92;
 
 /// Where some bytes of a text are.
 #[derive(Clone, Copy, Debug, PartialEq, Eq)]
@@ -40,8 +44,10 @@ pub struct Advice {
     pub notes: Vec<Note>,
 }
 
-/// The bytes from the start of a line on.
-fn from_line(text: &[u8], line: u32) -> &[u8] {
+/// What is left of a text from a line on; lines count from 1.
+fn from_line(text: &[u8], line: u32) -> &[u8]
+    ensures { result.now ≡ from_line text.now line }
+{
     let mut left = line;
     for (i, byte) in text.iter().enumerate() {
         if left <= 1 {
@@ -54,29 +60,38 @@ fn from_line(text: &[u8], line: u32) -> &[u8] {
     &[]
 }
 
+/// A line up to its line feed.
+fn first_line(text: &[u8]) -> &[u8]
+    ensures { result.now ≡ first_line text.now }
+{
+    let len = text.iter().take_while(|byte| **byte != b'\n').count();
+    &text[..len]
+}
+
 /// A line of the text, without its line feed; lines count from 1.
-fn line_of(text: &[u8], line: u32) -> &[u8] {
-    let rest = from_line(text, line);
-    for (i, byte) in rest.iter().enumerate() {
-        if *byte == b'\n' {
-            return &rest[..i];
-        }
-    }
-    rest
+fn line_of(text: &[u8], line: u32) -> &[u8]
+    ensures { result.now ≡ line_of text.now line }
+{
+    first_line(from_line(text, line))
 }
 
 /// How a byte of a source line is shown: each is one column.
-fn shown(byte: u8) -> u8 {
-    match byte {
-        b'\t' | b'\r' => b' ',
-        b' '..=b'~' => byte,
-        _ => b'?',
+fn shown(byte: u8) -> u8
+    ensures { result ≡ shown byte }
+{
+    if byte == b'\t' || byte == b'\r' {
+        b' '
+    } else if b' ' <= byte && byte <= b'~' {
+        byte
+    } else {
+        b'?'
     }
 }
 
-/// How many bytes at the start of a line are not shown, so that the one in this column is.
+/// How many bytes at the start of a line are not shown, so that the one with so many before it is.
 fn left_out(length: usize, column: usize) -> usize
-    ensures { result ≤ length }
+    ensures value { result ≡ left_out length column }
+    ensures few { result ≤ length }
 {
     if length <= SHOWN || column <= SHOWN / 2 {
         return 0;
@@ -84,89 +99,64 @@ fn left_out(length: usize, column: usize) -> usize
     (column - SHOWN / 2).min(length - SHOWN)
 }
 
-/// Some copies of a byte.
-fn put_many(out: &mut Vec<u8>, byte: u8, count: usize) -> Result<(), AllocError> {
+/// Adds some copies of a byte.
+fn put_many(out: &mut Vec<u8>, byte: u8, count: usize) -> Result<(), AllocError>
+    ensures { Puts result out.old out.new (replicate count byte) }
+{
     for _ in 0..count {
         out.push(byte)?;
     }
     Ok(())
 }
 
-/// The margin of a source line, with its number to the right.
-fn put_margin(alloc: Global, out: &mut Vec<u8>, line: u32) -> Result<(), AllocError> {
+/// Adds the margin of a source line, with its number to the right.
+fn put_margin(alloc: Global, out: &mut Vec<u8>, line: u32) -> Result<(), AllocError>
+    ensures { Puts result out.old out.new (margin line) }
+{
     let number = decimal(alloc, line as u64)?;
     put_many(out, b' ', 5_usize.saturating_sub(number.len()))?;
     out.extend_from_slice(number.as_bytes())?;
     out.extend_from_slice(b" | ")
 }
 
-/// Part of a source line, each byte as it is shown.
+/// Adds bytes, each as it is shown.
+fn put_shown(out: &mut Vec<u8>, bytes: &[u8]) -> Result<(), AllocError>
+    ensures { Puts result out.old out.new (map shown bytes.now) }
+{
+    for byte in bytes {
+        out.push(shown(*byte))?;
+    }
+    Ok(())
+}
+
+/// Adds part of a source line, of which so many bytes are left out.
 fn put_source(out: &mut Vec<u8>, line: &[u8], from: usize) -> Result<(), AllocError>
     requires { from ≤ length line.now }
+    ensures { Puts result out.old out.new (source_line line.now from) }
 {
-    for (i, byte) in line[from..].iter().enumerate() {
-        if i < SHOWN {
-            out.push(shown(*byte))?;
-        }
-    }
+    let rest = &line[from..];
+    put_shown(out, &rest[..rest.len().min(SHOWN)])?;
     out.push(b'\n')?;
     Ok(())
 }
 
-/// The source line of a span, and below it marks under its bytes, and what is said of them.
-fn put_span(
-    alloc: Global,
-    out: &mut Vec<u8>,
-    text: &[u8],
-    span: Span,
-    said: (u8, &[u8]),
-) -> Result<(), AllocError> {
-    let line = line_of(text, span.at.line);
-    let column = (span.at.col as usize).saturating_sub(1);
-    let from = left_out(line.len(), column);
-    put_margin(alloc, out, span.at.line)?;
-    put_source(out, line, from)?;
+/// Adds blanks under the bytes that come before those that are meant, and marks under these.
+fn put_marks(out: &mut Vec<u8>, column: usize, length: usize, mark: u8) -> Result<(), AllocError>
+    ensures { Puts result out.old out.new (marks_line column length mark) }
+{
     out.extend_from_slice(b"      | ")?;
-    put_many(out, b' ', column.saturating_sub(from))?;
-    let room = SHOWN.saturating_sub(column.saturating_sub(from));
-    put_many(out, said.0, span.length.min(room).max(1))?;
-    put_line(out, b" ", said.1)
+    put_many(out, b' ', column)?;
+    put_many(out, mark, length.min(SHOWN.saturating_sub(column)).max(1))
 }
 
-/// A line of two parts.
-fn put_line(out: &mut Vec<u8>, first: &[u8], second: &[u8]) -> Result<(), AllocError> {
-    if !second.is_empty() {
+/// Adds what is said, with these bytes before it, unless it is nothing.
+fn put_said(out: &mut Vec<u8>, first: &[u8], said: &[u8]) -> Result<(), AllocError>
+    ensures { Puts result out.old out.new (said_line first.now said.now) }
+{
+    if !said.is_empty() {
         out.extend_from_slice(first)?;
+        out.extend_from_slice(said)?;
     }
-    out.extend_from_slice(second)?;
     out.push(b'\n')?;
     Ok(())
-}
-
-impl Note {
-    /// The lines of a note.
-    fn put(&self, alloc: Global, out: &mut Vec<u8>, text: &[u8]) -> Result<(), AllocError> {
-        match self.span {
-            Some(span) => put_span(alloc, out, text, span, (b'-', &self.text)),
-            None => put_line(out, b"      = ", &self.text),
-        }
-    }
-}
-
-impl Advice {
-    /// The lines of an advice on a text: the short form, the source line with carets under what is
-    /// meant, and the notes.
-    pub fn put(&self, alloc: Global, out: &mut Vec<u8>, text: &[u8]) -> Result<(), AllocError> {
-        out.extend_from_slice(b"ctxbound: ")?;
-        out.extend_from_slice(self.headline.as_bytes())?;
-        out.push(b'\n')?;
-        match self.span {
-            Some(span) => put_span(alloc, out, text, span, (b'^', &self.message))?,
-            None => put_line(out, b"      = ", &self.message)?,
-        }
-        for note in &self.notes {
-            note.put(alloc, out, text)?;
-        }
-        Ok(())
-    }
 }

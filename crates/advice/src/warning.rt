@@ -173,8 +173,8 @@ impl Kind {
             Kind::UnusedSemaphore => Ok(!is_used(program, Use::OfSemaphore, number)),
             Kind::Constant(thread) => Ok(is_constant(&program.code(thread)[number])),
             Kind::Unreached(thread) => Ok(!is_reached(alloc, code_of(program, thread), number)?),
-            Kind::MayKeep(thread) => may_keep(alloc, code_of(program, thread), number),
-            Kind::MayLack(thread) => may_lack(alloc, code_of(program, thread), number),
+            Kind::MayKeep(thread) => Ok(may_keep(alloc, code_of(program, thread), number)?),
+            Kind::MayLack(thread) => Ok(may_lack(alloc, code_of(program, thread), number)?),
         }
     }
 }

@@ -1,6 +1,8 @@
 //! Text that is put together of pieces.
 
-ghost use Rattle.std.specs.Prelude.{◌≡◌, IfOk};
+ghost use Rattle.std.specs.Prelude.{◌≡◌, IfOk, string_bytes, codes};
+ghost use Rattle.std.specs.Fmt.{decimal};
+ghost use Rattle.guest_syntax.specs.ErrorTexts.{place_text};
 
 use guest_syntax::place::Pos;
 use std::alloc::{AllocError, Global};
@@ -15,12 +17,16 @@ pub fn joined(alloc: Global, parts: &[&[u8]]) -> Result<Vec<u8>, AllocError> {
 }
 
 /// A number in decimal.
-pub fn decimal(alloc: Global, number: u64) -> Result<String, AllocError> {
+pub fn decimal(alloc: Global, number: u64) -> Result<String, AllocError>
+    ensures { IfOk result (λ s. string_bytes s ≡ decimal number) }
+{
     format!(in alloc; "{number}")
 }
 
 /// A place as `2:47`.
-pub fn place(alloc: Global, at: Pos) -> Result<String, AllocError> {
+pub fn place(alloc: Global, at: Pos) -> Result<String, AllocError>
+    ensures { IfOk result (λ s. string_bytes s ≡ place_text at) }
+{
     format!(in alloc; "{at}")
 }
 
