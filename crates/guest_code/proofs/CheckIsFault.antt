@@ -2,6 +2,7 @@
 use Rattle.std.proofs.Common.{◌≡◌, ℕ, ◌+◌, ◌<◌, Bool, List, [], ◌∷◌, ◌++◌, length, get_or, drop, Option, Some, None, Ok, Err, refl, sym, ap, subst, ◌∙◌, append_assoc, add-one, drop-cons}
 use Rattle.guest_syntax.specs.declared.tree.Placed.{Placed}
 use Rattle.guest_syntax.specs.Tree.{stmt_view, block_view}
+use Rattle.guest_syntax.proofs.StatementView.{view-placed}
 use Rattle.std.proofs.lemmas.List.{append-nil}
 use Rattle.guest_code.specs.declared.error.CheckError.{CheckError}
 use Rattle.guest_code.specs.declared.error.CheckError.TheVariants.{OutOfMemory}
@@ -125,7 +126,7 @@ block_uses_at : (inside : Bool) (ss : List Placed) (i : ℕ) (x : Placed) → i 
     → x ≡ get_or ss i x
     → block_uses inside (block_view (drop i ss)) ≡ stmt_uses inside x.at (stmt_view x.statement) ++ block_uses
     inside (block_view (drop (i + 1) ss))
-block_uses_at inside ss i x lt is = rw (add-one, drop-cons ss i x, ← is) refl
+block_uses_at inside ss i x lt is = rw (add-one, drop-cons ss i x, ← is, view-placed x) refl
 
 pub block_goes : (all : List Use) (inside : Bool) (ss : List Placed) (i : ℕ) (x : Placed)
     (ns ms : List (List ℕ)) (whole : Checked) → i < length ss → x ≡ get_or ss i x

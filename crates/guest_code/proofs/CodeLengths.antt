@@ -7,6 +7,7 @@ use Rattle.guest_code.specs.declared.limits.TheConstants.{INSTRUCTIONS}
 use Rattle.guest_code.specs.declared.program.Instruction.TheVariants.{Skip}
 use Rattle.guest_syntax.specs.declared.tree.Placed.{Placed}
 use Rattle.guest_syntax.specs.Tree.{stmt_view, block_view}
+use Rattle.guest_syntax.proofs.StatementView.{view-placed}
 use Rattle.guest_code.specs.declared.program.Instruction.{Instruction}
 use Rattle.guest_code.specs.Sizes.{size, block_size}
 use Rattle.guest_code.specs.Code.{Names, stmt_code, block_code, unrolled}
@@ -14,7 +15,7 @@ use Rattle.guest_code.specs.Code.{Names, stmt_code, block_code, unrolled}
 pub block_size_at : (ss : List Placed) (i : ℕ) (x : Placed) → i < length ss
     → x ≡ get_or ss i x → block_size (block_view (drop i ss)) ≡ size (stmt_view x.statement) + block_size
     (block_view (drop (i + 1) ss))
-block_size_at ss i x lt is = rw (add-one, drop-cons ss i x, ← is) refl
+block_size_at ss i x lt is = rw (add-one, drop-cons ss i x, ← is, view-placed x) refl
 
 pub block_size_end : (ss : List Placed) (i : ℕ) → length ss ≤ i
     → block_size (block_view (drop i ss)) ≡ 0
@@ -25,7 +26,7 @@ pub block_code_at : (ns : Names) (ss : List Placed) (i exit : ℕ) (x : Placed)
     → block_code ns (block_view (drop i ss)) exit ≡ stmt_code ns (stmt_view x.statement)
     (exit + block_size (block_view (drop (i + 1) ss))) ++ block_code ns
     (block_view (drop (i + 1) ss)) exit
-block_code_at ns ss i exit x lt is = rw (add-one, drop-cons ss i x, ← is) refl
+block_code_at ns ss i exit x lt is = rw (add-one, drop-cons ss i x, ← is, view-placed x) refl
 
 pub block_code_end : (ns : Names) (ss : List Placed) (i exit : ℕ) → length ss ≤ i
     → block_code ns (block_view (drop i ss)) exit ≡ []

@@ -1,9 +1,10 @@
 -- The places of a text that the code of its program was made of, and the names of its locals.
-use Rattle.std.specs.Prelude.{◌≡◌, ℕ, zero, suc, List, [], ◌∷◌, ◌++◌, length, map, slice_index_or}
+use Rattle.std.specs.Prelude.{◌≡◌, ℕ, zero, suc, List, [], ◌∷◌, ◌++◌, length, map, slice_index_or, All}
 use Rattle.std.proofs.Common.{Vec, Global}
 use Rattle.guest_syntax.specs.declared.place.Pos.{Pos}
 use Rattle.guest_syntax.specs.Tree as tree
-use Rattle.guest_syntax.specs.Tree.{Stmt, Block, Tree}
+use Rattle.guest_syntax.specs.Tree.{Stmt, Block, Thread, Tree}
+use Rattle.guest_syntax.specs.StatementPlaces.{IsInThread}
 use Rattle.guest_code.specs.Program.{Program, names_view, thread_at}
 use Rattle.guest_code.specs.Uses.{tree_locals}
 
@@ -13,7 +14,7 @@ pub record SourceMap : Type 0 where
   pub places : List (List Pos)
   pub locals : List (List (List ℕ))
 
--- so many copies of these places
+-- n copies of these places
 abbrev pub copies : List Pos → ℕ → List Pos
 copies ps zero = []
 copies ps (suc n) = ps ++ copies ps n
@@ -31,10 +32,14 @@ abbrev mutual
   block_places tree.nothing = []
   block_places (tree.next at s b) = stmt_places at s ++ block_places b
 
+-- the places of a thread's instructions
+abbrev pub thread_places : Thread → List Pos
+thread_places t = block_places t.body
+
 -- the map of a tree
 abbrev pub source_map : Tree → SourceMap
 source_map t = record {
-  places = map (λ t. block_places t.body) t.threads;
+  places = map thread_places t.threads;
   locals = tree_locals t;
 }
 
@@ -52,6 +57,11 @@ places_of m t = slice_index_or m.places t []
 
 abbrev pub locals_of : SourceMap → ℕ → List (List ℕ)
 locals_of m t = slice_index_or m.locals t []
+
+-- the places of each thread are in its text
+abbrev pub ArePlacesInThreads : List Thread → Type 0
+ArePlacesInThreads [] = Unit {0}
+ArePlacesInThreads (t ∷ ts) = All (IsInThread t ts) (thread_places t) × ArePlacesInThreads ts
 
 -- there is a place for each instruction of the program, and a name for each local
 pub record IsMapOf (m : SourceMap) (p : Program) : Type 0 where

@@ -5,7 +5,7 @@ ghost use Rattle.guest_syntax.specs.Place.{start};
 ghost use Rattle.guest_syntax.specs.Tree.{stmt_view, block_view, thread_view, tree_view};
 ghost use Rattle.guest_code.specs.Fault.{fault, Refuses};
 ghost use Rattle.guest_code.specs.Code.{code};
-ghost use Rattle.guest_code.specs.SourceMap.{stmt_places, block_places, copies, source_map, source_map_view, places_of, locals_of, IsMapOf};
+ghost use Rattle.guest_code.specs.SourceMap.{stmt_places, block_places, thread_places, copies, source_map, source_map_view, places_of, locals_of, IsMapOf};
 
 use crate::check::check;
 use crate::error::CheckError;
@@ -117,7 +117,7 @@ fn place_block(places: &mut Vec<Pos>, block: &[Placed]) -> Result<(), AllocError
 /// The places of each thread's instructions.
 fn place_threads(alloc: Global, threads: &[Thread]) -> Result<Vec<Vec<Pos>>, AllocError>
     ensures { IfOk result (λ v. map (λ p. p.items) v.items
-        ≡ map (λ t. block_places (thread_view t).body) threads.now) }
+        ≡ map thread_places (map thread_view threads.now)) }
 {
     let mut all = Vec::new(alloc);
     for thread in threads {

@@ -29,3 +29,6 @@ abbrev pub invariant-place_block-loop-placed : goal.invariant-place_block-loop-p
 invariant-place_block-loop-placed l =
     l.places.items ++ block_places (block_view (drop l.placed-index l.block))
     ≡ l.fn.places.items ++ block_places (block_view l.block)
+
+abbrev pub decreases-place_copies-loop-left : goal.decreases-place_copies-loop-left
+decreases-place_copies-loop-left l = l.left
