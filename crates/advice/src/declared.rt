@@ -16,6 +16,13 @@ pub struct Declared<'a> {
     pub at: Pos,
 }
 
+impl<'a> Declared<'a> {
+    /// The kind, for as long as the name is there.
+    pub fn word(self) -> &'a str {
+        self.kind
+    }
+}
+
 fn kind_of(object: Object) -> &'static str {
     match object {
         Object::Variable(_) => "variable",

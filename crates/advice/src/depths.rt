@@ -2,7 +2,7 @@
 
 use crate::deep::{Depths, explore};
 use crate::findings::Source;
-use crate::message::{Advice, Span};
+use crate::message::{Advice, Grade, Span};
 use crate::pieces::piece_at;
 use crate::seen::{Seen, Sight, and_now};
 use crate::told::{Told, note};
@@ -84,13 +84,15 @@ impl Source<'_> {
         sight: Sight,
         at: Pos,
     ) -> Result<Option<Advice>, AllocError> {
-        let (headline, told) = match sight {
+        let (grade, headline, told) = match sight {
             Sight::Varied => return Ok(None),
             Sight::Unseen => (
+                Grade::Warning,
                 format!(in alloc; "warning W10 NeverRun at {at}")?,
                 Told::new(alloc, &[b"no schedule comes to this assertion"])?,
             ),
             Sight::Same(left, right) => (
+                Grade::Remark,
                 format!(in alloc; "remark W11 OneOutcome at {at}")?,
                 Told::new(
                     alloc,
@@ -104,6 +106,7 @@ impl Source<'_> {
             ),
         };
         Ok(Some(Advice {
+            grade,
             headline,
             span: Some(self.span_at(at)),
             message: told.message,
@@ -140,6 +143,7 @@ impl Source<'_> {
             &[b"replay: ", &spelled(alloc, path)?],
         )?;
         Ok(Advice {
+            grade: Grade::Warning,
             headline: format!(in alloc; "warning W12 RanOut at {at}")?,
             span: Some(self.span_at(at)),
             message: told.message,
@@ -180,6 +184,7 @@ fn cut_short(alloc: Global, limit: u64) -> Result<Advice, AllocError> {
         &[b"assertions are told of only where all schedules were gone through"],
     )?;
     Ok(Advice {
+        grade: Grade::Remark,
         headline: format!(in alloc; "remark: the limit of {limit} schedules was reached")?,
         span: None,
         message: told.message,

@@ -3,7 +3,12 @@
 //! [`check`] answers why a text is refused, with a hint, or the warnings of its program.
 #![tactic(auto)]
 
-ghost use Rattle.guest_code.specs.SourceMap.{IsMapOf};
+ghost use Rattle.std.specs.Prelude.{◌≡◌, IfOk};
+ghost use Rattle.std.specs.List.{list_any};
+ghost use Rattle.guest_syntax.specs.Grammar.{Spells};
+ghost use Rattle.guest_syntax.specs.Tree.{tree_view};
+ghost use Rattle.guest_code.specs.Code.{code};
+ghost use Rattle.advice.specs.Told.{Tells, is_warning, is_warned, checked_lines};
 
 mod braces;
 mod declared;
@@ -29,7 +34,7 @@ mod words;
 
 use crate::findings::Source;
 use crate::message::texts::put_all;
-pub use crate::message::{Advice, Note, Span};
+pub use crate::message::{Advice, Grade, Note, Span};
 use crate::pieces::pieces;
 use crate::refusal::{check_advice, syntax_advice};
 use guest_code::error::CheckError;
@@ -49,45 +54,77 @@ pub enum Checked {
     Refused(Advice),
 }
 
-/// Why a text is refused, or what is odd about its program.
+impl Checked {
+    /// Whether there is a warning.
+    pub fn is_warned(&self) -> bool
+        ensures { result ≡ is_warned self.now }
+    {
+        match self {
+            Checked::Sound(all) => has_warning(all),
+            Checked::Refused(_) => false,
+        }
+    }
+}
+
+/// Whether some advice is a warning.
+fn has_warning(all: &[Advice]) -> bool
+    ensures { result ≡ list_any (λ a. is_warning a.grade) all.now }
+{
+    all.iter()
+        .any(|advice| matches!(advice.grade, Grade::Warning))
+}
+
+/// Why a text is refused, or what is odd about its program. With a depth, up to so many schedules
+/// are gone through.
 ///
 /// # Errors
 ///
 /// `AllocError` where memory runs out.
-pub fn check(alloc: Global, text: &[u8], depth: Option<u64>) -> Result<Checked, AllocError> {
-    let tree = match parse(alloc, text) {
-        Ok(tree) => tree,
-        Err(SyntaxError::OutOfMemory) => return Err(AllocError),
-        Err(error) => return Ok(Checked::Refused(syntax_advice(alloc, text, error)?)),
-    };
-    let program = match lower(alloc, &tree) {
-        Ok(program) => program,
-        Err(CheckError::OutOfMemory) => return Err(AllocError),
-        Err(error) => return Ok(Checked::Refused(check_advice(alloc, text, &tree, error)?)),
-    };
-    let map = match SourceMap::new(alloc, &tree) {
-        Ok(map) => map,
-        Err(_) => return Err(AllocError),
-    };
-    Ok(Checked::Sound(all_advice(alloc, &tree, &program, &map, (text, depth))?))
+pub fn check(alloc: Global, text: &[u8], depth: Option<u64>) -> Result<Checked, AllocError>
+    ensures { IfOk result (Tells text.now) }
+{
+    match parse(alloc, text) {
+        Ok(tree) => check_tree(alloc, text, depth, &tree),
+        Err(SyntaxError::OutOfMemory) => Err(AllocError),
+        Err(error) => Ok(Checked::Refused(syntax_advice(alloc, text, error)?)),
+    }
 }
 
-/// All warnings of a program.
+/// The same of a text that spells a tree.
+fn check_tree(
+    alloc: Global,
+    text: &[u8],
+    depth: Option<u64>,
+    tree: &Tree,
+) -> Result<Checked, AllocError>
+    requires { Spells text.now (tree_view tree.now) }
+    ensures { IfOk result (Tells text.now) }
+{
+    match lower(alloc, tree) {
+        Ok(program) => Ok(Checked::Sound(all_advice(alloc, text, depth, tree, &program)?)),
+        Err(CheckError::OutOfMemory) => Err(AllocError),
+        Err(error) => Ok(Checked::Refused(check_advice(alloc, text, tree, error)?)),
+    }
+}
+
+/// All warnings of the program of a tree.
 fn all_advice(
     alloc: Global,
+    text: &[u8],
+    depth: Option<u64>,
     tree: &Tree,
     program: &Program,
-    map: &SourceMap,
-    asked: (&[u8], Option<u64>),
 ) -> Result<Vec<Advice>, AllocError>
-    requires { IsMapOf map.now program.now }
+    requires { program.now ≡ code (tree_view tree.now) }
 {
-    let (text, depth) = asked;
+    let Ok(map) = SourceMap::new(alloc, tree) else {
+        return Err(AllocError);
+    };
     let pieces = pieces(alloc, text)?;
     let source = Source {
         tree,
         program,
-        map,
+        map: &map,
         pieces: &pieces,
     };
     let mut all = Vec::new(alloc);
@@ -105,7 +142,9 @@ fn all_advice(
 /// # Errors
 ///
 /// `AllocError` where memory runs out.
-pub fn advice_text(alloc: Global, text: &[u8], checked: &Checked) -> Result<Vec<u8>, AllocError> {
+pub fn advice_text(alloc: Global, text: &[u8], checked: &Checked) -> Result<Vec<u8>, AllocError>
+    ensures { IfOk result (λ v. v.items ≡ checked_lines text.now checked.now) }
+{
     let mut out = Vec::new(alloc);
     match checked {
         Checked::Refused(advice) => advice.put(&mut out, text)?,

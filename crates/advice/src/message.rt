@@ -1,7 +1,7 @@
 //! Advice as a value, and its lines.
 
 ghost use Rattle.std.specs.Prelude.{◌≡◌, ◌+◌, ◌-◌, ◌≤◌, ◌∷◌, [], ◌++◌, length, map, take, drop, replicate, codes, OnOk};
-ghost use Rattle.advice.specs.Lines.{from_line, line_of, first_line, shown, left_out, margin, said_line, source_line, marks_line};
+ghost use Rattle.advice.specs.Lines.{from_line, goes_on, line_of, first_line, shown, left_out, margin, said_line, source_line, marks_line};
 ghost use Rattle.advice.specs.Puts.{Puts};
 
 use crate::words::decimal;
@@ -31,9 +31,22 @@ pub struct Note {
     pub text: Vec<u8>,
 }
 
+/// How grave an advice is.
+#[derive(Clone, Copy, Debug, PartialEq, Eq)]
+pub enum Grade {
+    /// The text is refused.
+    Refusal,
+    /// Something is likely to be wrong.
+    Warning,
+    /// It may be of interest.
+    Remark,
+}
+
 /// What a person is told of a refusal or a warning.
 #[derive(Debug, Drop)]
 pub struct Advice {
+    /// How grave it is.
+    pub grade: Grade,
     /// The short form: of a refusal, the line that other commands print after `ctxbound: `.
     pub headline: String,
     /// Where it is, if it has a place.
@@ -60,11 +73,18 @@ fn from_line(text: &[u8], line: u32) -> &[u8]
     &[]
 }
 
+/// Whether a byte doesn't end a line.
+fn goes_on(byte: u8) -> bool
+    ensures { result ≡ goes_on byte }
+{
+    byte != b'\n'
+}
+
 /// A line up to its line feed.
 fn first_line(text: &[u8]) -> &[u8]
     ensures { result.now ≡ first_line text.now }
 {
-    let len = text.iter().take_while(|byte| **byte != b'\n').count();
+    let len = text.iter().take_while(|byte| goes_on(**byte)).count();
     &text[..len]
 }
 
@@ -103,7 +123,7 @@ fn left_out(length: usize, column: usize) -> usize
 fn put_many(out: &mut Vec<u8>, byte: u8, count: usize) -> Result<(), AllocError>
     ensures { Puts result out.old out.new (replicate count byte) }
 {
-    for _ in 0..count {
+    for done in 0..count {
         out.push(byte)?;
     }
     Ok(())

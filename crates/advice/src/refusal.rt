@@ -1,16 +1,22 @@
 //! Why a text is refused, in more words.
 
+ghost use Rattle.std.specs.Prelude.{◌≡◌, Some, IfOk, map, option_map, slice_get};
+ghost use Rattle.guest_syntax.specs.ErrorTexts.{syntax_error_text};
+ghost use Rattle.guest_syntax.specs.Tree.{thread_view, tree_view};
+ghost use Rattle.guest_code.specs.ErrorTexts.{check_error_text};
+ghost use Rattle.advice.specs.Told.{syntax_place, check_place, IsAdviceOf};
+
 use crate::braces::missing_brace;
 use crate::declared::{Declared, first_declared, nearest};
 use crate::forms::{Slot, slots, statement_start, wanted, written};
-use crate::message::{Advice, Note, Span};
+use crate::message::{Advice, Grade, Note, Span};
 use crate::pieces::{Piece, piece_at, pieces};
 use crate::told::{Told, note};
 use crate::words::{joined, place};
 use guest_code::error::CheckError;
 use guest_syntax::SyntaxError;
 use guest_syntax::place::Pos;
-use guest_syntax::tree::Tree;
+use guest_syntax::tree::{Thread, Tree};
 use std::alloc::{AllocError, Global};
 
 /// The statement or declaration round a place: its keyword, and what the place is for.
@@ -46,6 +52,11 @@ impl<'a> Context<'a> {
     /// The piece at the place.
     pub fn found(&self) -> &'a [u8] {
         self.text(self.at)
+    }
+
+    /// The piece that is so many places after it.
+    pub fn following(&self, places: usize) -> &'a [u8] {
+        self.text(self.at.saturating_add(places))
     }
 
     /// The keyword of the statement.
@@ -89,7 +100,9 @@ impl<'a> Context<'a> {
     }
 
     /// The place and the length of the piece at the place.
-    pub fn span(&self, place: Pos) -> Span {
+    pub fn span(&self, place: Pos) -> Span
+        ensures { result.at ≡ place }
+    {
         let length = match self.pieces.get(self.at) {
             Some(piece) if piece.at == place => piece.text.len(),
             _ => 1,
@@ -98,47 +111,74 @@ impl<'a> Context<'a> {
     }
 }
 
-/// The place of a refusal of the text, if it has one.
-fn syntax_place(error: SyntaxError) -> Option<Pos> {
+/// The place of a refusal of the text; its start where memory ran out.
+fn syntax_place(error: SyntaxError) -> Pos
+    ensures { result ≡ syntax_place error }
+{
     match error {
         SyntaxError::NotAscii(at)
         | SyntaxError::BadChar(at)
         | SyntaxError::Expected(at)
         | SyntaxError::NumberTooBig(at)
         | SyntaxError::TooLong(at)
-        | SyntaxError::TooDeep(at) => Some(at),
-        SyntaxError::OutOfMemory => None,
+        | SyntaxError::TooDeep(at) => at,
+        SyntaxError::OutOfMemory => Pos { line: 1, col: 1 },
+    }
+}
+
+/// Where the name of a thread is.
+fn thread_place(threads: &[Thread], thread: u8) -> Option<Pos>
+    ensures { result ≡ option_map (λ t. t.name.at) (slice_get (map thread_view threads.now) thread) }
+{
+    match threads.get(thread as usize) {
+        Some(thread) => Some(thread.name.at),
+        None => None,
     }
 }
 
 /// The place of a refusal of the program, if it has one; that of too long a code is the name of its
 /// thread.
-fn check_place(tree: &Tree, error: CheckError) -> Option<Pos> {
+fn check_place(tree: &Tree, error: CheckError) -> Option<Pos>
+    ensures { result ≡ check_place (tree_view tree.now) error }
+{
     match error {
         CheckError::Duplicate(at)
         | CheckError::Unknown(at)
         | CheckError::WrongKind(at)
         | CheckError::TooMany(at)
         | CheckError::LeaveOutside(at) => Some(at),
-        CheckError::CodeTooLong(thread) => {
-            tree.threads().get(thread as usize).map(|t| t.name.at)
-        }
+        CheckError::CodeTooLong(thread) => thread_place(tree.threads(), thread),
+
         CheckError::NoThreads | CheckError::OutOfMemory => None,
     }
 }
 
 /// Why a text spells no tree.
-pub fn syntax_advice(alloc: Global, text: &[u8], error: SyntaxError) -> Result<Advice, AllocError> {
+pub fn syntax_advice(alloc: Global, text: &[u8], error: SyntaxError) -> Result<Advice, AllocError>
+    ensures { IfOk result (λ a.
+        IsAdviceOf a (syntax_error_text error) (Some (syntax_place error))) }
+{
     let pieces = pieces(alloc, text)?;
-    let place = syntax_place(error).unwrap_or(Pos { line: 1, col: 1 });
-    let context = Context::at(&pieces, place);
+    let at = syntax_place(error);
+    let context = Context::at(&pieces, at);
     let told = told_of_syntax(alloc, context, text, error)?;
     Ok(Advice {
+        grade: Grade::Refusal,
         headline: format!(in alloc; "{error}")?,
-        span: Some(context.span(place)),
+        span: Some(context.span(at)),
         message: told.message,
         notes: told.notes,
     })
+}
+
+/// The span of a place, if there is one.
+fn span_at(context: Context<'_>, at: Option<Pos>) -> Option<Span>
+    ensures { option_map (λ s. s.at) result ≡ at }
+{
+    match at {
+        Some(at) => Some(context.span(at)),
+        None => None,
+    }
 }
 
 /// Why a tree is no program.
@@ -147,14 +187,18 @@ pub fn check_advice(
     text: &[u8],
     tree: &Tree,
     error: CheckError,
-) -> Result<Advice, AllocError> {
+) -> Result<Advice, AllocError>
+    ensures { IfOk result (λ a.
+        IsAdviceOf a (check_error_text error) (check_place (tree_view tree.now) error)) }
+{
     let pieces = pieces(alloc, text)?;
-    let place = check_place(tree, error);
-    let context = Context::at(&pieces, place.unwrap_or(Pos { line: 1, col: 1 }));
+    let at = check_place(tree, error);
+    let context = Context::at(&pieces, at.unwrap_or(Pos { line: 1, col: 1 }));
     let told = told_of_check(alloc, context, tree, error)?;
     Ok(Advice {
+        grade: Grade::Refusal,
         headline: format!(in alloc; "{error}")?,
-        span: place.map(|at| context.span(at)),
+        span: span_at(context, at),
         message: told.message,
         notes: told.notes,
     })
@@ -189,7 +233,7 @@ fn not_ascii(alloc: Global, text: &[u8]) -> Result<Told, AllocError> {
 
 /// Of a byte that begins no token.
 fn bad_byte(alloc: Global, context: Context<'_>) -> Result<Told, AllocError> {
-    let name = context.text(context.at.saturating_add(1));
+    let name = context.following(1);
     match context.found() {
         b"(" | b")" if context.start < context.at => Told::new(
             alloc,
@@ -199,7 +243,13 @@ fn bad_byte(alloc: Global, context: Context<'_>) -> Result<Told, AllocError> {
         b"," if context.depth() == 0 => Told::with(
             alloc,
             &[b"no commas: one declaration for each name"],
-            &[b"write: ", context.keyword(), b" ", name, b";"],
+            &[
+                b"write: ",
+                context.keyword(),
+                b" ",
+                context.following(1),
+                b";",
+            ],
         ),
         b"," => Told::new(alloc, &[b"there are no commas"]),
         b"/" if matches!(name, b"/") || matches!(name, b"*") => {
@@ -308,8 +358,8 @@ fn expected_in_block(alloc: Global, context: Context<'_>) -> Result<Told, AllocE
 /// Of a word or a mark where a statement would be.
 fn expected_statement(alloc: Global, context: Context<'_>) -> Result<Told, AllocError> {
     let found = context.found();
-    let value = context.text(context.at.saturating_add(2));
-    if !matches!(context.text(context.at.saturating_add(1)), b"=") {
+    let value = context.following(2);
+    if !matches!(context.following(1), b"=") {
         return Told::new(alloc, &[b"a statement or `}` was expected"]);
     }
     Told::with(
@@ -444,14 +494,14 @@ fn duplicate(alloc: Global, context: Context<'_>, tree: &Tree) -> Result<Told, A
                 at: first.at,
                 length: name.len(),
             }),
-            text: joined(alloc, &[b"the first is this ", first.kind.as_bytes()])?,
+            text: joined(alloc, &[b"the first is this ", first.word().as_bytes()])?,
         })?;
     }
     Ok(told)
 }
 
 /// What kind of object a place is for.
-fn kind_wanted(slot: Option<Slot>) -> &'static str {
+fn kind_wanted<'a>(slot: Option<Slot>) -> &'a str {
     match slot {
         Some(Slot::Mutex) => "mutex",
         Some(Slot::Condition) => "condition",
@@ -460,13 +510,20 @@ fn kind_wanted(slot: Option<Slot>) -> &'static str {
     }
 }
 
-/// How an object of a kind is declared.
-fn declaration_of(slot: Option<Slot>) -> (&'static str, &'static str) {
+/// How the declaration of an object of a kind begins, and how it ends.
+fn declaration_start<'a>(slot: Option<Slot>) -> &'a str {
     match slot {
-        Some(Slot::Mutex) => ("mutex ", ";"),
-        Some(Slot::Condition) => ("cond ", ";"),
-        Some(Slot::Semaphore) => ("sem ", " = 0;"),
-        _ => ("var ", ";"),
+        Some(Slot::Mutex) => "mutex ",
+        Some(Slot::Condition) => "cond ",
+        Some(Slot::Semaphore) => "sem ",
+        _ => "var ",
+    }
+}
+
+fn declaration_end<'a>(slot: Option<Slot>) -> &'a str {
+    match slot {
+        Some(Slot::Semaphore) => " = 0;",
+        _ => ";",
     }
 }
 
@@ -481,7 +538,7 @@ fn meant(alloc: Global, near: Declared<'_>) -> Result<Note, AllocError> {
 fn is_a(alloc: Global, found: Declared<'_>) -> Result<Vec<u8>, AllocError> {
     let name = joined(
         alloc,
-        &[b"`", found.name, b"` is a ", found.kind.as_bytes()],
+        &[b"`", found.name, b"` is a ", found.word().as_bytes()],
     )?;
     let at = place(alloc, found.at)?;
     joined(alloc, &[&name, b" (", at.as_bytes()])
@@ -489,17 +546,18 @@ fn is_a(alloc: Global, found: Declared<'_>) -> Result<Vec<u8>, AllocError> {
 
 fn unknown(alloc: Global, context: Context<'_>, tree: &Tree) -> Result<Told, AllocError> {
     let kind = kind_wanted(context.slot());
-    let name = context.found();
     let mut told = Told::new(alloc, &[b"no ", kind.as_bytes(), b" has this name"])?;
-    let hint = match nearest(alloc, tree, kind, name)? {
+    let hint = match nearest(alloc, tree, kind, context.found())? {
         Some(near) => meant(alloc, near)?,
-        None => {
-            let (word, end) = declaration_of(context.slot());
-            note(
-                alloc,
-                &[b"declare it: ", word.as_bytes(), name, end.as_bytes()],
-            )?
-        }
+        None => note(
+            alloc,
+            &[
+                b"declare it: ",
+                declaration_start(context.slot()).as_bytes(),
+                context.found(),
+                declaration_end(context.slot()).as_bytes(),
+            ],
+        )?,
     };
     told.add(hint)?;
     Ok(told)

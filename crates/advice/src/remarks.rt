@@ -3,7 +3,7 @@
 use crate::declared::near_name;
 use crate::findings::{Finding, Source};
 use crate::forms::is_boundary;
-use crate::message::{Advice, Span};
+use crate::message::{Advice, Grade, Span};
 use crate::pieces::piece_at;
 use crate::told::{Told, note};
 use crate::uses::Use;
@@ -61,19 +61,21 @@ impl Source<'_> {
 
     /// What is said of a local that no statement sets.
     fn never_set(&self, alloc: Global, thread: u8, local: usize) -> Result<Told, AllocError> {
-        let name = self.local_name(thread, local);
         let mut told = Told::new(
             alloc,
             &[
                 b"no statement of ",
                 self.thread_name(thread),
                 b" gives `",
-                name,
+                self.local_name(thread, local),
                 b"` a value: it is 0",
             ],
         )?;
-        if let Some(near) = self.near_local(alloc, thread, name)? {
-            told.add(note(alloc, &[b"did you mean `", near, b"`?"])?)?;
+        if let Some(near) = self.near_local(alloc, thread, local)? {
+            told.add(note(
+                alloc,
+                &[b"did you mean `", self.local_name(thread, near), b"`?"],
+            )?)?;
         }
         Ok(told)
     }
@@ -144,6 +146,7 @@ impl Source<'_> {
         let name = title(found.warning.kind);
         let at = span.at;
         Ok(Advice {
+            grade: Grade::Warning,
             headline: format!(in alloc; "warning {name} at {at}")?,
             span: Some(span),
             message: told.message,
@@ -151,21 +154,22 @@ impl Source<'_> {
         })
     }
 
-    /// The local of a thread that gets a value and whose name is nearest, where one is near.
-    fn near_local<'b>(
-        &'b self,
+    /// The local of a thread that gets a value and whose name is nearest to that of another one,
+    /// where one is near.
+    fn near_local(
+        &self,
         alloc: Global,
         thread: u8,
-        name: &[u8],
-    ) -> Result<Option<&'b [u8]>, AllocError> {
-        let mut best: Option<&'b [u8]> = None;
+        local: usize,
+    ) -> Result<Option<usize>, AllocError> {
+        let mut best = None;
         let mut least = 0;
-        for local in 0..self.locals(thread) {
-            let other = self.local_name(thread, local);
-            if Use::Sets.is_made_in(local, self.code(thread)) {
-                if let Some(distance) = near_name(alloc, name, other)? {
-                    if best.is_none() || distance < least {
-                        least = distance;
+        for other in 0..self.locals(thread) {
+            if Use::Sets.is_made_in(other, self.code(thread)) {
+                let name = self.local_name(thread, local);
+                if let Some(n) = near_name(alloc, name, self.local_name(thread, other))? {
+                    if best.is_none() || n < least {
+                        least = n;
                         best = Some(other);
                     }
                 }
