@@ -1,1 +1,3 @@
+mod KindsOfThreads
 mod PathMarks
+mod WarningLists

@@ -2,7 +2,8 @@
 use Rattle.std.proofs.Common.{◌≡◌, ℕ, ◌+◌, ◌<◌, ◌≤◌, ◌⊎◌, inl, inr, Bool, true, false, IsTrue, List, length, get_or, arith, sym, subst, refl, below_more}
 use Rattle.guest_code.specs.declared.program.Instruction.{Instruction}
 use Rattle.guest_code.specs.declared.program.Instruction.TheVariants.{Skip}
-use Rattle.guest_code.specs.Program.{skip_of}
+use Rattle.std.proofs.lemmas.List.{get_or_default}
+use Rattle.guest_code.specs.Program.{skip_of, JumpsWithin}
 use Rattle.advice.specs.declared.paths.Mark.{Mark}
 use Rattle.advice.specs.Paths.{is_test, Goes, Next, Comes, here, on, owned_after}
 use Rattle.advice.specs.inner.Marks.{Marked, Grows, AddsOne, AddsAll, Marks}
@@ -79,12 +80,29 @@ complete : (ms : List Mark) (code : List Instruction) (m s : ℕ) (b : Bool)
     → Passed ms code m s b (length code) → (j : ℕ) (c : Bool) → Comes code m s b j c
     → Marked ms j c
 complete ms code m s b passed j c here = passed.begun
-complete ms code m s b passed j c (on {i} {j} {d} path next) =
+complete ms code m s b passed j c (on {i = i} {c = d} path next) =
     passed.closed i next.0 j d (complete ms code m s b passed i d path) next
 
-pub passed_all : (ms : List Mark) (code : List Instruction) (m s : ℕ) (b : Bool)
-    → Passed ms code m s b (length code) → Marks ms code m s b
-passed_all ms code m s b passed = record {
-  sound = passed.sound;
-  complete = complete ms code m s b passed;
-}
+-- all were passed
+pub passed_all : (ms : List Mark) (code : List Instruction) (m s : ℕ) (b : Bool) (n : ℕ)
+    → length code ≤ n → n ≤ length code → Passed ms code m s b n → Marks ms code m s b
+passed_all ms code m s b n all within passed =
+    let end : n ≡ length code = omega arith in
+    let P : ℕ → Type 0 = λ k. Passed ms code m s b k in
+    let whole : Passed ms code m s b (length code) = subst P end passed in
+    record { sound = whole.sound; complete = complete ms code m s b whole }
+
+-- one more, however it is read
+pub passed_step : (old new : List Mark) (code : List Instruction) (m s : ℕ) (b : Bool) (n : ℕ)
+    (d : Instruction) → n < length code → AddsAll old new n (get_or code n d) m
+    → Passed old code m s b n → Passed new code m s b (n + 1)
+passed_step old new code m s b n d lt adds passed =
+    let P : Instruction → Type 0 = λ i. AddsAll old new n i m in
+    passed_more old new code m s b n lt (subst P (get_or_default code n d (Skip 0) lt) adds) passed
+
+-- no jump leaves a code
+pub jump_fits : (code : List Instruction) (n : ℕ) (d : Instruction) → JumpsWithin code
+    → n < length code → n + 1 + skip_of (get_or code n d) ≤ length code
+jump_fits code n d jumps lt =
+    let P : Instruction → Type 0 = λ i. n + 1 + skip_of i ≤ length code in
+    subst P (sym (get_or_default code n d (Skip 0) lt)) (jumps n lt)

@@ -1,6 +1,7 @@
 //! Advice as a value, and its lines.
 
 ghost use Rattle.std.specs.Prelude.{◌≡◌, ◌+◌, ◌-◌, ◌≤◌, ◌∷◌, [], ◌++◌, length, map, take, drop, replicate, codes, OnOk};
+ghost use Rattle.std.specs.List.{prefix_len};
 ghost use Rattle.advice.specs.Lines.{from_line, goes_on, line_of, first_line, shown, left_out, margin, said_line, source_line, marks_line};
 ghost use Rattle.advice.specs.Puts.{Puts};
 
@@ -80,12 +81,18 @@ fn goes_on(byte: u8) -> bool
     byte != b'\n'
 }
 
+/// How many bytes come before the first line feed.
+fn line_length(text: &[u8]) -> usize
+    ensures { result ≡ prefix_len goes_on text.now }
+{
+    text.iter().take_while(|byte| goes_on(**byte)).count()
+}
+
 /// A line up to its line feed.
 fn first_line(text: &[u8]) -> &[u8]
     ensures { result.now ≡ first_line text.now }
 {
-    let len = text.iter().take_while(|byte| goes_on(**byte)).count();
-    &text[..len]
+    &text[..line_length(text)]
 }
 
 /// A line of the text, without its line feed; lines count from 1.
@@ -149,13 +156,24 @@ fn put_shown(out: &mut Vec<u8>, bytes: &[u8]) -> Result<(), AllocError>
     Ok(())
 }
 
+/// The part of a line that is shown, where so many bytes are left out.
+fn shown_part(line: &[u8], from: usize) -> &[u8]
+    requires { from ≤ length line.now }
+    ensures { result.now ≡ take SHOWN (drop from line.now) }
+{
+    let rest = &line[from..];
+    if rest.len() <= SHOWN {
+        return rest;
+    }
+    &rest[..SHOWN]
+}
+
 /// Adds part of a source line, of which so many bytes are left out.
 fn put_source(out: &mut Vec<u8>, line: &[u8], from: usize) -> Result<(), AllocError>
     requires { from ≤ length line.now }
     ensures { Puts result out.old out.new (source_line line.now from) }
 {
-    let rest = &line[from..];
-    put_shown(out, &rest[..rest.len().min(SHOWN)])?;
+    put_shown(out, shown_part(line, from))?;
     out.push(b'\n')?;
     Ok(())
 }
