@@ -6,7 +6,7 @@ use crate::message::{Advice, Grade, Span};
 use crate::pieces::piece_at;
 use crate::seen::{Seen, Sight, and_now};
 use crate::told::{Told, note};
-use crate::words::{decimal, joined, signed};
+use crate::words::{decimal, signed};
 use guest_code::program::{Expression, Instruction, Value};
 use guest_syntax::place::Pos;
 use std::alloc::{AllocError, Global};
@@ -84,34 +84,30 @@ impl Source<'_> {
         sight: Sight,
         at: Pos,
     ) -> Result<Option<Advice>, AllocError> {
-        let (grade, headline, told) = match sight {
-            Sight::Varied => return Ok(None),
-            Sight::Unseen => (
-                Grade::Warning,
-                format!(in alloc; "warning W10 NeverRun at {at}")?,
-                Told::new(alloc, &[b"no schedule comes to this assertion"])?,
-            ),
-            Sight::Same(left, right) => (
-                Grade::Remark,
-                format!(in alloc; "remark W11 OneOutcome at {at}")?,
-                Told::new(
-                    alloc,
-                    &[
-                        b"in all schedules this assertion has the values ",
-                        signed(alloc, left)?.as_bytes(),
-                        b" and ",
-                        signed(alloc, right)?.as_bytes(),
-                    ],
-                )?,
-            ),
-        };
-        Ok(Some(Advice {
+        match sight {
+            Sight::Varied => Ok(None),
+            Sight::Unseen => {
+                let told = Told::new(alloc, &[b"no schedule comes to this assertion"])?;
+                let headline = format!(in alloc; "warning W10 NeverRun at {at}")?;
+                Ok(Some(self.advice_at(Grade::Warning, headline, at, told)))
+            }
+            Sight::Same(left, right) => {
+                let told = one_outcome(alloc, left, right)?;
+                let headline = format!(in alloc; "remark W11 OneOutcome at {at}")?;
+                Ok(Some(self.advice_at(Grade::Remark, headline, at, told)))
+            }
+        }
+    }
+
+    /// An advice on the statement at a place.
+    fn advice_at(&self, grade: Grade, headline: String, at: Pos, told: Told) -> Advice {
+        Advice {
             grade,
             headline,
             span: Some(self.span_at(at)),
             message: told.message,
             notes: told.notes,
-        }))
+        }
     }
 
     /// What is told of the assertions.
@@ -137,18 +133,14 @@ impl Source<'_> {
 
     /// What is told of a loop that ran out of turns in this schedule.
     fn of_spin(&self, alloc: Global, at: Pos, path: &[u8]) -> Result<Advice, AllocError> {
-        let told = Told::with(
+        let mut told = Told::new(
             alloc,
             &[b"this `repeat` runs out of turns with no `leave` in some schedule"],
-            &[b"replay: ", &spelled(alloc, path)?],
         )?;
-        Ok(Advice {
-            grade: Grade::Warning,
-            headline: format!(in alloc; "warning W12 RanOut at {at}")?,
-            span: Some(self.span_at(at)),
-            message: told.message,
-            notes: told.notes,
-        })
+        let schedule = spelled(alloc, path)?;
+        told.add(note(alloc, &[b"replay: ", &schedule])?)?;
+        let headline = format!(in alloc; "warning W12 RanOut at {at}")?;
+        Ok(self.advice_at(Grade::Warning, headline, at, told))
     }
 
     /// What up to so many schedules show of the program.
@@ -175,6 +167,21 @@ impl Source<'_> {
         all.push(cut_short(alloc, limit)?)?;
         Ok(())
     }
+}
+
+/// That an assertion has these values in all schedules.
+fn one_outcome(alloc: Global, left: i64, right: i64) -> Result<Told, AllocError> {
+    let first = signed(alloc, left)?;
+    let second = signed(alloc, right)?;
+    Told::new(
+        alloc,
+        &[
+            b"in all schedules this assertion has the values ",
+            first.as_bytes(),
+            b" and ",
+            second.as_bytes(),
+        ],
+    )
 }
 
 /// That the limit was reached.

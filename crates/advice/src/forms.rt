@@ -77,7 +77,7 @@ fn other_slots(keyword: &[u8]) -> &'static [Slot] {
 }
 
 /// How a statement or a declaration with this keyword is written.
-pub fn written<'a>(keyword: &[u8]) -> &'a str {
+pub fn written(keyword: &[u8]) -> &'static str {
     match keyword {
         b"load" => "load LOCAL VAR;",
         b"store" => "store VAR VALUE;",
@@ -94,7 +94,7 @@ pub fn written<'a>(keyword: &[u8]) -> &'a str {
     }
 }
 
-fn otherwise_written<'a>(keyword: &[u8]) -> &'a str {
+fn otherwise_written(keyword: &[u8]) -> &'static str {
     match keyword {
         b"set" => "set LOCAL VALUE; or set LOCAL VALUE OP VALUE;",
         b"assert" => "assert VALUE; or assert VALUE OP VALUE;",

@@ -12,7 +12,7 @@ use crate::forms::{Slot, slots, statement_start, wanted, written};
 use crate::message::{Advice, Grade, Note, Span};
 use crate::pieces::{Piece, piece_at, pieces};
 use crate::told::{Told, note};
-use crate::words::{joined, place};
+use crate::words::{beside, joined, place};
 use guest_code::error::CheckError;
 use guest_syntax::SyntaxError;
 use guest_syntax::place::Pos;
@@ -404,7 +404,7 @@ fn expected_in_statement(alloc: Global, context: Context<'_>) -> Result<Told, Al
             b"`",
             context.keyword(),
             b"` is written: ",
-            written(context.keyword()).as_bytes(),
+            beside(written(context.keyword())),
         ],
     )?)?;
     add_hint(alloc, context, &mut told)?;
@@ -501,7 +501,7 @@ fn duplicate(alloc: Global, context: Context<'_>, tree: &Tree) -> Result<Told, A
 }
 
 /// What kind of object a place is for.
-fn kind_wanted<'a>(slot: Option<Slot>) -> &'a str {
+fn kind_wanted(slot: Option<Slot>) -> &'static str {
     match slot {
         Some(Slot::Mutex) => "mutex",
         Some(Slot::Condition) => "condition",
@@ -511,7 +511,7 @@ fn kind_wanted<'a>(slot: Option<Slot>) -> &'a str {
 }
 
 /// How the declaration of an object of a kind begins, and how it ends.
-fn declaration_start<'a>(slot: Option<Slot>) -> &'a str {
+fn declaration_start(slot: Option<Slot>) -> &'static str {
     match slot {
         Some(Slot::Mutex) => "mutex ",
         Some(Slot::Condition) => "cond ",
@@ -520,7 +520,7 @@ fn declaration_start<'a>(slot: Option<Slot>) -> &'a str {
     }
 }
 
-fn declaration_end<'a>(slot: Option<Slot>) -> &'a str {
+fn declaration_end(slot: Option<Slot>) -> &'static str {
     match slot {
         Some(Slot::Semaphore) => " = 0;",
         _ => ";",
@@ -553,9 +553,9 @@ fn unknown(alloc: Global, context: Context<'_>, tree: &Tree) -> Result<Told, All
             alloc,
             &[
                 b"declare it: ",
-                declaration_start(context.slot()).as_bytes(),
+                beside(declaration_start(context.slot())),
                 context.found(),
-                declaration_end(context.slot()).as_bytes(),
+                beside(declaration_end(context.slot())),
             ],
         )?,
     };
@@ -576,14 +576,14 @@ fn wrong_kind(alloc: Global, context: Context<'_>, tree: &Tree) -> Result<Told, 
                 &[
                     &is,
                     b"); a ",
-                    kind_wanted(Some(slot)).as_bytes(),
+                    beside(kind_wanted(Some(slot))),
                     b" must be here",
                 ],
                 &[
                     b"`",
                     context.keyword(),
                     b"` is written: ",
-                    written(context.keyword()).as_bytes(),
+                    beside(written(context.keyword())),
                 ],
             )
         }
@@ -625,7 +625,7 @@ fn not_a_local(alloc: Global, context: Context<'_>, is: &Vec<u8>) -> Result<Told
                 b"`",
                 context.keyword(),
                 b"` is written: ",
-                written(context.keyword()).as_bytes(),
+                beside(written(context.keyword())),
             ],
         ),
     }

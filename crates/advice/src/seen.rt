@@ -22,6 +22,7 @@ pub enum Sight {
 /// each loop the first schedule in which it ran out of turns.
 #[derive(Drop)]
 pub struct Seen {
+    alloc: Global,
     pub asserts: Vec<Vec<Sight>>,
     pub ran_out: Vec<Option<Vec<u8>>>,
 }
@@ -38,7 +39,6 @@ pub fn and_now(sight: Sight, left: i64, right: i64) -> Sight {
 /// A schedule that has come to a step.
 #[derive(Clone, Copy)]
 pub struct Stage<'a> {
-    pub alloc: Global,
     pub spins: &'a [Spin],
     /// The threads whose steps were taken.
     pub path: &'a [u8],
@@ -58,7 +58,11 @@ impl Seen {
         for _ in 0..spins {
             ran_out.push(None)?;
         }
-        Ok(Seen { asserts, ran_out })
+        Ok(Seen {
+            alloc,
+            asserts,
+            ran_out,
+        })
     }
 
     /// An instruction is carried out.
@@ -79,7 +83,7 @@ impl Seen {
             if spin.runs_out(stage.thread, from, to) {
                 if let Some(ran_out) = self.ran_out.get_mut(i) {
                     if ran_out.is_none() {
-                        *ran_out = Some(Vec::from_slice(stage.alloc, stage.path)?);
+                        *ran_out = Some(Vec::from_slice(self.alloc, stage.path)?);
                     }
                 }
             }

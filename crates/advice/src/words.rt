@@ -34,3 +34,10 @@ pub fn place(alloc: Global, at: Pos) -> Result<String, AllocError>
 pub fn signed(alloc: Global, number: i64) -> Result<String, AllocError> {
     format!(in alloc; "{number}")
 }
+
+/// The bytes of a word, for as long as those that they are put beside.
+pub fn beside<'a>(word: &'static str) -> &'a [u8]
+    ensures { result.now ≡ word.now }
+{
+    word.as_bytes()
+}
