@@ -1,4 +1,3 @@
 mod KindsOfThreads
 mod PathMarks
 mod WarningLists
-mod Tours

@@ -194,7 +194,7 @@ pub fn explore(
     let mut tour = Tour::new(alloc, program)?;
     let mut left = limit;
     let mut is_whole = false;
-    for _ in 0..u64::MAX {
+    'ends: for _ in 0..u64::MAX {
         if let Some(thread) = next_thread(program, &tour.state, tour.asleep, tour.next) {
             tour.enter(program, &mut seen, spins, thread)?;
             continue;

@@ -1,6 +1,16 @@
 //! What is wrong with a text, or odd about it, told to a person.
 //!
-//! [`check`] answers why a text is refused, with a hint, or the warnings of its program.
+//! - [`check`] answers why a text is refused, or the warnings of its program: a text is refused
+//!   exactly where it spells no tree or its tree has a fault, and the short form and the place are
+//!   those of the refusal.
+//! - The warnings are exactly those that are so by `IsSo` of `specs/Warnings.antt`. What a path
+//!   through the code of a thread is, is said in `specs/Paths.antt`; all paths are looked at in one
+//!   pass, since jumps go forwards.
+//! - [`advice_text`] answers the lines that `specs/Lines.antt` defines: carets lie under the bytes
+//!   that are meant.
+//!
+//! Which words an advice has, and all that schedules show, is shown by tests. What is in
+//! `specs/inner` only the proofs need.
 #![tactic(auto)]
 
 ghost use Rattle.std.specs.Prelude.{◌≡◌, IfOk};

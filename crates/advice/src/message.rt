@@ -157,15 +157,14 @@ fn put_shown(out: &mut Vec<u8>, bytes: &[u8]) -> Result<(), AllocError>
 }
 
 /// The part of a line that is shown, where so many bytes are left out.
+#[tactic(auto, using(std::proofs::lemmas::List::take_min))]
 fn shown_part(line: &[u8], from: usize) -> &[u8]
     requires { from ≤ length line.now }
     ensures { result.now ≡ take SHOWN (drop from line.now) }
 {
     let rest = &line[from..];
-    if rest.len() <= SHOWN {
-        return rest;
-    }
-    &rest[..SHOWN]
+    let end = SHOWN.min(rest.len());
+    &rest[..end]
 }
 
 /// Adds part of a source line, of which so many bytes are left out.

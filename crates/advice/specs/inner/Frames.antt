@@ -16,8 +16,10 @@ pub record TakesBack (p : Program) (u : Undo) (old new : Snapshot) : Type 0 wher
 
 -- the steps, the last first, can be taken back from a state
 abbrev pub Stacked : Program → List Frame → Snapshot → Type 0
-Stacked p [] s = IsOf p s
-Stacked p (f ∷ fs) s = IsOf p s × IsRecordOf f.undo s × Stacked p fs (undone f.undo s)
+Stacked p [] s = Unit {0}
+Stacked p (f ∷ fs) s = IsRecordOf f.undo s × IsOf p (undone f.undo s)
+    × Stacked p fs (undone f.undo s)
 
-abbrev pub IsTour : Program → Tour → Type 0
-IsTour p t = Stacked p (reverse t.frames.items) t.state
+pub record IsTour (p : Program) (t : Tour) : Type 0 where
+  pub of : IsOf p t.state
+  pub steps : Stacked p (reverse t.frames.items) t.state
