@@ -1,0 +1,164 @@
+//! What is wrong with a text, or odd about it, told to a person.
+//!
+//! - [`check`] answers why a text is refused, or the warnings of its program: a text is refused
+//!   exactly where it spells no tree or its tree has a fault, and the short form and the place are
+//!   those of the refusal.
+//! - The warnings are exactly those that are so by `IsSo` of `specs/Warnings.antt`. What a path
+//!   through the code of a thread is, is said in `specs/Paths.antt`; all paths are looked at in one
+//!   pass, since jumps go forwards.
+//! - [`advice_text`] answers the lines that `specs/Lines.antt` defines: carets lie under the bytes
+//!   that are meant.
+//!
+//! Which words an advice has, and all that schedules show, is shown by tests. What is in
+//! `specs/inner` only the proofs need.
+#![tactic(auto)]
+
+ghost use Rattle.std.specs.Prelude.{◌≡◌, IfOk};
+ghost use Rattle.std.specs.List.{list_any};
+ghost use Rattle.guest_syntax.specs.Grammar.{Spells};
+ghost use Rattle.guest_syntax.specs.Tree.{tree_view};
+ghost use Rattle.guest_code.specs.Code.{code};
+ghost use Rattle.advice.specs.Told.{Tells, is_warning, is_warned, checked_lines};
+
+mod braces;
+mod declared;
+mod deep;
+mod depths;
+mod findings;
+mod forms;
+mod locals;
+mod message;
+mod paths;
+mod pieces;
+mod refusal;
+mod remarks;
+mod seen;
+mod spins;
+#[cfg(test)]
+mod tests;
+mod told;
+mod uses;
+mod warning;
+mod warnings;
+mod words;
+
+use crate::findings::Source;
+use crate::message::texts::put_all;
+pub use crate::message::{Advice, Grade, Note, Span};
+use crate::pieces::pieces;
+use crate::refusal::{check_advice, syntax_advice};
+use guest_code::error::CheckError;
+use guest_code::lowering::lower;
+use guest_code::program::Program;
+use guest_code::source_map::SourceMap;
+use guest_syntax::tree::Tree;
+use guest_syntax::{SyntaxError, parse};
+use std::alloc::{AllocError, Global};
+
+/// What [`check`] finds.
+#[derive(Debug, Drop)]
+pub enum Checked {
+    /// The text is a program; these are its warnings.
+    Sound(Vec<Advice>),
+    /// It is refused.
+    Refused(Advice),
+}
+
+impl Checked {
+    /// Whether there is a warning.
+    pub fn is_warned(&self) -> bool
+        ensures { result ≡ is_warned self.now }
+    {
+        match self {
+            Checked::Sound(all) => has_warning(all),
+            Checked::Refused(_) => false,
+        }
+    }
+}
+
+/// Whether some advice is a warning.
+fn has_warning(all: &[Advice]) -> bool
+    ensures { result ≡ list_any (λ a. is_warning a.grade) all.now }
+{
+    all.iter()
+        .any(|advice| matches!(advice.grade, Grade::Warning))
+}
+
+/// Why a text is refused, or what is odd about its program. With a depth, up to so many schedules
+/// are gone through.
+///
+/// # Errors
+///
+/// `AllocError` where memory runs out.
+pub fn check(alloc: Global, text: &[u8], depth: Option<u64>) -> Result<Checked, AllocError>
+    ensures { IfOk result (Tells text.now) }
+{
+    match parse(alloc, text) {
+        Ok(tree) => check_tree(alloc, text, depth, &tree),
+        Err(SyntaxError::OutOfMemory) => Err(AllocError),
+        Err(error) => Ok(Checked::Refused(syntax_advice(alloc, text, error)?)),
+    }
+}
+
+/// The same of a text that spells a tree.
+fn check_tree(
+    alloc: Global,
+    text: &[u8],
+    depth: Option<u64>,
+    tree: &Tree,
+) -> Result<Checked, AllocError>
+    requires { Spells text.now (tree_view tree.now) }
+    ensures { IfOk result (Tells text.now) }
+{
+    match lower(alloc, tree) {
+        Ok(program) => Ok(Checked::Sound(all_advice(alloc, text, depth, tree, &program)?)),
+        Err(CheckError::OutOfMemory) => Err(AllocError),
+        Err(error) => Ok(Checked::Refused(check_advice(alloc, text, tree, error)?)),
+    }
+}
+
+/// All warnings of the program of a tree.
+fn all_advice(
+    alloc: Global,
+    text: &[u8],
+    depth: Option<u64>,
+    tree: &Tree,
+    program: &Program,
+) -> Result<Vec<Advice>, AllocError>
+    requires { program.now ≡ code (tree_view tree.now) }
+{
+    let Ok(map) = SourceMap::new(alloc, tree) else {
+        return Err(AllocError);
+    };
+    let pieces = pieces(alloc, text)?;
+    let source = Source {
+        tree,
+        program,
+        map: &map,
+        pieces: &pieces,
+    };
+    let mut all = Vec::new(alloc);
+    for found in &source.findings(alloc)? {
+        all.push(source.advice(alloc, *found)?)?;
+    }
+    if let Some(limit) = depth {
+        source.depths(alloc, limit, &mut all)?;
+    }
+    Ok(all)
+}
+
+/// The lines of what was found, for standard error.
+///
+/// # Errors
+///
+/// `AllocError` where memory runs out.
+pub fn advice_text(alloc: Global, text: &[u8], checked: &Checked) -> Result<Vec<u8>, AllocError>
+    ensures { IfOk result (λ v. v.items ≡ checked_lines text.now checked.now) }
+{
+    let mut out = Vec::new(alloc);
+    match checked {
+        Checked::Refused(advice) => advice.put(&mut out, text)?,
+        Checked::Sound(all) => put_all(&mut out, text, all)?,
+    }
+    Ok(out)
+}
