@@ -1,5 +1,5 @@
-# run      searches an example for a deadlock and replays the schedule found, without proofs,
-#          in some two minutes from a fresh clone
+# run      searches an example for a deadlock and shows the trace of the schedule found, without
+#          proofs, in about a minute from a fresh clone
 # try      does the same with a guest of yours: make try GUEST=file; with SCHEDULE=0,1,0 it only
 #          replays that schedule
 # build    proves and builds the program, and leaves it at build/ctxbound
@@ -27,12 +27,8 @@ TRY = mkdir -p build && cd crates/ctxbound && rt try --data program.guest="$$gue
 	sed '/^checked: /,$$d' ../../build/log; \
 	test $$status -eq 0 || echo "[status $$status]"
 
-# Searches, and replays the schedule that the report has, if any.
-SEARCH = words="explore program.guest"; mkdir -p build; ($(TRY)) | tee build/report; \
-	test -s build/report || exit 2; \
-	found=$$(sed -n 's/.*"schedule":"\([^"]*\)".*/\1/p' build/report); \
-	test -z "$$found" || { echo "Replaying $$found .."; \
-	words="replay program.guest $$found"; $(TRY); }
+# One run: the report, and then the trace of the schedule that it names, if any.
+SEARCH = words="explore program.guest --trace"; $(TRY)
 
 COMPILING = echo "Compiling the program, without proofs, which takes under a minute .."
 

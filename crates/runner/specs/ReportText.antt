@@ -122,3 +122,14 @@ report_data r = object
 
 abbrev pub report_text : Report → List ℕ
 report_text r = compact_text (report_data r)
+
+-- ---- the schedule that the text names, if any
+
+-- that of a verdict, where the summary has this first bad schedule
+abbrev pub verdict_schedule : Option (List ℕ) → Verdict → Option (List ℕ)
+verdict_schedule first_bad (Clean all) = None
+verdict_schedule first_bad (Bad preemptions schedule kind) = Some schedule.items
+verdict_schedule first_bad (Incomplete cause finished) = first_bad
+
+abbrev pub named_schedule : Report → Option (List ℕ)
+named_schedule r = verdict_schedule r.summary.first_bad r.verdict

@@ -1,5 +1,8 @@
 //! What a search found.
 
+ghost use Rattle.std.specs.Prelude.{◌≡◌, Some, None, MatchOption};
+ghost use Rattle.runner.specs.ReportText.{named_schedule};
+
 use semantics::view::Kind;
 use walk::summary::Summary;
 
@@ -53,4 +56,19 @@ pub struct Report {
     pub summary: Summary,
     /// Whether the search was a quick one.
     pub quick: bool,
+}
+
+impl Report {
+    /// The schedule that its text names, if any: the bad one, or where the search was cut short the
+    /// first bad one of those tried.
+    pub fn schedule(&self) -> Option<&[u8]>
+        ensures { MatchOption result
+            (named_schedule self.now ≡ None) (λ w. named_schedule self.now ≡ Some w.now) }
+    {
+        match &self.verdict {
+            Verdict::Clean { .. } => None,
+            Verdict::Bad { schedule, .. } => Some(schedule.as_slice()),
+            Verdict::Incomplete { .. } => self.summary.first_bad(),
+        }
+    }
 }

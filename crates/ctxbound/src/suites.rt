@@ -1,0 +1,107 @@
+//! The command `suite`.
+
+use crate::asked::SuiteRequest;
+use crate::fault::Fault;
+use crate::files::{guests_in, is_folder, read_file, write_named};
+use runner::ExploreError;
+use std::alloc::{Alloc, Global};
+use std::fs::Files;
+use std::io;
+use std::io::{ErrorKind, Input, Write};
+use std::sync::Wait;
+use std::thread::Threads;
+use suite::{Entry, Limits, Outcome, json_lines, table, worst_status};
+
+/// Why a folder can't be searched that has no guest program.
+const NO_GUESTS: &str = "no file in it ends in .guest";
+
+/// Searches each file of a suite and prints what became of them. Answers the status: the greatest of
+/// those of its files, or that of a device that failed.
+pub fn serve_suite<H, W: Write, E: Write>(
+    rt: &H,
+    asked: &SuiteRequest,
+    out: &mut W,
+    err: &mut E,
+) -> u8
+where
+    H: Threads + Wait + Sync + Files + Input + Alloc<A = Global> + Clone + Drop,
+{
+    match printed(rt, asked) {
+        Ok((output, status)) => write_named(out, err, output.as_slice(), status),
+        Err(fault) => fault.report(err),
+    }
+}
+
+// What a suite prints, and its status.
+fn printed<H>(rt: &H, asked: &SuiteRequest) -> Result<(Vec<u8>, u8), Fault>
+where
+    H: Threads + Wait + Sync + Files + Input + Alloc<A = Global> + Clone + Drop,
+{
+    let mut entries = Vec::new(rt.alloc());
+    for file in &asked.files {
+        put_named(rt, &mut entries, file.as_str(), asked.limits)?;
+    }
+    let output = if asked.json {
+        json_lines(rt.alloc(), entries.as_slice())?
+    } else {
+        table(rt.alloc(), entries.as_slice())?
+    };
+    Ok((output, worst_status(entries.as_slice())))
+}
+
+// Puts what became of a file, or of each guest program of a folder, after the other entries.
+fn put_named<H>(rt: &H, entries: &mut Vec<Entry>, name: &str, limits: Limits) -> Result<(), Fault>
+where
+    H: Threads + Wait + Sync + Files + Input + Alloc<A = Global> + Clone + Drop,
+{
+    if !is_folder(rt, name) {
+        entries.push(entry_of(rt, name, limits)?)?;
+        return Ok(());
+    }
+    match guests_in(rt, name) {
+        Ok(files) if files.is_empty() => {
+            let cause = String::from_str(rt.alloc(), NO_GUESTS)?;
+            entries.push(entry_without(rt.alloc(), name, Outcome::Unread(cause))?)?;
+        }
+        Ok(files) => {
+            for file in &files {
+                entries.push(entry_of(rt, file.as_str(), limits)?)?;
+            }
+        }
+        Err(error) => entries.push(unread(rt.alloc(), name, &error)?)?,
+    }
+    Ok(())
+}
+
+// What became of a file.
+fn entry_of<H>(rt: &H, file: &str, limits: Limits) -> Result<Entry, Fault>
+where
+    H: Threads + Wait + Sync + Files + Input + Alloc<A = Global>,
+{
+    let alloc = rt.alloc();
+    match read_file(rt, file) {
+        Ok(text) => {
+            let file = String::from_str(alloc, file)?;
+            Ok(Entry::new(rt, alloc, file, text.as_slice(), limits))
+        }
+        Err(error) => unread(alloc, file, &error),
+    }
+}
+
+// A file that couldn't be read.
+fn unread(alloc: Global, file: &str, error: &io::Error) -> Result<Entry, Fault> {
+    let outcome = match error.kind() {
+        ErrorKind::OutOfMemory => Outcome::Refused(ExploreError::OutOfMemory),
+        _ => Outcome::Unread(format!(in alloc; "{error}")?),
+    };
+    entry_without(alloc, file, outcome)
+}
+
+// A file or a folder without a text, of which this became.
+fn entry_without(alloc: Global, file: &str, outcome: Outcome) -> Result<Entry, Fault> {
+    Ok(Entry {
+        file: String::from_str(alloc, file)?,
+        expected: None,
+        outcome,
+    })
+}

@@ -1,0 +1,18 @@
+//! Suites: many guests searched one after the other, and what each was expected to be.
+//!
+//! - [`search`] answers the report of a text: of the search without a bound where that ends within
+//!   the limit, else of the search up to a bound.
+//! - [`Expectation::of`] reads what a text's comments expect.
+//! - An [`Entry`] is what became of one file, with its status; [`worst_status`] is that of a suite.
+//! - [`table`] and [`json_lines`] print a suite.
+#![tactic(auto)]
+
+mod entry;
+mod expectation;
+mod search;
+mod table;
+
+pub use entry::{Entry, Outcome, worst_status};
+pub use expectation::{Expectation, Expected};
+pub use search::{LIMIT, Limits, search};
+pub use table::{json_lines, table};
