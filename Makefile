@@ -3,16 +3,20 @@
 # try      does the same with a guest of yours: make try GUEST=file; with SCHEDULE=0,1,0 it only
 #          replays that schedule
 # build    proves and builds the program, and leaves it at build/ctxbound
-# install  copies build/ctxbound to $(DESTDIR)$(PREFIX)/bin
+# install  copies build/ctxbound to $(DESTDIR)$(PREFIX)/bin, and the man page, the completions, the
+#          syntax files and the examples to $(DESTDIR)$(PREFIX)/share
+# uninstall  removes all that
+# dist     makes an archive of all that in build/
 # check    proves one crate over what earlier checks kept: make check C=semantics
 # test     the gate: every proof from scratch, the must-fail edits, the tests, then `shown` and
 #          refused memory
 # shown    runs the documents' commands by build/ctxbound
 # bench    how fast a subtree is walked and, where the program is built, how much sooner several
 #          workers end a search
-.PHONY: run try build install check test shown bench clean
+.PHONY: run try build install uninstall dist check test shown bench clean
 
 PREFIX ?= /usr/local
+PROGRAM ?= build/ctxbound
 GUEST ?=
 SCHEDULE ?=
 EXAMPLE = examples/lock_order.guest
@@ -32,8 +36,23 @@ SEARCH = words="explore program.guest --trace"; $(TRY)
 
 COMPILING = echo "Compiling the program, without proofs, which takes under a minute .."
 
-NEEDS_PROGRAM = test -x build/ctxbound || \
-	{ echo "build/ctxbound isn't there: run \`make build\` first" >&2; exit 2; }
+NEEDS_PROGRAM = test -x $(PROGRAM) || \
+	{ echo "$(PROGRAM) isn't there: run \`make build\` first" >&2; exit 2; }
+
+VERSION = $(shell sed -n 's/^pub const VERSION: &str = "\(.*\)";/\1/p' crates/ctxbound/src/words.rt)
+NAMED = ctxbound-$(VERSION)
+SHARE = $(DESTDIR)$(PREFIX)/share
+
+# What is installed beside the program: the file in share/ here, and its place in share/ there.
+SHARED = man/ctxbound.1=man/man1/ctxbound.1 \
+	completions/ctxbound.bash=bash-completion/completions/ctxbound \
+	completions/_ctxbound=zsh/site-functions/_ctxbound \
+	completions/ctxbound.fish=fish/vendor_completions.d/ctxbound.fish \
+	vim/syntax/guest.vim=vim/vimfiles/syntax/guest.vim \
+	vim/ftdetect/guest.vim=vim/vimfiles/ftdetect/guest.vim \
+	vscode/package.json=ctxbound/vscode/package.json \
+	vscode/language-configuration.json=ctxbound/vscode/language-configuration.json \
+	vscode/syntaxes/guest.tmLanguage.json=ctxbound/vscode/syntaxes/guest.tmLanguage.json
 
 run:
 	@$(COMPILING)
@@ -58,8 +77,27 @@ build:
 
 install:
 	@$(NEEDS_PROGRAM)
-	install -d "$(DESTDIR)$(PREFIX)/bin"
-	install -m 755 build/ctxbound "$(DESTDIR)$(PREFIX)/bin/ctxbound"
+	install -D -m 755 $(PROGRAM) "$(DESTDIR)$(PREFIX)/bin/ctxbound"
+	@for pair in $(SHARED); do \
+		install -D -m 644 "share/$${pair%%=*}" "$(SHARE)/$${pair#*=}" || exit 1; done
+	@cd examples && for guest in $$(find . -name '*.guest'); do \
+		install -D -m 644 "$$guest" "$(SHARE)/ctxbound/examples/$$guest" || exit 1; done
+	@echo "Installed. If your shell doesn't find ctxbound: export PATH=\"$(PREFIX)/bin:\$$PATH\""
+
+uninstall:
+	rm -f "$(DESTDIR)$(PREFIX)/bin/ctxbound"
+	@for pair in $(SHARED); do rm -f "$(SHARE)/$${pair#*=}"; done
+	rm -rf "$(SHARE)/ctxbound"
+	@test -z "$(DESTDIR)" || find "$(DESTDIR)" -mindepth 1 -depth -type d -empty -delete
+
+dist:
+	@$(NEEDS_PROGRAM)
+	@rm -rf build/dist
+	@$(MAKE) --no-print-directory install DESTDIR="$(CURDIR)/build/dist/$(NAMED)" PREFIX= > build/log
+	@tar -C build/dist --sort=name --owner=0 --group=0 --numeric-owner --mtime=@0 \
+		-czf build/$(NAMED)-linux-x86_64.tar.gz $(NAMED)
+	@rm -rf build/dist
+	@echo "The archive is build/$(NAMED)-linux-x86_64.tar.gz"
 
 check:
 	@test -d "crates/$(C)/src" || { echo "Usage: make check C=crate, one of:" crates/*/ >&2; exit 2; }
@@ -76,6 +114,9 @@ test:
 shown:
 	@$(NEEDS_PROGRAM)
 	python3 tests/docs.py build/ctxbound
+	python3 tests/commands.py build/ctxbound
+	python3 tests/around.py build/ctxbound
+	build/ctxbound suite examples
 
 bench:
 	@mkdir -p build

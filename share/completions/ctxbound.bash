@@ -1,36 +1,31 @@
 # Completion of ctxbound's command words for bash.
 _ctxbound() {
     local word=${COMP_WORDS[COMP_CWORD]} before=${COMP_WORDS[COMP_CWORD - 1]}
-    local command= place
-    for ((place = 1; place < COMP_CWORD; place++)); do
-        case ${COMP_WORDS[place]} in
-        -*) ;;
-        *)
-            command=${COMP_WORDS[place]}
-            break
-            ;;
-        esac
-    done
-    COMPREPLY=()
-    if [[ -z $command ]]; then
-        mapfile -t COMPREPLY < <(compgen -W "@COMMANDS@ help --help --version" -- "$word")
+    local commands='explore unbounded replay suite help'
+    local command=${COMP_WORDS[1]} words=
+    if ((COMP_CWORD == 1)); then
+        mapfile -t COMPREPLY < <(compgen -W "$commands --help --version" -- "$word")
         return
     fi
-    case $before in
-    @VALUED@) return ;;
+    case $command in
+    explore) words='--bound --workers --limit --quick --trace --help' ;;
+    unbounded) words='--workers --limit --quick --trace --help' ;;
+    replay) words='--help' ;;
+    suite) words='--bound --workers --limit --json --help' ;;
+    help)
+        mapfile -t COMPREPLY < <(compgen -W "$commands" -- "$word")
+        return
+        ;;
     esac
-    if [[ $word == -* ]]; then
-        local words=
-        case $command in
-@CASES@
-        esac
-        mapfile -t COMPREPLY < <(compgen -W "$words --help" -- "$word")
-        return
-    fi
-    if [[ $command == help ]]; then
-        mapfile -t COMPREPLY < <(compgen -W "@COMMANDS@" -- "$word")
-        return
-    fi
-    mapfile -t COMPREPLY < <(compgen -d -S / -- "$word"; compgen -f -X '!*.guest' -- "$word")
+    case $before in
+    --bound | --workers | --limit) COMPREPLY=() ;;
+    *)
+        if [[ $word == -* ]]; then
+            mapfile -t COMPREPLY < <(compgen -W "$words" -- "$word")
+        else
+            mapfile -t COMPREPLY < <(compgen -d -S / -- "$word"; compgen -f -X '!*.guest' -- "$word")
+        fi
+        ;;
+    esac
 }
 complete -o nospace -F _ctxbound ctxbound

@@ -24,11 +24,16 @@ pub const DEFAULT_BOUND: u32 = 2;
 
 /// What the help of each command ends with.
 pub const HELP_END: &str = "Examples:
-  ctxbound explore examples/first.guest
+  ctxbound explore examples/first.guest --trace
+  ctxbound unbounded examples/lost_update_fixed.guest
   ctxbound replay examples/first.guest 0,1,0
+  ctxbound suite examples
+
+`clean` with `\"all\":false` is no proof: schedules with more preemptions were left out.
+Try `unbounded` first where a program is small: it leaves no outcome out.
 
 Statuses:
-  0  no schedule is bad; a replay that is done, or not complete
+  0  no schedule is bad, or a suite's files are as expected; a replay that is done, or not complete
   1  a schedule is bad: it failed or got stuck; so did a replay
   2  words, text, program or schedule refused; help or version shown
   3  the search was cut short
