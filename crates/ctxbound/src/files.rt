@@ -11,6 +11,9 @@ use std::{fs, io};
 /// How the names of guest programs in a folder end.
 const ENDING: &str = ".guest";
 
+/// What is said of a folder that has none.
+const NO_GUESTS: &str = "no file in it ends in .guest";
+
 /// Whether this word in the place of a file stands for standard input.
 pub fn is_standard_input(file: &str) -> bool {
     file == "-"
@@ -36,20 +39,34 @@ where
     Ok(text)
 }
 
-/// Whether there is a folder of this name.
-pub fn is_folder<H: Files>(rt: &H, file: &str) -> bool {
-    match fs::metadata(rt, file) {
+/// The files that a name stands for: itself, or where it is a folder the guest programs in it,
+/// sorted by name.
+///
+/// # Errors
+///
+/// What the device answers, or that the folder has no guest program.
+pub fn files_of<H>(rt: &H, name: &str) -> io::Result<Vec<String>>
+where
+    H: Files + Alloc<A = Global> + Clone + Drop,
+{
+    if is_folder(rt, name) {
+        return guests_in(rt, name);
+    }
+    let mut files = Vec::new(rt.alloc());
+    files.push(String::from_str(rt.alloc(), name)?)?;
+    Ok(files)
+}
+
+// Whether there is a folder of this name.
+fn is_folder<H: Files>(rt: &H, name: &str) -> bool {
+    match fs::metadata(rt, name) {
         Ok(metadata) => metadata.is_dir(),
         Err(_) => false,
     }
 }
 
-/// The guest programs in a folder, sorted by name.
-///
-/// # Errors
-///
-/// What the device answers.
-pub fn guests_in<H>(rt: &H, folder: &str) -> io::Result<Vec<String>>
+// The guest programs in a folder, sorted by name.
+fn guests_in<H>(rt: &H, folder: &str) -> io::Result<Vec<String>>
 where
     H: Files + Alloc<A = Global> + Clone + Drop,
 {
@@ -60,6 +77,9 @@ where
         if path.as_str().ends_with(ENDING) {
             guests.push(String::from_str(rt.alloc(), path.as_str())?)?;
         }
+    }
+    if guests.is_empty() {
+        return Err(io::Error::new(ErrorKind::NotFound, NO_GUESTS));
     }
     guests.sort()?;
     Ok(guests)

@@ -2,7 +2,7 @@
 
 use crate::asked::SuiteRequest;
 use crate::fault::Fault;
-use crate::files::{guests_in, is_folder, read_file, write_named};
+use crate::files::{files_of, read_file, write_named};
 use runner::ExploreError;
 use std::alloc::{Alloc, Global};
 use std::fs::Files;
@@ -11,9 +11,6 @@ use std::io::{ErrorKind, Input, Write};
 use std::sync::Wait;
 use std::thread::Threads;
 use suite::{Entry, Limits, Outcome, json_lines, table, worst_status};
-
-/// Why a folder can't be searched that has no guest program.
-const NO_GUESTS: &str = "no file in it ends in .guest";
 
 /// Searches each file of a suite and prints what became of them. Answers the status: the greatest of
 /// those of its files, or that of a device that failed.
@@ -54,15 +51,7 @@ fn put_named<H>(rt: &H, entries: &mut Vec<Entry>, name: &str, limits: Limits) ->
 where
     H: Threads + Wait + Sync + Files + Input + Alloc<A = Global> + Clone + Drop,
 {
-    if !is_folder(rt, name) {
-        entries.push(entry_of(rt, name, limits)?)?;
-        return Ok(());
-    }
-    match guests_in(rt, name) {
-        Ok(files) if files.is_empty() => {
-            let cause = String::from_str(rt.alloc(), NO_GUESTS)?;
-            entries.push(entry_without(rt.alloc(), name, Outcome::Unread(cause))?)?;
-        }
+    match files_of(rt, name) {
         Ok(files) => {
             for file in &files {
                 entries.push(entry_of(rt, file.as_str(), limits)?)?;
@@ -94,11 +83,6 @@ fn unread(alloc: Global, file: &str, error: &io::Error) -> Result<Entry, Fault> 
         ErrorKind::OutOfMemory => Outcome::Refused(ExploreError::OutOfMemory),
         _ => Outcome::Unread(format!(in alloc; "{error}")?),
     };
-    entry_without(alloc, file, outcome)
-}
-
-// A file or a folder without a text, of which this became.
-fn entry_without(alloc: Global, file: &str, outcome: Outcome) -> Result<Entry, Fault> {
     Ok(Entry {
         file: String::from_str(alloc, file)?,
         expected: None,
