@@ -1,5 +1,10 @@
 //! The command `suite`.
 
+ghost use Rattle.std.specs.Prelude.{◌≡◌, IfOk, IfErr};
+ghost use Rattle.suite.specs.Statuses.{IsWorst};
+ghost use Rattle.ctxbound.specs.declared.fault.Fault.TheVariants.{Memory};
+
+use crate::answer::Printed;
 use crate::asked::SuiteRequest;
 use crate::fault::Fault;
 use crate::files::{files_of, read_file, write_named};
@@ -23,14 +28,14 @@ pub fn serve_suite<H, W: Write, E: Write>(
 where
     H: Threads + Wait + Sync + Files + Input + Alloc<A = Global> + Clone + Drop,
 {
-    match printed(rt, asked) {
-        Ok((output, status)) => write_named(out, err, output.as_slice(), status),
+    match answer_of(rt, asked) {
+        Ok(printed) => write_named(out, err, printed.output.as_slice(), printed.status),
         Err(fault) => fault.report(err),
     }
 }
 
-// What a suite prints, and its status.
-fn printed<H>(rt: &H, asked: &SuiteRequest) -> Result<(Vec<u8>, u8), Fault>
+// What is answered to a suite.
+fn answer_of<H>(rt: &H, asked: &SuiteRequest) -> Result<Printed, Fault>
 where
     H: Threads + Wait + Sync + Files + Input + Alloc<A = Global> + Clone + Drop,
 {
@@ -38,12 +43,27 @@ where
     for file in &asked.files {
         put_named(rt, &mut entries, file.as_str(), asked.limits)?;
     }
-    let output = if asked.json {
-        json_lines(rt.alloc(), entries.as_slice())?
+    printed(rt.alloc(), entries.as_slice(), asked.json)
+}
+
+/// What is printed of the files of a suite. The status is the greatest of theirs.
+///
+/// # Errors
+///
+/// `Memory` where memory runs out.
+fn printed(alloc: Global, entries: &[Entry], json: bool) -> Result<Printed, Fault>
+    ensures status { IfOk result (λ a. IsWorst entries.now a.status) }
+    ensures memory { IfErr result (λ fault. fault ≡ Memory) }
+{
+    let output = if json {
+        json_lines(alloc, entries)?
     } else {
-        table(rt.alloc(), entries.as_slice())?
+        table(alloc, entries)?
     };
-    Ok((output, worst_status(entries.as_slice())))
+    Ok(Printed {
+        output,
+        status: worst_status(entries),
+    })
 }
 
 // Puts what became of a file, or of each guest program of a folder, after the other entries.

@@ -1,9 +1,11 @@
 -- The statuses of a suite and of its files.
-use Rattle.std.specs.Prelude.{ℕ, Option, Some, None}
+use Rattle.std.specs.Prelude.{◌≡◌, ◌≤◌, ◌⊎◌, ℕ, List, Option, Some, None}
+use Rattle.std.specs.List.{All, Any}
 use Rattle.runner.specs.declared.error.ExploreError.{ExploreError}
 use Rattle.runner.specs.declared.error.ExploreError.TheVariants.{Syntax, Check, OutOfMemory}
 use Rattle.runner.specs.declared.report.Verdict.{Verdict}
 use Rattle.runner.specs.declared.report.Verdict.TheVariants as verdict
+use Rattle.suite.specs.declared.entry.Entry.{Entry}
 use Rattle.suite.specs.declared.entry.Outcome.{Outcome}
 use Rattle.suite.specs.declared.entry.Outcome.TheVariants.{Searched, Refused, Unclear, Unread}
 use Rattle.suite.specs.declared.expectation.Expected.{Expected}
@@ -32,3 +34,11 @@ entry_status e (Searched report) = searched_status e report.verdict
 entry_status e (Refused error) = refusal_status error
 entry_status e (Unclear line) = 2
 entry_status e (Unread cause) = 4
+
+abbrev pub status_of : Entry → ℕ
+status_of e = entry_status e.expected e.outcome
+
+-- the greatest of the statuses of these files, or 0
+pub record IsWorst (entries : List Entry) (status : ℕ) : Type 0 where
+  pub none_above : All (λ e. status_of e ≤ status) entries
+  pub met : (status ≡ 0) ⊎ Any (λ e. status_of e ≡ status) entries

@@ -1,9 +1,8 @@
 //! What became of one file of a suite, and the statuses.
 
-ghost use Rattle.std.specs.Prelude.{◌≡◌, ◌≤◌, ◌⊎◌};
-ghost use Rattle.std.specs.List.{All, Any};
+ghost use Rattle.std.specs.Prelude.{◌≡◌};
 ghost use Rattle.suite.specs.Suites.{OutcomeMeans};
-ghost use Rattle.suite.specs.Statuses.{searched_status, entry_status};
+ghost use Rattle.suite.specs.Statuses.{searched_status, status_of, IsWorst};
 
 use crate::expectation::{Expectation, Expected};
 use crate::search::{Limits, search};
@@ -73,7 +72,7 @@ impl Entry {
     /// The status of its own: 0 where it is as expected, 1 where it isn't, or is bad and nothing is
     /// expected, 2 where it is refused, 3 where its search was cut short, 4 for memory and devices.
     pub fn status(&self) -> u8
-        ensures { result ≡ entry_status self.now.expected self.now.outcome }
+        ensures { result ≡ status_of self.now }
     {
         match &self.outcome {
             Outcome::Searched(report) => searched_status(self.expected, &report.verdict),
@@ -98,9 +97,7 @@ fn searched_status(expected: Option<Expected>, verdict: &Verdict) -> u8
 
 /// The status of a suite: the greatest of its files', or 0 where it has none.
 pub fn worst_status(entries: &[Entry]) -> u8
-    ensures least { All (λ e. entry_status e.expected e.outcome ≤ result) entries.now }
-    ensures met { (result ≡ 0)
-        ⊎ Any (λ e. result ≡ entry_status e.expected e.outcome) entries.now }
+    ensures { IsWorst entries.now result }
 {
     let mut worst = 0;
     for entry in entries {
