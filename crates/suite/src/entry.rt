@@ -5,7 +5,7 @@ ghost use Rattle.suite.specs.Suites.{OutcomeMeans};
 ghost use Rattle.suite.specs.Statuses.{searched_status, status_of, IsWorst};
 
 use crate::expectation::{Expectation, Expected};
-use crate::search::{Limits, search};
+use crate::searches::{Limits, search};
 use runner::{ExploreError, Report, Verdict};
 use std::alloc::Global;
 use std::sync::Wait;

@@ -9,10 +9,10 @@
 
 mod entry;
 mod expectation;
-mod search;
-mod table;
+mod printing;
+mod searches;
 
 pub use entry::{Entry, Outcome, worst_status};
 pub use expectation::{Expectation, Expected};
-pub use search::{LIMIT, Limits, search};
-pub use table::{json_lines, table};
+pub use printing::{json_lines, table};
+pub use searches::{LIMIT, Limits, search};
