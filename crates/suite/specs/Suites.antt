@@ -13,7 +13,7 @@ use Rattle.runner.specs.ReportText.{named_schedule}
 use Rattle.runner.specs.Texts.{IsReportOfText, ExploreErrorMeans}
 use Rattle.suite.specs.declared.entry.Outcome.{Outcome}
 use Rattle.suite.specs.declared.entry.Outcome.TheVariants.{Searched, Refused, Unclear, Unread}
-use Rattle.suite.specs.declared.searches.Limits.{Limits}
+use Rattle.suite.specs.declared.options.Limits.{Limits}
 
 -- a search as far as this that is cut short at the limit
 abbrev pub options_of : Search → ℕ → Options

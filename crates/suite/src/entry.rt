@@ -5,7 +5,8 @@ ghost use Rattle.suite.specs.Suites.{OutcomeMeans};
 ghost use Rattle.suite.specs.Statuses.{searched_status, status_of, IsWorst};
 
 use crate::expectation::{Expectation, Expected};
-use crate::searches::{Limits, search};
+use crate::options::Limits;
+use crate::searches::search;
 use runner::{ExploreError, Report, Verdict};
 use std::alloc::Global;
 use std::sync::Wait;
