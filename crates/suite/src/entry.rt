@@ -102,7 +102,10 @@ pub fn worst_status(entries: &[Entry]) -> u8
 {
     let mut worst = 0;
     for entry in entries {
-        worst = worst.max(entry.status());
+        let status = entry.status();
+        if status > worst {
+            worst = status;
+        }
     }
     worst
 }
