@@ -92,7 +92,7 @@ uninstall:
 
 dist:
 	@$(NEEDS_PROGRAM)
-	@rm -rf build/dist
+	@mkdir -p build && rm -rf build/dist
 	@$(MAKE) --no-print-directory install DESTDIR="$(CURDIR)/build/dist/$(NAMED)" PREFIX= > build/log
 	@tar -C build/dist --sort=name --owner=0 --group=0 --numeric-owner --mtime=@0 \
 		-czf build/$(NAMED)-linux-x86_64.tar.gz $(NAMED)
