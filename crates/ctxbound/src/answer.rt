@@ -98,8 +98,7 @@ pub fn explore_and_trace<R: Threads + Wait + Sync>(
 ) -> Result<Printed, Fault>
     ensures { TracedMeans text.now asked.options result }
 {
-    let Exploration { options, workers } = asked;
-    let report = runner::explore_text(rt, alloc, text, options, workers, &Open)?;
+    let report = runner::explore_text(rt, alloc, text, asked.options, asked.workers, &Open)?;
     let mut output = report_text(alloc, &report)?;
     output.push(b'\n')?;
     if let Some(schedule) = report.schedule() {
