@@ -222,7 +222,7 @@ fn suite_command<'a>(alloc: Global) -> Result<Command<'a>, AllocError> {
         .arg(bound_arg(alloc))?
         .arg(workers_arg(alloc))?
         .arg(limit_arg(alloc).help(
-            "Cut a search short once so many schedules were tried [default: 1000000]",
+            "Cut a search short once this number of schedules was tried [default: 1000000]",
         ))?
         .arg(json)
 }

@@ -12,7 +12,7 @@ pub const LIMIT: u64 = 1_000_000;
 /// How far each text of a suite is searched, and by how many workers.
 #[derive(Clone, Copy, Debug)]
 pub struct Limits {
-    /// After a round in which so many schedules were tried in all, a search is cut short.
+    /// After a round in which this number of schedules was tried in all, a search is cut short.
     pub limit: u64,
     /// The most preemptions of a schedule, where the search without a bound was cut short; at most
     /// [`BOUND`](runner::BOUND).

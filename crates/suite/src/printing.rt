@@ -163,7 +163,7 @@ fn put_row(text: &mut Vec<u8>, row: &[String], rows: &[Vec<String>]) -> Result<(
     Ok(())
 }
 
-// Puts so many blanks into a text.
+// Puts blanks into a text.
 fn put_blanks(text: &mut Vec<u8>, count: usize) -> Result<(), AllocError> {
     for _ in 0..count {
         text.push(b' ')?;
