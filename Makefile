@@ -1,15 +1,16 @@
 # `make help`, which is what a bare `make` does, lists the targets with what each costs.
-.PHONY: help run try quick build install check test shown bench clean
+.PHONY: help run try quick build install uninstall dist check test shown bench clean
 
 PREFIX ?= /usr/local
+PROGRAM ?= build/ctxbound
 GUEST ?=
 SCHEDULE ?=
 EXAMPLE = examples/lock_order.guest
 export GUEST SCHEDULE
 
 define HELP
-  make run        searches an example for a deadlock and replays it; nothing is proved
-                    2 minutes, 2 GB of memory
+  make run        searches an example for a deadlock and shows how it comes about; nothing is proved
+                    a minute, 2 GB of memory
   make try GUEST=file [SCHEDULE=0,1,0]
                   the same with a guest of yours; with SCHEDULE it only replays that
                     1 to 2 minutes, 2 GB
@@ -28,7 +29,10 @@ define HELP
   make shown      runs the documents' commands by build/ctxbound: a minute
   make bench      times walks, and searches where build/ctxbound is there; it proves the benchmark
                   first, so it takes some minutes after `make build`, and else as long as that
-  make install    copies build/ctxbound to $$(DESTDIR)$$(PREFIX)/bin
+  make install    copies build/ctxbound to $$(DESTDIR)$$(PREFIX)/bin, and the man page, the completions,
+                  the syntax files and the examples to $$(DESTDIR)$$(PREFIX)/share
+  make uninstall  removes all that
+  make dist       makes an archive of all that in build
   make clean      removes what was built: build and crates/*/out
 endef
 export HELP
@@ -45,17 +49,28 @@ TRY = mkdir -p build && cd crates/ctxbound && rt try --data program.guest="$$gue
 	sed '/^checked: /,$$d' ../../build/log; \
 	test $$status -eq 0 || echo "[status $$status]"
 
-# Searches, and replays the schedule that the report has, if any.
-SEARCH = words="explore program.guest"; mkdir -p build; ($(TRY)) | tee build/report; \
-	test -s build/report || exit 2; \
-	found=$$(sed -n 's/.*"schedule":"\([^"]*\)".*/\1/p' build/report); \
-	test -z "$$found" || { echo "Replaying $$found .."; \
-	words="replay program.guest $$found"; $(TRY); }
+# One run: the report, and then the trace of the schedule that it names, if any.
+SEARCH = words="explore program.guest --trace"; $(TRY)
 
 COMPILING = echo "Compiling the program, without proofs, which takes under a minute .."
 
-NEEDS_PROGRAM = test -x build/ctxbound || \
-	{ echo "build/ctxbound isn't there: run \`make build\` first" >&2; exit 2; }
+NEEDS_PROGRAM = test -x $(PROGRAM) || \
+	{ echo "$(PROGRAM) isn't there: run \`make build\` first" >&2; exit 2; }
+
+VERSION = $(shell sed -n 's/^pub const VERSION: &str = "\(.*\)";/\1/p' crates/ctxbound/src/words.rt)
+NAMED = ctxbound-$(VERSION)
+SHARE = $(DESTDIR)$(PREFIX)/share
+
+# What is installed beside the program: the file in share/ here, and its place in share/ there.
+SHARED = man/ctxbound.1=man/man1/ctxbound.1 \
+	completions/ctxbound.bash=bash-completion/completions/ctxbound \
+	completions/_ctxbound=zsh/site-functions/_ctxbound \
+	completions/ctxbound.fish=fish/vendor_completions.d/ctxbound.fish \
+	vim/syntax/guest.vim=vim/vimfiles/syntax/guest.vim \
+	vim/ftdetect/guest.vim=vim/vimfiles/ftdetect/guest.vim \
+	vscode/package.json=ctxbound/vscode/package.json \
+	vscode/language-configuration.json=ctxbound/vscode/language-configuration.json \
+	vscode/syntaxes/guest.tmLanguage.json=ctxbound/vscode/syntaxes/guest.tmLanguage.json
 
 run:
 	@$(COMPILING)
@@ -95,8 +110,27 @@ build:
 
 install:
 	@$(NEEDS_PROGRAM)
-	install -d "$(DESTDIR)$(PREFIX)/bin"
-	install -m 755 build/ctxbound "$(DESTDIR)$(PREFIX)/bin/ctxbound"
+	install -D -m 755 $(PROGRAM) "$(DESTDIR)$(PREFIX)/bin/ctxbound"
+	@for pair in $(SHARED); do \
+		install -D -m 644 "share/$${pair%%=*}" "$(SHARE)/$${pair#*=}" || exit 1; done
+	@cd examples && for guest in $$(find . -name '*.guest'); do \
+		install -D -m 644 "$$guest" "$(SHARE)/ctxbound/examples/$$guest" || exit 1; done
+	@echo "Installed. If your shell doesn't find ctxbound: export PATH=\"$(PREFIX)/bin:\$$PATH\""
+
+uninstall:
+	rm -f "$(DESTDIR)$(PREFIX)/bin/ctxbound"
+	@for pair in $(SHARED); do rm -f "$(SHARE)/$${pair#*=}"; done
+	rm -rf "$(SHARE)/ctxbound"
+	@test -z "$(DESTDIR)" || find "$(DESTDIR)" -mindepth 1 -depth -type d -empty -delete
+
+dist:
+	@$(NEEDS_PROGRAM)
+	@mkdir -p build && rm -rf build/dist
+	@$(MAKE) --no-print-directory install DESTDIR="$(CURDIR)/build/dist/$(NAMED)" PREFIX= > build/log
+	@tar -C build/dist --sort=name --owner=0 --group=0 --numeric-owner --mtime=@0 \
+		-czf build/$(NAMED)-linux-x86_64.tar.gz $(NAMED)
+	@rm -rf build/dist
+	@echo "The archive is build/$(NAMED)-linux-x86_64.tar.gz"
 
 check:
 	@test -d "crates/$(C)/src" || { echo "Usage: make check C=crate, one of:" crates/*/ >&2; exit 2; }
@@ -109,6 +143,9 @@ test:
 shown:
 	@$(NEEDS_PROGRAM)
 	python3 tests/docs.py build/ctxbound
+	python3 tests/commands.py build/ctxbound
+	python3 tests/around.py build/ctxbound
+	build/ctxbound suite examples
 
 bench:
 	@mkdir -p build

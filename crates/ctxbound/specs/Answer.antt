@@ -1,6 +1,6 @@
 -- What the program answers to a request, in terms of the bytes of its texts.
 use Rattle.std.specs.Prelude.{◌≡◌, ◌≢◌, ◌⊎◌, ℕ, List, [], ◌++◌, true, false, codes}
-use Rattle.std.specs.Prelude.{Result, Ok, Err, MatchResult, Vec, string_bytes}
+use Rattle.std.specs.Prelude.{Option, Some, None, Result, Ok, Err, MatchResult, Vec, string_bytes}
 use Rattle.std.specs.declared.alloc.Global.{Global}
 use Rattle.std.specs.declared.io.ErrorKind.{ErrorKind}
 use Rattle.std.specs.declared.io.ErrorKind.TheVariants as io
@@ -25,7 +25,7 @@ use Rattle.runner.specs.declared.error.ExploreError.{ExploreError}
 use Rattle.runner.specs.declared.error.ExploreError.TheVariants as explore
 use Rattle.runner.specs.declared.options.Options.{Options}
 use Rattle.runner.specs.declared.report.Report.{Report}
-use Rattle.runner.specs.ReportText.{report_text}
+use Rattle.runner.specs.ReportText.{report_text, named_schedule}
 use Rattle.runner.specs.Texts.{IsProgramOf, IsFaultOf, IsReportOfText}
 use Rattle.ctxbound.specs.declared.answer.Printed.{Printed}
 use Rattle.ctxbound.specs.declared.asked.Asked.{Asked}
@@ -54,6 +54,23 @@ pub record IsExplorationOf (text : List ℕ) (o : Options) (a : Printed) : Type 
   pub report : Report
   pub of_text : IsReportOfText false text o report
   pub output : a.output.items ≡ report_text report ++ codes "\n"
+  pub status : a.status ≡ verdict_status report.verdict
+
+-- what is printed after a report: what a replay of the schedule that it names prints, if any
+abbrev pub IsTraceOf : List ℕ → Option (List ℕ) → List ℕ → Type 0
+IsTraceOf text None trace = trace ≡ []
+IsTraceOf text (Some w) trace =
+    (replayed : Printed) × IsReplayOf text (spelling.printed w) replayed
+    × (trace ≡ replayed.output.items)
+
+-- the text spells a program, and this is the report of a search of it: its text is printed, a line
+-- feed, and the trace of the schedule that it names; the status is that of its verdict
+pub record IsTracedExplorationOf (text : List ℕ) (o : Options) (a : Printed) : Type 0 where
+  pub report : Report
+  pub of_text : IsReportOfText false text o report
+  pub trace : List ℕ
+  pub traced : IsTraceOf text (named_schedule report) trace
+  pub output : a.output.items ≡ report_text report ++ codes "\n" ++ trace
   pub status : a.status ≡ verdict_status report.verdict
 
 -- the text spells a program, and this is what is wrong with the schedule's text
@@ -88,6 +105,14 @@ FaultMeans text w (Replay replay.OutOfMemory) = ⊥
 FaultMeans text w (Replay e) = IsNoRun text w e
 FaultMeans text w other = TextFaultMeans text other
 
+-- the report of a search names a schedule, and this is what is wrong with its replay
+pub record IsNoTrace (text : List ℕ) (o : Options) (fault : Fault) : Type 0 where
+  pub report : Report
+  pub of_text : IsReportOfText false text o report
+  pub steps : List ℕ
+  pub named : named_schedule report ≡ Some steps
+  pub refused : FaultMeans text (spelling.printed steps) fault
+
 -- what a replay answers for these two texts
 abbrev pub ReplayMeans : List ℕ → List ℕ → Result Printed Fault → Type 0
 ReplayMeans text w result = MatchResult result (IsReplayOf text w) (FaultMeans text w)
@@ -95,6 +120,15 @@ ReplayMeans text w result = MatchResult result (IsReplayOf text w) (FaultMeans t
 -- what a search answers for this text
 abbrev pub ExplorationMeans : List ℕ → Options → Result Printed Fault → Type 0
 ExplorationMeans text o result = MatchResult result (IsExplorationOf text o) (TextFaultMeans text)
+
+-- what a search and a trace answer for this text: a fault is one of the text, or else the report
+-- names a schedule that can't be replayed, which its promise rules out
+abbrev pub TracedFaultMeans : List ℕ → Options → Fault → Type 0
+TracedFaultMeans text o fault = TextFaultMeans text fault ⊎ IsNoTrace text o fault
+
+abbrev pub TracedMeans : List ℕ → Options → Result Printed Fault → Type 0
+TracedMeans text o result =
+    MatchResult result (IsTracedExplorationOf text o) (TracedFaultMeans text o)
 
 -- the fault of a refusal: out of memory is one fault, whoever met it
 abbrev pub of_syntax : SyntaxError → Fault
@@ -150,6 +184,7 @@ answer_of (Err fault) = record {
 abbrev pub Means : Asked → List ℕ → Result Printed Fault → Type 0
 Means (asked.Replay schedule) text result = ReplayMeans text (string_bytes schedule) result
 Means (asked.Explore exploration) text result = ExplorationMeans text exploration.options result
+Means (asked.Trace exploration) text result = TracedMeans text exploration.options result
 
 -- the answer to a request for this text: what was done, or what is wrong
 pub record IsAnswerOf (request : Asked) (text : List ℕ) (a : AnswerView) : Type 0 where

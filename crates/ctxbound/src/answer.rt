@@ -1,7 +1,7 @@
 //! What the program answers to a request, as a value: the bytes for each stream, and the status.
 
 ghost use Rattle.std.specs.Prelude.{◌≡◌};
-ghost use Rattle.ctxbound.specs.Answer.{ReplayMeans, ExplorationMeans, IsAnswerTo};
+ghost use Rattle.ctxbound.specs.Answer.{ReplayMeans, ExplorationMeans, TracedMeans, IsAnswerTo};
 ghost use Rattle.ctxbound.specs.Status.{replay_status, verdict_status};
 ghost use Rattle.ctxbound.specs.Serve.{IsWritten};
 
@@ -9,7 +9,7 @@ use crate::asked::{Asked, Exploration};
 use crate::fault::Fault;
 use guest_code::lowering::lower;
 use guest_syntax::parse;
-use replay::{replay, schedule_from, trace_text};
+use replay::{replay, schedule_from, schedule_text, trace_text};
 use runner::{Open, Verdict, report_text};
 use semantics::view::Kind;
 use std::alloc::Global;
@@ -84,6 +84,34 @@ pub fn explore_text<R: Threads + Wait + Sync>(
     })
 }
 
+/// The report of a search, as [`explore_text`] prints it, and then what [`replay_text`] prints of the
+/// schedule that the report names, if it names one. The status is that of the search.
+///
+/// # Errors
+///
+/// As those of [`explore_text`].
+pub fn explore_and_trace<R: Threads + Wait + Sync>(
+    rt: &R,
+    alloc: Global,
+    text: &[u8],
+    asked: Exploration,
+) -> Result<Printed, Fault>
+    ensures { TracedMeans text.now asked.options result }
+{
+    let report = runner::explore_text(rt, alloc, text, asked.options, asked.workers, &Open)?;
+    let mut output = report_text(alloc, &report)?;
+    output.push(b'\n')?;
+    if let Some(schedule) = report.schedule() {
+        let schedule = schedule_text(alloc, schedule)?;
+        let trace = replay_text(alloc, text, schedule.as_slice())?;
+        output.extend_from_slice(trace.output.as_slice())?;
+    }
+    Ok(Printed {
+        output,
+        status: verdict_status(&report.verdict),
+    })
+}
+
 /// The status that the program ends with after a search: 0 where it found no bad schedule, 1 where
 /// it found one, 3 where it was cut short.
 pub fn verdict_status(verdict: &Verdict) -> u8
@@ -127,6 +155,9 @@ impl Answer {
             }
             (Ok(text), Asked::Explore(asked)) => {
                 explore_text(rt, alloc, text.as_slice(), *asked)
+            }
+            (Ok(text), Asked::Trace(asked)) => {
+                explore_and_trace(rt, alloc, text.as_slice(), *asked)
             }
             (Err(fault), _) => Err(fault),
         };

@@ -6,6 +6,25 @@ ghost use Rattle.runner.specs.declared.limits.TheConstants.{WORKERS};
 ghost use Rattle.ctxbound.specs.inner.Asked.{IsSearch-prop};
 
 use runner::Options;
+use suite::Limits;
+
+/// What the command words ask for.
+#[derive(Debug, Drop)]
+pub enum Request {
+    /// Something of the guest program in this file.
+    One { file: String, asked: Asked },
+    /// A suite.
+    Suite(SuiteRequest),
+}
+
+/// A suite: to search the guest program in each of these files, and print a table or JSON.
+#[derive(Debug, Drop)]
+pub struct SuiteRequest {
+    /// A folder stands for the files in it whose names end in `.guest`.
+    pub files: Vec<String>,
+    pub limits: Limits,
+    pub json: bool,
+}
 
 /// What the program is asked to do with a guest program.
 #[derive(Debug, Drop)]
@@ -14,6 +33,8 @@ pub enum Asked {
     Replay { schedule: String },
     /// To search for a bad schedule, and print the report.
     Explore(Exploration),
+    /// To search, and print the report and the trace of the schedule that it names, if any.
+    Trace(Exploration),
 }
 
 /// A search, and by how many workers. Its report doesn't depend on them, unless it is incomplete.

@@ -1,15 +1,17 @@
 //! The program `ctxbound`: what the command words ask for, done on a guest program.
 //!
-//! `asked` reads the words, `serve` does the work over a reader and two writers, and `main` joins
-//! them to the system. What is answered for the bytes of a text is `explore_text`, and for those of
+//! `words` reads the words, `serve` does the work over a reader and two writers, `suites` that of
+//! many files, and `main` joins them to the system. What is answered for the bytes of a text is `explore_text`, and for those of
 //! a text and a schedule `replay_text`; their contracts speak of nothing else.
 #![tactic(auto)]
 
 mod answer;
 mod asked;
 mod fault;
+mod files;
 mod program;
 mod serve;
+mod suites;
 #[cfg(test)]
 mod tests;
 mod words;

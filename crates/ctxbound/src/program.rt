@@ -1,29 +1,47 @@
 //! The whole program, but for where its words come from and where its answer goes.
 
+use crate::asked::{Asked, Request};
 use crate::fault::Fault;
+use crate::files::is_standard_input;
 use crate::serve::serve;
-use crate::words::asked;
+use crate::suites::serve_suite;
+use crate::words::request;
 use std::alloc::{Alloc, Global};
 use std::fs;
 use std::fs::Files;
-use std::io::Write;
+use std::io::{Input, Write};
 use std::sync::Wait;
 use std::thread::Threads;
 
-/// Does what the command words ask for on the file that they name: the answer goes to `out`, the
-/// line of a fault to `err`. Answers the status that the program ends with.
-pub fn serve_words<H: Threads + Wait + Sync + Files + Alloc<A = Global>, W: Write, E: Write>(
+/// Does what the command words ask for: the answer goes to `out`, the lines of faults to `err`.
+/// Answers the status that the program ends with.
+pub fn serve_words<H, W: Write, E: Write>(rt: &H, words: &[String], out: &mut W, err: &mut E) -> u8
+where
+    H: Threads + Wait + Sync + Files + Input + Alloc<A = Global> + Clone + Drop,
+{
+    match request(rt.alloc(), words) {
+        Ok(Request::One { file, asked }) => serve_file(rt, file.as_str(), &asked, out, err),
+        Ok(Request::Suite(asked)) => serve_suite(rt, &asked, out, err),
+        Err(fault) => fault.report(err),
+    }
+}
+
+/// Does what is asked with the guest program in a file.
+fn serve_file<H, W: Write, E: Write>(
     rt: &H,
-    words: &[String],
+    file: &str,
+    asked: &Asked,
     out: &mut W,
     err: &mut E,
-) -> u8 {
-    let (file, asked) = match asked(rt.alloc(), words) {
-        Ok(request) => request,
-        Err(fault) => return fault.report(err),
-    };
-    match fs::open(rt, file.as_str()) {
-        Ok(mut input) => serve(rt, rt.alloc(), &asked, &mut input, out, err),
+) -> u8
+where
+    H: Threads + Wait + Sync + Files + Input + Alloc<A = Global>,
+{
+    if is_standard_input(file) {
+        return serve(rt, rt.alloc(), asked, &mut rt.reader(), out, err);
+    }
+    match fs::open(rt, file) {
+        Ok(mut input) => serve(rt, rt.alloc(), asked, &mut input, out, err),
         Err(error) => Fault::from(error).report(err),
     }
 }

@@ -5,7 +5,7 @@ ghost use Rattle.runner.specs.declared.options.Search.TheVariants.{Unbounded};
 ghost use Rattle.runner.specs.Promises.{IsSearch};
 ghost use Rattle.ctxbound.specs.Words.{words_status};
 
-use crate::asked::{Asked, Exploration};
+use crate::asked::{Asked, Exploration, Request, SuiteRequest};
 use crate::fault::Fault;
 use clap::error::ErrorKind;
 use clap::{Arg, ArgAction, ArgMatches, Command, Error, value_parser};
@@ -14,6 +14,7 @@ use std::alloc::{Alloc, AllocError, Global};
 use std::env::Env;
 use std::io;
 use std::io::Write;
+use suite::{LIMIT, Limits};
 
 /// The version that `--version` shows.
 pub const VERSION: &str = "0.1.0";
@@ -23,11 +24,16 @@ pub const DEFAULT_BOUND: u32 = 2;
 
 /// What the help of each command ends with.
 pub const HELP_END: &str = "Examples:
-  ctxbound explore examples/first.guest
+  ctxbound explore examples/first.guest --trace
+  ctxbound unbounded examples/lost_update_fixed.guest
   ctxbound replay examples/first.guest 0,1,0
+  ctxbound suite examples
+
+`clean` with `\"all\":false` is no proof: schedules with more preemptions were left out.
+Try `unbounded` first where a program is small: it leaves no outcome out.
 
 Statuses:
-  0  no schedule is bad; a replay that is done, or not complete
+  0  no schedule is bad, or a suite's files are as expected; a replay that is done, or not complete
   1  a schedule is bad: it failed or got stuck; so did a replay
   2  words, text, program or schedule refused; help or version shown
   3  the search was cut short
@@ -122,7 +128,7 @@ pub fn command_words<R: Env + Alloc<A = Global>>(rt: &R) -> Result<Vec<String>, 
 fn file_arg<'a>(alloc: Global) -> Arg<'a> {
     Arg::new(alloc, "FILE")
         .required(true)
-        .help("The guest program")
+        .help("The guest program; `-` is standard input")
 }
 
 fn replay_command<'a>(alloc: Global) -> Result<Command<'a>, AllocError> {
@@ -136,47 +142,61 @@ fn replay_command<'a>(alloc: Global) -> Result<Command<'a>, AllocError> {
         .arg(schedule)
 }
 
+fn workers_arg<'a>(alloc: Global) -> Arg<'a> {
+    Arg::new(alloc, "workers")
+        .long("workers")
+        .value_name("W")
+        .value_parser(value_parser!(u32).range(1..=i64::from(WORKERS)))
+        .help("How many threads work; the answer doesn't depend on it [default: 1]")
+}
+
+fn limit_arg<'a>(alloc: Global) -> Arg<'a> {
+    Arg::new(alloc, "limit")
+        .long("limit")
+        .value_name("L")
+        .value_parser(value_parser!(i64).range(1..))
+        .help("Cut the search short once so many schedules were tried")
+}
+
+fn bound_arg<'a>(alloc: Global) -> Arg<'a> {
+    Arg::new(alloc, "bound")
+        .long("bound")
+        .value_name("N")
+        .value_parser(value_parser!(u32).range(0..=i64::from(BOUND)))
+        .help("The most preemptions of a schedule [default: 2]")
+}
+
 /// A command with what both kinds of search can be asked for.
 fn search_command<'a>(
     alloc: Global,
     name: &'a str,
     about: &'a str,
 ) -> Result<Command<'a>, AllocError> {
-    let workers = Arg::new(alloc, "workers")
-        .long("workers")
-        .value_name("W")
-        .value_parser(value_parser!(u32).range(1..=i64::from(WORKERS)))
-        .help("How many threads work; the answer doesn't depend on it [default: 1]");
-    let limit = Arg::new(alloc, "limit")
-        .long("limit")
-        .value_name("L")
-        .value_parser(value_parser!(i64).range(1..))
-        .help("Cut the search short once so many schedules were tried");
     let quick = Arg::new(alloc, "quick")
         .long("quick")
         .action(ArgAction::SetTrue)
         .help("Once a bad schedule is found, leave out what comes after it");
+    let trace = Arg::new(alloc, "trace")
+        .long("trace")
+        .action(ArgAction::SetTrue)
+        .help("After the report, print the trace of the schedule that it names");
     Command::new(alloc, name)
         .about(about)
         .after_help(HELP_END)
         .arg(file_arg(alloc))?
-        .arg(workers)?
-        .arg(limit)?
-        .arg(quick)
+        .arg(workers_arg(alloc))?
+        .arg(limit_arg(alloc))?
+        .arg(quick)?
+        .arg(trace)
 }
 
 fn explore_command<'a>(alloc: Global) -> Result<Command<'a>, AllocError> {
-    let bound = Arg::new(alloc, "bound")
-        .long("bound")
-        .value_name("N")
-        .value_parser(value_parser!(u32).range(0..=i64::from(BOUND)))
-        .help("The most preemptions of a schedule [default: 2]");
     search_command(
         alloc,
         "explore",
         "Runs a guest program under all schedules, those with fewest preemptions first",
     )?
-    .arg(bound)
+    .arg(bound_arg(alloc))
 }
 
 fn unbounded_command<'a>(alloc: Global) -> Result<Command<'a>, AllocError> {
@@ -187,6 +207,26 @@ fn unbounded_command<'a>(alloc: Global) -> Result<Command<'a>, AllocError> {
     )
 }
 
+fn suite_command<'a>(alloc: Global) -> Result<Command<'a>, AllocError> {
+    let files = Arg::new(alloc, "FILE").required(true).num_args(1..).help(
+        "The guest programs; a folder stands for its files whose names end in `.guest`",
+    );
+    let json = Arg::new(alloc, "json")
+        .long("json")
+        .action(ArgAction::SetTrue)
+        .help("Print an object a line instead of a table");
+    Command::new(alloc, "suite")
+        .about("Searches many guest programs, and compares what each expects of itself")
+        .after_help(HELP_END)
+        .arg(files)?
+        .arg(bound_arg(alloc))?
+        .arg(workers_arg(alloc))?
+        .arg(limit_arg(alloc).help(
+            "Cut a search short once this number of schedules was tried [default: 1000000]",
+        ))?
+        .arg(json)
+}
+
 fn command<'a>(alloc: Global) -> Result<Command<'a>, AllocError> {
     Command::new(alloc, "ctxbound")
         .about("Looks for schedules under which a guest program fails or gets stuck")
@@ -195,7 +235,8 @@ fn command<'a>(alloc: Global) -> Result<Command<'a>, AllocError> {
         .subcommand_required(true)
         .subcommand(explore_command(alloc)?)?
         .subcommand(unbounded_command(alloc)?)?
-        .subcommand(replay_command(alloc)?)
+        .subcommand(replay_command(alloc)?)?
+        .subcommand(suite_command(alloc)?)
 }
 
 /// How far the search of a command goes.
@@ -226,24 +267,53 @@ fn exploration_of(name: &str, given: &ArgMatches<'_>) -> Exploration {
     }
 }
 
-/// What the words of a command ask for.
-fn request_of(alloc: Global, name: &str, given: &ArgMatches<'_>) -> Result<Asked, AllocError> {
+/// What the words of a command ask for of a guest program.
+fn asked_of(alloc: Global, name: &str, given: &ArgMatches<'_>) -> Result<Asked, AllocError> {
     if name != "replay" {
-        return Ok(Asked::Explore(exploration_of(name, given)));
+        let search = exploration_of(name, given);
+        return Ok(if given.get_flag("trace") {
+            Asked::Trace(search)
+        } else {
+            Asked::Explore(search)
+        });
     }
     let schedule = String::from_str(alloc, given.get_str("SCHEDULE").unwrap_or("-"))?;
     Ok(Asked::Replay { schedule })
 }
 
-/// The name of the file and what to do with it. The first word is the program's own name.
+/// The suite that the words of a command ask for.
+fn suite_of(alloc: Global, given: &ArgMatches<'_>) -> Result<SuiteRequest, AllocError> {
+    let mut files = Vec::new(alloc);
+    for file in given.get_strs("FILE").unwrap_or(&[]) {
+        files.push(String::from_str(alloc, file)?)?;
+    }
+    // `clap` has refused other bounds and numbers of workers
+    let bound: u32 = given.get_one("bound").unwrap_or(DEFAULT_BOUND);
+    let workers: u32 = given.get_one("workers").unwrap_or(1);
+    Ok(SuiteRequest {
+        files,
+        limits: Limits {
+            limit: given.get_one("limit").unwrap_or(LIMIT),
+            bound: bound.min(BOUND),
+            workers: workers.clamp(1, WORKERS),
+        },
+        json: given.get_flag("json"),
+    })
+}
+
+/// What the command words ask for. The first word is the program's own name.
 ///
 /// # Errors
 ///
 /// What `clap` says of the words, a request for help or for the version included, or
 /// `OutOfMemory`.
-pub fn asked(alloc: Global, words: &[String]) -> Result<(String, Asked), WordsFault> {
+pub fn request(alloc: Global, words: &[String]) -> Result<Request, WordsFault> {
     let matches = command(alloc)?.try_get_matches_from(words)?;
     let (name, given) = matches.subcommand().unwrap_or(("replay", &matches));
+    if name == "suite" {
+        return Ok(Request::Suite(suite_of(alloc, given)?));
+    }
     let file = String::from_str(alloc, given.get_str("FILE").unwrap_or(""))?;
-    Ok((file, request_of(alloc, name, given)?))
+    let asked = asked_of(alloc, name, given)?;
+    Ok(Request::One { file, asked })
 }

@@ -1,13 +1,14 @@
 //! The command words: what they ask for, and what is said of those that ask for nothing.
 
-use crate::asked::Asked;
+use crate::asked::{Asked, Request};
 use crate::program::serve_words;
 use crate::tests::devices::Words;
 use crate::tests::{Written, compare, search, words_of};
-use crate::words::{HELP_END, VERSION, asked, command_words};
+use crate::words::{HELP_END, VERSION, command_words, request};
 use runner::{Options, Search};
 use std::alloc::{Alloc, Global};
 use std::fs::Files;
+use std::io::Input;
 use std::process::Abort;
 use std::sync::Wait;
 use std::test::*;
@@ -35,9 +36,9 @@ fn takes(
     schedule: &str,
 ) -> Result<(), Fail> {
     let words = words_of(rt.alloc(), given)?;
-    match asked(rt.alloc(), words.as_slice()) {
-        Ok((file, request)) => is_replay(rt, file.as_str(), &request, schedule),
-        Err(_) => Err(Fail::new("the words are refused")),
+    match request(rt.alloc(), words.as_slice()) {
+        Ok(Request::One { file, asked }) => is_replay(rt, file.as_str(), &asked, schedule),
+        _ => Err(Fail::new("the words are refused")),
     }
 }
 
@@ -99,7 +100,7 @@ fn takes_the_words_of_a_search(rt: HostRuntime) -> Result<(), Fail> {
 
 /// What the program writes that is started with these words.
 fn started(
-    rt: &(impl Threads + Wait + Sync + Files + Alloc<A = Global>),
+    rt: &(impl Threads + Wait + Sync + Files + Input + Alloc<A = Global> + Clone + Drop),
     given: &[&str],
 ) -> Result<Written, Fail> {
     let words = words_of(rt.alloc(), given)?;

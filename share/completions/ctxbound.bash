@@ -1,0 +1,31 @@
+# Completion of ctxbound's command words for bash.
+_ctxbound() {
+    local word=${COMP_WORDS[COMP_CWORD]} before=${COMP_WORDS[COMP_CWORD - 1]}
+    local commands='explore unbounded replay suite help'
+    local command=${COMP_WORDS[1]} words=
+    if ((COMP_CWORD == 1)); then
+        mapfile -t COMPREPLY < <(compgen -W "$commands --help --version" -- "$word")
+        return
+    fi
+    case $command in
+    explore) words='--bound --workers --limit --quick --trace --help' ;;
+    unbounded) words='--workers --limit --quick --trace --help' ;;
+    replay) words='--help' ;;
+    suite) words='--bound --workers --limit --json --help' ;;
+    help)
+        mapfile -t COMPREPLY < <(compgen -W "$commands" -- "$word")
+        return
+        ;;
+    esac
+    case $before in
+    --bound | --workers | --limit) COMPREPLY=() ;;
+    *)
+        if [[ $word == -* ]]; then
+            mapfile -t COMPREPLY < <(compgen -W "$words" -- "$word")
+        else
+            mapfile -t COMPREPLY < <(compgen -d -S / -- "$word"; compgen -f -X '!*.guest' -- "$word")
+        fi
+        ;;
+    esac
+}
+complete -o nospace -F _ctxbound ctxbound

@@ -1,0 +1,211 @@
+#!/usr/bin/env python3
+"""Runs the program's commands where no document shows them, and compares what they print.
+
+Usage: tests/commands.py BINARY
+
+What is expected was worked out by hand from docs/LANGUAGE.md and docs/FORMATS.md, or is what another
+command has to print. `make shown` runs it.
+"""
+import json
+import subprocess
+import sys
+import tempfile
+from pathlib import Path
+
+ROOT = Path(__file__).resolve().parent.parent
+SECONDS = 60
+
+# B's load comes before, between or after A's stores: three schedules, and in the second B fails.
+RACE = "var x;\nthread A { store x 1; store x 0; }\nthread B { load r x; assert r == 0; }\n"
+# Each thread has one step, on variables of their own: sleep sets leave one schedule.
+APART = "var x; var y;\nthread A { store x 1; }\nthread B { store y 1; }\n"
+# Two threads of eight steps: 12,870 schedules. With no preemption 2, with at most one 2 + 7 + 7.
+EIGHTS = ("var x;\nthread A { repeat 8 { store x 1; } }\nthread B { repeat 8 { store x 2; } }\n")
+# The same, and the first schedule of all fails, in which B comes after A.
+FAILING_EIGHTS = EIGHTS.replace("thread B {", "thread B { load r x; assert r == 0;")
+# Many schedules. B fails between A's last two steps, which takes a preemption.
+LATE = EIGHTS.replace("var x;", "var x; var y;").replace("}\nthread B {",
+                      "store y 1; store y 0; }\nthread B { load r y; assert r == 0;")
+
+FILES = {
+    "race.guest": RACE,
+    "as_expected.guest": "# expect: bad\n" + RACE,
+    "unexpected.guest": "  #expect:clean \n" + RACE,
+    "clean.guest": "# expect: clean\n" + APART,
+    "not_bad.guest": "# expect: bad\n" + APART,
+    "eights.guest": EIGHTS,
+    "failing_eights.guest": FAILING_EIGHTS,
+    "late.guest": LATE,
+    "refused.guest": "var x\n",
+    "unclear.guest": "# expect: bda\n" + RACE,
+    "twice.guest": "# expect: bad\n# expect: bad\n" + RACE,
+    "folder/b.guest": APART,
+    "folder/a.guest": RACE,
+    "folder/notes.txt": "no guest\n",
+    "empty/notes.txt": "no guest\n",
+    "tab\tname.guest": APART,
+}
+
+RACE_REPORT = ('"bound":null,"ends":[{"kind":"done","vars":[0]},{"kind":"failed","vars":[0]}],"failed":1,'
+               '"kind":"failed","preemptions":1,"schedule":"0,1,0","stuck":0,"tried":3,"verdict":"bad"}\n')
+APART_REPORT = ('"all":true,"bound":null,"ends":[{"kind":"done","vars":[1,1]}],"failed":0,"stuck":0,'
+                '"tried":1,"verdict":"clean"}\n')
+
+# The words, what is printed, and the status. Nothing is written on standard error.
+SUITES = [
+    (["as_expected.guest", "clean.guest"], """\
+file               verdict  bound  preemptions  schedule  tried  note
+as_expected.guest  bad      -      1            0,1,0     3      expected
+clean.guest        clean    -      -            -         1
+""", 0),
+    (["race.guest"], """\
+file        verdict  bound  preemptions  schedule  tried  note
+race.guest  bad      -      1            0,1,0     3
+""", 1),
+    (["unexpected.guest", "not_bad.guest"], """\
+file              verdict  bound  preemptions  schedule  tried  note
+unexpected.guest  bad      -      1            0,1,0     3      clean was expected
+not_bad.guest     clean    -      -            -         1      bad was expected
+""", 1),
+    (["eights.guest", "--limit", "100", "--bound", "1"], """\
+file          verdict  bound  preemptions  schedule  tried  note
+eights.guest  clean    1      -            -         16     no proof: schedules with more preemptions are left out
+""", 0),
+    (["refused.guest", "clean.guest"], """\
+file           verdict  bound  preemptions  schedule  tried  note
+refused.guest  refused  -      -            -         -      syntax S3 Expected at 2:1
+clean.guest    clean    -      -            -         1
+""", 2),
+    (["unclear.guest", "twice.guest"], """\
+file           verdict  bound  preemptions  schedule  tried  note
+unclear.guest  refused  -      -            -         -      line 1: one `# expect: bad` or `# expect: clean` is wanted
+twice.guest    refused  -      -            -         -      line 2: one `# expect: bad` or `# expect: clean` is wanted
+""", 2),
+    (["gone.guest", "clean.guest"], """\
+file         verdict  bound  preemptions  schedule  tried  note
+gone.guest   unread   -      -            -         -      No such file or directory (os error 2)
+clean.guest  clean    -      -            -         1
+""", 4),
+    (["folder"], """\
+file            verdict  bound  preemptions  schedule  tried  note
+folder/a.guest  bad      -      1            0,1,0     3
+folder/b.guest  clean    -      -            -         1
+""", 1),
+    (["empty"], """\
+file   verdict  bound  preemptions  schedule  tried  note
+empty  unread   -      -            -         -      no file in it ends in .guest
+""", 4),
+    (["tab\tname.guest"], """\
+file               verdict  bound  preemptions  schedule  tried  note
+tab\\x09name.guest  clean    -      -            -         1
+""", 0),
+    (["--json", "as_expected.guest", "clean.guest"],
+     '{"file":"as_expected.guest","expect":"bad","status":0,' + RACE_REPORT
+     + '{"file":"clean.guest","expect":"clean","status":0,' + APART_REPORT, 0),
+    (["--json", "refused.guest", "gone.guest", "race.guest"],
+     '{"file":"refused.guest","expect":null,"status":2,"fault":"syntax S3 Expected at 2:1"}\n'
+     '{"file":"gone.guest","expect":null,"status":4,"fault":"No such file or directory (os error 2)"}\n'
+     '{"file":"race.guest","expect":null,"status":1,' + RACE_REPORT, 4),
+]
+
+
+class Checker:
+    def __init__(self, binary, folder):
+        self.binary, self.folder, self.passed, self.failed = binary, folder, 0, 0
+
+    def run(self, words, given=b""):
+        done = subprocess.run([self.binary] + words, cwd=self.folder, input=given,
+                              stdout=subprocess.PIPE, stderr=subprocess.PIPE, timeout=SECONDS)
+        return done.stdout.decode(), done.stderr.decode(), done.returncode
+
+    def compare(self, words, printed, wanted):
+        if printed == wanted:
+            self.passed += 1
+            return
+        self.failed += 1
+        print("ctxbound %s\n-- wanted: %r\n-- printed: %r" % (" ".join(words), wanted, printed))
+
+    def suites(self):
+        for words, table, status in SUITES:
+            self.compare(["suite"] + words, self.run(["suite"] + words), (table, "", status))
+
+    def suites_cut_short(self):
+        """Where the search without a bound is cut short, the one up to the bound is told, unless only
+        the first found a bad schedule."""
+        for file, bound, wanted in (("failing_eights.guest", "0", ("bad", 0, True, 1)),
+                                    ("late.guest", "0", ("incomplete", None, True, 3)),
+                                    ("late.guest", "1", ("bad", 1, True, 1))):
+            words = ["suite", "--json", "--limit", "100", "--bound", bound, file]
+            out, _, status = self.run(words)
+            report = json.loads(out)
+            found = (report["verdict"], report["bound"], bool(report["schedule"]), status)
+            self.compare(words, found, wanted)
+
+    def examples(self):
+        """The examples are what they expect of themselves; each expects something."""
+        words = ["suite", "--json", str(ROOT / "examples")]
+        out, err, status = self.run(words)
+        lines = [json.loads(line) for line in out.splitlines()]
+        odd = [line["file"] for line in lines if line["expect"] is None or line["verdict"] != line["expect"]]
+        guests = sorted(str(path) for path in (ROOT / "examples").glob("*.guest"))
+        self.compare(words, ([line["file"] for line in lines], odd, err, status), (guests, [], "", 0))
+
+    def traces(self):
+        """With `--trace`, a report is followed by what a replay of its schedule prints."""
+        for words in (["explore", "race.guest"], ["unbounded", "race.guest"], ["explore", "clean.guest"],
+                      ["explore", "race.guest", "--workers", "2"],
+                      ["unbounded", "failing_eights.guest", "--limit", "100"]):
+            report, _, status = self.run(words)
+            schedule = json.loads(report).get("schedule")
+            trace = self.run(["replay", words[1], schedule])[0] if schedule else ""
+            self.compare(words + ["--trace"], self.run(words + ["--trace"]), (report + trace, "", status))
+        self.compare(["explore", "refused.guest", "--trace"],
+                     self.run(["explore", "refused.guest", "--trace"]),
+                     ("", "ctxbound: syntax S3 Expected at 2:1\n", 2))
+
+    def standard_input(self):
+        """`-` is standard input, for each command."""
+        for words in (["explore", "FILE"], ["unbounded", "FILE", "--trace"], ["replay", "FILE", "0,1,0"],
+                      ["replay", "FILE"]):
+            by_name = self.run([word.replace("FILE", "race.guest") for word in words])
+            by_stream = self.run([word.replace("FILE", "-") for word in words], RACE.encode())
+            self.compare(words, by_stream, by_name)
+        self.compare(["suite", "-"], self.run(["suite", "-"], APART.encode()), ("""\
+file  verdict  bound  preemptions  schedule  tried  note
+-     clean    -      -            -         1
+""", "", 0))
+        self.compare(["replay", "-"], self.run(["replay", "-"], b" " * 65537),
+                     ("", "ctxbound: syntax S5 TooLong at 1:1\n", 2))
+
+    def full_device(self):
+        """A stream that can't be written is named by `suite`, and is `file` elsewhere."""
+        for words, line in ((["suite", "clean.guest"],
+                             "ctxbound: standard output: No space left on device (os error 28)\n"),
+                            (["explore", "clean.guest"], "ctxbound: file\n")):
+            with open("/dev/full", "wb") as full:
+                done = subprocess.run([self.binary] + words, cwd=self.folder, stdout=full,
+                                      stderr=subprocess.PIPE, timeout=SECONDS)
+            self.compare(words, (done.stderr.decode(), done.returncode), (line, 4))
+
+
+def main():
+    if len(sys.argv) != 2 or not Path(sys.argv[1]).is_file():
+        raise SystemExit("usage: tests/commands.py BINARY")
+    with tempfile.TemporaryDirectory() as folder:
+        for name, text in FILES.items():
+            path = Path(folder) / name
+            path.parent.mkdir(exist_ok=True)
+            path.write_text(text, encoding="utf-8")
+        checker = Checker(str(Path(sys.argv[1]).resolve()), folder)
+        checker.suites()
+        checker.suites_cut_short()
+        checker.examples()
+        checker.traces()
+        checker.standard_input()
+        checker.full_device()
+    print("%d passed, %d failed" % (checker.passed, checker.failed))
+    raise SystemExit(1 if checker.failed else 0)
+
+
+if __name__ == "__main__":
+    main()
