@@ -13,7 +13,6 @@ use crate::serve::serve;
 use crate::tests::devices::{FailingReader, FailingWriter};
 use crate::tests::reports::{ASKED_FOR_MORE, BOUNDED, CUT_SHORT, EIGHT_STORES, UNBOUNDED};
 use crate::tests::rows::{RACE, REFUSALS, TRACES};
-use crate::words;
 use std::alloc::{Alloc, Global};
 use std::process::Abort;
 use std::sync::Wait;
@@ -33,7 +32,7 @@ fn words_of(alloc: Global, given: &[&str]) -> Result<Vec<String>, Fail> {
 
 /// What these words ask for.
 fn request_by(alloc: Global, words: &[String]) -> Result<Asked, Fail> {
-    match words::request(alloc, words) {
+    match crate::words::request(alloc, words) {
         Ok(Request::One { asked, .. }) => Ok(asked),
         _ => Err(Fail::new("the words ask for nothing of one program")),
     }
