@@ -163,6 +163,55 @@ class Checker:
                      self.run(["explore", "refused.guest", "--trace"]),
                      ("", "ctxbound: syntax S3 Expected at 2:1\n", 2))
 
+    def explanations(self):
+        """What is explained is what a replay of the schedule shows; where a search finds none, a sentence
+        says how far it went."""
+        for words, schedule, status in ((["race.guest"], "0,1,0", 1), (["race.guest", "--unbounded"], "0,1,0", 1),
+                                        (["race.guest", "0x2,1"], "0x2,1", 0), (["race.guest", "0"], "0", 0),
+                                        (["race.guest", "0,0,0"], "0x3", 2), (["race.guest", "7"], "7", 2)):
+            text, err, found = self.run(["explain"] + words)
+            self.compare(["explain"] + words, (text.split("\n")[-2], err, found),
+                         ("Replay: ctxbound replay race.guest " + schedule, "", status))
+            told, err, found = self.run(["explain"] + words + ["--json"])
+            self.compare(["explain"] + words + ["--json"], (json.loads(told)["schedule"], err, found),
+                         (schedule, "", status))
+            page, err, found = self.run(["explain"] + words + ["--html"])
+            self.compare(["explain"] + words + ["--html"], ("<html" in page, err, found), (True, "", status))
+        for words, wanted in (
+                (["clean.guest"], ("clean.guest: no schedule is bad (2 tried).\n", "", 0)),
+                (["clean.guest", "--unbounded"], ("clean.guest: no schedule is bad (1 tried).\n", "", 0)),
+                (["eights.guest", "--bound", "1"], (
+                    "eights.guest: no schedule with at most 1 preemption is bad (16 tried).\n"
+                    "That is no proof: others have more. Try --unbounded, or a higher --bound.\n", "", 0)),
+                (["refused.guest"], ("", "ctxbound: syntax S3 Expected at 2:1\n", 2)),
+                (["race.guest", "0,"], ("", "ctxbound: schedule Q1 BadSchedule at 2\n", 2)),
+                (["gone.guest"], ("", "ctxbound: gone.guest: No such file or directory (os error 2)\n", 4)),
+                (["folder"], ("", "ctxbound: folder: Is a directory (os error 21)\n", 4))):
+            self.compare(["explain"] + words, self.run(["explain"] + words), wanted)
+        _, err, status = self.run(["explain", "race.guest", "--html", "--json"])
+        self.compare(["explain", "--html", "--json"], (err[:7], status), ("error: ", 2))
+        wide = max(map(len, self.run(["explain", "race.guest", "--all", "--width", "60"])[0].split("\n")[:-2]))
+        self.compare(["explain", "--width", "60"], wide <= 60, True)
+
+    def checks(self):
+        """`check` writes on standard error alone, and names a file where there are several."""
+        refused = "ctxbound: syntax S3 Expected at 2:1\n"
+        warned = "ctxbound: warning W5 NeverLoaded at 1:5\n"
+        gone = "ctxbound: gone.guest: No such file or directory (os error 2)\n"
+        for words, begins, status in (
+                (["race.guest"], [""], 0), (["race.guest", "--strict", "--deep"], [""], 0),
+                (["refused.guest"], [refused], 2), (["eights.guest"], [warned], 0),
+                (["eights.guest", "--strict"], [warned], 1),
+                (["gone.guest", "race.guest", "refused.guest"], [gone, "refused.guest:\n", refused], 4),
+                (["race.guest", "eights.guest", "--strict"], ["eights.guest:\n", warned], 1)):
+            out, err, found = self.run(["check"] + words)
+            place = 0
+            for begin in begins:
+                place = err.find(begin, place)
+                self.compare(["check"] + words, (out, place >= 0, found), ("", True, status))
+            self.compare(["check"] + words, err.startswith(begins[0]) and (err == "") == (begins == [""]),
+                         True)
+
     def standard_input(self):
         """`-` is standard input, for each command."""
         for words in (["explore", "FILE"], ["unbounded", "FILE", "--trace"], ["replay", "FILE", "0,1,0"],
@@ -178,9 +227,9 @@ file  verdict  bound  preemptions  schedule  tried  note
                      ("", "ctxbound: syntax S5 TooLong at 1:1\n", 2))
 
     def full_device(self):
-        """A stream that can't be written is named by `suite`, and is `file` elsewhere."""
-        for words, line in ((["suite", "clean.guest"],
-                             "ctxbound: standard output: No space left on device (os error 28)\n"),
+        """A stream that can't be written is named by `suite` and `explain`, and is `file` elsewhere."""
+        named = "ctxbound: standard output: No space left on device (os error 28)\n"
+        for words, line in ((["suite", "clean.guest"], named), (["explain", "race.guest"], named),
                             (["explore", "clean.guest"], "ctxbound: file\n")):
             with open("/dev/full", "wb") as full:
                 done = subprocess.run([self.binary] + words, cwd=self.folder, stdout=full,
@@ -201,6 +250,8 @@ def main():
         checker.suites_cut_short()
         checker.examples()
         checker.traces()
+        checker.explanations()
+        checker.checks()
         checker.standard_input()
         checker.full_device()
     print("%d passed, %d failed" % (checker.passed, checker.failed))

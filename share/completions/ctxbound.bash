@@ -1,7 +1,7 @@
 # Completion of ctxbound's command words for bash.
 _ctxbound() {
     local word=${COMP_WORDS[COMP_CWORD]} before=${COMP_WORDS[COMP_CWORD - 1]}
-    local commands='explore unbounded replay suite help'
+    local commands='explore unbounded replay explain check suite help'
     local command=${COMP_WORDS[1]} words=
     if ((COMP_CWORD == 1)); then
         mapfile -t COMPREPLY < <(compgen -W "$commands --help --version" -- "$word")
@@ -11,6 +11,8 @@ _ctxbound() {
     explore) words='--bound --workers --limit --quick --trace --help' ;;
     unbounded) words='--workers --limit --quick --trace --help' ;;
     replay) words='--help' ;;
+    explain) words='--bound --workers --limit --quick --unbounded --all --width --html --json --help' ;;
+    check) words='--strict --deep --limit --help' ;;
     suite) words='--bound --workers --limit --json --help' ;;
     help)
         mapfile -t COMPREPLY < <(compgen -W "$commands" -- "$word")
@@ -18,7 +20,7 @@ _ctxbound() {
         ;;
     esac
     case $before in
-    --bound | --workers | --limit) COMPREPLY=() ;;
+    --bound | --workers | --limit | --width) COMPREPLY=() ;;
     *)
         if [[ $word == -* ]]; then
             mapfile -t COMPREPLY < <(compgen -W "$words" -- "$word")

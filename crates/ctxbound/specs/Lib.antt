@@ -1,4 +1,5 @@
 pub mod Answer
+pub mod Checks
 pub mod Lines
 pub mod Serve
 pub mod Status

@@ -1,5 +1,8 @@
 -- The statuses that the program ends with.
-use Rattle.std.specs.Prelude.{ℕ, Option, Some, None}
+use Rattle.std.specs.Prelude.{ℕ, Bool, ◌&&◌, if◌then◌else◌, Option, Some, None}
+use Rattle.advice.specs.declared.Checked.{Checked}
+use Rattle.advice.specs.declared.Checked.TheVariants.{Sound, Refused}
+use Rattle.advice.specs.Told.{is_warned}
 use Rattle.semantics.specs.declared.view.Kind.{Kind}
 use Rattle.semantics.specs.declared.view.Kind.TheVariants.{Done, Failed, Stuck}
 use Rattle.runner.specs.declared.report.Verdict.{Verdict}
@@ -29,3 +32,14 @@ fault_status (Syntax e) = 2
 fault_status (Check e) = 2
 fault_status (Schedule e) = 2
 fault_status (Replay e) = 2
+
+-- the status of a text that was checked: a refusal counts, and a warning where it is to
+abbrev pub checked_status : Bool → Checked → ℕ
+checked_status strict (Refused advice) = 2
+checked_status strict (Sound advices) =
+    if strict && is_warned (Sound advices) then 1 else 0
+
+-- the status after an explanation: that of a replay, which refuses a schedule that can't go on
+abbrev pub explained_status : Option ℕ → Option Kind → ℕ
+explained_status (Some thread) kind = 2
+explained_status None kind = replay_status kind

@@ -6,15 +6,17 @@ ghost use Rattle.ctxbound.specs.Status.{replay_status, verdict_status};
 ghost use Rattle.ctxbound.specs.Serve.{IsWritten};
 
 use crate::asked::{Asked, Exploration};
+use crate::explained::explain_text;
 use crate::fault::Fault;
+use crate::progress::Teller;
 use guest_code::lowering::lower;
 use guest_syntax::parse;
 use replay::{replay, schedule_from, schedule_text, trace_text};
-use runner::{Open, Verdict, report_text};
+use runner::{Verdict, report_text};
 use semantics::view::Kind;
 use std::alloc::Global;
 use std::io;
-use std::io::Write;
+use std::io::{Eprint, Write};
 use std::marker::Model;
 use std::sync::Wait;
 use std::thread::Threads;
@@ -66,7 +68,7 @@ pub fn replay_status(kind: Option<Kind>) -> u8
 ///
 /// What is wrong first, with the text or with the program that it spells; `Memory` where memory
 /// runs out.
-pub fn explore_text<R: Threads + Wait + Sync>(
+pub fn explore_text<R: Threads + Wait + Sync + Eprint>(
     rt: &R,
     alloc: Global,
     text: &[u8],
@@ -74,8 +76,13 @@ pub fn explore_text<R: Threads + Wait + Sync>(
 ) -> Result<Printed, Fault>
     ensures { ExplorationMeans text.now asked.options result }
 {
-    let Exploration { options, workers } = asked;
-    let report = runner::explore_text(rt, alloc, text, options, workers, &Open)?;
+    let Exploration {
+        options,
+        workers,
+        progress,
+    } = asked;
+    let gate = Teller::new(rt, progress);
+    let report = runner::explore_text(rt, alloc, text, options, workers, &gate)?;
     let mut output = report_text(alloc, &report)?;
     output.push(b'\n')?;
     Ok(Printed {
@@ -90,7 +97,7 @@ pub fn explore_text<R: Threads + Wait + Sync>(
 /// # Errors
 ///
 /// As those of [`explore_text`].
-pub fn explore_and_trace<R: Threads + Wait + Sync>(
+pub fn explore_and_trace<R: Threads + Wait + Sync + Eprint>(
     rt: &R,
     alloc: Global,
     text: &[u8],
@@ -98,7 +105,8 @@ pub fn explore_and_trace<R: Threads + Wait + Sync>(
 ) -> Result<Printed, Fault>
     ensures { TracedMeans text.now asked.options result }
 {
-    let report = runner::explore_text(rt, alloc, text, asked.options, asked.workers, &Open)?;
+    let gate = Teller::new(rt, asked.progress);
+    let report = runner::explore_text(rt, alloc, text, asked.options, asked.workers, &gate)?;
     let mut output = report_text(alloc, &report)?;
     output.push(b'\n')?;
     if let Some(schedule) = report.schedule() {
@@ -141,7 +149,7 @@ impl Model for Answer {
 
 impl Answer {
     /// The answer to a request, where the reader gave this text or failed so.
-    pub fn new<R: Threads + Wait + Sync>(
+    pub fn new<R: Threads + Wait + Sync + Eprint>(
         rt: &R,
         alloc: Global,
         asked: &Asked,
@@ -159,6 +167,7 @@ impl Answer {
             (Ok(text), Asked::Trace(asked)) => {
                 explore_and_trace(rt, alloc, text.as_slice(), *asked)
             }
+            (Ok(text), Asked::Explain(asked)) => { explain_text(rt, alloc, text.as_slice(), asked) }
             (Err(fault), _) => Err(fault),
         };
         Answer { result }

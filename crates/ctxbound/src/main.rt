@@ -7,9 +7,12 @@
 
 mod answer;
 mod asked;
+mod checks;
+mod explained;
 mod fault;
 mod files;
 mod program;
+mod progress;
 mod serve;
 mod suites;
 #[cfg(test)]

@@ -9,7 +9,7 @@ use crate::asked::Asked;
 use crate::fault::Fault;
 use guest_syntax::TEXT_BYTES;
 use std::alloc::Global;
-use std::io::{Read, Write};
+use std::io::{Eprint, Read, Write};
 use std::sync::Wait;
 use std::thread::Threads;
 
@@ -38,7 +38,7 @@ fn write_out<W: Write>(out: &mut W, output: &[u8]) -> Result<(), Fault>
 
 /// Does what is asked with the guest program that `input` gives: the answer goes to `out`, the
 /// line of a fault to `err`. Answers the status that the program ends with.
-pub fn serve<H: Threads + Wait + Sync, R: Read, W: Write, E: Write>(
+pub fn serve<H: Threads + Wait + Sync + Eprint, R: Read, W: Write, E: Write>(
     rt: &H,
     alloc: Global,
     asked: &Asked,

@@ -14,6 +14,7 @@ use crate::tests::devices::{FailingReader, FailingWriter};
 use crate::tests::reports::{ASKED_FOR_MORE, BOUNDED, CUT_SHORT, EIGHT_STORES, UNBOUNDED};
 use crate::tests::rows::{RACE, REFUSALS, TRACES};
 use std::alloc::{Alloc, Global};
+use std::io::Eprint;
 use std::process::Abort;
 use std::sync::Wait;
 use std::test::*;
@@ -65,7 +66,7 @@ struct Written {
 
 /// What the program writes on both streams, and the status that it ends with.
 fn answered(
-    rt: &(impl Threads + Wait + Sync + Alloc<A = Global>),
+    rt: &(impl Threads + Wait + Sync + Eprint + Alloc<A = Global>),
     text: &[u8],
     request: &Asked,
 ) -> Written {
@@ -79,7 +80,7 @@ fn answered(
 
 /// The same of a replay.
 fn served(
-    rt: &(impl Threads + Wait + Sync + Alloc<A = Global>),
+    rt: &(impl Threads + Wait + Sync + Eprint + Alloc<A = Global>),
     text: &[u8],
     schedule: &str,
 ) -> Result<Written, Fail> {
@@ -99,7 +100,7 @@ fn compare(rt: &impl Abort, written: &Written, want: (&[u8], &[u8], u8), about: 
 
 /// Compares what a replay writes and the status.
 fn replays(
-    rt: &(impl Abort + Threads + Wait + Sync + Alloc<A = Global>),
+    rt: &(impl Abort + Threads + Wait + Sync + Eprint + Alloc<A = Global>),
     text: &str,
     schedule: &str,
     want: (&[u8], &[u8], u8),
@@ -127,7 +128,7 @@ fn prints_refusals(rt: HostRuntime) -> Result<(), Fail> {
 
 /// Compares what a search writes and the status.
 fn searches(
-    rt: &(impl Abort + Threads + Wait + Sync + Alloc<A = Global>),
+    rt: &(impl Abort + Threads + Wait + Sync + Eprint + Alloc<A = Global>),
     text: &str,
     line: &str,
     want: (&[u8], &[u8], u8),
@@ -140,7 +141,7 @@ fn searches(
 
 /// Compares the report of a search.
 fn prints_report(
-    rt: &(impl Abort + Threads + Wait + Sync + Alloc<A = Global>),
+    rt: &(impl Abort + Threads + Wait + Sync + Eprint + Alloc<A = Global>),
     row: &(&str, &str, &str, u8),
 ) -> Result<(), Fail> {
     let (text, line, report, status) = row;
@@ -150,7 +151,7 @@ fn prints_report(
 
 /// Compares the reports of searches.
 fn prints_reports(
-    rt: &(impl Abort + Threads + Wait + Sync + Alloc<A = Global>),
+    rt: &(impl Abort + Threads + Wait + Sync + Eprint + Alloc<A = Global>),
     rows: &[(&str, &str, &str, u8)],
 ) -> Result<(), Fail> {
     for row in rows {
@@ -186,7 +187,7 @@ fn tells_a_text_that_cannot_be_searched(rt: HostRuntime) -> Result<(), Fail> {
 /// Serves a request over a reader that fails at this call, and compares what it writes as the line
 /// of a fault: answers the status, how much output there is, and the calls of the reader.
 fn reader_fails(
-    rt: &(impl Abort + Threads + Wait + Sync + Alloc<A = Global>),
+    rt: &(impl Abort + Threads + Wait + Sync + Eprint + Alloc<A = Global>),
     request: &Asked,
     text: &[u8],
     fails_at: usize,
@@ -208,7 +209,7 @@ fn reader_fails(
 /// Serves a request over a writer that fails at this call, and compares what it writes as the line
 /// of a fault: answers the status and the calls of the writer.
 fn writer_fails(
-    rt: &(impl Abort + Threads + Wait + Sync + Alloc<A = Global>),
+    rt: &(impl Abort + Threads + Wait + Sync + Eprint + Alloc<A = Global>),
     request: &Asked,
     text: &str,
     fails_at: usize,
@@ -225,7 +226,7 @@ fn writer_fails(
 
 /// Each call of a reader fails in turn: the program says so, and doesn't try it again.
 fn readers_fail(
-    rt: &(impl Abort + Threads + Wait + Sync + Alloc<A = Global>),
+    rt: &(impl Abort + Threads + Wait + Sync + Eprint + Alloc<A = Global>),
     request: &Asked,
     text: &str,
 ) {
@@ -237,7 +238,7 @@ fn readers_fail(
 
 /// The same of each call of a writer.
 fn writers_fail(
-    rt: &(impl Abort + Threads + Wait + Sync + Alloc<A = Global>),
+    rt: &(impl Abort + Threads + Wait + Sync + Eprint + Alloc<A = Global>),
     request: &Asked,
     text: &str,
 ) {
@@ -259,7 +260,7 @@ fn says_that_a_device_failed(rt: HostRuntime) -> Result<(), Fail> {
 
 /// Each call of a device fails in turn in a search.
 fn devices_fail_in_a_search(
-    rt: &(impl Abort + Threads + Wait + Sync + Alloc<A = Global>),
+    rt: &(impl Abort + Threads + Wait + Sync + Eprint + Alloc<A = Global>),
     line: &str,
 ) -> Result<(), Fail> {
     let request = search(rt.alloc(), line)?;
@@ -294,7 +295,9 @@ fn after<'a>(text: &'a [u8], begins: &str) -> Result<&'a str, Fail> {
 }
 
 /// The status of the search that is cut short in a bound, and how many schedules it tried.
-fn cut_short(rt: &(impl Threads + Wait + Sync + Alloc<A = Global>)) -> Result<(u8, u64), Fail> {
+fn cut_short(
+    rt: &(impl Threads + Wait + Sync + Eprint + Alloc<A = Global>),
+) -> Result<(u8, u64), Fail> {
     let request = search(rt.alloc(), "explore FILE --bound 0 --limit 1000")?;
     let written = answered(rt, EIGHT_STORES.as_bytes(), &request);
     let tried = number_in(after(written.out.as_slice(), CUT_SHORT)?);
@@ -310,7 +313,10 @@ fn is_cut_short_in_a_bound(rt: HostRuntime) -> Result<(), Fail> {
 }
 
 /// The status where neither stream takes anything.
-fn status_alone(rt: &(impl Threads + Wait + Sync + Alloc<A = Global>), request: &Asked) -> u8 {
+fn status_alone(
+    rt: &(impl Threads + Wait + Sync + Eprint + Alloc<A = Global>),
+    request: &Asked,
+) -> u8 {
     let mut input = RACE.as_bytes();
     let mut out = FailingWriter::at(0);
     let mut err = FailingWriter::at(0);

@@ -5,7 +5,7 @@ ghost use Rattle.runner.specs.declared.options.Search.TheVariants.{Unbounded};
 ghost use Rattle.runner.specs.Promises.{IsSearch};
 ghost use Rattle.ctxbound.specs.Words.{words_status};
 
-use crate::asked::{Asked, Exploration, Request, SuiteRequest};
+use crate::asked::{Asked, CheckRequest, ExplainRequest, Exploration, Form, Request, SuiteRequest};
 use crate::fault::Fault;
 use clap::error::ErrorKind;
 use clap::{Arg, ArgAction, ArgMatches, Command, Error, value_parser};
@@ -22,11 +22,19 @@ pub const VERSION: &str = "0.1.0";
 /// The bound of a search that asks for none.
 pub const DEFAULT_BOUND: u32 = 2;
 
+/// How many schedules a deep check goes through at most, where no number is asked for.
+const DEFAULT_DEPTH: u64 = 100_000;
+
+/// The columns of an explanation, where no number is asked for.
+const DEFAULT_WIDTH: u32 = 100;
+
 /// What the help of each command ends with.
 pub const HELP_END: &str = "Examples:
   ctxbound explore examples/first.guest --trace
   ctxbound unbounded examples/lost_update_fixed.guest
   ctxbound replay examples/first.guest 0,1,0
+  ctxbound explain examples/lock_order.guest
+  ctxbound check examples/first.guest
   ctxbound suite examples
 
 `clean` with `\"all\":false` is no proof: schedules with more preemptions were left out.
@@ -158,6 +166,13 @@ fn limit_arg<'a>(alloc: Global) -> Arg<'a> {
         .help("Cut the search short once so many schedules were tried")
 }
 
+fn trace_arg<'a>(alloc: Global) -> Arg<'a> {
+    Arg::new(alloc, "trace")
+        .long("trace")
+        .action(ArgAction::SetTrue)
+        .help("After the report, print the trace of the schedule that it names")
+}
+
 fn bound_arg<'a>(alloc: Global) -> Arg<'a> {
     Arg::new(alloc, "bound")
         .long("bound")
@@ -176,18 +191,18 @@ fn search_command<'a>(
         .long("quick")
         .action(ArgAction::SetTrue)
         .help("Once a bad schedule is found, leave out what comes after it");
-    let trace = Arg::new(alloc, "trace")
-        .long("trace")
+    let progress = Arg::new(alloc, "progress")
+        .long("progress")
         .action(ArgAction::SetTrue)
-        .help("After the report, print the trace of the schedule that it names");
+        .help("Tell on standard error how far the search is");
     Command::new(alloc, name)
         .about(about)
         .after_help(HELP_END)
         .arg(file_arg(alloc))?
         .arg(workers_arg(alloc))?
         .arg(limit_arg(alloc))?
-        .arg(quick)?
-        .arg(trace)
+        .arg(progress)?
+        .arg(quick)
 }
 
 fn explore_command<'a>(alloc: Global) -> Result<Command<'a>, AllocError> {
@@ -196,7 +211,8 @@ fn explore_command<'a>(alloc: Global) -> Result<Command<'a>, AllocError> {
         "explore",
         "Runs a guest program under all schedules, those with fewest preemptions first",
     )?
-    .arg(bound_arg(alloc))
+    .arg(bound_arg(alloc))?
+    .arg(trace_arg(alloc))
 }
 
 fn unbounded_command<'a>(alloc: Global) -> Result<Command<'a>, AllocError> {
@@ -204,27 +220,90 @@ fn unbounded_command<'a>(alloc: Global) -> Result<Command<'a>, AllocError> {
         alloc,
         "unbounded",
         "Runs a guest program under all schedules that sleep sets leave",
+    )?
+    .arg(trace_arg(alloc))
+}
+
+fn explain_command<'a>(alloc: Global) -> Result<Command<'a>, AllocError> {
+    let schedule = Arg::new(alloc, "SCHEDULE").help(
+        "The schedule to explain; left out, a search finds one",
+    );
+    let unbounded = Arg::new(alloc, "unbounded")
+        .long("unbounded")
+        .action(ArgAction::SetTrue)
+        .conflicts_with("bound")?
+        .help("Search without a bound");
+    let all = Arg::new(alloc, "all")
+        .long("all")
+        .action(ArgAction::SetTrue)
+        .help("Show each step, and fold none");
+    let width = Arg::new(alloc, "width")
+        .long("width")
+        .value_name("N")
+        .value_parser(value_parser!(u32).range(40..=1000))
+        .help("The columns of a line, at most [default: 100]");
+    let html = Arg::new(alloc, "html")
+        .long("html")
+        .action(ArgAction::SetTrue)
+        .conflicts_with("json")?
+        .help("Print a page");
+    search_command(
+        alloc,
+        "explain",
+        "Says why a schedule of a guest program ends as it does",
+    )?
+    .arg(schedule)?
+    .arg(bound_arg(alloc))?
+    .arg(unbounded)?
+    .arg(all)?
+    .arg(width)?
+    .arg(html)?
+    .arg(json_arg(alloc).help("Print JSON"))
+}
+
+fn json_arg<'a>(alloc: Global) -> Arg<'a> {
+    Arg::new(alloc, "json")
+        .long("json")
+        .action(ArgAction::SetTrue)
+}
+
+fn files_arg<'a>(alloc: Global) -> Arg<'a> {
+    Arg::new(alloc, "FILE").required(true).num_args(1..).help(
+        "The guest programs; a folder stands for its files whose names end in `.guest`",
     )
 }
 
-fn suite_command<'a>(alloc: Global) -> Result<Command<'a>, AllocError> {
-    let files = Arg::new(alloc, "FILE").required(true).num_args(1..).help(
-        "The guest programs; a folder stands for its files whose names end in `.guest`",
-    );
-    let json = Arg::new(alloc, "json")
-        .long("json")
+fn check_command<'a>(alloc: Global) -> Result<Command<'a>, AllocError> {
+    let strict = Arg::new(alloc, "strict")
+        .long("strict")
         .action(ArgAction::SetTrue)
-        .help("Print an object a line instead of a table");
+        .help("Status 1 where there is a warning");
+    let deep = Arg::new(alloc, "deep")
+        .long("deep")
+        .action(ArgAction::SetTrue)
+        .help("Go through the schedules that sleep sets leave, for more warnings");
+    Command::new(alloc, "check")
+        .about("Says what is wrong or odd about guest programs, and searches nothing")
+        .after_help(HELP_END)
+        .arg(files_arg(alloc))?
+        .arg(strict)?
+        .arg(deep)?
+        .arg(limit_arg(alloc).help(
+            "With --deep: go through at most this number of schedules [default: 100000]",
+        ))
+}
+
+fn suite_command<'a>(alloc: Global) -> Result<Command<'a>, AllocError> {
     Command::new(alloc, "suite")
         .about("Searches many guest programs, and compares what each expects of itself")
         .after_help(HELP_END)
-        .arg(files)?
+        .arg(files_arg(alloc))?
         .arg(bound_arg(alloc))?
         .arg(workers_arg(alloc))?
         .arg(limit_arg(alloc).help(
             "Cut a search short once this number of schedules was tried [default: 1000000]",
         ))?
-        .arg(json)
+        .arg(json_arg(alloc).help("Print an object a line instead of a table"))
 }
 
 fn command<'a>(alloc: Global) -> Result<Command<'a>, AllocError> {
@@ -236,6 +315,8 @@ fn command<'a>(alloc: Global) -> Result<Command<'a>, AllocError> {
         .subcommand(explore_command(alloc)?)?
         .subcommand(unbounded_command(alloc)?)?
         .subcommand(replay_command(alloc)?)?
+        .subcommand(explain_command(alloc)?)?
+        .subcommand(check_command(alloc)?)?
         .subcommand(suite_command(alloc)?)
 }
 
@@ -264,11 +345,15 @@ fn exploration_of(name: &str, given: &ArgMatches<'_>) -> Exploration {
             quick: given.get_flag("quick"),
         },
         workers: workers.clamp(1, WORKERS),
+        progress: given.get_flag("progress"),
     }
 }
 
 /// What the words of a command ask for of a guest program.
 fn asked_of(alloc: Global, name: &str, given: &ArgMatches<'_>) -> Result<Asked, AllocError> {
+    if name == "explain" {
+        return Ok(Asked::Explain(explain_of(alloc, given)?));
+    }
     if name != "replay" {
         let search = exploration_of(name, given);
         return Ok(if given.get_flag("trace") {
@@ -281,17 +366,66 @@ fn asked_of(alloc: Global, name: &str, given: &ArgMatches<'_>) -> Result<Asked, 
     Ok(Asked::Replay { schedule })
 }
 
-/// The suite that the words of a command ask for.
-fn suite_of(alloc: Global, given: &ArgMatches<'_>) -> Result<SuiteRequest, AllocError> {
+/// The explanation that the words of a command ask for.
+fn explain_of(alloc: Global, given: &ArgMatches<'_>) -> Result<ExplainRequest, AllocError> {
+    let form = if given.get_flag("html") {
+        Form::Html
+    } else if given.get_flag("json") {
+        Form::Json
+    } else {
+        let width: u32 = given.get_one("width").unwrap_or(DEFAULT_WIDTH);
+        Form::Text {
+            width: width as usize,
+            all: given.get_flag("all"),
+        }
+    };
+    let schedule = match given.get_str("SCHEDULE") {
+        Some(schedule) => Some(String::from_str(alloc, schedule)?),
+        None => None,
+    };
+    let command = if given.get_flag("unbounded") {
+        "unbounded"
+    } else {
+        "explore"
+    };
+    Ok(ExplainRequest {
+        file: String::from_str(alloc, given.get_str("FILE").unwrap_or(""))?,
+        schedule,
+        search: exploration_of(command, given),
+        form,
+    })
+}
+
+/// The files that the words of a command name.
+fn files_named(alloc: Global, given: &ArgMatches<'_>) -> Result<Vec<String>, AllocError> {
     let mut files = Vec::new(alloc);
     for file in given.get_strs("FILE").unwrap_or(&[]) {
         files.push(String::from_str(alloc, file)?)?;
     }
+    Ok(files)
+}
+
+/// The check that the words of a command ask for.
+fn check_of(alloc: Global, given: &ArgMatches<'_>) -> Result<CheckRequest, AllocError> {
+    let depth = if given.get_flag("deep") {
+        Some(given.get_one("limit").unwrap_or(DEFAULT_DEPTH))
+    } else {
+        None
+    };
+    Ok(CheckRequest {
+        files: files_named(alloc, given)?,
+        strict: given.get_flag("strict"),
+        depth,
+    })
+}
+
+/// The suite that the words of a command ask for.
+fn suite_of(alloc: Global, given: &ArgMatches<'_>) -> Result<SuiteRequest, AllocError> {
     // `clap` has refused other bounds and numbers of workers
     let bound: u32 = given.get_one("bound").unwrap_or(DEFAULT_BOUND);
     let workers: u32 = given.get_one("workers").unwrap_or(1);
     Ok(SuiteRequest {
-        files,
+        files: files_named(alloc, given)?,
         limits: Limits {
             limit: given.get_one("limit").unwrap_or(LIMIT),
             bound: bound.min(BOUND),
@@ -310,6 +444,9 @@ fn suite_of(alloc: Global, given: &ArgMatches<'_>) -> Result<SuiteRequest, Alloc
 pub fn request(alloc: Global, words: &[String]) -> Result<Request, WordsFault> {
     let matches = command(alloc)?.try_get_matches_from(words)?;
     let (name, given) = matches.subcommand().unwrap_or(("replay", &matches));
+    if name == "check" {
+        return Ok(Request::Check(check_of(alloc, given)?));
+    }
     if name == "suite" {
         return Ok(Request::Suite(suite_of(alloc, given)?));
     }

@@ -3,7 +3,7 @@
 use crate::tests::rows::{LONGEST, TWO_WAITERS};
 use crate::tests::{Written, compare, reader_fails, replays, request, served};
 use std::alloc::{Alloc, Global};
-use std::io::Write;
+use std::io::{Eprint, Write};
 use std::process::Abort;
 use std::sync::Wait;
 use std::test::*;
@@ -18,7 +18,7 @@ fn spaces(alloc: Global, count: usize) -> Result<Vec<u8>, Fail> {
 
 /// A replay of a text is refused with this line.
 fn refuses(
-    rt: &(impl Abort + Threads + Wait + Sync + Alloc<A = Global>),
+    rt: &(impl Abort + Threads + Wait + Sync + Eprint + Alloc<A = Global>),
     text: &[u8],
     schedule: &str,
     line: &str,
@@ -30,7 +30,7 @@ fn refuses(
 
 /// A replay of so many spaces is refused with this line.
 fn refuses_spaces(
-    rt: &(impl Abort + Threads + Wait + Sync + Alloc<A = Global>),
+    rt: &(impl Abort + Threads + Wait + Sync + Eprint + Alloc<A = Global>),
     count: usize,
     schedule: &str,
     line: &str,
@@ -67,7 +67,7 @@ fn longest_trace(alloc: Global) -> Result<Vec<u8>, Fail> {
 
 /// Compares what the longest thread writes where it takes so many steps and one more.
 fn runs_longest(
-    rt: &(impl Abort + Threads + Wait + Sync + Alloc<A = Global>),
+    rt: &(impl Abort + Threads + Wait + Sync + Eprint + Alloc<A = Global>),
     more: usize,
     want: (&[u8], &[u8], u8),
 ) -> Result<(), Fail> {
@@ -90,7 +90,7 @@ fn runs_the_longest_thread_no_further(rt: HostRuntime) -> Result<(), Fail> {
 /// Serves a replay of a text that is too long over a reader that fails at the call after it:
 /// answers the status, how much output there is, and the calls of the reader.
 fn reads_too_long(
-    rt: &(impl Abort + Threads + Wait + Sync + Alloc<A = Global>),
+    rt: &(impl Abort + Threads + Wait + Sync + Eprint + Alloc<A = Global>),
 ) -> Result<(u8, usize, usize), Fail> {
     let text = spaces(rt.alloc(), 65_537)?;
     let request = request(rt.alloc(), "0")?;
@@ -170,7 +170,7 @@ fn is_refused(rt: &impl Abort, written: &Written, line: &str, kept: usize) {
 
 /// Compares what is said of a text of which this is kept and this is cut off.
 fn reads_cut(
-    rt: &(impl Abort + Threads + Wait + Sync + Alloc<A = Global>),
+    rt: &(impl Abort + Threads + Wait + Sync + Eprint + Alloc<A = Global>),
     kept: &[u8],
     rest: &[u8],
 ) -> Result<(), Fail> {
@@ -201,7 +201,7 @@ fn threads(alloc: Global, names: &str, statements: &str) -> Result<Vec<u8>, Fail
 
 /// Compares what a replay of no step writes where threads of these names have no statements.
 fn takes_threads(
-    rt: &(impl Abort + Threads + Wait + Sync + Alloc<A = Global>),
+    rt: &(impl Abort + Threads + Wait + Sync + Eprint + Alloc<A = Global>),
     names: &str,
     want: (&[u8], &[u8], u8),
 ) -> Result<(), Fail> {

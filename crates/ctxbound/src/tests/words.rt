@@ -8,7 +8,7 @@ use crate::words::{HELP_END, VERSION, command_words, request};
 use runner::{Options, Search};
 use std::alloc::{Alloc, Global};
 use std::fs::Files;
-use std::io::Input;
+use std::io::{Eprint, Input};
 use std::process::Abort;
 use std::sync::Wait;
 use std::test::*;
@@ -100,7 +100,7 @@ fn takes_the_words_of_a_search(rt: HostRuntime) -> Result<(), Fail> {
 
 /// What the program writes that is started with these words.
 fn started(
-    rt: &(impl Threads + Wait + Sync + Files + Input + Alloc<A = Global> + Clone + Drop),
+    rt: &(impl Threads + Wait + Sync + Eprint + Files + Input + Alloc<A = Global> + Clone + Drop),
     given: &[&str],
 ) -> Result<Written, Fail> {
     let words = words_of(rt.alloc(), given)?;

@@ -1,0 +1,157 @@
+//! What the program answers where it is asked to explain.
+
+ghost use Rattle.std.specs.Prelude.{◌≡◌, IfOk, IfErr};
+ghost use Rattle.runner.specs.ReportText.{named_schedule};
+ghost use Rattle.ctxbound.specs.Answer.{ExplanationMeans, IsExplained, IsFoundExplained};
+ghost use Rattle.ctxbound.specs.Status.{explained_status, verdict_status};
+ghost use Rattle.ctxbound.specs.declared.fault.Fault.TheVariants.{Memory};
+
+use crate::answer::{Printed, replay_status, verdict_status};
+use crate::asked::{ExplainRequest, Form};
+use crate::fault::Fault;
+use crate::progress::Teller;
+use explain::{Explanation, Shape, Source};
+use guest_code::lowering::lower;
+use guest_code::source_map::SourceMap;
+use guest_syntax::parse;
+use replay::schedule_from;
+use runner::{Report, Verdict, report_text};
+use std::alloc::{AllocError, Global};
+use std::io::Eprint;
+use std::sync::{Arc, Wait};
+use std::thread::Threads;
+
+/// The status where a schedule can't be carried out to its end.
+const REFUSED: u8 = 2;
+
+// What a search up to a bound leaves open.
+const NO_PROOF: &str = "That is no proof: others have more. Try --unbounded, or a higher --bound.";
+
+/// The explanation of the schedule that is asked for, in the program that `text` spells, as far as it
+/// runs; or of the bad schedule that a search finds.
+///
+/// # Errors
+///
+/// What is wrong first: with the text, with the program that it spells, or with the schedule's text;
+/// `Memory` where memory runs out.
+pub fn explain_text<R: Threads + Wait + Sync + Eprint>(
+    rt: &R,
+    alloc: Global,
+    text: &[u8],
+    asked: &ExplainRequest,
+) -> Result<Printed, Fault>
+    ensures { ExplanationMeans text.now asked.now result }
+{
+    let tree = parse(alloc, text)?;
+    let program = Arc::new(alloc, lower(alloc, &tree)?)?;
+    let map = SourceMap::new(alloc, &tree)?;
+    let source = Source {
+        file: asked.file.as_bytes(),
+        text,
+        program: &program,
+        map: &map,
+    };
+    if let Some(schedule) = &asked.schedule {
+        let schedule = schedule_from(alloc, schedule.as_bytes())?;
+        return explained(alloc, &source, schedule.as_slice(), asked.form, false);
+    }
+    let options = asked.search.options;
+    let gate = Teller::new(rt, asked.search.progress);
+    let report = runner::explore(rt, alloc, &program, options, asked.search.workers, &gate)?;
+    match report.schedule() {
+        Some(schedule) => explained(alloc, &source, schedule, asked.form, is_least(&report)),
+        None => nothing_found(alloc, asked, &report),
+    }
+}
+
+// Whether no schedule with fewer preemptions than the one that the report names is bad.
+fn is_least(report: &Report) -> bool {
+    matches!(&report.verdict, Verdict::Bad { .. }) && report.bound.is_some()
+}
+
+// The explanation of a schedule. The status is that of a replay.
+fn explained(
+    alloc: Global,
+    source: &Source<'_>,
+    schedule: &[u8],
+    form: Form,
+    is_least: bool,
+) -> Result<Printed, Fault>
+    ensures explained { IfOk result (IsExplained source.now.program.now schedule.now) }
+    ensures memory { IfErr result (λ fault. fault ≡ Memory) }
+{
+    let explanation = Explanation::new(alloc, source.program, schedule)?;
+    let output = match form {
+        Form::Text { width, all } => {
+            let shape = Shape {
+                width,
+                all,
+                is_least,
+            };
+            explanation.text(alloc, source, shape)?
+        }
+        Form::Json => explanation.json(alloc, source)?,
+        Form::Html => explanation.html(alloc, source)?,
+    };
+    let status = match explanation.refused() {
+        Some(_) => REFUSED,
+        None => replay_status(explanation.kind()),
+    };
+    Ok(Printed { output, status })
+}
+
+// What is printed where a search found no bad schedule: a sentence, or the report as JSON.
+fn nothing_found(alloc: Global, asked: &ExplainRequest, report: &Report) -> Result<Printed, Fault> {
+    let sentence = sentence_of(alloc, asked.file.as_str(), report)?;
+    let output = match asked.form {
+        Form::Text { .. } => Vec::from_slice(alloc, sentence.as_bytes())?,
+        Form::Json => {
+            let mut text = report_text(alloc, report)?;
+            text.push(b'\n')?;
+            text
+        }
+        Form::Html => page_of(alloc, sentence.as_str())?,
+    };
+    Ok(Printed {
+        output,
+        status: verdict_status(&report.verdict),
+    })
+}
+
+// What is said of a search that found no bad schedule.
+fn sentence_of(alloc: Global, file: &str, report: &Report) -> Result<String, AllocError> {
+    let tried = report.summary.tried();
+    match (&report.verdict, report.bound) {
+        (Verdict::Clean { all: false }, Some(bound)) => {
+            let preemptions = if bound == 1 {
+                "preemption"
+            } else {
+                "preemptions"
+            };
+            format!(in alloc;
+                "{file}: no schedule with at most {bound} {preemptions} is bad ({tried} tried).\n{NO_PROOF}\n"
+            )
+        }
+        (Verdict::Incomplete { .. }, _) => format!(in alloc;
+            "{file}: the search was cut short; none of {tried} schedules tried is bad.\n"
+        ),
+        _ => format!(in alloc; "{file}: no schedule is bad ({tried} tried).\n"),
+    }
+}
+
+// A page with a sentence, in which no name ends an element.
+fn page_of(alloc: Global, sentence: &str) -> Result<Vec<u8>, AllocError> {
+    let mut page = Vec::from_slice(
+        alloc,
+        b"<!doctype html>\n<meta charset=\"utf-8\">\n<pre>".as_slice(),
+    )?;
+    for byte in sentence.as_bytes() {
+        match *byte {
+            b'<' => page.extend_from_slice(b"&lt;")?,
+            b'&' => page.extend_from_slice(b"&amp;")?,
+            byte => page.push(byte)?,
+        }
+    }
+    page.extend_from_slice(b"</pre>\n")?;
+    Ok(page)
+}
