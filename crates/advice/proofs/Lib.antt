@@ -1,3 +1,4 @@
 mod KindsOfThreads
 mod PathMarks
 mod WarningLists
+mod Tellings

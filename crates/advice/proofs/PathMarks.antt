@@ -1,12 +1,12 @@
 -- Marks of instructions while they are passed one after the other.
-use Rattle.std.proofs.Common.{◌≡◌, ℕ, ◌+◌, ◌<◌, ◌≤◌, ◌⊎◌, inl, inr, Bool, true, false, IsTrue, List, length, get_or, arith, sym, subst, refl, below_more}
+use Rattle.std.proofs.Common.{◌≡◌, ℕ, ◌+◌, ◌<◌, ◌≤◌, inl, inr, Bool, List, length, get_or, arith, sym, subst, refl, below_more}
 use Rattle.guest_code.specs.declared.program.Instruction.{Instruction}
 use Rattle.guest_code.specs.declared.program.Instruction.TheVariants.{Skip}
 use Rattle.std.proofs.lemmas.List.{get_or_default}
 use Rattle.guest_code.specs.Program.{skip_of, JumpsWithin}
 use Rattle.advice.specs.declared.paths.Mark.{Mark}
-use Rattle.advice.specs.Paths.{is_test, Goes, Next, Comes, here, on, owned_after}
-use Rattle.advice.specs.inner.Marks.{Marked, Grows, AddsOne, AddsAll, Marks}
+use Rattle.advice.specs.Paths.{Goes, Next, Comes, here, on, owned_after}
+use Rattle.advice.specs.inner.Marks.{Marked, AddsOne, AddsAll, Marks}
 
 -- the next ones come later
 goes_on : (i : Instruction) (k j : ℕ) → Goes i k j → k < j

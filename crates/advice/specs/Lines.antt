@@ -1,8 +1,7 @@
 -- The lines of an advice.
-use Rattle.std.specs.Prelude.{ℕ, ◌+◌, ◌-◌, ◌/◌, min, max, List, [], ◌∷◌, ◌++◌, length, map, take, drop, replicate, codes, Bool, ◌==◌, ◌&&◌, ◌||◌, not, nat_le, if◌then◌else◌, Option, Some, None, string_bytes}
+use Rattle.std.specs.Prelude.{ℕ, ◌-◌, ◌/◌, min, max, List, [], ◌∷◌, ◌++◌, length, map, take, drop, replicate, codes, Bool, ◌==◌, ◌&&◌, ◌||◌, not, nat_le, if◌then◌else◌, Option, Some, None, string_bytes}
 use Rattle.std.specs.List.{prefix_len}
 use Rattle.std.specs.Fmt.{decimal}
-use Rattle.guest_syntax.specs.declared.place.Pos.{Pos}
 use Rattle.advice.specs.declared.message.Span.{Span}
 use Rattle.advice.specs.declared.message.Note.{Note}
 use Rattle.advice.specs.declared.message.Advice.{Advice}

@@ -2,7 +2,7 @@
 -- after them.
 use Rattle.std.specs.Prelude.{◌≡◌, ℕ, ◌+◌, ◌<◌, ◌⊎◌, Bool, true, false, nat_eq, if◌then◌else◌, IsTrue, List, length, slice_index_or}
 use Rattle.guest_code.specs.declared.program.Instruction.{Instruction}
-use Rattle.guest_code.specs.declared.program.Instruction.TheVariants.{Load, Store, Add, Cas, Lock, Unlock, Wait, Signal, Broadcast, Acquire, Release, Set, Assert, SkipIfZero, Skip}
+use Rattle.guest_code.specs.declared.program.Instruction.TheVariants.{Lock, Unlock, SkipIfZero, Skip}
 use Rattle.guest_code.specs.Program.{skip_of}
 
 -- an instruction that may go on with the next one or pass over some

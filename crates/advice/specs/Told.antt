@@ -1,5 +1,5 @@
 -- What a person is told of a text.
-use Rattle.std.specs.Prelude.{◌≡◌, ◌≢◌, ℕ, List, Bool, true, false, Option, Some, None, option_map, string_bytes, slice_get}
+use Rattle.std.specs.Prelude.{◌≡◌, ℕ, List, Bool, true, false, Option, Some, None, option_map, string_bytes, slice_get}
 use Rattle.std.specs.List.{list_any}
 use Rattle.guest_syntax.specs.declared.place.Pos.{Pos}
 use Rattle.guest_syntax.specs.declared.error.SyntaxError.{SyntaxError}
@@ -8,7 +8,7 @@ use Rattle.guest_syntax.specs.Place.{start}
 use Rattle.guest_syntax.specs.ErrorTexts.{syntax_error_text}
 use Rattle.guest_syntax.specs.Answers.{RefusalIn}
 use Rattle.guest_syntax.specs.Grammar.{Spells}
-use Rattle.guest_syntax.specs.Tree.{Tree, Thread}
+use Rattle.guest_syntax.specs.Tree.{Tree}
 use Rattle.guest_code.specs.declared.error.CheckError.{CheckError}
 use Rattle.guest_code.specs.declared.error.CheckError.TheVariants as checks
 use Rattle.guest_code.specs.ErrorTexts.{check_error_text}

@@ -13,11 +13,16 @@
 //! `specs/inner` only the proofs need.
 #![tactic(auto)]
 
-ghost use Rattle.std.specs.Prelude.{◌≡◌, IfOk};
+ghost use Rattle.std.specs.Prelude.{◌≡◌, ◌≢◌, IfOk, MatchBool};
 ghost use Rattle.std.specs.List.{list_any};
+ghost use Rattle.guest_syntax.specs.Answers.{RefusalIn};
 ghost use Rattle.guest_syntax.specs.Grammar.{Spells};
-ghost use Rattle.guest_syntax.specs.Tree.{tree_view};
+ghost use Rattle.guest_syntax.specs.Place.{start};
+ghost use Rattle.guest_syntax.specs.Tree.{Tree, tree_view};
+ghost use Rattle.guest_syntax.specs.declared.error.SyntaxError.TheVariants as syntax;
+ghost use Rattle.guest_code.specs.declared.error.CheckError.TheVariants as checks;
 ghost use Rattle.guest_code.specs.Code.{code};
+ghost use Rattle.guest_code.specs.Fault.{fault, Refuses};
 ghost use Rattle.advice.specs.Told.{Tells, is_warning, is_warned, checked_lines};
 
 mod braces;
@@ -51,7 +56,7 @@ use guest_code::error::CheckError;
 use guest_code::lowering::lower;
 use guest_code::program::Program;
 use guest_code::source_map::SourceMap;
-use guest_syntax::tree::Tree;
+use guest_syntax::tree::Tree as SyntaxTree;
 use guest_syntax::{SyntaxError, parse};
 use std::alloc::{AllocError, Global};
 
@@ -95,9 +100,53 @@ pub fn check(alloc: Global, text: &[u8], depth: Option<u64>) -> Result<Checked, 
 {
     match parse(alloc, text) {
         Ok(tree) => check_tree(alloc, text, depth, &tree),
-        Err(SyntaxError::OutOfMemory) => Err(AllocError),
-        Err(error) => Ok(Checked::Refused(syntax_advice(alloc, text, error)?)),
+        Err(error) => refused_text(alloc, text, error),
     }
+}
+
+/// That memory ran out, or why a text is refused with this.
+fn refused_text(alloc: Global, text: &[u8], error: SyntaxError) -> Result<Checked, AllocError>
+    requires refused { error ≢ syntax.OutOfMemory → (t : Tree) → Spells text.now t → ⊥ }
+    requires place { RefusalIn start text.now error }
+    ensures { IfOk result (Tells text.now) }
+{
+    if is_memory_for_text(error) {
+        return Err(AllocError);
+    }
+    let advice = syntax_advice(alloc, text, error)?;
+    Ok(Checked::Refused(advice))
+}
+
+/// Whether memory ran out while a text was read.
+fn is_memory_for_text(error: SyntaxError) -> bool
+    ensures { MatchBool result (error ≡ syntax.OutOfMemory) (error ≢ syntax.OutOfMemory) }
+{
+    error == SyntaxError::OutOfMemory
+}
+
+/// Whether memory ran out while a tree was checked.
+fn is_memory_for_tree(error: CheckError) -> bool
+    ensures { MatchBool result (error ≡ checks.OutOfMemory) (error ≢ checks.OutOfMemory) }
+{
+    error == CheckError::OutOfMemory
+}
+
+/// That memory ran out, or why a tree is refused with this.
+fn refused_tree(
+    alloc: Global,
+    text: &[u8],
+    tree: &SyntaxTree,
+    error: CheckError,
+) -> Result<Checked, AllocError>
+    requires spelt { Spells text.now (tree_view tree.now) }
+    requires refused { Refuses error (fault (tree_view tree.now)) }
+    ensures { IfOk result (Tells text.now) }
+{
+    if is_memory_for_tree(error) {
+        return Err(AllocError);
+    }
+    let advice = check_advice(alloc, text, tree, error)?;
+    Ok(Checked::Refused(advice))
 }
 
 /// The same of a text that spells a tree.
@@ -105,15 +154,17 @@ fn check_tree(
     alloc: Global,
     text: &[u8],
     depth: Option<u64>,
-    tree: &Tree,
+    tree: &SyntaxTree,
 ) -> Result<Checked, AllocError>
     requires { Spells text.now (tree_view tree.now) }
     ensures { IfOk result (Tells text.now) }
 {
     match lower(alloc, tree) {
-        Ok(program) => Ok(Checked::Sound(all_advice(alloc, text, depth, tree, &program)?)),
-        Err(CheckError::OutOfMemory) => Err(AllocError),
-        Err(error) => Ok(Checked::Refused(check_advice(alloc, text, tree, error)?)),
+        Ok(program) => {
+            let all = all_advice(alloc, text, depth, tree, &program)?;
+            Ok(Checked::Sound(all))
+        }
+        Err(error) => refused_tree(alloc, text, tree, error),
     }
 }
 
@@ -122,7 +173,7 @@ fn all_advice(
     alloc: Global,
     text: &[u8],
     depth: Option<u64>,
-    tree: &Tree,
+    tree: &SyntaxTree,
     program: &Program,
 ) -> Result<Vec<Advice>, AllocError>
     requires { program.now ≡ code (tree_view tree.now) }

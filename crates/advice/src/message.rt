@@ -156,15 +156,22 @@ fn put_shown(out: &mut Vec<u8>, bytes: &[u8]) -> Result<(), AllocError>
     Ok(())
 }
 
-/// The part of a line that is shown, where so many bytes are left out.
+/// The first bytes, as many as are shown.
 #[tactic(auto, using(std::proofs::lemmas::List::take_min))]
+fn first_bytes(rest: &[u8]) -> &[u8]
+    ensures { result.now ≡ take SHOWN rest.now }
+{
+    let end = SHOWN.min(rest.len());
+    &rest[..end]
+}
+
+/// The part of a line that is shown, where so many bytes are left out.
 fn shown_part(line: &[u8], from: usize) -> &[u8]
     requires { from ≤ length line.now }
     ensures { result.now ≡ take SHOWN (drop from line.now) }
 {
-    let rest = &line[from..];
-    let end = SHOWN.min(rest.len());
-    &rest[..end]
+    let (_, rest) = line.split_at(from);
+    first_bytes(rest)
 }
 
 /// Adds part of a source line, of which so many bytes are left out.

@@ -128,7 +128,8 @@ fn syntax_place(error: SyntaxError) -> Pos
 
 /// Where the name of a thread is.
 fn thread_place(threads: &[Thread], thread: u8) -> Option<Pos>
-    ensures { result ≡ option_map (λ t. t.name.at) (slice_get (map thread_view threads.now) thread) }
+    ensures { result ≡ option_map (λ t. t.name.at)
+        (slice_get (map thread_view threads.now) thread) }
 {
     match threads.get(thread as usize) {
         Some(thread) => Some(thread.name.at),

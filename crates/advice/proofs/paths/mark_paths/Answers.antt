@@ -1,4 +1,4 @@
-use Rattle.std.proofs.Common.{◌≡◌, ◌+◌, ◌≤◌, arith, get_or, length}
+use Rattle.std.proofs.Common.{◌+◌, ◌≤◌, arith, get_or, length}
 use Rattle.guest_code.specs.declared.program.Instruction.TheVariants.{Load}
 use Rattle.guest_code.specs.Program.{skip_of}
 use Rattle.advice.proofs.PathMarks.{passed_none, passed_step, passed_all, jump_fits}

@@ -1,4 +1,4 @@
-use Rattle.std.proofs.Common.{◌≡◌, ◌∙◌, rules, arith, get_or}
+use Rattle.std.proofs.Common.{◌∙◌, arith}
 use Rattle.std.proofs.lemmas.Grind.{common_steps}
 use Rattle.advice.specs.declared.warning.Kind.TheVariants.{NeverSet}
 use Rattle.advice.proofs.KindsOfThreads.{of_thread}

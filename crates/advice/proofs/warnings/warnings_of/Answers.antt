@@ -1,4 +1,4 @@
-use Rattle.std.proofs.Common.{◌≡◌, rules, arith}
+use Rattle.std.proofs.Common.{rules, arith}
 use Rattle.std.proofs.lemmas.Grind.{common_steps}
 use Rattle.advice.proofs.WarningLists.{chosen_none, chosen_more, chosen_passed}
 use Rattle.advice.proofs.warnings.warnings_of.Goals as goal
