@@ -18,6 +18,6 @@ mod tests;
 mod trace;
 
 pub use crate::error::ReplayError;
-pub use crate::run::{Act, Line, Run, replay};
+pub use crate::run::{Act, Line, Run, act_of, replay};
 pub use crate::schedule::{PLACES, ScheduleError, schedule_from, schedule_text};
 pub use crate::trace::trace_text;

@@ -223,8 +223,8 @@ fn take_step(
     })
 }
 
-// What a thread is about to do by its action, with the values that are read and stored.
-fn act_of(state: &State, program: &Program, thread: u8, action: Action) -> Act
+/// What a thread is about to do by its action, with the values that are read and stored.
+pub fn act_of(state: &State, program: &Program, thread: u8, action: Action) -> Act
     requires of { IsOf program.now state.now }
     requires thread { thread < length program.now.threads }
     requires action { IsValidAction program.now action }

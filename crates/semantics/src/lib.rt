@@ -39,3 +39,5 @@ pub mod state;
 mod tests;
 pub mod undo;
 pub mod view;
+
+pub use crate::local::expression_at;

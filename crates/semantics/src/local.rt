@@ -113,8 +113,8 @@ fn of_both(op: Op, a: i64, b: i64) -> i64
     }
 }
 
-// The value of an expression.
-fn expression_at(locals: &[i64; LOCALS], expression: &Expression) -> i64
+/// The value of an expression, where the locals have these values.
+pub fn expression_at(locals: &[i64; LOCALS], expression: &Expression) -> i64
     requires { IsValidExpression expression.now }
     ensures { result ≡ value_of_expression locals.now expression.now }
 {

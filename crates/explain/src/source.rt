@@ -1,0 +1,71 @@
+//! What a text is told with: the file, its text, and the program that it spells.
+
+use crate::map::SourceMap;
+use crate::object::Object;
+use guest_code::program::{Instruction, Program};
+use std::alloc::AllocError;
+
+/// A guest file and its program, which has the names.
+#[derive(Clone, Copy)]
+pub struct Source<'a> {
+    /// The name of the file.
+    pub file: &'a [u8],
+    /// What is in it.
+    pub text: &'a [u8],
+    /// The program that it spells.
+    pub program: &'a Program,
+    /// The place of each instruction in the text, and the names of the locals.
+    pub map: &'a SourceMap,
+}
+
+impl<'a> Source<'a> {
+    /// The name of a thread.
+    pub fn thread(&self, thread: u8) -> &'a [u8]
+    {
+        if thread < self.program.threads() {
+            self.program.thread_name(thread)
+        } else {
+            b"?"
+        }
+    }
+
+    /// The name of an object.
+    pub fn object(&self, object: Object) -> &'a [u8]
+    {
+        match object {
+            Object::Variable(x) if x < self.program.variables() as usize => {
+                self.program.variable_name(x)
+            }
+            Object::Mutex(m) if m < self.program.mutexes() as usize => self.program.mutex_name(m),
+            Object::Condition(c) if c < self.program.conditions() as usize => {
+                self.program.condition_name(c)
+            }
+            Object::Semaphore(k) if k < self.program.semaphores() as usize => {
+                self.program.semaphore_name(k)
+            }
+            _ => b"?",
+        }
+    }
+
+    /// The name of a local of a thread.
+    pub fn local(&self, thread: u8, local: usize) -> &'a [u8]
+    {
+        self.map.local(thread, local)
+    }
+
+    /// An instruction of a thread; `None` at the end of its code.
+    pub fn instruction(&self, thread: u8, instruction: usize) -> Option<Instruction>
+    {
+        if thread < self.program.threads() {
+            self.program.code(thread).get(instruction).copied()
+        } else {
+            None
+        }
+    }
+
+    /// The line of an instruction of a thread, from 1; 0 at the end of its code.
+    pub fn line(&self, thread: u8, instruction: usize) -> u32
+    {
+        self.map.place(thread, instruction).line
+    }
+}

@@ -1,0 +1,84 @@
+//! Where a thread is at the end, and why it can't go on.
+
+use guest_code::limits::LOCALS;
+use guest_code::program::Program;
+use semantics::state::{Action, MutexAction, SemaphoreAction, State, Status};
+
+/// What a blocked thread waits for.
+#[derive(Clone, Copy, Debug, PartialEq, Eq)]
+pub enum Reason {
+    /// It is to lock the mutex of this number, which a thread owns.
+    Lock(usize),
+    /// It was woken and is to take the mutex of this number again, which a thread owns.
+    Retake(usize),
+    /// It is to acquire the semaphore of this number, whose count is 0.
+    Acquire(usize),
+    /// It is in the queue of the condition of this number.
+    Signal(usize),
+}
+
+impl Reason {
+    /// The mutex that it waits for.
+    pub fn mutex(self) -> Option<usize>
+    {
+        match self {
+            Reason::Lock(m) | Reason::Retake(m) => Some(m),
+            Reason::Acquire(_) | Reason::Signal(_) => None,
+        }
+    }
+}
+
+/// A thread at the end of what ran.
+#[derive(Clone, Copy, Debug)]
+pub struct Standing {
+    /// Whether it goes on, waits, ended or stopped.
+    pub status: Status,
+    /// The number of the instruction that it has come to; the length of its code at the end.
+    pub instruction: usize,
+    /// The values of its locals.
+    pub locals: [i64; LOCALS],
+    /// What it waits for; `None` where it is enabled, ended or stopped.
+    pub reason: Option<Reason>,
+}
+
+impl Standing {
+    /// Where a thread is in a state.
+    pub fn of(state: &State, program: &Program, thread: u8) -> Standing
+    {
+        Standing {
+            status: state.status(thread),
+            instruction: state.pc(thread),
+            locals: *state.locals(thread),
+            reason: reason_of(state, program, thread),
+        }
+    }
+
+    /// Whether the thread can take a step.
+    pub fn is_enabled(&self) -> bool
+    {
+        self.reason.is_none() && matches!(self.status, Status::Running | Status::Woken)
+    }
+
+    /// Whether it has stopped.
+    pub fn is_stopped(&self) -> bool
+    {
+        matches!(self.status, Status::Stopped(_))
+    }
+}
+
+/// Why a thread can't take a step; `None` where it can, ended or stopped.
+pub fn reason_of(state: &State, program: &Program, thread: u8) -> Option<Reason>
+{
+    if let Status::Waiting(c) = state.status(thread) {
+        return Some(Reason::Signal(c as usize));
+    }
+    if state.is_enabled(program, thread) {
+        return None;
+    }
+    match state.next(program, thread) {
+        Some(Action::OnMutex(m, MutexAction::Retake)) => Some(Reason::Retake(m)),
+        Some(Action::OnMutex(m, _)) => Some(Reason::Lock(m)),
+        Some(Action::OnSemaphore(k, _)) => Some(Reason::Acquire(k)),
+        _ => None,
+    }
+}

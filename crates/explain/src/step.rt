@@ -1,0 +1,120 @@
+//! One step of a run, and what it changed.
+
+use crate::object::{Object, Reading};
+use crate::settings::{Setting, put_settings, setting_of};
+use guest_code::program::Program;
+use guest_syntax::Pos;
+use replay::{Act, Line, act_of};
+use semantics::execution::Execution;
+use semantics::state::{Action, ConditionAction, State};
+use std::alloc::{AllocError, Global};
+
+/// One step of a run.
+#[derive(Debug, Drop)]
+pub struct Step {
+    /// The thread, what it did, whether the switch to it was preempting, and whether it stopped.
+    pub line: Line,
+    /// The number of the instruction that was carried out.
+    pub instruction: usize,
+    /// The number of the instruction that its thread came to.
+    pub next: usize,
+    /// The object that it is on: of a `wait` the condition.
+    pub object: Object,
+    /// What the object was before.
+    pub old: Reading,
+    /// What the object was afterwards.
+    pub new: Reading,
+    /// The locals that the thread set, in the step and by itself after it.
+    pub settings: Vec<Setting>,
+    /// The threads that it woke, the one that waited longest first.
+    pub woken: Vec<u8>,
+    /// The mutexes that its thread owned when it took the step, rising.
+    pub held: Vec<usize>,
+}
+
+impl Step {
+    /// Takes a step of a thread that is enabled, and says what it was.
+    ///
+    /// # Errors
+    ///
+    /// `AllocError` where memory runs out.
+    pub fn take(
+        alloc: Global,
+        execution: &mut Execution,
+        program: &Program,
+        thread: u8,
+    ) -> Result<Step, AllocError>
+    {
+        let state = execution.state();
+        let action = state.next(program, thread).unwrap();
+        let act = act_of(state, program, thread, action);
+        let instruction = state.pc(thread);
+        let object = Object::of(action);
+        let old = object.reading(state);
+        let held = held_by(alloc, state, program, thread)?;
+        let woken = woken_by(alloc, state, action)?;
+        let preempting = execution.preempts(program, thread);
+        let mut locals = *state.locals(thread);
+        execution.step(program, thread);
+        let state = execution.state();
+        let line = Line {
+            thread,
+            act,
+            preempting,
+            stop: state.status(thread).stop(),
+        };
+        let mut settings = Vec::new(alloc);
+        let code = program.code(thread);
+        if let Some(setting) = setting_of(instruction, &code[instruction], act) {
+            locals[setting.local] = setting.value;
+            settings.push(setting)?;
+        }
+        let to = state.pc(thread);
+        put_settings(&mut settings, code, &mut locals, instruction + 1, to)?;
+        Ok(Step {
+            line,
+            instruction,
+            next: to,
+            object,
+            old,
+            new: object.reading(state),
+            settings,
+            woken,
+            held,
+        })
+    }
+}
+
+// The mutexes that a thread owns, rising.
+fn held_by(
+    alloc: Global,
+    state: &State,
+    program: &Program,
+    thread: u8,
+) -> Result<Vec<usize>, AllocError>
+{
+    let mut held = Vec::new(alloc);
+    for m in 0..program.mutexes() as usize {
+        if state.owner(m) == Some(thread) {
+            held.push(m)?;
+        }
+    }
+    Ok(held)
+}
+
+// The threads that an action wakes, the one that waited longest first.
+fn woken_by(alloc: Global, state: &State, action: Action) -> Result<Vec<u8>, AllocError>
+{
+    let mut woken = Vec::new(alloc);
+    let (condition, most) = match action {
+        Action::OnCondition(c, ConditionAction::Signal) => (c, 1),
+        Action::OnCondition(c, ConditionAction::Broadcast) => (c, state.queue_length(c)),
+        _ => return Ok(woken),
+    };
+    for place in 0..most {
+        if let Some(thread) = state.queued(condition, place) {
+            woken.push(thread)?;
+        }
+    }
+    Ok(woken)
+}
