@@ -8,7 +8,7 @@ use crate::settings::{Setting, put_settings};
 use guest_code::limits::LOCALS;
 use guest_code::program::Program;
 use semantics::execution::Execution;
-use semantics::state::State;
+use semantics::state::{State, Stop};
 use semantics::view::Kind;
 use std::alloc::{AllocError, Global};
 
@@ -21,12 +21,23 @@ pub struct Holder {
     pub since: usize,
 }
 
+/// A thread before its first step.
+#[derive(Debug, Drop)]
+pub struct Start {
+    /// The locals that it set by itself.
+    pub settings: Vec<Setting>,
+    /// The number of the instruction that it came to.
+    pub next: usize,
+    /// Why it stopped, if it did.
+    pub stop: Option<Stop>,
+}
+
 /// A schedule as far as it runs, and where it leads.
 #[derive(Debug, Drop)]
 pub struct Explanation {
     pub(crate) schedule: Vec<u8>,
     pub(crate) steps: Vec<Step>,
-    pub(crate) opening: Vec<Vec<Setting>>,
+    pub(crate) opening: Vec<Start>,
     pub(crate) standings: Vec<Standing>,
     pub(crate) holders: Vec<Option<Holder>>,
     pub(crate) circle: Vec<u8>,
@@ -64,7 +75,7 @@ impl Explanation {
             schedule: schedule.to_vec(alloc)?,
             steps,
             lost,
-            opening: opening_settings(alloc, program)?,
+            opening: starts_of(alloc, program)?,
             standings,
             holders,
             circle,
@@ -90,6 +101,12 @@ impl Explanation {
     pub fn holders(&self) -> &[Option<Holder>]
     {
         self.holders.as_slice()
+    }
+
+    /// Who owns a mutex at the end, if a thread does.
+    pub fn holder(&self, mutex: usize) -> Option<Holder>
+    {
+        self.holders.get(mutex).copied().flatten()
     }
 
     /// Threads of which each waits for a mutex that the next owns, and the last for one that the
@@ -146,16 +163,20 @@ fn standings_in(alloc: Global, state: &State, program: &Program) -> Result<Vec<S
     Ok(standings)
 }
 
-// What each thread sets before its first step.
-fn opening_settings(alloc: Global, program: &Program) -> Result<Vec<Vec<Setting>>, AllocError>
+// Each thread before its first step.
+fn starts_of(alloc: Global, program: &Program) -> Result<Vec<Start>, AllocError>
 {
     let state = State::start(alloc, program)?;
-    let mut all = Vec::new(alloc);
+    let mut starts = Vec::new(alloc);
     for t in 0..program.threads() {
         let mut settings = Vec::new(alloc);
-        let mut locals = [0; LOCALS];
-        put_settings(&mut settings, program.code(t), &mut locals, 0, state.pc(t))?;
-        all.push(settings)?;
+        let next = state.pc(t);
+        put_settings(&mut settings, program.code(t), &mut [0; LOCALS], 0, next)?;
+        starts.push(Start {
+            settings,
+            next,
+            stop: state.status(t).stop(),
+        })?;
     }
-    Ok(all)
+    Ok(starts)
 }

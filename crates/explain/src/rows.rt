@@ -318,7 +318,7 @@ impl Teller<'_> {
             return Ok(());
         };
         if let Reading::Value(value) = write.new {
-            changes.extend_from_slice(b"   lost: ")?;
+            changes.extend_from_slice(b"  lost: ")?;
             put_value(changes, self.alloc, value)?;
             put_both(changes, b" of ", self.source.thread(write.line.thread))?;
         }
