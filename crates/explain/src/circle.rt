@@ -1,51 +1,57 @@
 //! Threads that wait for one another in a circle.
 
-use crate::explanation::Holder;
-use crate::standing::Standing;
+ghost use Rattle.std.specs.Prelude.{◌≡◌, ◌<◌, ◌≤◌, [], ◌∷◌, length, MatchOption, IfOk, IfSome};
+ghost use Rattle.semantics.specs.Reachable.{IsOf};
+ghost use Rattle.explain.specs.Circles.{WaitsOn, IsCircle};
+
+use crate::standing::reason_of;
+use guest_code::program::Program;
+use semantics::state::State;
 use std::alloc::{AllocError, Global};
 
 /// Who owns the mutex that a thread waits for.
-pub fn waits_on(standings: &[Standing], holders: &[Option<Holder>], thread: u8) -> Option<u8>
+fn waits_on(state: &State, program: &Program, thread: u8) -> Option<u8>
+    requires of { IsOf program.now state.now }
+    requires thread { thread < length program.now.threads }
+    ensures { IfSome result (WaitsOn program.now state.now thread) }
 {
-    let mutex = standings.get(thread as usize)?.reason?.mutex()?;
-    let holder = (*holders.get(mutex)?)?;
-    Some(holder.thread)
+    let mutex = reason_of(state, program, thread)?.mutex()?;
+    state.owner(mutex)
 }
 
-// The threads from this one on, each waiting for the next, where the last waits for this one.
+// The threads from this one on, each waiting on the next, where the last waits on this one.
 fn circle_from(
     alloc: Global,
-    standings: &[Standing],
-    holders: &[Option<Holder>],
+    state: &State,
+    program: &Program,
     first: u8,
-) -> Result<Option<Vec<u8>>, AllocError>
+) -> Result<Vec<u8>, AllocError>
+    requires of { IsOf program.now state.now }
+    requires thread { first < length program.now.threads }
+    ensures { IfOk result (λ v. IsCircle program.now state.now v.items) }
 {
     let mut circle = Vec::new(alloc);
     let mut thread = first;
-    for _ in 0..standings.len() {
+    'walk: for _ in 0..program.threads() {
         circle.push(thread)?;
-        match waits_on(standings, holders, thread) {
-            Some(next) => thread = next,
-            None => return Ok(None),
-        }
-        if thread == first {
-            return Ok(Some(circle));
+        match waits_on(state, program, thread) {
+            Some(next) if next == first => return Ok(circle),
+            Some(next) if next < program.threads() => thread = next,
+            _ => break,
         }
     }
-    Ok(None)
+    Ok(Vec::new(alloc))
 }
 
-/// The first circle: each waits for a mutex that the next owns, and the last for one that the
-/// first owns. Empty where there is none.
-pub fn circle_of(
-    alloc: Global,
-    standings: &[Standing],
-    holders: &[Option<Holder>],
-    threads: u8,
-) -> Result<Vec<u8>, AllocError>
+/// The first circle: each thread waits for a mutex that the next one owns, and the last for one
+/// that the first owns. Empty where there is none.
+pub fn circle_of(alloc: Global, state: &State, program: &Program) -> Result<Vec<u8>, AllocError>
+    requires { IsOf program.now state.now }
+    ensures { IfOk result (λ v. IsCircle program.now state.now v.items) }
 {
-    for t in 0..threads {
-        if let Some(circle) = circle_from(alloc, standings, holders, t)? {
+    for t in 0..program.threads() {
+        let circle = circle_from(alloc, state, program, t)?;
+        if !circle.is_empty() {
             return Ok(circle);
         }
     }

@@ -39,8 +39,7 @@ pub struct Columns {
 
 impl Columns {
     /// The columns of a table of so many threads, at most 16.
-    pub fn new(width: usize, threads: usize) -> Columns
-    {
+    pub fn new(width: usize, threads: usize) -> Columns {
         let width = width.max(NARROWEST);
         let room = width - MARGIN;
         let fit = room.saturating_sub(CHANGES) / (COLUMN + GAP);
@@ -63,20 +62,17 @@ impl Columns {
     }
 
     /// Where the column of a thread begins.
-    pub fn start(&self, thread: usize) -> usize
-    {
+    pub fn start(&self, thread: usize) -> usize {
         MARGIN + thread.min(self.own) * (COLUMN + GAP)
     }
 
     /// Where the columns of the threads end.
-    pub fn end(&self) -> usize
-    {
+    pub fn end(&self) -> usize {
         self.changes - GAP
     }
 
     /// Where the column of a thread ends.
-    pub fn end_of(&self, thread: usize) -> usize
-    {
+    pub fn end_of(&self, thread: usize) -> usize {
         if thread < self.own {
             self.start(thread) + COLUMN
         } else {

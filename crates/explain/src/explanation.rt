@@ -1,10 +1,17 @@
 //! The explanation of a schedule, as a value.
 
+ghost use Rattle.std.specs.Prelude.{◌≡◌, ◌<◌, ◌^◌, ◌∷◌, ℕ, length, Option, Some, None, IfOk, IsTrue, ◌↔◌, slice_get, take};
+ghost use Rattle.semantics.specs.Machine.{is_enabled, owner_of};
+ghost use Rattle.semantics.specs.Reachable.{IsOf};
+ghost use Rattle.explain.specs.Blocked.{Stands};
+ghost use Rattle.explain.specs.Explains.{Explains, TellsThreads};
+ghost use Rattle.explain.specs.inner.Carrying.{IsCarriedOut, AreFollowed, is_followed};
+
 use crate::circle::circle_of;
 use crate::lost::{Lost, lost_writes};
+use crate::settings::{Setting, put_settings};
 use crate::standing::Standing;
 use crate::step::Step;
-use crate::settings::{Setting, put_settings};
 use guest_code::limits::LOCALS;
 use guest_code::program::Program;
 use semantics::execution::Execution;
@@ -37,11 +44,11 @@ pub struct Start {
 pub struct Explanation {
     pub(crate) schedule: Vec<u8>,
     pub(crate) steps: Vec<Step>,
+    pub(crate) lost: Vec<Option<Lost>>,
     pub(crate) opening: Vec<Start>,
     pub(crate) standings: Vec<Standing>,
     pub(crate) holders: Vec<Option<Holder>>,
     pub(crate) circle: Vec<u8>,
-    pub(crate) lost: Vec<Option<Lost>>,
     pub(crate) preemptions: usize,
     pub(crate) kind: Option<Kind>,
     pub(crate) refused: Option<u8>,
@@ -54,97 +61,152 @@ impl Explanation {
     ///
     /// `AllocError` where memory runs out.
     pub fn new(alloc: Global, program: &Program, schedule: &[u8]) -> Result<Explanation, AllocError>
+        ensures { IfOk result (Explains program.now schedule.now) }
     {
-        let mut execution = Execution::start(alloc, program)?;
-        let mut holders = vec![in alloc; None; program.mutexes() as usize]?;
-        let mut steps = Vec::new(alloc);
-        let mut refused = None;
-        for (at, thread) in schedule.iter().enumerate() {
-            if !can_step(execution.state(), program, *thread) {
-                refused = Some(*thread);
-                break;
-            }
-            steps.push(Step::take(alloc, &mut execution, program, *thread)?)?;
-            follow(&mut holders, execution.state(), at);
-        }
-        let state = execution.state();
+        let carried = Carried::out(alloc, program, schedule)?;
+        let state = carried.execution.state();
         let standings = standings_in(alloc, state, program)?;
-        let circle = circle_of(alloc, standings.as_slice(), holders.as_slice(), program.threads())?;
-        let lost = lost_writes(alloc, steps.as_slice())?;
+        let circle = circle_of(alloc, state, program)?;
+        let kind = state.kind(program);
+        let preemptions = carried.execution.preemptions();
+        let lost = lost_writes(alloc, carried.steps.as_slice())?;
         Ok(Explanation {
             schedule: schedule.to_vec(alloc)?,
-            steps,
+            steps: carried.steps,
             lost,
             opening: starts_of(alloc, program)?,
             standings,
-            holders,
+            holders: carried.holders,
             circle,
-            preemptions: execution.preemptions(),
-            kind: state.kind(program),
-            refused,
+            preemptions,
+            kind,
+            refused: carried.refused,
         })
     }
 
     /// Each step that ran, in the order of the schedule.
     pub fn steps(&self) -> &[Step]
+        ensures { result.now ≡ self.now.steps.items }
     {
         self.steps.as_slice()
     }
 
+    /// For each step what it overwrites unread, if it does.
+    pub fn lost(&self) -> &[Option<Lost>]
+        ensures { result.now ≡ self.now.lost.items }
+    {
+        self.lost.as_slice()
+    }
+
     /// Each thread at the end of what ran.
     pub fn standings(&self) -> &[Standing]
+        ensures { result.now ≡ self.now.standings.items }
     {
         self.standings.as_slice()
     }
 
     /// Who owns each mutex at the end, and since which step.
     pub fn holders(&self) -> &[Option<Holder>]
+        ensures { result.now ≡ self.now.holders.items }
     {
         self.holders.as_slice()
-    }
-
-    /// Who owns a mutex at the end, if a thread does.
-    pub fn holder(&self, mutex: usize) -> Option<Holder>
-    {
-        self.holders.get(mutex).copied().flatten()
     }
 
     /// Threads of which each waits for a mutex that the next owns, and the last for one that the
     /// first owns. Empty where there are none.
     pub fn circle(&self) -> &[u8]
+        ensures { result.now ≡ self.now.circle.items }
     {
         self.circle.as_slice()
     }
 
+    /// How many of its switches were preempting.
+    pub fn preemptions(&self) -> usize
+        ensures { result ≡ self.now.preemptions }
+    {
+        self.preemptions
+    }
+
     /// How the schedule ends; `None` where it isn't complete or can't go on.
     pub fn kind(&self) -> Option<Kind>
+        ensures { result ≡ self.now.kind }
     {
         self.kind
     }
 
     /// The number of the thread that was to take the next step, where it can't.
     pub fn refused(&self) -> Option<u8>
+        ensures { result ≡ self.now.refused }
     {
         self.refused
+    }
+
+    /// Who owns a mutex at the end, if a thread does.
+    pub fn holder(&self, mutex: usize) -> Option<Holder> {
+        self.holders.get(mutex).copied().flatten()
+    }
+}
+
+// A schedule as far as it runs.
+#[derive(Drop)]
+struct Carried {
+    execution: Execution,
+    steps: Vec<Step>,
+    holders: Vec<Option<Holder>>,
+    refused: Option<u8>,
+}
+
+impl Carried {
+    // Carries a schedule out, up to its end or to where it can't go on.
+    fn out(alloc: Global, program: &Program, schedule: &[u8]) -> Result<Carried, AllocError>
+        requires { length schedule.now < 2 ^ 64 }
+        ensures { IfOk result (IsCarriedOut program.now schedule.now) }
+    {
+        let mut execution = Execution::start(alloc, program)?;
+        let mut holders = vec![in alloc; None; program.mutexes() as usize]?;
+        let mut steps = Vec::new(alloc);
+        for (at, thread) in schedule.iter().enumerate() {
+            if !can_step(execution.state(), program, *thread) {
+                return Ok(Carried {
+                    execution,
+                    steps,
+                    holders,
+                    refused: Some(*thread),
+                });
+            }
+            steps.push(Step::take(alloc, &mut execution, program, *thread)?)?;
+            follow(&mut holders, execution.state(), at);
+        }
+        Ok(Carried {
+            execution,
+            steps,
+            holders,
+            refused: None,
+        })
     }
 }
 
 // Whether a number is that of a thread that is enabled.
 fn can_step(state: &State, program: &Program, thread: u8) -> bool
+    requires { IsOf program.now state.now }
+    ensures { result ≡ is_enabled program.now state.now thread }
 {
     thread < program.threads() && state.is_enabled(program, thread)
 }
 
 // The owners of the mutexes after the step at a place.
 fn follow(holders: &mut [Option<Holder>], state: &State, at: usize)
+    requires { length holders.old ≡ length state.now.owners }
+    ensures { AreFollowed holders.old holders.new state.now at }
 {
-    for (m, holder) in holders.iter_mut().enumerate() {
-        *holder = followed(*holder, state.owner(m), at);
+    for m in 0..holders.len() {
+        holders[m] = followed(holders[m], state.owner(m), at);
     }
 }
 
 // The owner of a mutex, who has it since this step or since before.
 fn followed(holder: Option<Holder>, owner: Option<u8>, at: usize) -> Option<Holder>
+    ensures { result ≡ is_followed holder owner at }
 {
     let thread = owner?;
     match holder {
@@ -154,7 +216,13 @@ fn followed(holder: Option<Holder>, owner: Option<u8>, at: usize) -> Option<Hold
 }
 
 // Each thread in a state.
-fn standings_in(alloc: Global, state: &State, program: &Program) -> Result<Vec<Standing>, AllocError>
+fn standings_in(
+    alloc: Global,
+    state: &State,
+    program: &Program,
+) -> Result<Vec<Standing>, AllocError>
+    requires { IsOf program.now state.now }
+    ensures { IfOk result (λ v. TellsThreads program.now state.now v.items) }
 {
     let mut standings = Vec::new(alloc);
     for t in 0..program.threads() {
@@ -164,17 +232,15 @@ fn standings_in(alloc: Global, state: &State, program: &Program) -> Result<Vec<S
 }
 
 // Each thread before its first step.
-fn starts_of(alloc: Global, program: &Program) -> Result<Vec<Start>, AllocError>
-{
+fn starts_of(alloc: Global, program: &Program) -> Result<Vec<Start>, AllocError> {
     let state = State::start(alloc, program)?;
     let mut starts = Vec::new(alloc);
     for t in 0..program.threads() {
         let mut settings = Vec::new(alloc);
-        let next = state.pc(t);
-        put_settings(&mut settings, program.code(t), &mut [0; LOCALS], 0, next)?;
+        put_settings(&mut settings, program.code(t), &mut [0; LOCALS], 0)?;
         starts.push(Start {
             settings,
-            next,
+            next: state.pc(t),
             stop: state.status(t).stop(),
         })?;
     }

@@ -13,8 +13,7 @@ impl Explanation {
     /// # Errors
     ///
     /// `AllocError` where memory runs out.
-    pub fn focus(&self, alloc: Global) -> Result<Vec<Object>, AllocError>
-    {
+    pub fn focus(&self, alloc: Global) -> Result<Vec<Object>, AllocError> {
         let failed = self.standings.iter().any(|thread| thread.is_stopped());
         let mut focus = Vec::new(alloc);
         for (t, standing) in self.standings.iter().enumerate() {
@@ -36,15 +35,13 @@ impl Explanation {
     }
 
     /// What a thread did last.
-    pub fn last_step(&self, thread: usize) -> Option<Act>
-    {
+    pub fn last_step(&self, thread: usize) -> Option<Act> {
         let at = self.last_place(thread)?;
         Some(self.steps.get(at)?.line.act)
     }
 
     /// The place of a thread's last step.
-    pub fn last_place(&self, thread: usize) -> Option<usize>
-    {
+    pub fn last_place(&self, thread: usize) -> Option<usize> {
         let mut last = None;
         for (at, step) in self.steps.iter().enumerate() {
             if step.line.thread as usize == thread {
@@ -56,8 +53,7 @@ impl Explanation {
 
     /// Whether the step at a place is told. It is where it is the first of a run after a switch,
     /// where it is beside a preemption, and where it touches one of these objects.
-    pub fn is_told(&self, focus: &[Object], at: usize) -> bool
-    {
+    pub fn is_told(&self, focus: &[Object], at: usize) -> bool {
         let Some(step) = self.steps.get(at) else {
             return false;
         };
@@ -71,8 +67,7 @@ impl Explanation {
 }
 
 // The object that a blocked thread waits for.
-fn object_of(reason: Reason) -> Object
-{
+fn object_of(reason: Reason) -> Object {
     match reason {
         Reason::Lock(m) | Reason::Retake(m) => Object::Mutex(m),
         Reason::Acquire(k) => Object::Semaphore(k),
@@ -81,8 +76,7 @@ fn object_of(reason: Reason) -> Object
 }
 
 // The objects that a step touched.
-fn put_touched(focus: &mut Vec<Object>, act: Act) -> Result<(), AllocError>
-{
+fn put_touched(focus: &mut Vec<Object>, act: Act) -> Result<(), AllocError> {
     let object = match act {
         Act::Load { variable, .. }
         | Act::Store { variable, .. }

@@ -14,10 +14,14 @@ impl Explanation {
     /// # Errors
     ///
     /// `AllocError` where memory runs out.
-    pub fn html(&self, alloc: Global, source: &Source<'_>) -> Result<Vec<u8>, AllocError>
-    {
+    pub fn html(&self, alloc: Global, source: &Source<'_>) -> Result<Vec<u8>, AllocError> {
         let mut members = self.members(alloc, source)?;
-        put(&mut members, alloc, "source", text_value(alloc, source.text)?)?;
+        put(
+            &mut members,
+            alloc,
+            "source",
+            text_value(alloc, source.text)?,
+        )?;
         let data = Value::Object(members).to_vec(alloc)?;
         let mut page = Vec::from_slice(alloc, PAGE_BEGIN.as_bytes())?;
         put_data(&mut page, data.as_slice())?;
@@ -27,8 +31,7 @@ impl Explanation {
 }
 
 // JSON inside a script element. A `<` is spelled by its number, so nothing in it ends the element.
-fn put_data(page: &mut Vec<u8>, data: &[u8]) -> Result<(), AllocError>
-{
+fn put_data(page: &mut Vec<u8>, data: &[u8]) -> Result<(), AllocError> {
     for byte in data {
         if *byte == b'<' {
             page.extend_from_slice(b"\\u003c")?;

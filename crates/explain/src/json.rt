@@ -23,33 +23,65 @@ impl Explanation {
     /// # Errors
     ///
     /// `AllocError` where memory runs out.
-    pub fn json(&self, alloc: Global, source: &Source<'_>) -> Result<Vec<u8>, AllocError>
-    {
+    pub fn json(&self, alloc: Global, source: &Source<'_>) -> Result<Vec<u8>, AllocError> {
         let mut text = Value::Object(self.members(alloc, source)?).to_vec(alloc)?;
         text.push(b'\n')?;
         Ok(text)
     }
 
     /// The members of the object.
-    pub fn members(&self, alloc: Global, source: &Source<'_>) -> Result<Members, AllocError>
-    {
+    pub fn members(&self, alloc: Global, source: &Source<'_>) -> Result<Members, AllocError> {
         let mut members = Map::new(alloc);
         put(&mut members, alloc, "file", text_value(alloc, source.file)?)?;
         let schedule = schedule_text(alloc, self.schedule.as_slice())?;
-        put(&mut members, alloc, "schedule", text_value(alloc, schedule.as_slice())?)?;
+        put(
+            &mut members,
+            alloc,
+            "schedule",
+            text_value(alloc, schedule.as_slice())?,
+        )?;
         put(&mut members, alloc, "kind", kind_value(alloc, self.kind)?)?;
-        put(&mut members, alloc, "preemptions", Value::from(self.preemptions as u64))?;
-        put(&mut members, alloc, "refused", self.refused.map_or(Value::Null, Value::from))?;
-        put(&mut members, alloc, "opening", source.opening_value(alloc, self)?)?;
-        put(&mut members, alloc, "steps", self.steps_value(alloc, source)?)?;
-        put(&mut members, alloc, "threads", self.threads_value(alloc, source)?)?;
-        put(&mut members, alloc, "circle", source.threads_value(alloc, self.circle.as_slice())?)?;
+        put(
+            &mut members,
+            alloc,
+            "preemptions",
+            Value::from(self.preemptions as u64),
+        )?;
+        put(
+            &mut members,
+            alloc,
+            "refused",
+            self.refused.map_or(Value::Null, Value::from),
+        )?;
+        put(
+            &mut members,
+            alloc,
+            "opening",
+            source.opening_value(alloc, self)?,
+        )?;
+        put(
+            &mut members,
+            alloc,
+            "steps",
+            self.steps_value(alloc, source)?,
+        )?;
+        put(
+            &mut members,
+            alloc,
+            "threads",
+            self.threads_value(alloc, source)?,
+        )?;
+        put(
+            &mut members,
+            alloc,
+            "circle",
+            source.threads_value(alloc, self.circle.as_slice())?,
+        )?;
         Ok(members)
     }
 
     // Each step.
-    fn steps_value(&self, alloc: Global, source: &Source<'_>) -> Result<Value, AllocError>
-    {
+    fn steps_value(&self, alloc: Global, source: &Source<'_>) -> Result<Value, AllocError> {
         let mut all = Vec::new(alloc);
         for (at, step) in self.steps.iter().enumerate() {
             let mut members = source.step_members(alloc, at, step)?;
@@ -61,17 +93,31 @@ impl Explanation {
     }
 
     // Each thread at the end.
-    fn threads_value(&self, alloc: Global, source: &Source<'_>) -> Result<Value, AllocError>
-    {
+    fn threads_value(&self, alloc: Global, source: &Source<'_>) -> Result<Value, AllocError> {
         let mut all = Vec::new(alloc);
         for (t, standing) in self.standings.iter().enumerate() {
             let thread = t as u8;
             let mut members = Map::new(alloc);
-            put(&mut members, alloc, "name", text_value(alloc, source.thread(thread))?)?;
-            put(&mut members, alloc, "status", status_value(alloc, standing)?)?;
+            put(
+                &mut members,
+                alloc,
+                "name",
+                text_value(alloc, source.thread(thread))?,
+            )?;
+            put(
+                &mut members,
+                alloc,
+                "status",
+                status_value(alloc, standing)?,
+            )?;
             let line = source.line_value(thread, standing.instruction);
             put(&mut members, alloc, "line", line)?;
-            put(&mut members, alloc, "waits", source.reason_value(alloc, self, standing)?)?;
+            put(
+                &mut members,
+                alloc,
+                "waits",
+                source.reason_value(alloc, self, standing)?,
+            )?;
             all.push(Value::Object(members))?;
         }
         Ok(Value::Array(all))
@@ -80,26 +126,90 @@ impl Explanation {
 
 impl Source<'_> {
     // The members of a step.
-    fn step_members(&self, alloc: Global, at: usize, step: &Step) -> Result<Members, AllocError>
-    {
+    fn step_members(&self, alloc: Global, at: usize, step: &Step) -> Result<Members, AllocError> {
         let thread = step.line.thread;
         let mut members = Map::new(alloc);
         put(&mut members, alloc, "step", Value::from(at as u64))?;
         put(&mut members, alloc, "thread", Value::from(thread))?;
-        put(&mut members, alloc, "name", text_value(alloc, self.thread(thread))?)?;
-        put(&mut members, alloc, "line", self.line_value(thread, step.instruction))?;
-        put(&mut members, alloc, "act", Value::try_from_str(alloc, act_word(step.line.act))?)?;
-        put(&mut members, alloc, "object", text_value(alloc, self.object(step.object))?)?;
-        put(&mut members, alloc, "old", self.reading_value(alloc, step.old)?)?;
-        put(&mut members, alloc, "new", self.reading_value(alloc, step.new)?)?;
-        put(&mut members, alloc, "preempting", Value::Bool(step.line.preempting))?;
-        put(&mut members, alloc, "stop", stop_value(alloc, step.line.stop)?)?;
-        put(&mut members, alloc, "sets", self.settings_value(alloc, thread, step.settings.as_slice())?)?;
-        put(&mut members, alloc, "woken", self.threads_value(alloc, step.woken.as_slice())?)?;
-        put(&mut members, alloc, "held", self.mutexes_value(alloc, step.held.as_slice())?)?;
-        put(&mut members, alloc, "next", self.statement_value(alloc, thread, step.next)?)?;
+        put(
+            &mut members,
+            alloc,
+            "name",
+            text_value(alloc, self.thread(thread))?,
+        )?;
+        put(
+            &mut members,
+            alloc,
+            "line",
+            self.line_value(thread, step.instruction),
+        )?;
+        put(
+            &mut members,
+            alloc,
+            "act",
+            Value::try_from_str(alloc, act_word(step.line.act))?,
+        )?;
+        put(
+            &mut members,
+            alloc,
+            "object",
+            text_value(alloc, self.object(step.object))?,
+        )?;
+        put(
+            &mut members,
+            alloc,
+            "old",
+            self.reading_value(alloc, step.old)?,
+        )?;
+        put(
+            &mut members,
+            alloc,
+            "new",
+            self.reading_value(alloc, step.new)?,
+        )?;
+        put(
+            &mut members,
+            alloc,
+            "preempting",
+            Value::Bool(step.line.preempting),
+        )?;
+        put(
+            &mut members,
+            alloc,
+            "stop",
+            stop_value(alloc, step.line.stop)?,
+        )?;
+        put(
+            &mut members,
+            alloc,
+            "sets",
+            self.settings_value(alloc, thread, step.settings.as_slice())?,
+        )?;
+        put(
+            &mut members,
+            alloc,
+            "woken",
+            self.threads_value(alloc, step.woken.as_slice())?,
+        )?;
+        put(
+            &mut members,
+            alloc,
+            "held",
+            self.mutexes_value(alloc, step.held.as_slice())?,
+        )?;
+        put(
+            &mut members,
+            alloc,
+            "next",
+            self.statement_value(alloc, thread, step.next)?,
+        )?;
         if let Act::Wait { mutex, .. } = step.line.act {
-            put(&mut members, alloc, "mutex", text_value(alloc, self.object(Object::Mutex(mutex)))?)?;
+            put(
+                &mut members,
+                alloc,
+                "mutex",
+                text_value(alloc, self.object(Object::Mutex(mutex)))?,
+            )?;
         }
         Ok(members)
     }
@@ -110,30 +220,43 @@ impl Source<'_> {
         alloc: Global,
         thread: u8,
         instruction: usize,
-    ) -> Result<Value, AllocError>
-    {
+    ) -> Result<Value, AllocError> {
         let Some(statement) = self.instruction(thread, instruction) else {
             return Ok(Value::Null);
         };
         let mut members = Map::new(alloc);
-        put(&mut members, alloc, "line", self.line_value(thread, instruction))?;
+        put(
+            &mut members,
+            alloc,
+            "line",
+            self.line_value(thread, instruction),
+        )?;
         let mut text = Vec::new(alloc);
         self.put_statement(&mut text, alloc, thread, instruction)?;
-        put(&mut members, alloc, "text", text_value(alloc, text.as_slice())?)?;
+        put(
+            &mut members,
+            alloc,
+            "text",
+            text_value(alloc, text.as_slice())?,
+        )?;
         let wanted = match statement {
             Instruction::Lock(m) | Instruction::Wait { mutex: m, .. } => Some(Object::Mutex(m)),
             Instruction::Acquire(k) => Some(Object::Semaphore(k)),
             _ => None,
         };
         if let Some(object) = wanted {
-            put(&mut members, alloc, "wants", text_value(alloc, self.object(object))?)?;
+            put(
+                &mut members,
+                alloc,
+                "wants",
+                text_value(alloc, self.object(object))?,
+            )?;
         }
         Ok(Value::Object(members))
     }
 
     // The line of an instruction; null at the end of a thread's code.
-    fn line_value(&self, thread: u8, instruction: usize) -> Value
-    {
+    fn line_value(&self, thread: u8, instruction: usize) -> Value {
         match self.instruction(thread, instruction) {
             Some(_) => Value::from(self.line(thread, instruction)),
             None => Value::Null,
@@ -141,8 +264,7 @@ impl Source<'_> {
     }
 
     // The names of threads.
-    fn threads_value(&self, alloc: Global, threads: &[u8]) -> Result<Value, AllocError>
-    {
+    fn threads_value(&self, alloc: Global, threads: &[u8]) -> Result<Value, AllocError> {
         let mut names = Vec::new(alloc);
         for thread in threads {
             names.push(text_value(alloc, self.thread(*thread))?)?;
@@ -151,8 +273,7 @@ impl Source<'_> {
     }
 
     // The names of mutexes.
-    fn mutexes_value(&self, alloc: Global, mutexes: &[usize]) -> Result<Value, AllocError>
-    {
+    fn mutexes_value(&self, alloc: Global, mutexes: &[usize]) -> Result<Value, AllocError> {
         let mut names = Vec::new(alloc);
         for m in mutexes {
             names.push(text_value(alloc, self.object(Object::Mutex(*m)))?)?;
@@ -166,13 +287,22 @@ impl Source<'_> {
         alloc: Global,
         thread: u8,
         settings: &[Setting],
-    ) -> Result<Value, AllocError>
-    {
+    ) -> Result<Value, AllocError> {
         let mut all = Vec::new(alloc);
         for setting in settings {
             let mut members = Map::new(alloc);
-            put(&mut members, alloc, "line", self.line_value(thread, setting.instruction))?;
-            put(&mut members, alloc, "local", text_value(alloc, self.local(thread, setting.local))?)?;
+            put(
+                &mut members,
+                alloc,
+                "line",
+                self.line_value(thread, setting.instruction),
+            )?;
+            put(
+                &mut members,
+                alloc,
+                "local",
+                text_value(alloc, self.local(thread, setting.local))?,
+            )?;
             put(&mut members, alloc, "value", Value::from(setting.value))?;
             all.push(Value::Object(members))?;
         }
@@ -180,8 +310,7 @@ impl Source<'_> {
     }
 
     // What an object is: a value, the name of an owner or null, or a number.
-    fn reading_value(&self, alloc: Global, reading: Reading) -> Result<Value, AllocError>
-    {
+    fn reading_value(&self, alloc: Global, reading: Reading) -> Result<Value, AllocError> {
         match reading {
             Reading::Value(value) => Ok(Value::from(value)),
             Reading::Owner(Some(owner)) => text_value(alloc, self.thread(owner)),
@@ -197,8 +326,7 @@ impl Source<'_> {
         alloc: Global,
         explanation: &Explanation,
         standing: &Standing,
-    ) -> Result<Value, AllocError>
-    {
+    ) -> Result<Value, AllocError> {
         let Some(reason) = standing.reason else {
             return Ok(Value::Null);
         };
@@ -209,27 +337,56 @@ impl Source<'_> {
             Reason::Signal(c) => ("signal", Object::Condition(c)),
         };
         let mut members = Map::new(alloc);
-        put(&mut members, alloc, "act", Value::try_from_str(alloc, word)?)?;
-        put(&mut members, alloc, "object", text_value(alloc, self.object(object))?)?;
+        put(
+            &mut members,
+            alloc,
+            "act",
+            Value::try_from_str(alloc, word)?,
+        )?;
+        put(
+            &mut members,
+            alloc,
+            "object",
+            text_value(alloc, self.object(object))?,
+        )?;
         if let Some(holder) = reason.mutex().and_then(|m| explanation.holder(m)) {
-            put(&mut members, alloc, "holder", text_value(alloc, self.thread(holder.thread))?)?;
-            put(&mut members, alloc, "since", Value::from(holder.since as u64))?;
+            put(
+                &mut members,
+                alloc,
+                "holder",
+                text_value(alloc, self.thread(holder.thread))?,
+            )?;
+            put(
+                &mut members,
+                alloc,
+                "since",
+                Value::from(holder.since as u64),
+            )?;
         }
         Ok(Value::Object(members))
     }
 
     // What there is before the first step.
-    fn opening_value(&self, alloc: Global, explanation: &Explanation) -> Result<Value, AllocError>
-    {
+    fn opening_value(&self, alloc: Global, explanation: &Explanation) -> Result<Value, AllocError> {
         let mut variables = Map::new(alloc);
         for x in 0..self.program.variables() as usize {
             let name = string_of(alloc, self.program.variable_name(x))?;
-            put(&mut variables, alloc, name.as_str(), Value::from(self.program.opening(x)))?;
+            put(
+                &mut variables,
+                alloc,
+                name.as_str(),
+                Value::from(self.program.opening(x)),
+            )?;
         }
         let mut semaphores = Map::new(alloc);
         for k in 0..self.program.semaphores() as usize {
             let name = string_of(alloc, self.program.semaphore_name(k))?;
-            put(&mut semaphores, alloc, name.as_str(), Value::from(self.program.count(k)))?;
+            put(
+                &mut semaphores,
+                alloc,
+                name.as_str(),
+                Value::from(self.program.count(k)),
+            )?;
         }
         let mut mutexes = Vec::new(alloc);
         for m in 0..self.program.mutexes() as usize {
@@ -244,20 +401,39 @@ impl Source<'_> {
         put(&mut members, alloc, "semaphores", Value::Object(semaphores))?;
         put(&mut members, alloc, "mutexes", Value::Array(mutexes))?;
         put(&mut members, alloc, "conditions", Value::Array(conditions))?;
-        put(&mut members, alloc, "threads", self.starts_value(alloc, explanation)?)?;
+        put(
+            &mut members,
+            alloc,
+            "threads",
+            self.starts_value(alloc, explanation)?,
+        )?;
         Ok(Value::Object(members))
     }
 
     // Each thread before its first step.
-    fn starts_value(&self, alloc: Global, explanation: &Explanation) -> Result<Value, AllocError>
-    {
+    fn starts_value(&self, alloc: Global, explanation: &Explanation) -> Result<Value, AllocError> {
         let mut all = Vec::new(alloc);
         for (t, start) in explanation.opening.iter().enumerate() {
             let thread = t as u8;
             let mut members = Map::new(alloc);
-            put(&mut members, alloc, "name", text_value(alloc, self.thread(thread))?)?;
-            put(&mut members, alloc, "sets", self.settings_value(alloc, thread, start.settings.as_slice())?)?;
-            put(&mut members, alloc, "next", self.statement_value(alloc, thread, start.next)?)?;
+            put(
+                &mut members,
+                alloc,
+                "name",
+                text_value(alloc, self.thread(thread))?,
+            )?;
+            put(
+                &mut members,
+                alloc,
+                "sets",
+                self.settings_value(alloc, thread, start.settings.as_slice())?,
+            )?;
+            put(
+                &mut members,
+                alloc,
+                "next",
+                self.statement_value(alloc, thread, start.next)?,
+            )?;
             put(&mut members, alloc, "stop", stop_value(alloc, start.stop)?)?;
             all.push(Value::Object(members))?;
         }
@@ -266,8 +442,7 @@ impl Source<'_> {
 }
 
 // Text with a question mark for each byte that is not ASCII.
-fn string_of(alloc: Global, bytes: &[u8]) -> Result<String, AllocError>
-{
+fn string_of(alloc: Global, bytes: &[u8]) -> Result<String, AllocError> {
     let mut text = String::new(alloc);
     for byte in bytes {
         text.push(if byte.is_ascii() { *byte as char } else { '?' })?;
@@ -276,13 +451,11 @@ fn string_of(alloc: Global, bytes: &[u8]) -> Result<String, AllocError>
 }
 
 /// The same as a value.
-pub fn text_value(alloc: Global, bytes: &[u8]) -> Result<Value, AllocError>
-{
+pub fn text_value(alloc: Global, bytes: &[u8]) -> Result<Value, AllocError> {
     Ok(Value::String(string_of(alloc, bytes)?))
 }
 
-fn kind_value(alloc: Global, kind: Option<Kind>) -> Result<Value, AllocError>
-{
+fn kind_value(alloc: Global, kind: Option<Kind>) -> Result<Value, AllocError> {
     match kind {
         Some(Kind::Done) => Value::try_from_str(alloc, "done"),
         Some(Kind::Failed) => Value::try_from_str(alloc, "failed"),
@@ -291,8 +464,7 @@ fn kind_value(alloc: Global, kind: Option<Kind>) -> Result<Value, AllocError>
     }
 }
 
-fn stop_value(alloc: Global, stop: Option<Stop>) -> Result<Value, AllocError>
-{
+fn stop_value(alloc: Global, stop: Option<Stop>) -> Result<Value, AllocError> {
     match stop {
         Some(Stop::Assert) => Value::try_from_str(alloc, "assert"),
         Some(Stop::NotHeld) => Value::try_from_str(alloc, "not-held"),
@@ -301,8 +473,7 @@ fn stop_value(alloc: Global, stop: Option<Stop>) -> Result<Value, AllocError>
     }
 }
 
-fn status_value(alloc: Global, standing: &Standing) -> Result<Value, AllocError>
-{
+fn status_value(alloc: Global, standing: &Standing) -> Result<Value, AllocError> {
     match standing.status {
         Status::Ended => Value::try_from_str(alloc, "ended"),
         Status::Stopped(_) => Value::try_from_str(alloc, "stopped"),
@@ -312,8 +483,7 @@ fn status_value(alloc: Global, standing: &Standing) -> Result<Value, AllocError>
 }
 
 // What a store overwrote unread: the places of the read and of the write.
-fn lost_value(alloc: Global, lost: Option<Lost>) -> Result<Value, AllocError>
-{
+fn lost_value(alloc: Global, lost: Option<Lost>) -> Result<Value, AllocError> {
     let Some(lost) = lost else {
         return Ok(Value::Null);
     };
@@ -324,8 +494,7 @@ fn lost_value(alloc: Global, lost: Option<Lost>) -> Result<Value, AllocError>
 }
 
 // The word of what a step did.
-fn act_word(act: Act) -> &'static str
-{
+fn act_word(act: Act) -> &'static str {
     match act {
         Act::Load { .. } => "load",
         Act::Store { .. } => "store",

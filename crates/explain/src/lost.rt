@@ -1,8 +1,15 @@
 //! Writes that are lost: overwritten by a thread that had read the value before.
 
+ghost use Rattle.std.specs.Prelude.{◌≡◌, ◌<◌, [], All, length, IfOk, IfSome, slice_set, slice_index_or};
+ghost use Rattle.guest_code.specs.declared.limits.TheConstants.{THREADS, VARIABLES};
+ghost use Rattle.explain.specs.Lost.{IsWithin, IsLost, read_by, written_by};
+ghost use Rattle.explain.specs.Steps.{lines_of};
+ghost use Rattle.explain.specs.Explains.{TellsLost};
+ghost use Rattle.explain.specs.inner.Accessing.{AreAccesses, put_at};
+
 use crate::step::Step;
 use guest_code::limits::{THREADS, VARIABLES};
-use replay::Act;
+use replay::{Act, Line};
 use std::alloc::{AllocError, Global};
 
 /// What a store overwrites unread: its thread read the variable, then another thread wrote it, and
@@ -15,7 +22,7 @@ pub struct Lost {
     pub write: usize,
 }
 
-// The last accesses to the variables so far.
+// The last accesses to the variables before a step.
 #[derive(Drop)]
 struct Accesses {
     // The place of the last step that wrote each variable.
@@ -25,51 +32,94 @@ struct Accesses {
 }
 
 /// For each step, what it overwrites unread.
+///
+/// # Errors
+///
+/// `AllocError` where memory runs out.
 pub fn lost_writes(alloc: Global, steps: &[Step]) -> Result<Vec<Option<Lost>>, AllocError>
+    requires { All (λ step. IsWithin step.line) steps.now }
+    ensures { IfOk result (λ v. TellsLost steps.now v.items) }
 {
     let mut accesses = Accesses {
         writes: [None; VARIABLES],
         reads: [[None; VARIABLES]; THREADS],
     };
     let mut all = Vec::new(alloc);
-    for (at, step) in steps.iter().enumerate() {
-        all.push(accesses.lost_by(steps, step))?;
-        accesses.follow(at, step.line.thread as usize, step.line.act);
+    for at in 0..steps.len() {
+        all.push(accesses.lost_by(steps, at))?;
+        accesses.follow(steps[at].line, at);
     }
     Ok(all)
 }
 
 impl Accesses {
-    // What a step overwrites unread, the next one after these accesses.
-    fn lost_by(&self, steps: &[Step], step: &Step) -> Option<Lost>
+    // What the step at a place overwrites unread.
+    fn lost_by(&self, steps: &[Step], at: usize) -> Option<Lost>
+        requires inside { at < length steps.now }
+        requires within { All (λ step. IsWithin step.line) steps.now }
+        requires accesses { AreAccesses (lines_of steps.now) at self.now }
+        ensures { IfSome result (IsLost (lines_of steps.now) at) }
     {
-        let Act::Store { variable, .. } = step.line.act else {
+        let line = steps[at].line;
+        let Act::Store { variable, .. } = line.act else {
             return None;
         };
-        let thread = step.line.thread;
         let write = self.writes[variable]?;
-        let read = self.reads[thread as usize][variable]?;
-        if read < write && steps[write].line.thread != thread {
+        let read = self.reads[line.thread as usize][variable]?;
+        if read < write && steps[write].line.thread != line.thread {
             Some(Lost { read, write })
         } else {
             None
         }
     }
 
-    // The step at a place was one of these accesses, or none.
-    fn follow(&mut self, at: usize, thread: usize, act: Act)
+    // The step at a place is one of these accesses, or none.
+    fn follow(&mut self, line: Line, at: usize)
+        requires { IsWithin line }
+        ensures writes { self.new.writes ≡ put_at self.old.writes (written_by line.act) at }
+        ensures reads { self.new.reads ≡ slice_set self.old.reads line.thread
+            (put_at (slice_index_or self.old.reads line.thread []) (read_by line.act) at) }
     {
-        match act {
-            Act::Load { variable, .. } | Act::Cas { variable, hit: None, .. } => {
-                self.reads[thread][variable] = Some(at);
-            }
-            Act::Store { variable, .. } => self.writes[variable] = Some(at),
-            Act::Add { variable, .. } | Act::Cas { variable, .. } => {
-                self.reads[thread][variable] = Some(at);
-                self.writes[variable] = Some(at);
-            }
-            _ => {}
+        put_place(&mut self.writes, written_by(line.act), at);
+        put_place(&mut self.reads[line.thread as usize], read_by(line.act), at);
+    }
+}
+
+// The last access to a variable, where there is one, is at this place.
+fn put_place(places: &mut [Option<usize>; VARIABLES], variable: Option<usize>, at: usize)
+    requires { IfSome variable (λ x. x < VARIABLES) }
+    ensures { places.new ≡ put_at places.old variable at }
+{
+    if let Some(x) = variable {
+        places[x] = Some(at);
+    }
+}
+
+// The variable that a step reads.
+fn read_by(act: Act) -> Option<usize>
+    ensures { result ≡ read_by act }
+{
+    match act {
+        Act::Load { variable, .. } | Act::Add { variable, .. } | Act::Cas { variable, .. } => {
+            Some(variable)
         }
+        _ => None,
+    }
+}
+
+// The variable that a step writes.
+fn written_by(act: Act) -> Option<usize>
+    ensures { result ≡ written_by act }
+{
+    match act {
+        Act::Store { variable, .. }
+        | Act::Add { variable, .. }
+        | Act::Cas {
+            variable,
+            hit: Some(_),
+            ..
+        } => Some(variable),
+        _ => None,
     }
 }
 
@@ -79,8 +129,7 @@ pub fn held_between(
     steps: &[Step],
     from: usize,
     to: usize,
-) -> Result<Vec<usize>, AllocError>
-{
+) -> Result<Vec<usize>, AllocError> {
     let mut held = Vec::new(alloc);
     let Some(last) = steps.get(to) else {
         return Ok(held);
@@ -94,11 +143,7 @@ pub fn held_between(
 }
 
 // Whether a thread owned a mutex at each of its steps from one place up to another.
-fn is_held_between(steps: &[Step], thread: u8, mutex: usize, from: usize, to: usize) -> bool
-{
-    steps
-        .iter()
-        .take(to)
-        .skip(from)
-        .all(|step| step.line.thread != thread || step.held.as_slice().contains(&mutex))
+fn is_held_between(steps: &[Step], thread: u8, mutex: usize, from: usize, to: usize) -> bool {
+    steps.iter().take(to).skip(from).all(|step| step.line.thread != thread
+        || step.held.as_slice().contains(&mutex))
 }

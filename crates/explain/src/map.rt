@@ -83,34 +83,104 @@ fn place_of(value: &Operand) -> Pos {
     }
 }
 
-fn block(alloc: Global, here: &mut Vec<Pos>, names: &mut Vec<Vec<u8>>, body: &[Statement]) -> Result<(), AllocError> {
+fn block(
+    alloc: Global,
+    here: &mut Vec<Pos>,
+    names: &mut Vec<Vec<u8>>,
+    body: &[Statement],
+) -> Result<(), AllocError> {
     for s in body {
         statement(alloc, here, names, s)?;
     }
     Ok(())
 }
 
-fn statement(alloc: Global, here: &mut Vec<Pos>, names: &mut Vec<Vec<u8>>, s: &Statement) -> Result<(), AllocError> {
+fn statement(
+    alloc: Global,
+    here: &mut Vec<Pos>,
+    names: &mut Vec<Vec<u8>>,
+    s: &Statement,
+) -> Result<(), AllocError> {
     match s {
-        Statement::Load { local: l, variable } => { local(alloc, names, l)?; here.push(variable.at)?; Ok(()) }
-        Statement::Store { variable, value } => { operand(alloc, names, value)?; here.push(variable.at)?; Ok(()) }
-        Statement::Add { local: l, variable, value } => { local(alloc, names, l)?; operand(alloc, names, value)?; here.push(variable.at)?; Ok(()) }
-        Statement::Cas { local: l, variable, expected, new } => { local(alloc, names, l)?; operand(alloc, names, expected)?; operand(alloc, names, new)?; here.push(variable.at)?; Ok(()) }
-        Statement::Lock(n) | Statement::Unlock(n) | Statement::Signal(n) | Statement::Broadcast(n) | Statement::Acquire(n) | Statement::Release(n) => { here.push(n.at)?; Ok(()) }
-        Statement::Wait { condition, .. } => { here.push(condition.at)?; Ok(()) }
-        Statement::Set { local: l, value } => { local(alloc, names, l)?; let _ = expression(alloc, names, value)?; here.push(l.at)?; Ok(()) }
-        Statement::Assert(e) => { let at = expression(alloc, names, e)?; here.push(at)?; Ok(()) }
-        Statement::If { test, then, otherwise } => {
+        Statement::Load { local: l, variable } => {
+            local(alloc, names, l)?;
+            here.push(variable.at)?;
+            Ok(())
+        }
+        Statement::Store { variable, value } => {
+            operand(alloc, names, value)?;
+            here.push(variable.at)?;
+            Ok(())
+        }
+        Statement::Add {
+            local: l,
+            variable,
+            value,
+        } => {
+            local(alloc, names, l)?;
+            operand(alloc, names, value)?;
+            here.push(variable.at)?;
+            Ok(())
+        }
+        Statement::Cas {
+            local: l,
+            variable,
+            expected,
+            new,
+        } => {
+            local(alloc, names, l)?;
+            operand(alloc, names, expected)?;
+            operand(alloc, names, new)?;
+            here.push(variable.at)?;
+            Ok(())
+        }
+        Statement::Lock(n)
+        | Statement::Unlock(n)
+        | Statement::Signal(n)
+        | Statement::Broadcast(n)
+        | Statement::Acquire(n)
+        | Statement::Release(n) => {
+            here.push(n.at)?;
+            Ok(())
+        }
+        Statement::Wait { condition, .. } => {
+            here.push(condition.at)?;
+            Ok(())
+        }
+        Statement::Set { local: l, value } => {
+            local(alloc, names, l)?;
+            let _ = expression(alloc, names, value)?;
+            here.push(l.at)?;
+            Ok(())
+        }
+        Statement::Assert(e) => {
+            let at = expression(alloc, names, e)?;
+            here.push(at)?;
+            Ok(())
+        }
+        Statement::If {
+            test,
+            then,
+            otherwise,
+        } => {
             let at = expression(alloc, names, test)?;
             here.push(at)?;
             block(alloc, here, names, then.as_slice())?;
-            if let Some(other) = otherwise { here.push(at)?; block(alloc, here, names, other.as_slice())?; }
+            if let Some(other) = otherwise {
+                here.push(at)?;
+                block(alloc, here, names, other.as_slice())?;
+            }
             Ok(())
         }
         Statement::Repeat { times, body } => {
-            for _ in 0..*times { block(alloc, here, names, body.as_slice())?; }
+            for _ in 0..*times {
+                block(alloc, here, names, body.as_slice())?;
+            }
             Ok(())
         }
-        Statement::Leave(at) => { here.push(*at)?; Ok(()) }
+        Statement::Leave(at) => {
+            here.push(*at)?;
+            Ok(())
+        }
     }
 }

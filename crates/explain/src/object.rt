@@ -1,5 +1,11 @@
 //! Objects of a program, and what is to be seen of them in a state.
 
+ghost use Rattle.std.specs.Prelude.{◌≡◌, IsTrue, ◌↔◌};
+ghost use Rattle.semantics.specs.Reachable.{IsOf, IsValidAction};
+ghost use Rattle.semantics.specs.Waiters.{In};
+ghost use Rattle.guest_code.specs.Program.{Program};
+ghost use Rattle.explain.specs.Objects.{object_of, reading_of, touched_by, IsObjectOf};
+
 use replay::Act;
 use semantics::state::{Action, State};
 
@@ -32,6 +38,7 @@ pub enum Reading {
 impl Object {
     /// The object that an action is on: of a `wait` its condition.
     pub fn of(action: Action) -> Object
+        ensures { result ≡ object_of action }
     {
         match action {
             Action::OnVariable(x, _) => Object::Variable(x),
@@ -43,6 +50,8 @@ impl Object {
 
     /// What it is in a state.
     pub fn reading(self, state: &State) -> Reading
+        requires { (p : Program) × IsOf p state.now × IsObjectOf p self }
+        ensures { result ≡ reading_of state.now self }
     {
         match self {
             Object::Variable(x) => Reading::Value(state.variables()[x]),
@@ -54,6 +63,7 @@ impl Object {
 
     /// Whether a step that did this touched it.
     pub fn is_touched(self, act: Act) -> bool
+        ensures { IsTrue result ↔ In (touched_by act) self }
     {
         match act {
             Act::Load { variable, .. }

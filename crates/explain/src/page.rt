@@ -138,7 +138,7 @@ function drawLanes() {
     if (s.preempting) draw(svg, "rect", { x: 0, y: yOf(k) - row / 2 - 2, width: left + names.length * lane + 20, height: 4, fill: "#c62828", opacity: 0.35, class: "interruption" });
   });
   const owned = {};
-  const stripe = (m, to) => { const [t, from] = owned[m]; draw(svg, "rect", { x: xOf(t) - 12, y: yOf(from), width: 4, height: Math.max(4, yOf(to) - yOf(from)), fill: "#b8bec8", class: "held" }); delete owned[m]; };
+  const stripe = (m, to) => { const [t, from] = owned[m]; draw(svg, "rect", { x: xOf(t) - 12 - 5 * (data.opening.mutexes.indexOf(m) % 2), y: yOf(from), width: 4, height: Math.max(4, yOf(to) - yOf(from)), fill: "#b8bec8", class: "held" }); delete owned[m]; };
   steps.forEach((s, k) => {
     if (s.act === "lock" || s.act === "retake") owned[s.object] = [s.thread, k];
     const given = s.act === "unlock" ? s.object : s.act === "wait" ? s.mutex : null;
@@ -216,14 +216,14 @@ function showGraph(s) {
 function show(count) {
   const s = stateAfter(count);
   byId("slider").value = count;
-  byId("place").textContent = count === 0 ? "start" : "after step " + (count - 1) + " of " + steps.length;
+  byId("place").textContent = count === 0 ? "start" : "after step " + (count - 1) + " of 0 to " + (steps.length - 1);
   byId("chosen").setAttribute("y", count === 0 ? -row : yOf(count - 1) - row / 2);
   showSource(s); showState(s, count); showGraph(s);
 }
 document.title = data.file + " - ctxbound";
 byId("title").textContent = data.file;
 const kind = data.kind === null ? (data.refused === null ? "not complete" : "the schedule can't go on") : data.kind;
-byId("summary").append(make("span", kind, data.kind === "done" || data.kind === null ? "" : "bad"), " after " + steps.length + " steps with " + data.preemptions + " preemptions, schedule " + data.schedule);
+byId("summary").append(make("span", kind, data.kind === "done" || data.kind === null ? "" : "bad"), " after " + steps.length + " steps with " + data.preemptions + (data.preemptions === 1 ? " preemption, schedule " : " preemptions, schedule ") + data.schedule);
 byId("slider").max = steps.length;
 byId("slider").addEventListener("input", (e) => show(Number(e.target.value)));
 byId("back").addEventListener("click", () => show(Math.max(0, Number(byId("slider").value) - 1)));

@@ -12,10 +12,12 @@ use semantics::state::{Status, Stop};
 use semantics::view::Kind;
 use std::alloc::AllocError;
 
+/// Columns of the mark of a circle.
+const MARK: usize = 9;
+
 impl Teller<'_> {
     /// The value of a thread's local at the end, or the number itself.
-    pub fn value_at_end(&self, thread: u8, value: Value) -> i64
-    {
+    pub fn value_at_end(&self, thread: u8, value: Value) -> i64 {
         match value {
             Value::Literal(n) => n,
             Value::Local(r) => match self.explanation.standings.get(thread as usize) {
@@ -26,8 +28,7 @@ impl Teller<'_> {
     }
 
     /// How the schedule ended.
-    pub fn put_head(&self, text: &mut Vec<u8>) -> Result<(), AllocError>
-    {
+    pub fn put_head(&self, text: &mut Vec<u8>) -> Result<(), AllocError> {
         let mut words = Vec::new(self.alloc);
         words.extend_from_slice(self.source.file)?;
         if let Some(thread) = self.failed() {
@@ -53,16 +54,19 @@ impl Teller<'_> {
     }
 
     // Words in lines, with an indent from the second line on.
-    fn put_line(&self, text: &mut Vec<u8>, words: &Vec<u8>, indent: usize) -> Result<(), AllocError>
-    {
+    fn put_line(
+        &self,
+        text: &mut Vec<u8>,
+        words: &Vec<u8>,
+        indent: usize,
+    ) -> Result<(), AllocError> {
         put_wrapped(text, words.as_slice(), 0, indent, self.columns.width)?;
         text.push(b'\n')?;
         Ok(())
     }
 
     // After how many steps, and with how many preemptions.
-    fn put_after(&self, words: &mut Vec<u8>, steps: usize) -> Result<(), AllocError>
-    {
+    fn put_after(&self, words: &mut Vec<u8>, steps: usize) -> Result<(), AllocError> {
         words.extend_from_slice(b"after ")?;
         self.put_counted(words, steps, b" step")?;
         words.extend_from_slice(b" with ")?;
@@ -70,15 +74,18 @@ impl Teller<'_> {
     }
 
     // A number of things.
-    fn put_counted(&self, words: &mut Vec<u8>, count: usize, thing: &[u8]) -> Result<(), AllocError>
-    {
+    fn put_counted(
+        &self,
+        words: &mut Vec<u8>,
+        count: usize,
+        thing: &[u8],
+    ) -> Result<(), AllocError> {
         put_number(words, self.alloc, count)?;
         put_both(words, thing, if count == 1 { b"" } else { b"s" })
     }
 
     /// The thread that stopped first, if one did.
-    pub fn failed(&self) -> Option<u8>
-    {
+    pub fn failed(&self) -> Option<u8> {
         let mut first: Option<(u8, Option<usize>)> = None;
         for t in 0..self.source.program.threads() {
             if self.is_stopped(t) {
@@ -101,8 +108,7 @@ impl Teller<'_> {
         text: &mut Vec<u8>,
         words: &mut Vec<u8>,
         thread: u8,
-    ) -> Result<(), AllocError>
-    {
+    ) -> Result<(), AllocError> {
         let Some(standing) = self.explanation.standings.get(thread as usize) else {
             return Ok(());
         };
@@ -112,7 +118,8 @@ impl Teller<'_> {
         words.extend_from_slice(b": ")?;
         let indent = words.len();
         words.extend_from_slice(b"FAILED: ")?;
-        self.source.put_statement(words, self.alloc, thread, standing.instruction)?;
+        self.source
+            .put_statement(words, self.alloc, thread, standing.instruction)?;
         put_both(words, b"   in ", self.source.thread(thread))?;
         words.push(b' ')?;
         let steps = match self.explanation.last_place(thread as usize) {
@@ -136,15 +143,18 @@ impl Teller<'_> {
         words: &mut Vec<u8>,
         thread: u8,
         standing: Standing,
-    ) -> Result<(), AllocError>
-    {
+    ) -> Result<(), AllocError> {
         match self.source.instruction(thread, standing.instruction) {
             Some(Instruction::Assert(Expression::Single(a))) => {
                 let _ = self.put_local_value(words, thread, a, b"")?;
                 Ok(())
             }
             Some(Instruction::Assert(Expression::Both(a, _, b))) => {
-                let word: &[u8] = if self.put_local_value(words, thread, a, b"")? { b", " } else { b"" };
+                let word: &[u8] = if self.put_local_value(words, thread, a, b"")? {
+                    b", "
+                } else {
+                    b""
+                };
                 if a != b {
                     let _ = self.put_local_value(words, thread, b, word)?;
                 }
@@ -154,7 +164,11 @@ impl Teller<'_> {
                 self.put_owner(words, m)
             }
             Some(Instruction::Release(k)) => {
-                put_both(words, self.source.object(Object::Semaphore(k)), b" is 65535, which is its limit")
+                put_both(
+                    words,
+                    self.source.object(Object::Semaphore(k)),
+                    b" is 65535, which is its limit",
+                )
             }
             _ => Ok(()),
         }
@@ -167,8 +181,7 @@ impl Teller<'_> {
         thread: u8,
         value: Value,
         word: &[u8],
-    ) -> Result<bool, AllocError>
-    {
+    ) -> Result<bool, AllocError> {
         let Value::Local(r) = value else {
             return Ok(false);
         };
@@ -179,8 +192,7 @@ impl Teller<'_> {
     }
 
     // Who owns a mutex, and since when.
-    fn put_owner(&self, words: &mut Vec<u8>, mutex: usize) -> Result<(), AllocError>
-    {
+    fn put_owner(&self, words: &mut Vec<u8>, mutex: usize) -> Result<(), AllocError> {
         words.extend_from_slice(self.source.object(Object::Mutex(mutex)))?;
         let Some(Some(holder)) = self.explanation.holders.get(mutex) else {
             return words.extend_from_slice(b" is free");
@@ -189,8 +201,7 @@ impl Teller<'_> {
     }
 
     // The step and the line by which a thread took a mutex.
-    fn put_since(&self, words: &mut Vec<u8>, holder: Holder) -> Result<(), AllocError>
-    {
+    fn put_since(&self, words: &mut Vec<u8>, holder: Holder) -> Result<(), AllocError> {
         words.extend_from_slice(b" (since ")?;
         self.put_place_of(words, holder.since)?;
         words.push(b')')?;
@@ -198,8 +209,7 @@ impl Teller<'_> {
     }
 
     // A step and its line.
-    fn put_place_of(&self, words: &mut Vec<u8>, at: usize) -> Result<(), AllocError>
-    {
+    fn put_place_of(&self, words: &mut Vec<u8>, at: usize) -> Result<(), AllocError> {
         words.extend_from_slice(b"step ")?;
         put_number(words, self.alloc, at)?;
         if let Some(step) = self.explanation.steps.get(at) {
@@ -211,8 +221,7 @@ impl Teller<'_> {
     }
 
     // That the holder of a mutex won't give it back, where it is so.
-    fn put_gone(&self, words: &mut Vec<u8>, holder: Holder) -> Result<(), AllocError>
-    {
+    fn put_gone(&self, words: &mut Vec<u8>, holder: Holder) -> Result<(), AllocError> {
         match self.explanation.standings.get(holder.thread as usize) {
             Some(standing) if standing.status == Status::Ended => {
                 words.extend_from_slice(b", which ended and owns it still")
@@ -231,8 +240,7 @@ impl Teller<'_> {
         thread: u8,
         reason: Reason,
         is_new: bool,
-    ) -> Result<(), AllocError>
-    {
+    ) -> Result<(), AllocError> {
         match reason {
             Reason::Lock(m) | Reason::Retake(m) => {
                 self.put_owner(words, m)?;
@@ -250,12 +258,19 @@ impl Teller<'_> {
     }
 
     // That the count of a semaphore is 0, and who took the last one.
-    fn put_taken(&self, words: &mut Vec<u8>, semaphore: usize) -> Result<(), AllocError>
-    {
-        put_both(words, self.source.object(Object::Semaphore(semaphore)), b" is 0")?;
+    fn put_taken(&self, words: &mut Vec<u8>, semaphore: usize) -> Result<(), AllocError> {
+        put_both(
+            words,
+            self.source.object(Object::Semaphore(semaphore)),
+            b" is 0",
+        )?;
         match self.last_act(Act::Acquire(semaphore), Act::Acquire(semaphore)) {
             Some(at) => {
-                put_both(words, b"; last taken by ", self.source.thread(self.thread_of(at)))?;
+                put_both(
+                    words,
+                    b"; last taken by ",
+                    self.source.thread(self.thread_of(at)),
+                )?;
                 words.extend_from_slice(b" (")?;
                 self.put_place_of(words, at)?;
                 words.push(b')')?;
@@ -271,16 +286,23 @@ impl Teller<'_> {
         words: &mut Vec<u8>,
         thread: u8,
         condition: usize,
-    ) -> Result<(), AllocError>
-    {
-        put_both(words, b"waits for a signal on ", self.source.object(Object::Condition(condition)))?;
+    ) -> Result<(), AllocError> {
+        put_both(
+            words,
+            b"waits for a signal on ",
+            self.source.object(Object::Condition(condition)),
+        )?;
         if let Some(at) = self.explanation.last_place(thread as usize) {
             words.extend_from_slice(b" since step ")?;
             put_number(words, self.alloc, at)?;
         }
         match self.last_act(Act::Signal(condition), Act::Broadcast(condition)) {
             Some(at) => {
-                put_both(words, b"; the last one came from ", self.source.thread(self.thread_of(at)))?;
+                put_both(
+                    words,
+                    b"; the last one came from ",
+                    self.source.thread(self.thread_of(at)),
+                )?;
                 words.extend_from_slice(b" (")?;
                 self.put_place_of(words, at)?;
                 words.push(b')')?;
@@ -294,8 +316,7 @@ impl Teller<'_> {
     }
 
     // The place of the last step that did one of these.
-    fn last_act(&self, act: Act, other: Act) -> Option<usize>
-    {
+    fn last_act(&self, act: Act, other: Act) -> Option<usize> {
         let mut last = None;
         for (at, step) in self.explanation.steps.iter().enumerate() {
             if step.line.act == act || step.line.act == other {
@@ -306,8 +327,7 @@ impl Teller<'_> {
     }
 
     // The thread of the step at a place.
-    fn thread_of(&self, at: usize) -> u8
-    {
+    fn thread_of(&self, at: usize) -> u8 {
         match self.explanation.steps.get(at) {
             Some(step) => step.line.thread,
             None => u8::MAX,
@@ -315,25 +335,52 @@ impl Teller<'_> {
     }
 
     /// Why nobody can go on, or why the next step of the schedule can't be taken.
-    pub fn put_reasons(&self, text: &mut Vec<u8>) -> Result<(), AllocError>
-    {
+    pub fn put_reasons(&self, text: &mut Vec<u8>) -> Result<(), AllocError> {
         if self.explanation.kind == Some(Kind::Stuck) {
             text.extend_from_slice(b"Why nobody can go on\n")?;
-            let mut told = Vec::new(self.alloc);
-            for (i, thread) in self.explanation.circle.iter().enumerate() {
-                let mark = mark_of(i, self.explanation.circle.len());
-                self.put_thread(text, *thread, mark, &mut told)?;
-            }
-            for t in 0..self.source.program.threads() {
-                if !self.explanation.circle.as_slice().contains(&t) {
-                    self.put_thread(text, t, b"", &mut told)?;
-                }
-            }
+            self.put_blocked(text)?;
             text.push(b'\n')?;
         } else if self.explanation.kind.is_none() {
             self.put_refusal(text)?;
         }
         Ok(())
+    }
+
+    // The blocked threads, those of the circle first.
+    fn put_blocked(&self, text: &mut Vec<u8>) -> Result<(), AllocError> {
+        let circle = self.explanation.circle.as_slice();
+        let is_marked = self.circle_end()?.saturating_add(MARK) <= self.columns.width;
+        let mut told = Vec::new(self.alloc);
+        for (i, thread) in circle.iter().enumerate() {
+            let mark = if is_marked {
+                mark_of(i, circle.len())
+            } else {
+                b""
+            };
+            self.put_thread(text, *thread, mark, &mut told)?;
+        }
+        for t in 0..self.source.program.threads() {
+            if !circle.contains(&t) {
+                self.put_thread(text, t, b"", &mut told)?;
+            }
+        }
+        if is_marked || circle.is_empty() {
+            return Ok(());
+        }
+        self.put_circle(text)
+    }
+
+    // The circle in a line of its own.
+    fn put_circle(&self, text: &mut Vec<u8>) -> Result<(), AllocError> {
+        let mut words = Vec::from_slice(self.alloc, b"  Circle:")?;
+        for thread in self.explanation.circle.iter() {
+            put_both(&mut words, b" ", self.source.thread(*thread))?;
+            words.extend_from_slice(b" ->")?;
+        }
+        if let Some(first) = self.explanation.circle.first() {
+            put_both(&mut words, b" ", self.source.thread(*first))?;
+        }
+        self.put_line(text, &words, 6)
     }
 
     // A blocked thread and why it can't go on.
@@ -343,8 +390,7 @@ impl Teller<'_> {
         thread: u8,
         mark: &[u8],
         told: &mut Vec<usize>,
-    ) -> Result<(), AllocError>
-    {
+    ) -> Result<(), AllocError> {
         let Some(standing) = self.explanation.standings.get(thread as usize) else {
             return Ok(());
         };
@@ -365,27 +411,29 @@ impl Teller<'_> {
         }
         self.put_reason(&mut row, thread, reason, is_new)?;
         if !mark.is_empty() {
-            pad_to(&mut row, self.circle_end()?.saturating_add(3))?;
+            pad_to(&mut row, self.circle_end()?)?;
             row.extend_from_slice(mark)?;
         }
         self.put_line(text, &row, 6)
     }
 
     // The line and the statement at which a thread is.
-    fn put_blocked_at(&self, row: &mut Vec<u8>, thread: u8) -> Result<(), AllocError>
-    {
+    fn put_blocked_at(&self, row: &mut Vec<u8>, thread: u8) -> Result<(), AllocError> {
         let Some(standing) = self.explanation.standings.get(thread as usize) else {
             return Ok(());
         };
         row.extend_from_slice(b"at ")?;
-        put_number(row, self.alloc, self.source.line(thread, standing.instruction) as usize)?;
+        put_number(
+            row,
+            self.alloc,
+            self.source.line(thread, standing.instruction) as usize,
+        )?;
         row.extend_from_slice(b": ")?;
         self.put_blocked_statement(row, thread)
     }
 
     // The column after the longest name of a blocked thread.
-    fn name_end(&self) -> usize
-    {
+    fn name_end(&self) -> usize {
         let mut end = 2;
         for (t, standing) in self.explanation.standings.iter().enumerate() {
             if standing.reason.is_some() {
@@ -396,8 +444,7 @@ impl Teller<'_> {
     }
 
     // The column after the longest statement of a blocked thread.
-    fn statement_end(&self) -> Result<usize, AllocError>
-    {
+    fn statement_end(&self) -> Result<usize, AllocError> {
         let mut longest = 0;
         for (t, standing) in self.explanation.standings.iter().enumerate() {
             if standing.reason.is_some() {
@@ -410,8 +457,7 @@ impl Teller<'_> {
     }
 
     // The column after the longest reason in the circle.
-    fn circle_end(&self) -> Result<usize, AllocError>
-    {
+    fn circle_end(&self) -> Result<usize, AllocError> {
         let mut longest = 0;
         for thread in self.explanation.circle.iter() {
             if let Some(standing) = self.explanation.standings.get(*thread as usize) {
@@ -422,12 +468,15 @@ impl Teller<'_> {
                 longest = longest.max(words.len());
             }
         }
-        Ok(self.statement_end()?.saturating_add(longest).saturating_add(3))
+        Ok(
+            self.statement_end()?
+                .saturating_add(longest)
+                .saturating_add(6),
+        )
     }
 
     // Why the next step of the schedule can't be taken, and who could go on.
-    fn put_refusal(&self, text: &mut Vec<u8>) -> Result<(), AllocError>
-    {
+    fn put_refusal(&self, text: &mut Vec<u8>) -> Result<(), AllocError> {
         let mut words = Vec::new(self.alloc);
         if let Some(thread) = self.explanation.refused {
             self.put_refused(&mut words, thread)?;
@@ -452,8 +501,7 @@ impl Teller<'_> {
     }
 
     // Why a thread can't take a step.
-    fn put_refused(&self, words: &mut Vec<u8>, thread: u8) -> Result<(), AllocError>
-    {
+    fn put_refused(&self, words: &mut Vec<u8>, thread: u8) -> Result<(), AllocError> {
         let Some(standing) = self.explanation.standings.get(thread as usize) else {
             words.extend_from_slice(b"There is no thread ")?;
             put_number(words, self.alloc, thread as usize)?;
@@ -485,8 +533,7 @@ impl Teller<'_> {
         words: &mut Vec<u8>,
         thread: u8,
         reason: Reason,
-    ) -> Result<(), AllocError>
-    {
+    ) -> Result<(), AllocError> {
         let holder = match reason.mutex() {
             Some(m) => self.explanation.holders.get(m).copied(),
             None => None,
@@ -503,8 +550,7 @@ impl Teller<'_> {
     }
 
     /// The last write that was lost before a failure, and the mutexes that both sides owned.
-    pub fn put_lost(&self, text: &mut Vec<u8>) -> Result<(), AllocError>
-    {
+    pub fn put_lost(&self, text: &mut Vec<u8>) -> Result<(), AllocError> {
         let Some(failed) = self.failed() else {
             return Ok(());
         };
@@ -513,7 +559,13 @@ impl Teller<'_> {
             None => return Ok(()),
         };
         let mut last = None;
-        for (at, lost) in self.explanation.lost.iter().take(end.saturating_add(1)).enumerate() {
+        for (at, lost) in self
+            .explanation
+            .lost
+            .iter()
+            .take(end.saturating_add(1))
+            .enumerate()
+        {
             if let Some(lost) = lost {
                 last = Some((at, *lost));
             }
@@ -525,10 +577,13 @@ impl Teller<'_> {
     }
 
     // What a store overwrote unread.
-    fn put_overwritten(&self, text: &mut Vec<u8>, at: usize, lost: Lost) -> Result<(), AllocError>
-    {
+    fn put_overwritten(&self, text: &mut Vec<u8>, at: usize, lost: Lost) -> Result<(), AllocError> {
         let steps = self.explanation.steps.as_slice();
-        let (Some(read), Some(write), Some(store)) = (steps.get(lost.read), steps.get(lost.write), steps.get(at)) else {
+        let (Some(read), Some(write), Some(store)) = (
+            steps.get(lost.read),
+            steps.get(lost.write),
+            steps.get(at),
+        ) else {
             return Ok(());
         };
         let mut words = Vec::from_slice(self.alloc, b"Overwritten unread: ")?;
@@ -550,8 +605,7 @@ impl Teller<'_> {
     }
 
     // The value of a variable.
-    fn put_reading(&self, words: &mut Vec<u8>, reading: Reading) -> Result<(), AllocError>
-    {
+    fn put_reading(&self, words: &mut Vec<u8>, reading: Reading) -> Result<(), AllocError> {
         match reading {
             Reading::Value(value) => put_value(words, self.alloc, value),
             _ => Ok(()),
@@ -559,8 +613,7 @@ impl Teller<'_> {
     }
 
     // The mutexes that both sides of a lost write owned.
-    fn put_held(&self, text: &mut Vec<u8>, at: usize, lost: Lost) -> Result<(), AllocError>
-    {
+    fn put_held(&self, text: &mut Vec<u8>, at: usize, lost: Lost) -> Result<(), AllocError> {
         let steps = self.explanation.steps.as_slice();
         let (Some(write), Some(store)) = (steps.get(lost.write), steps.get(at)) else {
             return Ok(());
@@ -570,7 +623,11 @@ impl Teller<'_> {
         words.extend_from_slice(b" held ")?;
         let between = held_between(self.alloc, steps, lost.read, at)?;
         self.put_mutexes(&mut words, between.as_slice())?;
-        put_both(&mut words, b" between; ", self.source.thread(write.line.thread))?;
+        put_both(
+            &mut words,
+            b" between; ",
+            self.source.thread(write.line.thread),
+        )?;
         words.extend_from_slice(b" held ")?;
         self.put_mutexes(&mut words, write.held.as_slice())?;
         words.extend_from_slice(b". No mutex was held by both.")?;
@@ -578,8 +635,7 @@ impl Teller<'_> {
     }
 
     // The names of mutexes.
-    fn put_mutexes(&self, words: &mut Vec<u8>, mutexes: &[usize]) -> Result<(), AllocError>
-    {
+    fn put_mutexes(&self, words: &mut Vec<u8>, mutexes: &[usize]) -> Result<(), AllocError> {
         if mutexes.is_empty() {
             return words.extend_from_slice(b"none");
         }
@@ -591,8 +647,7 @@ impl Teller<'_> {
     }
 
     /// How many steps are told, where some are folded.
-    pub fn put_count(&self, text: &mut Vec<u8>, told: usize) -> Result<(), AllocError>
-    {
+    pub fn put_count(&self, text: &mut Vec<u8>, told: usize) -> Result<(), AllocError> {
         let count = self.explanation.steps.len();
         if told == count {
             return Ok(());
@@ -600,14 +655,13 @@ impl Teller<'_> {
         let mut words = Vec::new(self.alloc);
         put_number(&mut words, self.alloc, told)?;
         words.extend_from_slice(b" of ")?;
-        self.put_counted(&mut words, count, b" step")?;
-        words.extend_from_slice(b" are shown; --all shows each.")?;
+        put_number(&mut words, self.alloc, count)?;
+        words.extend_from_slice(b" steps are shown; --all shows each.")?;
         self.put_line(text, &words, 2)
     }
 
     /// The command that replays the schedule.
-    pub fn put_replay(&self, text: &mut Vec<u8>) -> Result<(), AllocError>
-    {
+    pub fn put_replay(&self, text: &mut Vec<u8>) -> Result<(), AllocError> {
         put_both(text, b"Replay: ctxbound replay ", self.source.file)?;
         let schedule = schedule_text(self.alloc, self.explanation.schedule.as_slice())?;
         put_both(text, b" ", schedule.as_slice())?;
@@ -617,8 +671,7 @@ impl Teller<'_> {
 }
 
 // Whether a place is before another; the start is before each.
-fn is_before(place: Option<usize>, other: Option<usize>) -> bool
-{
+fn is_before(place: Option<usize>, other: Option<usize>) -> bool {
     match (place, other) {
         (None, Some(_)) => true,
         (Some(place), Some(other)) => place < other,
@@ -627,10 +680,9 @@ fn is_before(place: Option<usize>, other: Option<usize>) -> bool
 }
 
 // What stands behind a thread of a circle, at its place among so many.
-fn mark_of(place: usize, count: usize) -> &'static [u8]
-{
+fn mark_of(place: usize, count: usize) -> &'static [u8] {
     if count == 1 {
-        b"circle"
+        b"itself"
     } else if place == 0 {
         b"\\  circle"
     } else if place.wrapping_add(1) == count {

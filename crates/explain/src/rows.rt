@@ -5,7 +5,9 @@ use crate::object::{Object, Reading};
 use crate::settings::Setting;
 use crate::step::Step;
 use crate::text::Teller;
-use crate::words::{pad_to, put_both, put_cut, put_number, put_right, put_times, put_value, put_wrapped};
+use crate::words::{
+    pad_to, put_both, put_cut, put_number, put_right, put_times, put_value, put_wrapped,
+};
 use guest_code::program::{Expression, Instruction};
 use replay::Act;
 use semantics::state::{Status, Stop};
@@ -16,12 +18,12 @@ use std::alloc::AllocError;
 const LONG: usize = 10;
 /// The column after the number of a step, and the one after the number of a line.
 const STEP: usize = 4;
+
 const LINE: usize = 9;
 
 impl Teller<'_> {
     /// The names of the columns, and a rule under each.
-    pub fn put_header(&self, text: &mut Vec<u8>) -> Result<(), AllocError>
-    {
+    pub fn put_header(&self, text: &mut Vec<u8>) -> Result<(), AllocError> {
         let mut names = Vec::from_slice(self.alloc, b"step line")?;
         let mut rules = Vec::from_slice(self.alloc, b"---- ----")?;
         for t in 0..self.columns.own {
@@ -33,22 +35,29 @@ impl Teller<'_> {
         if self.columns.is_shared {
             let start = self.columns.start(self.columns.own);
             pad_to(&mut names, start)?;
-            names.extend_from_slice(if self.columns.own == 0 { b"thread and step" } else { b"other threads" })?;
+            names.extend_from_slice(if self.columns.own == 0 {
+                b"thread and step"
+            } else {
+                b"other threads"
+            })?;
             pad_to(&mut rules, start)?;
             put_times(&mut rules, b'-', self.columns.end().saturating_sub(start))?;
         }
         pad_to(&mut names, self.columns.changes)?;
         names.extend_from_slice(b"what changed\n")?;
         pad_to(&mut rules, self.columns.changes)?;
-        put_times(&mut rules, b'-', self.columns.width.saturating_sub(self.columns.changes))?;
+        put_times(
+            &mut rules,
+            b'-',
+            self.columns.width.saturating_sub(self.columns.changes),
+        )?;
         put_both(text, names.as_slice(), rules.as_slice())?;
         text.push(b'\n')?;
         Ok(())
     }
 
     /// A row for each thread that stopped before its first step.
-    pub fn put_opening_stops(&self, text: &mut Vec<u8>) -> Result<(), AllocError>
-    {
+    pub fn put_opening_stops(&self, text: &mut Vec<u8>) -> Result<(), AllocError> {
         for t in 0..self.source.program.threads() {
             if self.is_stopped(t) && self.explanation.last_place(t as usize).is_none() {
                 let mut row = Vec::from_slice(self.alloc, b"start")?;
@@ -59,8 +68,7 @@ impl Teller<'_> {
     }
 
     // Whether a thread has stopped.
-    pub fn is_stopped(&self, thread: u8) -> bool
-    {
+    pub fn is_stopped(&self, thread: u8) -> bool {
         match self.explanation.standings.get(thread as usize) {
             Some(standing) => standing.is_stopped(),
             None => false,
@@ -68,8 +76,7 @@ impl Teller<'_> {
     }
 
     /// A row for the steps that are folded, from one place up to another, where they are many.
-    pub fn put_fold(&self, text: &mut Vec<u8>, from: usize, to: usize) -> Result<(), AllocError>
-    {
+    pub fn put_fold(&self, text: &mut Vec<u8>, from: usize, to: usize) -> Result<(), AllocError> {
         let count = to.saturating_sub(from);
         if count < LONG {
             return Ok(());
@@ -84,7 +91,11 @@ impl Teller<'_> {
         pad_to(&mut row, self.columns.start(0))?;
         let mut cell = Vec::from_slice(self.alloc, b".. ")?;
         put_number(&mut cell, self.alloc, count)?;
-        put_both(&mut cell, b" steps of ", self.source.thread(step.line.thread))?;
+        put_both(
+            &mut cell,
+            b" steps of ",
+            self.source.thread(step.line.thread),
+        )?;
         cell.extend_from_slice(b", none interrupted ..")?;
         let space = self.columns.end().saturating_sub(row.len());
         put_cut(&mut row, cell.as_slice(), space)?;
@@ -99,11 +110,16 @@ impl Teller<'_> {
         changes: &mut Vec<u8>,
         from: usize,
         to: usize,
-    ) -> Result<(), AllocError>
-    {
+    ) -> Result<(), AllocError> {
         for x in 0..self.source.program.variables() as usize {
             let mut last = None;
-            for step in self.explanation.steps.iter().skip(from).take(to.saturating_sub(from)) {
+            for step in self
+                .explanation
+                .steps
+                .iter()
+                .skip(from)
+                .take(to.saturating_sub(from))
+            {
                 if step.object == Object::Variable(x) && step.old != step.new {
                     last = Some(step.new);
                 }
@@ -125,13 +141,14 @@ impl Teller<'_> {
         text: &mut Vec<u8>,
         row: &Vec<u8>,
         changes: &Vec<u8>,
-    ) -> Result<(), AllocError>
-    {
+    ) -> Result<(), AllocError> {
         let start = text.len();
         text.extend_from_slice(row.as_slice())?;
         if !changes.is_empty() {
             let column = self.columns.changes;
-            let spaces = column.saturating_sub(text.len().saturating_sub(start)).max(1);
+            let spaces = column
+                .saturating_sub(text.len().saturating_sub(start))
+                .max(1);
             put_times(text, b' ', spaces)?;
             let from = text.len().saturating_sub(start);
             put_wrapped(text, changes.as_slice(), from, column, self.columns.width)?;
@@ -141,16 +158,14 @@ impl Teller<'_> {
     }
 
     // The number of a line, and then the column of a thread, with its name where it is shared.
-    fn put_place(&self, row: &mut Vec<u8>, line: u32, thread: u8) -> Result<(), AllocError>
-    {
+    fn put_place(&self, row: &mut Vec<u8>, line: u32, thread: u8) -> Result<(), AllocError> {
         row.push(b' ')?;
         put_right(row, self.alloc, line as usize, LINE)?;
         self.put_column(row, thread)
     }
 
     // The column of a thread, with its name where it is shared.
-    fn put_column(&self, row: &mut Vec<u8>, thread: u8) -> Result<(), AllocError>
-    {
+    fn put_column(&self, row: &mut Vec<u8>, thread: u8) -> Result<(), AllocError> {
         pad_to(row, self.columns.start(thread as usize))?;
         if thread as usize >= self.columns.own {
             put_both(row, self.source.thread(thread), b": ")?;
@@ -160,8 +175,7 @@ impl Teller<'_> {
 
     /// The row of a step, and what belongs under it: that it failed, and that its thread was
     /// interrupted.
-    pub fn put_step_rows(&self, text: &mut Vec<u8>, at: usize) -> Result<(), AllocError>
-    {
+    pub fn put_step_rows(&self, text: &mut Vec<u8>, at: usize) -> Result<(), AllocError> {
         let Some(step) = self.explanation.steps.get(at) else {
             return Ok(());
         };
@@ -178,8 +192,7 @@ impl Teller<'_> {
     }
 
     // The row of a step.
-    fn put_step_row(&self, text: &mut Vec<u8>, at: usize, step: &Step) -> Result<(), AllocError>
-    {
+    fn put_step_row(&self, text: &mut Vec<u8>, at: usize, step: &Step) -> Result<(), AllocError> {
         let mut row = Vec::new(self.alloc);
         put_right(&mut row, self.alloc, at, STEP)?;
         let thread = step.line.thread;
@@ -195,8 +208,7 @@ impl Teller<'_> {
     }
 
     // What a step did.
-    fn put_cell(&self, cell: &mut Vec<u8>, step: &Step) -> Result<(), AllocError>
-    {
+    fn put_cell(&self, cell: &mut Vec<u8>, step: &Step) -> Result<(), AllocError> {
         match step.line.act {
             Act::Retake(m) => self.source.put_object(cell, b"retake ", Object::Mutex(m)),
             _ => self
@@ -206,8 +218,7 @@ impl Teller<'_> {
     }
 
     // What a step changed.
-    fn put_changes(&self, changes: &mut Vec<u8>, step: &Step) -> Result<(), AllocError>
-    {
+    fn put_changes(&self, changes: &mut Vec<u8>, step: &Step) -> Result<(), AllocError> {
         match step.line.stop {
             Some(Stop::NotHeld) => {
                 put_both(changes, b"FALSE: ", self.source.thread(step.line.thread))?;
@@ -225,14 +236,16 @@ impl Teller<'_> {
     }
 
     // What a step changed of its object.
-    fn put_object_change(&self, changes: &mut Vec<u8>, step: &Step) -> Result<(), AllocError>
-    {
+    fn put_object_change(&self, changes: &mut Vec<u8>, step: &Step) -> Result<(), AllocError> {
         match step.line.act {
             Act::Load { .. } => Ok(()),
             Act::Wait { condition, mutex } => {
                 self.source.put_object(changes, b"", Object::Mutex(mutex))?;
-                self.source
-                    .put_object(changes, b" is free; waits for ", Object::Condition(condition))
+                self.source.put_object(
+                    changes,
+                    b" is free; waits for ",
+                    Object::Condition(condition),
+                )
             }
             Act::Signal(_) | Act::Broadcast(_) => self.put_woken(changes, step),
             _ => {
@@ -248,8 +261,7 @@ impl Teller<'_> {
         changes: &mut Vec<u8>,
         old: Reading,
         new: Reading,
-    ) -> Result<(), AllocError>
-    {
+    ) -> Result<(), AllocError> {
         match (old, new) {
             (_, Reading::Owner(Some(owner))) => {
                 put_both(changes, b"-> ", self.source.thread(owner))
@@ -274,8 +286,7 @@ impl Teller<'_> {
     }
 
     // Whom a step woke.
-    fn put_woken(&self, changes: &mut Vec<u8>, step: &Step) -> Result<(), AllocError>
-    {
+    fn put_woken(&self, changes: &mut Vec<u8>, step: &Step) -> Result<(), AllocError> {
         if step.woken.is_empty() {
             return changes.extend_from_slice(b"nobody waits");
         }
@@ -292,8 +303,7 @@ impl Teller<'_> {
         changes: &mut Vec<u8>,
         step: &Step,
         setting: Setting,
-    ) -> Result<(), AllocError>
-    {
+    ) -> Result<(), AllocError> {
         let thread = step.line.thread;
         if !changes.is_empty() {
             changes.extend_from_slice(b"; ")?;
@@ -309,8 +319,7 @@ impl Teller<'_> {
     }
 
     // That a store overwrote what another thread had written.
-    fn put_lost_mark(&self, changes: &mut Vec<u8>, at: usize) -> Result<(), AllocError>
-    {
+    fn put_lost_mark(&self, changes: &mut Vec<u8>, at: usize) -> Result<(), AllocError> {
         let Some(Some(lost)) = self.explanation.lost.get(at) else {
             return Ok(());
         };
@@ -331,15 +340,17 @@ impl Teller<'_> {
         text: &mut Vec<u8>,
         row: &mut Vec<u8>,
         thread: u8,
-    ) -> Result<(), AllocError>
-    {
+    ) -> Result<(), AllocError> {
         let Some(standing) = self.explanation.standings.get(thread as usize) else {
             return Ok(());
         };
         self.put_place(row, self.source.line(thread, standing.instruction), thread)?;
         row.extend_from_slice(b"assert")?;
         let mut changes = Vec::from_slice(self.alloc, b"FALSE: ")?;
-        if let Some(Instruction::Assert(e)) = self.source.instruction(thread, standing.instruction) {
+        if let Some(Instruction::Assert(e)) = self
+            .source
+            .instruction(thread, standing.instruction)
+        {
             self.put_comparison(&mut changes, thread, e)?;
         }
         self.put_row(text, row, &changes)
@@ -351,8 +362,7 @@ impl Teller<'_> {
         changes: &mut Vec<u8>,
         thread: u8,
         expression: Expression,
-    ) -> Result<(), AllocError>
-    {
+    ) -> Result<(), AllocError> {
         match expression {
             Expression::Single(a) => put_value(changes, self.alloc, self.value_at_end(thread, a)),
             Expression::Both(a, op, b) => {
@@ -364,16 +374,20 @@ impl Teller<'_> {
     }
 
     // That the thread of a step was interrupted after it.
-    fn put_interruption(&self, text: &mut Vec<u8>, step: &Step) -> Result<(), AllocError>
-    {
+    fn put_interruption(&self, text: &mut Vec<u8>, step: &Step) -> Result<(), AllocError> {
         let thread = step.line.thread;
         let column = self.columns.start(thread as usize);
         let mut words = Vec::new(self.alloc);
-        put_both(&mut words, self.source.thread(thread), b" is interrupted before line ")?;
+        put_both(
+            &mut words,
+            self.source.thread(thread),
+            b" is interrupted before line ",
+        )?;
         let line = self.source.line(thread, step.next);
         put_number(&mut words, self.alloc, line as usize)?;
         words.extend_from_slice(b": ")?;
-        self.source.put_statement(&mut words, self.alloc, thread, step.next)?;
+        self.source
+            .put_statement(&mut words, self.alloc, thread, step.next)?;
         put_times(text, b' ', column)?;
         put_times(text, b'~', COLUMN)?;
         text.push(b' ')?;
@@ -384,14 +398,19 @@ impl Teller<'_> {
     }
 
     /// Where each thread with a column of its own is at the end of a deadlock.
-    pub fn put_end_rows(&self, text: &mut Vec<u8>) -> Result<(), AllocError>
-    {
+    pub fn put_end_rows(&self, text: &mut Vec<u8>) -> Result<(), AllocError> {
         if self.explanation.kind != Some(Kind::Stuck) || self.columns.own == 0 {
             return Ok(());
         }
         let mut row = Vec::from_slice(self.alloc, b" end")?;
         let mut under = Vec::new(self.alloc);
-        for (t, standing) in self.explanation.standings.iter().take(self.columns.own).enumerate() {
+        for (t, standing) in self
+            .explanation
+            .standings
+            .iter()
+            .take(self.columns.own)
+            .enumerate()
+        {
             pad_to(&mut row, self.columns.start(t))?;
             if standing.reason.is_none() {
                 row.extend_from_slice(b"ended")?;
@@ -410,18 +429,21 @@ impl Teller<'_> {
     }
 
     /// What a thread can't do at the end.
-    pub fn put_blocked_statement(&self, text: &mut Vec<u8>, thread: u8) -> Result<(), AllocError>
-    {
+    pub fn put_blocked_statement(&self, text: &mut Vec<u8>, thread: u8) -> Result<(), AllocError> {
         let Some(standing) = self.explanation.standings.get(thread as usize) else {
             return Ok(());
         };
         if standing.status == Status::Woken {
-            if let Some(Instruction::Wait { mutex, .. }) =
-                self.source.instruction(thread, standing.instruction)
+            if let Some(Instruction::Wait { mutex, .. }) = self
+                .source
+                .instruction(thread, standing.instruction)
             {
-                return self.source.put_object(text, b"retake ", Object::Mutex(mutex));
+                return self
+                    .source
+                    .put_object(text, b"retake ", Object::Mutex(mutex));
             }
         }
-        self.source.put_statement(text, self.alloc, thread, standing.instruction)
+        self.source
+            .put_statement(text, self.alloc, thread, standing.instruction)
     }
 }

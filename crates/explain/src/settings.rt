@@ -1,5 +1,11 @@
 //! The locals that a thread sets, one after the other.
 
+ghost use Rattle.std.specs.Prelude.{List, ◌+◌, ◌∷◌, IfOk, ◌≡◌, ◌≤◌, ◌<◌, ◌++◌, length, drop, OnOk, IfSome};
+ghost use Rattle.guest_code.specs.Program.{Program, IsValidCode, IsValid};
+ghost use Rattle.guest_code.specs.declared.program.Instruction.{Instruction};
+ghost use Rattle.explain.specs.Settings.{settings_in};
+ghost use Rattle.explain.specs.inner.Runs.{settings_after};
+
 use guest_code::limits::LOCALS;
 use guest_code::program::Instruction;
 use replay::Act;
@@ -19,6 +25,8 @@ pub struct Setting {
 
 /// The local that a visible statement sets.
 pub fn setting_of(instruction: usize, statement: &Instruction, act: Act) -> Option<Setting>
+    requires { (p : Program) × IsValid p statement.now }
+    ensures { IfSome result (λ setting. setting.local < LOCALS) }
 {
     let (local, value) = match (statement, act) {
         (Instruction::Load { local, .. }, Act::Load { value, .. }) => (*local, value),
@@ -35,40 +43,69 @@ pub fn setting_of(instruction: usize, statement: &Instruction, act: Act) -> Opti
     })
 }
 
-/// Puts down what a thread sets by itself, from one instruction up to where it comes to.
+/// Adds what a local run sets from an instruction on, where the locals have these values.
 pub fn put_settings(
     settings: &mut Vec<Setting>,
     code: &[Instruction],
     locals: &mut [i64; LOCALS],
     from: usize,
-    to: usize,
 ) -> Result<(), AllocError>
+    requires { (p : Program) × IsValidCode p code.now }
+    ensures { OnOk result (settings.new.items
+        ≡ settings.old.items ++ settings_in (drop from code.now) from 0 locals.old) }
 {
     let mut skip = 0;
-    for instruction in from..to {
+    for at in from..code.len() {
         if skip > 0 {
             skip -= 1;
             continue;
         }
-        match &code[instruction] {
-            Instruction::Set { local, value } => {
-                let local = *local;
-                let value = expression_at(locals, value);
-                locals[local] = value;
-                settings.push(Setting {
-                    instruction,
-                    local,
-                    value,
-                })?;
-            }
-            Instruction::SkipIfZero(test, n) => {
-                if expression_at(locals, test) == 0 {
-                    skip = *n;
-                }
-            }
-            Instruction::Skip(n) => skip = *n,
-            _ => {}
+        match put_setting(settings, &code[at], locals, at)? {
+            Some(next) => skip = next,
+            None => return Ok(()),
         }
     }
     Ok(())
+}
+
+// Adds what an instruction sets by itself. The answer is how many of the next ones are jumped over;
+// `None` where the local run is over.
+fn put_setting(
+    settings: &mut Vec<Setting>,
+    instruction: &Instruction,
+    locals: &mut [i64; LOCALS],
+    at: usize,
+) -> Result<Option<usize>, AllocError>
+    requires { (p : Program) × IsValid p instruction.now }
+    ensures { IfOk result (λ next. (rest : List Instruction) → settings.old.items
+        ++ settings_in (instruction.now ∷ rest) at 0 locals.old
+        ≡ settings.new.items ++ settings_after next rest (at + 1) locals.new) }
+{
+    match instruction {
+        Instruction::Set { local, value } => {
+            let local = *local;
+            let value = expression_at(locals, value);
+            locals[local] = value;
+            settings.push(Setting {
+                instruction: at,
+                local,
+                value,
+            })?;
+            Ok(Some(0))
+        }
+        Instruction::Assert(test) => {
+            if expression_at(locals, test) == 0 {
+                return Ok(None);
+            }
+            Ok(Some(0))
+        }
+        Instruction::SkipIfZero(test, n) => {
+            if expression_at(locals, test) == 0 {
+                return Ok(Some(*n));
+            }
+            Ok(Some(0))
+        }
+        Instruction::Skip(n) => Ok(Some(*n)),
+        _ => Ok(None),
+    }
 }

@@ -20,8 +20,7 @@ pub struct Source<'a> {
 
 impl<'a> Source<'a> {
     /// The name of a thread.
-    pub fn thread(&self, thread: u8) -> &'a [u8]
-    {
+    pub fn thread(&self, thread: u8) -> &'a [u8] {
         if thread < self.program.threads() {
             self.program.thread_name(thread)
         } else {
@@ -30,8 +29,7 @@ impl<'a> Source<'a> {
     }
 
     /// The name of an object.
-    pub fn object(&self, object: Object) -> &'a [u8]
-    {
+    pub fn object(&self, object: Object) -> &'a [u8] {
         match object {
             Object::Variable(x) if x < self.program.variables() as usize => {
                 self.program.variable_name(x)
@@ -48,14 +46,12 @@ impl<'a> Source<'a> {
     }
 
     /// The name of a local of a thread.
-    pub fn local(&self, thread: u8, local: usize) -> &'a [u8]
-    {
+    pub fn local(&self, thread: u8, local: usize) -> &'a [u8] {
         self.map.local(thread, local)
     }
 
     /// An instruction of a thread; `None` at the end of its code.
-    pub fn instruction(&self, thread: u8, instruction: usize) -> Option<Instruction>
-    {
+    pub fn instruction(&self, thread: u8, instruction: usize) -> Option<Instruction> {
         if thread < self.program.threads() {
             self.program.code(thread).get(instruction).copied()
         } else {
@@ -64,8 +60,7 @@ impl<'a> Source<'a> {
     }
 
     /// The line of an instruction of a thread, from 1; 0 at the end of its code.
-    pub fn line(&self, thread: u8, instruction: usize) -> u32
-    {
+    pub fn line(&self, thread: u8, instruction: usize) -> u32 {
         self.map.place(thread, instruction).line
     }
 }

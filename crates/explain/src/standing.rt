@@ -1,5 +1,9 @@
 //! Where a thread is at the end, and why it can't go on.
 
+ghost use Rattle.std.specs.Prelude.{◌≡◌, ◌<◌, length, MatchOption, Some};
+ghost use Rattle.semantics.specs.Reachable.{IsOf};
+ghost use Rattle.explain.specs.Blocked.{IsBlockedBy, IsUnblocked, Stands, mutex_of};
+
 use guest_code::limits::LOCALS;
 use guest_code::program::Program;
 use semantics::state::{Action, MutexAction, SemaphoreAction, State, Status};
@@ -20,6 +24,7 @@ pub enum Reason {
 impl Reason {
     /// The mutex that it waits for.
     pub fn mutex(self) -> Option<usize>
+        ensures { result ≡ mutex_of self }
     {
         match self {
             Reason::Lock(m) | Reason::Retake(m) => Some(m),
@@ -44,6 +49,9 @@ pub struct Standing {
 impl Standing {
     /// Where a thread is in a state.
     pub fn of(state: &State, program: &Program, thread: u8) -> Standing
+        requires of { IsOf program.now state.now }
+        requires thread { thread < length program.now.threads }
+        ensures { Stands program.now state.now thread result }
     {
         Standing {
             status: state.status(thread),
@@ -54,31 +62,34 @@ impl Standing {
     }
 
     /// Whether the thread can take a step.
-    pub fn is_enabled(&self) -> bool
-    {
+    pub fn is_enabled(&self) -> bool {
         self.reason.is_none() && matches!(self.status, Status::Running | Status::Woken)
     }
 
     /// Whether it has stopped.
-    pub fn is_stopped(&self) -> bool
-    {
+    pub fn is_stopped(&self) -> bool {
         matches!(self.status, Status::Stopped(_))
     }
 }
 
 /// Why a thread can't take a step; `None` where it can, ended or stopped.
 pub fn reason_of(state: &State, program: &Program, thread: u8) -> Option<Reason>
+    requires of { IsOf program.now state.now }
+    requires thread { thread < length program.now.threads }
+    ensures { MatchOption result (IsUnblocked program.now state.now thread)
+        (IsBlockedBy program.now state.now thread) }
 {
     if let Status::Waiting(c) = state.status(thread) {
         return Some(Reason::Signal(c as usize));
     }
-    if state.is_enabled(program, thread) {
-        return None;
-    }
-    match state.next(program, thread) {
-        Some(Action::OnMutex(m, MutexAction::Retake)) => Some(Reason::Retake(m)),
-        Some(Action::OnMutex(m, _)) => Some(Reason::Lock(m)),
-        Some(Action::OnSemaphore(k, _)) => Some(Reason::Acquire(k)),
+    match state.next(program, thread)? {
+        Action::OnMutex(m, MutexAction::Lock) if state.owner(m).is_some() => Some(Reason::Lock(m)),
+        Action::OnMutex(m, MutexAction::Retake) if state.owner(m).is_some() => {
+            Some(Reason::Retake(m))
+        }
+        Action::OnSemaphore(k, SemaphoreAction::Acquire) if state.count(k) == 0 => {
+            Some(Reason::Acquire(k))
+        }
         _ => None,
     }
 }

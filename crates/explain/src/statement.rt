@@ -15,8 +15,7 @@ impl Source<'_> {
         alloc: Global,
         thread: u8,
         instruction: usize,
-    ) -> Result<(), AllocError>
-    {
+    ) -> Result<(), AllocError> {
         let Some(instruction) = self.instruction(thread, instruction) else {
             return Ok(());
         };
@@ -30,8 +29,7 @@ impl Source<'_> {
         text: &mut Vec<u8>,
         thread: u8,
         instruction: Instruction,
-    ) -> Result<(), AllocError>
-    {
+    ) -> Result<(), AllocError> {
         match instruction {
             Instruction::Load { local, variable } => {
                 put_both(text, b"load ", self.local(thread, local))?;
@@ -41,13 +39,17 @@ impl Source<'_> {
                 self.put_object(text, b"store ", Object::Variable(variable))
             }
             Instruction::Add {
-                local, variable, ..
+                local,
+                variable,
+                ..
             } => {
                 put_both(text, b"add ", self.local(thread, local))?;
                 self.put_object(text, b" ", Object::Variable(variable))
             }
             Instruction::Cas {
-                local, variable, ..
+                local,
+                variable,
+                ..
             } => {
                 put_both(text, b"cas ", self.local(thread, local))?;
                 self.put_object(text, b" ", Object::Variable(variable))
@@ -78,8 +80,7 @@ impl Source<'_> {
         alloc: Global,
         thread: u8,
         instruction: Instruction,
-    ) -> Result<(), AllocError>
-    {
+    ) -> Result<(), AllocError> {
         match instruction {
             Instruction::Store { value, .. } | Instruction::Add { value, .. } => {
                 text.push(b' ')?;
@@ -107,8 +108,7 @@ impl Source<'_> {
         text: &mut Vec<u8>,
         word: &[u8],
         object: Object,
-    ) -> Result<(), AllocError>
-    {
+    ) -> Result<(), AllocError> {
         put_both(text, word, self.object(object))
     }
 
@@ -119,8 +119,7 @@ impl Source<'_> {
         alloc: Global,
         thread: u8,
         value: Value,
-    ) -> Result<(), AllocError>
-    {
+    ) -> Result<(), AllocError> {
         match value {
             Value::Local(r) => text.extend_from_slice(self.local(thread, r)),
             Value::Literal(n) => put_value(text, alloc, n),
@@ -134,8 +133,7 @@ impl Source<'_> {
         alloc: Global,
         thread: u8,
         expression: Expression,
-    ) -> Result<(), AllocError>
-    {
+    ) -> Result<(), AllocError> {
         match expression {
             Expression::Single(a) => self.put_operand(text, alloc, thread, a),
             Expression::Both(a, op, b) => {
@@ -148,8 +146,7 @@ impl Source<'_> {
 }
 
 /// An operator between spaces.
-pub fn op_text(op: Op) -> &'static [u8]
-{
+pub fn op_text(op: Op) -> &'static [u8] {
     match op {
         Op::Add => b" + ",
         Op::Subtract => b" - ",

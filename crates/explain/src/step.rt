@@ -1,5 +1,12 @@
 //! One step of a run, and what it changed.
 
+ghost use Rattle.std.specs.Prelude.{◌≡◌, ◌<◌, ◌+◌, ◌^◌, IfOk, IsTrue, length};
+ghost use Rattle.guest_code.specs.Program.{Program};
+ghost use Rattle.semantics.specs.Machine.{is_enabled};
+ghost use Rattle.semantics.specs.Reachable.{IsOf, IsValidAction};
+ghost use Rattle.semantics.specs.Execution.{IsExecutionOf, stepped};
+ghost use Rattle.explain.specs.Steps.{Tells, IsTakenStep, held_in, woken_in};
+
 use crate::object::{Object, Reading};
 use crate::settings::{Setting, put_settings, setting_of};
 use guest_code::program::Program;
@@ -44,6 +51,10 @@ impl Step {
         program: &Program,
         thread: u8,
     ) -> Result<Step, AllocError>
+        requires of { IsExecutionOf program.now execution.old }
+        requires enabled { IsTrue (is_enabled program.now execution.old.state thread) }
+        requires room { execution.old.preemptions + 1 < 2 ^ 64 }
+        ensures { IfOk result (IsTakenStep program.now execution.old execution.new thread) }
     {
         let state = execution.state();
         let action = state.next(program, thread).unwrap();
@@ -70,7 +81,9 @@ impl Step {
             settings.push(setting)?;
         }
         let to = state.pc(thread);
-        put_settings(&mut settings, code, &mut locals, instruction + 1, to)?;
+        if to != instruction {
+            put_settings(&mut settings, code, &mut locals, instruction + 1)?;
+        }
         Ok(Step {
             line,
             instruction,
@@ -92,6 +105,8 @@ fn held_by(
     program: &Program,
     thread: u8,
 ) -> Result<Vec<usize>, AllocError>
+    requires { IsOf program.now state.now }
+    ensures { IfOk result (λ v. v.items ≡ held_in state.now thread) }
 {
     let mut held = Vec::new(alloc);
     for m in 0..program.mutexes() as usize {
@@ -104,6 +119,8 @@ fn held_by(
 
 // The threads that an action wakes, the one that waited longest first.
 fn woken_by(alloc: Global, state: &State, action: Action) -> Result<Vec<u8>, AllocError>
+    requires { (p : Program) × IsOf p state.now × IsValidAction p action }
+    ensures { IfOk result (λ v. v.items ≡ woken_in state.now action) }
 {
     let mut woken = Vec::new(alloc);
     let (condition, most) = match action {

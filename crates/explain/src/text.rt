@@ -28,8 +28,7 @@ impl Explanation {
         alloc: Global,
         source: &Source<'_>,
         shape: Shape,
-    ) -> Result<Vec<u8>, AllocError>
-    {
+    ) -> Result<Vec<u8>, AllocError> {
         let teller = Teller {
             alloc,
             explanation: self,
@@ -53,8 +52,7 @@ impl Explanation {
 
 impl Teller<'_> {
     // The steps in columns. The answer is how many of them are told.
-    fn put_table(&self, text: &mut Vec<u8>, focus: &[Object]) -> Result<usize, AllocError>
-    {
+    fn put_table(&self, text: &mut Vec<u8>, focus: &[Object]) -> Result<usize, AllocError> {
         self.put_header(text)?;
         self.put_opening_stops(text)?;
         let mut told = 0;

@@ -3,27 +3,23 @@
 use std::alloc::{AllocError, Global};
 
 /// A number.
-pub fn put_number(text: &mut Vec<u8>, alloc: Global, number: usize) -> Result<(), AllocError>
-{
+pub fn put_number(text: &mut Vec<u8>, alloc: Global, number: usize) -> Result<(), AllocError> {
     text.extend_from_slice(number.to_string(alloc)?.as_bytes())
 }
 
 /// A value.
-pub fn put_value(text: &mut Vec<u8>, alloc: Global, value: i64) -> Result<(), AllocError>
-{
+pub fn put_value(text: &mut Vec<u8>, alloc: Global, value: i64) -> Result<(), AllocError> {
     text.extend_from_slice(value.to_string(alloc)?.as_bytes())
 }
 
 /// Two words, one after the other.
-pub fn put_both(text: &mut Vec<u8>, first: &[u8], second: &[u8]) -> Result<(), AllocError>
-{
+pub fn put_both(text: &mut Vec<u8>, first: &[u8], second: &[u8]) -> Result<(), AllocError> {
     text.extend_from_slice(first)?;
     text.extend_from_slice(second)
 }
 
 /// A byte, this often.
-pub fn put_times(text: &mut Vec<u8>, byte: u8, times: usize) -> Result<(), AllocError>
-{
+pub fn put_times(text: &mut Vec<u8>, byte: u8, times: usize) -> Result<(), AllocError> {
     for _ in 0..times {
         text.push(byte)?;
     }
@@ -36,8 +32,7 @@ pub fn put_right(
     alloc: Global,
     number: usize,
     column: usize,
-) -> Result<(), AllocError>
-{
+) -> Result<(), AllocError> {
     let digits = number.to_string(alloc)?;
     let end = row.len().saturating_add(digits.len());
     put_times(row, b' ', column.saturating_sub(end))?;
@@ -45,15 +40,13 @@ pub fn put_right(
 }
 
 /// Spaces up to a column. One at least, where the row isn't empty.
-pub fn pad_to(row: &mut Vec<u8>, column: usize) -> Result<(), AllocError>
-{
+pub fn pad_to(row: &mut Vec<u8>, column: usize) -> Result<(), AllocError> {
     let least = usize::from(!row.is_empty());
     put_times(row, b' ', column.saturating_sub(row.len()).max(least))
 }
 
 /// A word, cut off with two dots where it doesn't fit.
-pub fn put_cut(row: &mut Vec<u8>, word: &[u8], space: usize) -> Result<(), AllocError>
-{
+pub fn put_cut(row: &mut Vec<u8>, word: &[u8], space: usize) -> Result<(), AllocError> {
     if word.len() <= space {
         return row.extend_from_slice(word);
     }
@@ -70,8 +63,7 @@ pub fn put_wrapped(
     from: usize,
     indent: usize,
     width: usize,
-) -> Result<(), AllocError>
-{
+) -> Result<(), AllocError> {
     let mut column = from;
     let mut is_first = true;
     for word in words.split(|b| *b == b' ') {
@@ -96,8 +88,7 @@ fn put_word(
     from: usize,
     indent: usize,
     width: usize,
-) -> Result<usize, AllocError>
-{
+) -> Result<usize, AllocError> {
     let mut column = from;
     for byte in word {
         if column >= width {
@@ -109,16 +100,4 @@ fn put_word(
         column = column.saturating_add(1);
     }
     Ok(column)
-}
-
-/// The list of some words, the last one after `and`.
-pub fn put_list(text: &mut Vec<u8>, words: &[&[u8]]) -> Result<(), AllocError>
-{
-    for (i, word) in words.iter().enumerate() {
-        if i > 0 {
-            text.extend_from_slice(b", ")?;
-        }
-        text.extend_from_slice(word)?;
-    }
-    Ok(())
 }

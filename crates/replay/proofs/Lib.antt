@@ -5,7 +5,7 @@ mod PrintedRuns
 mod WrittenRuns
 mod ReadPieces
 mod KnownItems
-mod LinesOfSteps
-mod RunsAreValid
-mod FirstBadPlace
+pub mod LinesOfSteps
+pub mod RunsAreValid
+pub mod FirstBadPlace
 mod TraceTexts

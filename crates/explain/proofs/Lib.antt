@@ -1,0 +1,7 @@
+mod Pushed
+mod CarriedOut
+mod HeldOn
+mod Within
+mod Chains
+mod LocalRunsTold
+mod LastAccesses

@@ -1,0 +1,16 @@
+-- The elements of a list to which one more was added.
+use Rattle.std.proofs.Common.{◌≡◌, ◌⊎◌, ℕ, zero, suc, ◌+◌, ◌<◌, List, [], ◌∷◌, ◌++◌, length, Some, None, refl, ap, subst, sym, inl, inr, arith, absurd, cc}
+use Rattle.std.specs.Prelude.{unwrap_or}
+use Rattle.std.specs.List.{slice_get}
+
+-- each is one of those before, or the new one
+pub pushed_at : {A : Type 0} → (xs : List A) (x : A) (k : ℕ) (y : A) →
+    slice_get (xs ++ x ∷ []) k ≡ Some y →
+    (slice_get xs k ≡ Some y) ⊎ ((k ≡ length xs) × (x ≡ y))
+pushed_at [] x zero y h = inr (refl, ap (λ o. unwrap_or o x) h)
+pushed_at [] x (suc k) y h = absurd cc
+pushed_at (z ∷ xs) x zero y h = inl h
+pushed_at (z ∷ xs) x (suc k) y h = elim (pushed_at xs x k y h) [
+  | inl old ↦ inl old
+  | inr new ↦ inr (let e : suc k ≡ length (z ∷ xs) = omega (arith, new.0) in (e, new.1))
+]
