@@ -3,7 +3,7 @@
 /// The form of a text.
 #[derive(Clone, Copy, Debug)]
 pub struct Shape {
-    /// Columns of a line, at most; fewer than 40 count as 40.
+    /// Columns of a line, at most; fewer than 40 count as 40, more than 1,000 as 1,000.
     pub width: usize,
     /// Whether each step is told, and none folded.
     pub all: bool,
@@ -11,8 +11,10 @@ pub struct Shape {
     pub is_least: bool,
 }
 
-/// Columns of the narrowest text.
+/// Columns of the narrowest text, and of the widest one.
 const NARROWEST: usize = 40;
+
+const WIDEST: usize = 1_000;
 /// Where the first thread's column begins, after the step and the line.
 const MARGIN: usize = 11;
 /// Columns of a thread.
@@ -38,9 +40,9 @@ pub struct Columns {
 }
 
 impl Columns {
-    /// The columns of a table of so many threads, at most 16.
+    /// The columns of a table of so many threads.
     pub fn new(width: usize, threads: usize) -> Columns {
-        let width = width.max(NARROWEST);
+        let width = width.max(NARROWEST).min(WIDEST);
         let room = width - MARGIN;
         let fit = room.saturating_sub(CHANGES) / (COLUMN + GAP);
         if threads <= fit {
@@ -48,7 +50,7 @@ impl Columns {
                 width,
                 own: threads,
                 is_shared: false,
-                changes: MARGIN + threads * (COLUMN + GAP),
+                changes: start_of(threads),
             };
         }
         let shared = SHARED.min((room - GAP) / 2);
@@ -57,26 +59,22 @@ impl Columns {
             width,
             own,
             is_shared: true,
-            changes: MARGIN + own * (COLUMN + GAP) + shared + GAP,
+            changes: start_of(own).saturating_add(shared + GAP),
         }
     }
 
     /// Where the column of a thread begins.
     pub fn start(&self, thread: usize) -> usize {
-        MARGIN + thread.min(self.own) * (COLUMN + GAP)
+        start_of(thread.min(self.own))
     }
 
     /// Where the columns of the threads end.
     pub fn end(&self) -> usize {
-        self.changes - GAP
+        self.changes.saturating_sub(GAP)
     }
+}
 
-    /// Where the column of a thread ends.
-    pub fn end_of(&self, thread: usize) -> usize {
-        if thread < self.own {
-            self.start(thread) + COLUMN
-        } else {
-            self.end()
-        }
-    }
+// Where the column of this place begins, from 0.
+fn start_of(column: usize) -> usize {
+    column.saturating_mul(COLUMN + GAP).saturating_add(MARGIN)
 }

@@ -10,7 +10,7 @@ ghost use Rattle.explain.specs.inner.Carrying.{IsCarriedOut, AreFollowed, is_fol
 use crate::circle::circle_of;
 use crate::lost::{Lost, lost_writes};
 use crate::settings::{Setting, put_settings};
-use crate::standing::Standing;
+use crate::standing::{Reason, Standing};
 use crate::step::Step;
 use guest_code::limits::LOCALS;
 use guest_code::program::Program;
@@ -141,6 +141,16 @@ impl Explanation {
         self.refused
     }
 
+    /// A thread at the end of what ran.
+    pub fn standing(&self, thread: u8) -> Option<&Standing> {
+        self.standings.get(thread as usize)
+    }
+
+    /// What a thread waits for at the end, if it is blocked.
+    pub fn reason(&self, thread: u8) -> Option<Reason> {
+        self.standings.get(thread as usize)?.reason
+    }
+
     /// Who owns a mutex at the end, if a thread does.
     pub fn holder(&self, mutex: usize) -> Option<Holder> {
         self.holders.get(mutex).copied().flatten()
@@ -159,7 +169,6 @@ struct Carried {
 impl Carried {
     // Carries a schedule out, up to its end or to where it can't go on.
     fn out(alloc: Global, program: &Program, schedule: &[u8]) -> Result<Carried, AllocError>
-        requires { length schedule.now < 2 ^ 64 }
         ensures { IfOk result (IsCarriedOut program.now schedule.now) }
     {
         let mut execution = Execution::start(alloc, program)?;

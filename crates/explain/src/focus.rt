@@ -1,43 +1,41 @@
 //! Which steps of a run are told, and which are folded.
 
+ghost use Rattle.std.specs.Prelude.{◌≡◌, ◌<◌, ◌++◌, ◌↔◌, length, IsTrue, IfOk, OnOk, Any};
+ghost use Rattle.semantics.specs.Waiters.{In};
+ghost use Rattle.explain.specs.Objects.{touched_by};
+ghost use Rattle.explain.specs.Steps.{lines_of};
+ghost use Rattle.explain.specs.Folding.{FollowsSwitch, IsBesidePreemption, IsTold, focus_of, last_act};
+
 use crate::explanation::Explanation;
 use crate::object::Object;
-use crate::standing::Reason;
+use crate::step::{Step, line_at};
 use replay::Act;
 use std::alloc::{AllocError, Global};
 
 impl Explanation {
-    /// The objects that matter: those that the threads which failed touched last, or where none
-    /// did, those that the blocked threads touched last and wait for.
+    /// The objects that matter: those that the threads which stopped touched in their last steps, or
+    /// where none did, those that the blocked threads touched so and those that they wait for.
     ///
     /// # Errors
     ///
     /// `AllocError` where memory runs out.
-    pub fn focus(&self, alloc: Global) -> Result<Vec<Object>, AllocError> {
+    pub fn focus(&self, alloc: Global) -> Result<Vec<Object>, AllocError>
+        ensures { IfOk result (λ v. v.items
+            ≡ focus_of (lines_of self.now.steps.items) self.now.standings.items) }
+    {
         let failed = self.standings.iter().any(|thread| thread.is_stopped());
         let mut focus = Vec::new(alloc);
         for (t, standing) in self.standings.iter().enumerate() {
-            let counts = if failed {
-                standing.is_stopped()
-            } else {
-                standing.reason.is_some()
-            };
-            if counts {
-                if let Some(last) = self.last_step(t) {
-                    put_touched(&mut focus, last)?;
+            if standing.counts(failed) {
+                if let Some(act) = last_act(self.steps.as_slice(), t) {
+                    put_touched(&mut focus, act)?;
                 }
                 if let Some(reason) = standing.reason {
-                    focus.push(object_of(reason))?;
+                    focus.push(reason.object())?;
                 }
             }
         }
         Ok(focus)
-    }
-
-    /// What a thread did last.
-    pub fn last_step(&self, thread: usize) -> Option<Act> {
-        let at = self.last_place(thread)?;
-        Some(self.steps.get(at)?.line.act)
     }
 
     /// The place of a thread's last step.
@@ -51,32 +49,60 @@ impl Explanation {
         last
     }
 
-    /// Whether the step at a place is told. It is where it is the first of a run after a switch,
-    /// where it is beside a preemption, and where it touches one of these objects.
-    pub fn is_told(&self, focus: &[Object], at: usize) -> bool {
-        let Some(step) = self.steps.get(at) else {
-            return false;
-        };
-        let before = self.steps.get(at.wrapping_sub(1));
-        let after = self.steps.get(at.wrapping_add(1));
-        before.is_some_and(|before| before.line.thread != step.line.thread)
-            || step.line.preempting
-            || after.is_some_and(|after| after.line.preempting)
-            || focus.iter().any(|object| object.is_touched(step.line.act))
+    /// Whether the step at a place is told, where the others are folded: where it is the first of a
+    /// run after a switch, where it is beside a preemption, and where it touches one of these
+    /// objects.
+    pub fn is_told(&self, focus: &[Object], at: usize) -> bool
+        ensures { IsTrue result ↔ IsTold (lines_of self.now.steps.items) focus.now at }
+    {
+        let steps = self.steps.as_slice();
+        at < steps.len()
+            && (follows_switch(steps, at)
+                || is_beside_preemption(steps, at)
+                || touches(focus, line_at(steps, at).act))
     }
 }
 
-// The object that a blocked thread waits for.
-fn object_of(reason: Reason) -> Object {
-    match reason {
-        Reason::Lock(m) | Reason::Retake(m) => Object::Mutex(m),
-        Reason::Acquire(k) => Object::Semaphore(k),
-        Reason::Signal(c) => Object::Condition(c),
-    }
+// Whether the step at a place is the first of a run: another thread took the one before it.
+fn follows_switch(steps: &[Step], at: usize) -> bool
+    requires { at < length steps.now }
+    ensures { IsTrue result ↔ FollowsSwitch (lines_of steps.now) at }
+{
+    at > 0 && line_at(steps, at - 1).thread != line_at(steps, at).thread
 }
 
-// The objects that a step touched.
-fn put_touched(focus: &mut Vec<Object>, act: Act) -> Result<(), AllocError> {
+// Whether the switch to the step at a place, or to the next one, is preempting.
+fn is_beside_preemption(steps: &[Step], at: usize) -> bool
+    requires { at < length steps.now }
+    ensures { IsTrue result ↔ IsBesidePreemption (lines_of steps.now) at }
+{
+    line_at(steps, at).preempting || at + 1 < steps.len() && line_at(steps, at + 1).preempting
+}
+
+// Whether a step that did this touched one of these objects.
+fn touches(objects: &[Object], act: Act) -> bool
+    ensures { IsTrue result ↔ Any (λ o. In (touched_by act) o) objects.now }
+{
+    objects.iter().any(|object| object.is_touched(act))
+}
+
+// What a thread did last.
+fn last_act(steps: &[Step], thread: usize) -> Option<Act>
+    ensures { result ≡ last_act (lines_of steps.now) thread }
+{
+    let mut last = None;
+    for step in steps {
+        if step.line.thread as usize == thread {
+            last = Some(step.line.act);
+        }
+    }
+    last
+}
+
+// The objects that a step touched which did this.
+fn put_touched(objects: &mut Vec<Object>, act: Act) -> Result<(), AllocError>
+    ensures { OnOk result (objects.new.items ≡ objects.old.items ++ touched_by act) }
+{
     let object = match act {
         Act::Load { variable, .. }
         | Act::Store { variable, .. }
@@ -84,12 +110,12 @@ fn put_touched(focus: &mut Vec<Object>, act: Act) -> Result<(), AllocError> {
         | Act::Cas { variable, .. } => Object::Variable(variable),
         Act::Lock(m) | Act::Unlock(m) | Act::Retake(m) => Object::Mutex(m),
         Act::Wait { condition, mutex } => {
-            focus.push(Object::Mutex(mutex))?;
-            Object::Condition(condition)
+            objects.push(Object::Condition(condition))?;
+            Object::Mutex(mutex)
         }
         Act::Signal(c) | Act::Broadcast(c) => Object::Condition(c),
         Act::Acquire(k) | Act::Release(k) => Object::Semaphore(k),
     };
-    focus.push(object)?;
+    objects.push(object)?;
     Ok(())
 }

@@ -95,8 +95,10 @@ impl Explanation {
     // Each thread at the end.
     fn threads_value(&self, alloc: Global, source: &Source<'_>) -> Result<Value, AllocError> {
         let mut all = Vec::new(alloc);
-        for (t, standing) in self.standings.iter().enumerate() {
-            let thread = t as u8;
+        for thread in 0..source.program.threads() {
+            let Some(standing) = self.standing(thread) else {
+                break;
+            };
             let mut members = Map::new(alloc);
             put(
                 &mut members,
@@ -413,8 +415,10 @@ impl Source<'_> {
     // Each thread before its first step.
     fn starts_value(&self, alloc: Global, explanation: &Explanation) -> Result<Value, AllocError> {
         let mut all = Vec::new(alloc);
-        for (t, start) in explanation.opening.iter().enumerate() {
-            let thread = t as u8;
+        for thread in 0..self.program.threads() {
+            let Some(start) = explanation.opening.get(thread as usize) else {
+                break;
+            };
             let mut members = Map::new(alloc);
             put(
                 &mut members,

@@ -7,7 +7,7 @@ ghost use Rattle.explain.specs.Steps.{lines_of};
 ghost use Rattle.explain.specs.Explains.{TellsLost};
 ghost use Rattle.explain.specs.inner.Accessing.{AreAccesses, put_at};
 
-use crate::step::Step;
+use crate::step::{Step, line_at};
 use guest_code::limits::{THREADS, VARIABLES};
 use replay::{Act, Line};
 use std::alloc::{AllocError, Global};
@@ -47,7 +47,7 @@ pub fn lost_writes(alloc: Global, steps: &[Step]) -> Result<Vec<Option<Lost>>, A
     let mut all = Vec::new(alloc);
     for at in 0..steps.len() {
         all.push(accesses.lost_by(steps, at))?;
-        accesses.follow(steps[at].line, at);
+        accesses.follow(line_at(steps, at), at);
     }
     Ok(all)
 }
@@ -60,13 +60,13 @@ impl Accesses {
         requires accesses { AreAccesses (lines_of steps.now) at self.now }
         ensures { IfSome result (IsLost (lines_of steps.now) at) }
     {
-        let line = steps[at].line;
+        let line = line_at(steps, at);
         let Act::Store { variable, .. } = line.act else {
             return None;
         };
         let write = self.writes[variable]?;
         let read = self.reads[line.thread as usize][variable]?;
-        if read < write && steps[write].line.thread != line.thread {
+        if read < write && line_at(steps, write).thread != line.thread {
             Some(Lost { read, write })
         } else {
             None

@@ -83,6 +83,7 @@ fn place_of(value: &Operand) -> Pos {
     }
 }
 
+#[cycle(stub)]
 fn block(
     alloc: Global,
     here: &mut Vec<Pos>,
@@ -95,6 +96,7 @@ fn block(
     Ok(())
 }
 
+#[cycle(stub)]
 fn statement(
     alloc: Global,
     here: &mut Vec<Pos>,

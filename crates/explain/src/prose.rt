@@ -14,13 +14,19 @@ use std::alloc::AllocError;
 
 /// Columns of the mark of a circle.
 const MARK: usize = 9;
+/// Columns between two columns, and before one that stands apart.
+const GAP: usize = 2;
+
+const WIDE_GAP: usize = 3;
+/// Where the further lines of a long one begin.
+const INDENT: usize = 6;
 
 impl Teller<'_> {
     /// The value of a thread's local at the end, or the number itself.
     pub fn value_at_end(&self, thread: u8, value: Value) -> i64 {
         match value {
             Value::Literal(n) => n,
-            Value::Local(r) => match self.explanation.standings.get(thread as usize) {
+            Value::Local(r) => match self.explanation.standing(thread) {
                 Some(standing) => standing.locals.get(r).copied().unwrap_or(0),
                 None => 0,
             },
@@ -50,17 +56,12 @@ impl Teller<'_> {
                 _ => words.extend_from_slice(b" No schedule with fewer is bad.")?,
             }
         }
-        self.put_line(text, &words, 0)
+        self.put_line(text, words.as_slice(), 0)
     }
 
     // Words in lines, with an indent from the second line on.
-    fn put_line(
-        &self,
-        text: &mut Vec<u8>,
-        words: &Vec<u8>,
-        indent: usize,
-    ) -> Result<(), AllocError> {
-        put_wrapped(text, words.as_slice(), 0, indent, self.columns.width)?;
+    fn put_line(&self, text: &mut Vec<u8>, words: &[u8], indent: usize) -> Result<(), AllocError> {
+        put_wrapped(text, words, 0, indent, self.columns.width)?;
         text.push(b'\n')?;
         Ok(())
     }
@@ -109,7 +110,7 @@ impl Teller<'_> {
         words: &mut Vec<u8>,
         thread: u8,
     ) -> Result<(), AllocError> {
-        let Some(standing) = self.explanation.standings.get(thread as usize) else {
+        let Some(standing) = self.explanation.standing(thread) else {
             return Ok(());
         };
         words.push(b':')?;
@@ -127,12 +128,12 @@ impl Teller<'_> {
             None => 0,
         };
         self.put_after(words, steps)?;
-        self.put_line(text, words, 6)?;
+        self.put_line(text, words.as_slice(), INDENT)?;
         let mut cause = Vec::new(self.alloc);
         pad_to(&mut cause, indent)?;
         self.put_cause(&mut cause, thread, *standing)?;
         if cause.len() > indent {
-            self.put_line(text, &cause, 6)?;
+            self.put_line(text, cause.as_slice(), INDENT)?;
         }
         Ok(())
     }
@@ -222,7 +223,7 @@ impl Teller<'_> {
 
     // That the holder of a mutex won't give it back, where it is so.
     fn put_gone(&self, words: &mut Vec<u8>, holder: Holder) -> Result<(), AllocError> {
-        match self.explanation.standings.get(holder.thread as usize) {
+        match self.explanation.standing(holder.thread) {
             Some(standing) if standing.status == Status::Ended => {
                 words.extend_from_slice(b", which ended and owns it still")
             }
@@ -349,7 +350,8 @@ impl Teller<'_> {
     // The blocked threads, those of the circle first.
     fn put_blocked(&self, text: &mut Vec<u8>) -> Result<(), AllocError> {
         let circle = self.explanation.circle.as_slice();
-        let is_marked = self.circle_end()?.saturating_add(MARK) <= self.columns.width;
+        let end = self.circle_end()?.saturating_add(WIDE_GAP + MARK);
+        let is_marked = end <= self.columns.width;
         let mut told = Vec::new(self.alloc);
         for (i, thread) in circle.iter().enumerate() {
             let mark = if is_marked {
@@ -380,7 +382,7 @@ impl Teller<'_> {
         if let Some(first) = self.explanation.circle.first() {
             put_both(&mut words, b" ", self.source.thread(*first))?;
         }
-        self.put_line(text, &words, 6)
+        self.put_line(text, words.as_slice(), INDENT)
     }
 
     // A blocked thread and why it can't go on.
@@ -391,88 +393,76 @@ impl Teller<'_> {
         mark: &[u8],
         told: &mut Vec<usize>,
     ) -> Result<(), AllocError> {
-        let Some(standing) = self.explanation.standings.get(thread as usize) else {
-            return Ok(());
-        };
-        let Some(reason) = standing.reason else {
+        let Some(reason) = self.explanation.reason(thread) else {
             return Ok(());
         };
         let mut row = Vec::from_slice(self.alloc, b"  ")?;
         row.extend_from_slice(self.source.thread(thread))?;
-        pad_to(&mut row, self.name_end().saturating_add(2))?;
-        self.put_blocked_at(&mut row, thread)?;
-        pad_to(&mut row, self.statement_end()?.saturating_add(3))?;
-        let is_new = match reason.mutex() {
-            Some(m) => !told.as_slice().contains(&m),
-            None => false,
-        };
+        pad_to(&mut row, self.name_end().saturating_add(GAP))?;
+        self.put_blocked_at(&mut row, thread, reason)?;
+        pad_to(&mut row, self.statement_end()?.saturating_add(WIDE_GAP))?;
+        let mut is_new = false;
         if let Some(m) = reason.mutex() {
+            is_new = !told.as_slice().contains(&m);
             told.push(m)?;
         }
         self.put_reason(&mut row, thread, reason, is_new)?;
         if !mark.is_empty() {
-            pad_to(&mut row, self.circle_end()?)?;
+            pad_to(&mut row, self.circle_end()?.saturating_add(WIDE_GAP))?;
             row.extend_from_slice(mark)?;
         }
-        self.put_line(text, &row, 6)
+        self.put_line(text, row.as_slice(), INDENT)
     }
 
-    // The line and the statement at which a thread is.
-    fn put_blocked_at(&self, row: &mut Vec<u8>, thread: u8) -> Result<(), AllocError> {
-        let Some(standing) = self.explanation.standings.get(thread as usize) else {
-            return Ok(());
-        };
+    // The line and the statement at which a blocked thread is.
+    fn put_blocked_at(
+        &self,
+        row: &mut Vec<u8>,
+        thread: u8,
+        reason: Reason,
+    ) -> Result<(), AllocError> {
         row.extend_from_slice(b"at ")?;
-        put_number(
-            row,
-            self.alloc,
-            self.source.line(thread, standing.instruction) as usize,
-        )?;
+        put_number(row, self.alloc, self.line_at_end(thread))?;
         row.extend_from_slice(b": ")?;
-        self.put_blocked_statement(row, thread)
+        self.put_blocked_statement(row, thread, reason)
     }
 
     // The column after the longest name of a blocked thread.
     fn name_end(&self) -> usize {
-        let mut end = 2;
-        for (t, standing) in self.explanation.standings.iter().enumerate() {
-            if standing.reason.is_some() {
-                end = end.max(self.source.thread(t as u8).len().saturating_add(2));
+        let mut longest = 0;
+        for t in 0..self.source.program.threads() {
+            if self.explanation.reason(t).is_some() {
+                longest = self.source.thread(t).len().max(longest);
             }
         }
-        end
+        longest.saturating_add(GAP)
     }
 
     // The column after the longest statement of a blocked thread.
     fn statement_end(&self) -> Result<usize, AllocError> {
         let mut longest = 0;
-        for (t, standing) in self.explanation.standings.iter().enumerate() {
-            if standing.reason.is_some() {
+        for t in 0..self.source.program.threads() {
+            if let Some(reason) = self.explanation.reason(t) {
                 let mut cell = Vec::new(self.alloc);
-                self.put_blocked_at(&mut cell, t as u8)?;
-                longest = longest.max(cell.len());
+                self.put_blocked_at(&mut cell, t, reason)?;
+                longest = cell.len().max(longest);
             }
         }
-        Ok(self.name_end().saturating_add(longest).saturating_add(2))
+        Ok(self.name_end().saturating_add(GAP).saturating_add(longest))
     }
 
     // The column after the longest reason in the circle.
     fn circle_end(&self) -> Result<usize, AllocError> {
         let mut longest = 0;
-        for thread in self.explanation.circle.iter() {
-            if let Some(standing) = self.explanation.standings.get(*thread as usize) {
+        for thread in self.explanation.circle.as_slice() {
+            if let Some(reason) = self.explanation.reason(*thread) {
                 let mut words = Vec::new(self.alloc);
-                if let Some(reason) = standing.reason {
-                    self.put_reason(&mut words, *thread, reason, true)?;
-                }
-                longest = longest.max(words.len());
+                self.put_reason(&mut words, *thread, reason, true)?;
+                longest = words.len().max(longest);
             }
         }
-        Ok(
-            self.statement_end()?
-                .saturating_add(longest)
-                .saturating_add(6),
-        )
+        let start = self.statement_end()?.saturating_add(WIDE_GAP);
+        Ok(start.saturating_add(longest))
     }
 
     // Why the next step of the schedule can't be taken, and who could go on.
@@ -483,26 +473,32 @@ impl Teller<'_> {
             words.push(b' ')?;
         }
         words.extend_from_slice(b"Could go on: ")?;
-        let mut any = false;
-        for (t, standing) in self.explanation.standings.iter().enumerate() {
-            if standing.is_enabled() {
-                if any {
-                    words.extend_from_slice(b", ")?;
-                }
-                any = true;
-                put_both(&mut words, self.source.thread(t as u8), b" (")?;
-                put_number(&mut words, self.alloc, t)?;
+        let mut word: &[u8] = b"";
+        for t in 0..self.source.program.threads() {
+            if self.is_enabled(t) {
+                put_both(&mut words, word, self.source.thread(t))?;
+                words.extend_from_slice(b" (")?;
+                put_number(&mut words, self.alloc, t as usize)?;
                 words.push(b')')?;
+                word = b", ";
             }
         }
-        self.put_line(text, &words, 2)?;
+        self.put_line(text, words.as_slice(), 2)?;
         text.push(b'\n')?;
         Ok(())
     }
 
+    // Whether a thread could go on.
+    fn is_enabled(&self, thread: u8) -> bool {
+        match self.explanation.standing(thread) {
+            Some(standing) => standing.is_enabled(),
+            None => false,
+        }
+    }
+
     // Why a thread can't take a step.
     fn put_refused(&self, words: &mut Vec<u8>, thread: u8) -> Result<(), AllocError> {
-        let Some(standing) = self.explanation.standings.get(thread as usize) else {
+        let Some(standing) = self.explanation.standing(thread) else {
             words.extend_from_slice(b"There is no thread ")?;
             put_number(words, self.alloc, thread as usize)?;
             words.push(b'.')?;
@@ -520,7 +516,7 @@ impl Teller<'_> {
         let place = self.source.map.place(thread, standing.instruction);
         words.extend_from_slice(place.to_string(self.alloc)?.as_bytes())?;
         words.extend_from_slice(b", ")?;
-        self.put_blocked_statement(words, thread)?;
+        self.put_blocked_statement(words, thread, reason)?;
         words.extend_from_slice(b": ")?;
         self.put_short_reason(words, thread, reason)?;
         words.push(b'.')?;
@@ -600,7 +596,7 @@ impl Teller<'_> {
         words.extend_from_slice(b" at step ")?;
         put_number(&mut words, self.alloc, lost.read)?;
         words.push(b'.')?;
-        self.put_line(text, &words, 2)?;
+        self.put_line(text, words.as_slice(), 2)?;
         self.put_held(text, at, lost)
     }
 
@@ -631,7 +627,7 @@ impl Teller<'_> {
         words.extend_from_slice(b" held ")?;
         self.put_mutexes(&mut words, write.held.as_slice())?;
         words.extend_from_slice(b". No mutex was held by both.")?;
-        self.put_line(text, &words, 2)
+        self.put_line(text, words.as_slice(), 2)
     }
 
     // The names of mutexes.
@@ -657,7 +653,7 @@ impl Teller<'_> {
         words.extend_from_slice(b" of ")?;
         put_number(&mut words, self.alloc, count)?;
         words.extend_from_slice(b" steps are shown; --all shows each.")?;
-        self.put_line(text, &words, 2)
+        self.put_line(text, words.as_slice(), 2)
     }
 
     /// The command that replays the schedule.

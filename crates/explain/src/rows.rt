@@ -3,6 +3,7 @@
 use crate::columns::COLUMN;
 use crate::object::{Object, Reading};
 use crate::settings::Setting;
+use crate::standing::Reason;
 use crate::step::Step;
 use crate::text::Teller;
 use crate::words::{
@@ -10,7 +11,7 @@ use crate::words::{
 };
 use guest_code::program::{Expression, Instruction};
 use replay::Act;
-use semantics::state::{Status, Stop};
+use semantics::state::Stop;
 use semantics::view::Kind;
 use std::alloc::AllocError;
 
@@ -26,11 +27,13 @@ impl Teller<'_> {
     pub fn put_header(&self, text: &mut Vec<u8>) -> Result<(), AllocError> {
         let mut names = Vec::from_slice(self.alloc, b"step line")?;
         let mut rules = Vec::from_slice(self.alloc, b"---- ----")?;
-        for t in 0..self.columns.own {
-            pad_to(&mut names, self.columns.start(t))?;
-            put_cut(&mut names, self.source.thread(t as u8), COLUMN)?;
-            pad_to(&mut rules, self.columns.start(t))?;
-            put_times(&mut rules, b'-', COLUMN)?;
+        for t in 0..self.source.program.threads() {
+            if self.has_column(t) {
+                pad_to(&mut names, self.columns.start(t as usize))?;
+                put_cut(&mut names, self.source.thread(t), COLUMN)?;
+                pad_to(&mut rules, self.columns.start(t as usize))?;
+                put_times(&mut rules, b'-', COLUMN)?;
+            }
         }
         if self.columns.is_shared {
             let start = self.columns.start(self.columns.own);
@@ -69,7 +72,7 @@ impl Teller<'_> {
 
     // Whether a thread has stopped.
     pub fn is_stopped(&self, thread: u8) -> bool {
-        match self.explanation.standings.get(thread as usize) {
+        match self.explanation.standing(thread) {
             Some(standing) => standing.is_stopped(),
             None => false,
         }
@@ -101,7 +104,7 @@ impl Teller<'_> {
         put_cut(&mut row, cell.as_slice(), space)?;
         let mut changes = Vec::new(self.alloc);
         self.put_values_after(&mut changes, from, to)?;
-        self.put_row(text, &row, &changes)
+        self.put_row(text, row.as_slice(), changes.as_slice())
     }
 
     // The variables that steps change, with their values after these steps.
@@ -136,14 +139,9 @@ impl Teller<'_> {
     }
 
     // A row with what changed, in further lines where it is long.
-    fn put_row(
-        &self,
-        text: &mut Vec<u8>,
-        row: &Vec<u8>,
-        changes: &Vec<u8>,
-    ) -> Result<(), AllocError> {
+    fn put_row(&self, text: &mut Vec<u8>, row: &[u8], changes: &[u8]) -> Result<(), AllocError> {
         let start = text.len();
-        text.extend_from_slice(row.as_slice())?;
+        text.extend_from_slice(row)?;
         if !changes.is_empty() {
             let column = self.columns.changes;
             let spaces = column
@@ -151,7 +149,7 @@ impl Teller<'_> {
                 .max(1);
             put_times(text, b' ', spaces)?;
             let from = text.len().saturating_sub(start);
-            put_wrapped(text, changes.as_slice(), from, column, self.columns.width)?;
+            put_wrapped(text, changes, from, column, self.columns.width)?;
         }
         text.push(b'\n')?;
         Ok(())
@@ -204,7 +202,7 @@ impl Teller<'_> {
         let mut changes = Vec::new(self.alloc);
         self.put_changes(&mut changes, step)?;
         self.put_lost_mark(&mut changes, at)?;
-        self.put_row(text, &row, &changes)
+        self.put_row(text, row.as_slice(), changes.as_slice())
     }
 
     // What a step did.
@@ -341,7 +339,7 @@ impl Teller<'_> {
         row: &mut Vec<u8>,
         thread: u8,
     ) -> Result<(), AllocError> {
-        let Some(standing) = self.explanation.standings.get(thread as usize) else {
+        let Some(standing) = self.explanation.standing(thread) else {
             return Ok(());
         };
         self.put_place(row, self.source.line(thread, standing.instruction), thread)?;
@@ -353,7 +351,7 @@ impl Teller<'_> {
         {
             self.put_comparison(&mut changes, thread, e)?;
         }
-        self.put_row(text, row, &changes)
+        self.put_row(text, row.as_slice(), changes.as_slice())
     }
 
     // An expression with the values of a thread's locals at the end.
@@ -404,46 +402,64 @@ impl Teller<'_> {
         }
         let mut row = Vec::from_slice(self.alloc, b" end")?;
         let mut under = Vec::new(self.alloc);
-        for (t, standing) in self
-            .explanation
-            .standings
-            .iter()
-            .take(self.columns.own)
-            .enumerate()
-        {
-            pad_to(&mut row, self.columns.start(t))?;
-            if standing.reason.is_none() {
-                row.extend_from_slice(b"ended")?;
-                continue;
+        for t in 0..self.source.program.threads() {
+            if self.has_column(t) {
+                self.put_end(&mut row, &mut under, t)?;
             }
-            row.extend_from_slice(b"BLOCKED at ")?;
-            let line = self.source.line(t as u8, standing.instruction);
-            put_number(&mut row, self.alloc, line as usize)?;
-            pad_to(&mut under, self.columns.start(t))?;
-            let mut cell = Vec::new(self.alloc);
-            self.put_blocked_statement(&mut cell, t as u8)?;
-            put_cut(&mut under, cell.as_slice(), COLUMN)?;
         }
         put_both(text, row.as_slice(), b"\n")?;
         put_both(text, under.as_slice(), b"\n")
     }
 
-    /// What a thread can't do at the end.
-    pub fn put_blocked_statement(&self, text: &mut Vec<u8>, thread: u8) -> Result<(), AllocError> {
-        let Some(standing) = self.explanation.standings.get(thread as usize) else {
-            return Ok(());
+    // Whether a thread has a column of its own.
+    fn has_column(&self, thread: u8) -> bool {
+        (thread as usize) < self.columns.own
+    }
+
+    // Where a thread is at the end, and what it can't do.
+    fn put_end(
+        &self,
+        row: &mut Vec<u8>,
+        under: &mut Vec<u8>,
+        thread: u8,
+    ) -> Result<(), AllocError> {
+        let start = self.columns.start(thread as usize);
+        pad_to(row, start)?;
+        let Some(reason) = self.explanation.reason(thread) else {
+            return row.extend_from_slice(b"ended");
         };
-        if standing.status == Status::Woken {
-            if let Some(Instruction::Wait { mutex, .. }) = self
-                .source
-                .instruction(thread, standing.instruction)
-            {
-                return self
-                    .source
-                    .put_object(text, b"retake ", Object::Mutex(mutex));
-            }
+        row.extend_from_slice(b"BLOCKED at ")?;
+        put_number(row, self.alloc, self.line_at_end(thread))?;
+        pad_to(under, start)?;
+        let mut cell = Vec::new(self.alloc);
+        self.put_blocked_statement(&mut cell, thread, reason)?;
+        put_cut(under, cell.as_slice(), COLUMN)
+    }
+
+    /// The line at which a thread is at the end.
+    pub fn line_at_end(&self, thread: u8) -> usize {
+        match self.explanation.standing(thread) {
+            Some(standing) => self.source.line(thread, standing.instruction) as usize,
+            None => 0,
         }
-        self.source
-            .put_statement(text, self.alloc, thread, standing.instruction)
+    }
+
+    /// What a thread can't do at the end.
+    pub fn put_blocked_statement(
+        &self,
+        text: &mut Vec<u8>,
+        thread: u8,
+        reason: Reason,
+    ) -> Result<(), AllocError> {
+        if let Reason::Retake(m) = reason {
+            return self.source.put_object(text, b"retake ", Object::Mutex(m));
+        }
+        match self.explanation.standing(thread) {
+            Some(standing) => {
+                self.source
+                    .put_statement(text, self.alloc, thread, standing.instruction)
+            }
+            None => Ok(()),
+        }
     }
 }

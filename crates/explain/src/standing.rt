@@ -2,8 +2,11 @@
 
 ghost use Rattle.std.specs.Prelude.{◌≡◌, ◌<◌, length, MatchOption, Some};
 ghost use Rattle.semantics.specs.Reachable.{IsOf};
+ghost use Rattle.semantics.specs.Ends.{is_stopped};
 ghost use Rattle.explain.specs.Blocked.{IsBlockedBy, IsUnblocked, Stands, mutex_of};
+ghost use Rattle.explain.specs.Folding.{counts, waited_for};
 
+use crate::object::Object;
 use guest_code::limits::LOCALS;
 use guest_code::program::Program;
 use semantics::state::{Action, MutexAction, SemaphoreAction, State, Status};
@@ -29,6 +32,19 @@ impl Reason {
         match self {
             Reason::Lock(m) | Reason::Retake(m) => Some(m),
             Reason::Acquire(_) | Reason::Signal(_) => None,
+        }
+    }
+}
+
+impl Reason {
+    /// The object that it waits for.
+    pub fn object(self) -> Object
+        ensures { result ≡ waited_for self }
+    {
+        match self {
+            Reason::Lock(m) | Reason::Retake(m) => Object::Mutex(m),
+            Reason::Acquire(k) => Object::Semaphore(k),
+            Reason::Signal(c) => Object::Condition(c),
         }
     }
 }
@@ -66,8 +82,21 @@ impl Standing {
         self.reason.is_none() && matches!(self.status, Status::Running | Status::Woken)
     }
 
+    /// Whether it matters, where some thread failed or none did.
+    pub fn counts(&self, failed: bool) -> bool
+        ensures { result ≡ counts failed self.now }
+    {
+        if failed {
+            self.is_stopped()
+        } else {
+            self.reason.is_some()
+        }
+    }
+
     /// Whether it has stopped.
-    pub fn is_stopped(&self) -> bool {
+    pub fn is_stopped(&self) -> bool
+        ensures { result ≡ is_stopped self.now.status }
+    {
         matches!(self.status, Status::Stopped(_))
     }
 }

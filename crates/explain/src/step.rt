@@ -5,7 +5,8 @@ ghost use Rattle.guest_code.specs.Program.{Program};
 ghost use Rattle.semantics.specs.Machine.{is_enabled};
 ghost use Rattle.semantics.specs.Reachable.{IsOf, IsValidAction};
 ghost use Rattle.semantics.specs.Execution.{IsExecutionOf, stepped};
-ghost use Rattle.explain.specs.Steps.{Tells, IsTakenStep, held_in, woken_in};
+ghost use Rattle.explain.specs.Lost.{line_of};
+ghost use Rattle.explain.specs.Steps.{IsTakenStep, held_in, lines_of, woken_in};
 
 use crate::object::{Object, Reading};
 use crate::settings::{Setting, put_settings, setting_of};
@@ -134,4 +135,12 @@ fn woken_by(alloc: Global, state: &State, action: Action) -> Result<Vec<u8>, All
         }
     }
     Ok(woken)
+}
+
+/// What the step at a place did.
+pub fn line_at(steps: &[Step], at: usize) -> Line
+    requires { at < length steps.now }
+    ensures { result ≡ line_of (lines_of steps.now) at }
+{
+    steps[at].line
 }

@@ -61,7 +61,7 @@ impl Teller<'_> {
             if self.shape.all || self.explanation.is_told(focus, at) {
                 self.put_fold(text, next, at)?;
                 self.put_step_rows(text, at)?;
-                told += 1;
+                told = usize::saturating_add(told, 1);
                 next = at + 1;
             }
         }

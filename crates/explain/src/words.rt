@@ -65,20 +65,31 @@ pub fn put_wrapped(
     width: usize,
 ) -> Result<(), AllocError> {
     let mut column = from;
+    let mut gap = 0;
     let mut is_first = true;
     for word in words.split(|b| *b == b' ') {
-        if !is_first && column.saturating_add(word.len()) >= width {
-            text.push(b'\n')?;
-            put_times(text, b' ', indent)?;
-            column = indent;
-        } else if !is_first {
-            text.push(b' ')?;
-            column = column.saturating_add(1);
+        if !word.is_empty() {
+            let end = column.saturating_add(gap).saturating_add(word.len());
+            if !is_first && end > width {
+                put_break(text, indent)?;
+                column = indent;
+            } else {
+                put_times(text, b' ', gap)?;
+                column = column.saturating_add(gap);
+            }
+            column = put_word(text, word, column, indent, width)?;
+            is_first = false;
+            gap = 0;
         }
-        is_first = false;
-        column = put_word(text, word, column, indent, width)?;
+        gap = gap.saturating_add(1);
     }
     Ok(())
+}
+
+// The next line, from the indent on.
+fn put_break(text: &mut Vec<u8>, indent: usize) -> Result<(), AllocError> {
+    text.push(b'\n')?;
+    put_times(text, b' ', indent)
 }
 
 // A word, in further lines where it is longer than one. The answer is the column after it.
@@ -92,8 +103,7 @@ fn put_word(
     let mut column = from;
     for byte in word {
         if column >= width {
-            text.push(b'\n')?;
-            put_times(text, b' ', indent)?;
+            put_break(text, indent)?;
             column = indent;
         }
         text.push(*byte)?;
