@@ -1,5 +1,6 @@
 -- The uses of a thread's body declare nothing.
 use Rattle.std.proofs.Common.{◌≡◌, ℕ, List, [], ◌∷◌, ◌++◌, Bool, true, false, refl}
+use Rattle.guest_syntax.specs.declared.place.Pos.{Pos}
 use Rattle.guest_syntax.specs.Tree as tree
 use Rattle.guest_syntax.specs.Tree.{Operand, Expr, Stmt, Block}
 use Rattle.guest_code.specs.declared.kinds.Kind.{Kind}
@@ -30,28 +31,29 @@ expr_declares_nothing (tree.both a op b) = DeclaresNothing-append (operand_uses 
     (operand_uses b) (operand_declares_nothing a) (operand_declares_nothing b)
 
 mutual
-  pub stmt_declares_nothing : (inside : Bool) (s : Stmt) → DeclaresNothing (stmt_uses inside s)
-  stmt_declares_nothing inside (tree.store x a) = operand_declares_nothing a
-  stmt_declares_nothing inside (tree.add r x a) = operand_declares_nothing a
-  stmt_declares_nothing inside (tree.cas r x a b) = DeclaresNothing-append (operand_uses a)
+  pub stmt_declares_nothing : (inside : Bool) (at : Pos) (s : Stmt)
+      → DeclaresNothing (stmt_uses inside at s)
+  stmt_declares_nothing inside at (tree.store x a) = operand_declares_nothing a
+  stmt_declares_nothing inside at (tree.add r x a) = operand_declares_nothing a
+  stmt_declares_nothing inside at (tree.cas r x a b) = DeclaresNothing-append (operand_uses a)
       (operand_uses b) (operand_declares_nothing a) (operand_declares_nothing b)
-  stmt_declares_nothing inside (tree.set r e) = expr_declares_nothing e
-  stmt_declares_nothing inside (tree.assert e) = expr_declares_nothing e
-  stmt_declares_nothing inside (tree.if_then e b) = DeclaresNothing-append (expr_uses e)
+  stmt_declares_nothing inside at (tree.set r e) = expr_declares_nothing e
+  stmt_declares_nothing inside at (tree.assert e) = expr_declares_nothing e
+  stmt_declares_nothing inside at (tree.if_then e b) = DeclaresNothing-append (expr_uses e)
       (block_uses inside b) (expr_declares_nothing e) (block_declares_nothing inside b)
-  stmt_declares_nothing inside (tree.if_else e b c) = DeclaresNothing-append (expr_uses e)
+  stmt_declares_nothing inside at (tree.if_else e b c) = DeclaresNothing-append (expr_uses e)
       (block_uses inside b ++ block_uses inside c) (expr_declares_nothing e)
       (DeclaresNothing-append (block_uses inside b) (block_uses inside c)
       (block_declares_nothing inside b) (block_declares_nothing inside c))
-  stmt_declares_nothing inside (tree.repeat n b) = block_declares_nothing true b
-  stmt_declares_nothing true (tree.leave at) = tt
-  stmt_declares_nothing false (tree.leave at) = tt
-  stmt_declares_nothing inside _ = tt
+  stmt_declares_nothing inside at (tree.repeat n b) = block_declares_nothing true b
+  stmt_declares_nothing true at tree.leave = tt
+  stmt_declares_nothing false at tree.leave = tt
+  stmt_declares_nothing inside at _ = tt
 
   pub block_declares_nothing : (inside : Bool) (b : Block) → DeclaresNothing (block_uses inside b)
   block_declares_nothing inside tree.nothing = tt
-  block_declares_nothing inside (tree.next s b) = DeclaresNothing-append (stmt_uses inside s)
-      (block_uses inside b) (stmt_declares_nothing inside s) (block_declares_nothing inside b)
+  block_declares_nothing inside (tree.next at s b) = DeclaresNothing-append (stmt_uses inside at s)
+      (block_uses inside b) (stmt_declares_nothing inside at s) (block_declares_nothing inside b)
 
 pub kind_skips : (us vs : List Use) (name : List ℕ) → DeclaresNothing us
     → kind_in (us ++ vs) name ≡ kind_in vs name

@@ -1,7 +1,8 @@
 -- The walk along the uses finds the first refusal in text order.
 use Rattle.std.proofs.Common.{◌≡◌, ℕ, ◌+◌, ◌<◌, Bool, List, [], ◌∷◌, ◌++◌, length, get_or, drop, Option, Some, None, Ok, Err, refl, sym, ap, subst, ◌∙◌, append_assoc, add-one, drop-cons}
-use Rattle.guest_syntax.specs.declared.tree.Statement.{Statement}
+use Rattle.guest_syntax.specs.declared.tree.Placed.{Placed}
 use Rattle.guest_syntax.specs.Tree.{stmt_view, block_view}
+use Rattle.guest_syntax.proofs.StatementView.{view-placed}
 use Rattle.std.proofs.lemmas.List.{append-nil}
 use Rattle.guest_code.specs.declared.error.CheckError.{CheckError}
 use Rattle.guest_code.specs.declared.error.CheckError.TheVariants.{OutOfMemory}
@@ -121,30 +122,30 @@ walk_leaves all (outside at ∷ us) ns ms p e = absurd cc
 -- ---- blocks
 
 -- the uses of a block from one of its statements on
-block_uses_at : (inside : Bool) (ss : List Statement) (i : ℕ) (x : Statement) → i < length ss
+block_uses_at : (inside : Bool) (ss : List Placed) (i : ℕ) (x : Placed) → i < length ss
     → x ≡ get_or ss i x
-    → block_uses inside (block_view (drop i ss)) ≡ stmt_uses inside (stmt_view x) ++ block_uses
+    → block_uses inside (block_view (drop i ss)) ≡ stmt_uses inside x.at (stmt_view x.statement) ++ block_uses
     inside (block_view (drop (i + 1) ss))
-block_uses_at inside ss i x lt is = rw (add-one, drop-cons ss i x, ← is) refl
+block_uses_at inside ss i x lt is = rw (add-one, drop-cons ss i x, ← is, view-placed x) refl
 
-pub block_goes : (all : List Use) (inside : Bool) (ss : List Statement) (i : ℕ) (x : Statement)
+pub block_goes : (all : List Use) (inside : Bool) (ss : List Placed) (i : ℕ) (x : Placed)
     (ns ms : List (List ℕ)) (whole : Checked) → i < length ss → x ≡ get_or ss i x
-    → walk all ns (stmt_uses inside (stmt_view x)) ≡ Ok ms
+    → walk all ns (stmt_uses inside x.at (stmt_view x.statement)) ≡ Ok ms
     → walk all ns (block_uses inside (block_view (drop i ss))) ≡ whole
     → walk all ms (block_uses inside (block_view (drop (i + 1) ss))) ≡ whole
 block_goes all inside ss i x ns ms whole lt is e h =
-    sym (walk_goes all (stmt_uses inside (stmt_view x))
+    sym (walk_goes all (stmt_uses inside x.at (stmt_view x.statement))
     (block_uses inside (block_view (drop (i + 1) ss))) ns ms e)
     ∙ (ap (walk all ns) (sym (block_uses_at inside ss i x lt is)) ∙ h)
 
-pub block_stops : (all : List Use) (inside : Bool) (ss : List Statement) (i : ℕ) (x : Statement)
+pub block_stops : (all : List Use) (inside : Bool) (ss : List Placed) (i : ℕ) (x : Placed)
     (ns : List (List ℕ)) (d : CheckError) (whole : Checked) → i < length ss → x ≡ get_or ss i x
-    → Refuses d (fault_of (walk all ns (stmt_uses inside (stmt_view x))))
+    → Refuses d (fault_of (walk all ns (stmt_uses inside x.at (stmt_view x.statement))))
     → walk all ns (block_uses inside (block_view (drop i ss))) ≡ whole
     → Refuses d (fault_of whole)
 block_stops all inside ss i x ns d whole lt is e h =
     let rest = block_uses inside (block_view (drop (i + 1) ss)) in
-    let same : walk all ns (stmt_uses inside (stmt_view x) ++ rest) ≡ whole = ap (walk all ns)
+    let same : walk all ns (stmt_uses inside x.at (stmt_view x.statement) ++ rest) ≡ whole = ap (walk all ns)
     (sym (block_uses_at inside ss i x lt is)) ∙ h in
     subst (λ (r : Checked). Refuses d (fault_of r)) same
-    (walk_stops all (stmt_uses inside (stmt_view x)) rest ns d e)
+    (walk_stops all (stmt_uses inside x.at (stmt_view x.statement)) rest ns d e)

@@ -5,29 +5,30 @@ use Rattle.guest_syntax.specs.Tree as tree
 use Rattle.guest_syntax.specs.Tree.{Stmt, Block}
 use Rattle.guest_code.specs.declared.limits.TheConstants.{INSTRUCTIONS}
 use Rattle.guest_code.specs.declared.program.Instruction.TheVariants.{Skip}
-use Rattle.guest_syntax.specs.declared.tree.Statement.{Statement}
+use Rattle.guest_syntax.specs.declared.tree.Placed.{Placed}
 use Rattle.guest_syntax.specs.Tree.{stmt_view, block_view}
+use Rattle.guest_syntax.proofs.StatementView.{view-placed}
 use Rattle.guest_code.specs.declared.program.Instruction.{Instruction}
 use Rattle.guest_code.specs.Sizes.{size, block_size}
 use Rattle.guest_code.specs.Code.{Names, stmt_code, block_code, unrolled}
 
-pub block_size_at : (ss : List Statement) (i : ℕ) (x : Statement) → i < length ss
-    → x ≡ get_or ss i x → block_size (block_view (drop i ss)) ≡ size (stmt_view x) + block_size
+pub block_size_at : (ss : List Placed) (i : ℕ) (x : Placed) → i < length ss
+    → x ≡ get_or ss i x → block_size (block_view (drop i ss)) ≡ size (stmt_view x.statement) + block_size
     (block_view (drop (i + 1) ss))
-block_size_at ss i x lt is = rw (add-one, drop-cons ss i x, ← is) refl
+block_size_at ss i x lt is = rw (add-one, drop-cons ss i x, ← is, view-placed x) refl
 
-pub block_size_end : (ss : List Statement) (i : ℕ) → length ss ≤ i
+pub block_size_end : (ss : List Placed) (i : ℕ) → length ss ≤ i
     → block_size (block_view (drop i ss)) ≡ 0
 block_size_end ss i le = rw (drop_all i ss le) refl
 
-pub block_code_at : (ns : Names) (ss : List Statement) (i exit : ℕ) (x : Statement)
+pub block_code_at : (ns : Names) (ss : List Placed) (i exit : ℕ) (x : Placed)
     → i < length ss → x ≡ get_or ss i x
-    → block_code ns (block_view (drop i ss)) exit ≡ stmt_code ns (stmt_view x)
+    → block_code ns (block_view (drop i ss)) exit ≡ stmt_code ns (stmt_view x.statement)
     (exit + block_size (block_view (drop (i + 1) ss))) ++ block_code ns
     (block_view (drop (i + 1) ss)) exit
-block_code_at ns ss i exit x lt is = rw (add-one, drop-cons ss i x, ← is) refl
+block_code_at ns ss i exit x lt is = rw (add-one, drop-cons ss i x, ← is, view-placed x) refl
 
-pub block_code_end : (ns : Names) (ss : List Statement) (i exit : ℕ) → length ss ≤ i
+pub block_code_end : (ns : Names) (ss : List Placed) (i exit : ℕ) → length ss ≤ i
     → block_code ns (block_view (drop i ss)) exit ≡ []
 block_code_end ns ss i exit le = rw (drop_all i ss le) refl
 
@@ -64,7 +65,7 @@ mutual
   pub block_length : (ns : Names) (b : Block) (exit : ℕ)
       → length (block_code ns b exit) ≡ block_size b
   block_length ns tree.nothing exit = refl
-  block_length ns (tree.next s b) exit =
+  block_length ns (tree.next at s b) exit =
       omega (
         arith,
         length-append (stmt_code ns s (exit + block_size b)) (block_code ns b exit),

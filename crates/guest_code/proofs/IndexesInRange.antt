@@ -5,6 +5,7 @@ use Rattle.std.specs.Str.{bytes_eq}
 use Rattle.std.proofs.lemmas.Bool.{ltb-true}
 use Rattle.std.proofs.lemmas.List.Elements.{All-append, All-cons, All-nil}
 use Rattle.std.proofs.lemmas.Slice.Eq.{bytes_eq-Decides}
+use Rattle.guest_syntax.specs.declared.place.Pos.{Pos}
 use Rattle.guest_syntax.specs.Tree as tree
 use Rattle.guest_syntax.specs.Tree.{Name, Operand, Expr, Stmt, Block}
 use Rattle.guest_code.specs.declared.kinds.Kind.{Kind}
@@ -213,48 +214,49 @@ unrolled_in_range p m body len (suc n) h = All-append (IsInRange p m) (body (n *
 
 mutual
   pub stmt_in_range : (p : Program) (ns : Names) (all : List Use) (g : NamesInRange p ns all)
-      (inside : Bool) (s : Stmt) (exit : ℕ) → Right all ns.locals (stmt_uses inside s)
+      (inside : Bool) (at : Pos) (s : Stmt) (exit : ℕ)
+      → Right all ns.locals (stmt_uses inside at s)
       → All (IsInRange p (length ns.locals)) (stmt_code ns s exit)
-  stmt_in_range p ns all g inside (tree.load r x) exit h =
+  stmt_in_range p ns all g inside at (tree.load r x) exit h =
       let l = local_in_range p ns all g r h.0 in
       only p _ _ ((l.0, g.variable x.text h.1.0), l.1)
-  stmt_in_range p ns all g inside (tree.store x a) exit h =
+  stmt_in_range p ns all g inside at (tree.store x a) exit h =
       let v = value_in_range p ns all g a h.1 in
       only p _ _ ((g.variable x.text h.0, v.0), v.1)
-  stmt_in_range p ns all g inside (tree.add r x a) exit h =
+  stmt_in_range p ns all g inside at (tree.add r x a) exit h =
       let l = local_in_range p ns all g r h.0 in
       let v = value_in_range p ns all g a h.1.1 in
       only p _ _ ((l.0, g.variable x.text h.1.0, v.0), (l.1, v.1))
-  stmt_in_range p ns all g inside (tree.cas r x a b) exit h =
+  stmt_in_range p ns all g inside at (tree.cas r x a b) exit h =
       let l = local_in_range p ns all g r h.0 in
       let u = value_in_range p ns all g a
       (right_front all ns.locals (operand_uses a) (operand_uses b) h.1.1) in
       let v = value_in_range p ns all g b
       (right_back all ns.locals (operand_uses a) (operand_uses b) h.1.1) in
       only p _ _ ((l.0, g.variable x.text h.1.0, u.0, v.0), (l.1, u.1, v.1))
-  stmt_in_range p ns all g inside (tree.lock m) exit h = only p _ _ (g.mutex m.text h.0, tt)
-  stmt_in_range p ns all g inside (tree.unlock m) exit h = only p _ _ (g.mutex m.text h.0, tt)
-  stmt_in_range p ns all g inside (tree.wait c m) exit h = only p _ _
+  stmt_in_range p ns all g inside at (tree.lock m) exit h = only p _ _ (g.mutex m.text h.0, tt)
+  stmt_in_range p ns all g inside at (tree.unlock m) exit h = only p _ _ (g.mutex m.text h.0, tt)
+  stmt_in_range p ns all g inside at (tree.wait c m) exit h = only p _ _
       ((g.condition c.text h.0, g.mutex m.text h.1.0), tt)
-  stmt_in_range p ns all g inside (tree.signal c) exit h = only p _ _ (g.condition c.text h.0, tt)
-  stmt_in_range p ns all g inside (tree.broadcast c) exit h = only p _ _
+  stmt_in_range p ns all g inside at (tree.signal c) exit h = only p _ _ (g.condition c.text h.0, tt)
+  stmt_in_range p ns all g inside at (tree.broadcast c) exit h = only p _ _
       (g.condition c.text h.0, tt)
-  stmt_in_range p ns all g inside (tree.acquire s) exit h = only p _ _ (g.semaphore s.text h.0, tt)
-  stmt_in_range p ns all g inside (tree.release s) exit h = only p _ _ (g.semaphore s.text h.0, tt)
-  stmt_in_range p ns all g inside (tree.set r e) exit h =
+  stmt_in_range p ns all g inside at (tree.acquire s) exit h = only p _ _ (g.semaphore s.text h.0, tt)
+  stmt_in_range p ns all g inside at (tree.release s) exit h = only p _ _ (g.semaphore s.text h.0, tt)
+  stmt_in_range p ns all g inside at (tree.set r e) exit h =
       let l = local_in_range p ns all g r h.0 in
       let v = expression_in_range p ns all g e h.1 in
       only p _ _ ((l.0, v.0), (l.1, v.1))
-  stmt_in_range p ns all g inside (tree.assert e) exit h = only p _ _
+  stmt_in_range p ns all g inside at (tree.assert e) exit h = only p _ _
       (expression_in_range p ns all g e h)
-  stmt_in_range p ns all g inside (tree.if_then e b) exit h =
+  stmt_in_range p ns all g inside at (tree.if_then e b) exit h =
       let test = expression_in_range p ns all g e
       (right_front all ns.locals (expr_uses e) (block_uses inside b) h) in
       let body = block_in_range p ns all g inside b exit
       (right_back all ns.locals (expr_uses e) (block_uses inside b) h) in
       All-cons (IsInRange p (length ns.locals)) (SkipIfZero (expression_of ns e) (block_size b))
       (block_code ns b exit) test body
-  stmt_in_range p ns all g inside (tree.if_else e b c) exit h =
+  stmt_in_range p ns all g inside at (tree.if_else e b c) exit h =
       let test = expression_in_range p ns all g e
       (right_front all ns.locals (expr_uses e) (block_uses inside b ++ block_uses inside c)
       h) in
@@ -272,18 +274,18 @@ mutual
       ++ (Skip (block_size c) ∷ block_code ns c exit)) test
       (All-append (IsInRange p (length ns.locals)) (block_code ns b (exit + 1 + block_size c))
       (Skip (block_size c) ∷ block_code ns c exit) yes rest)
-  stmt_in_range p ns all g inside (tree.repeat n b) exit h = unrolled_in_range p _
+  stmt_in_range p ns all g inside at (tree.repeat n b) exit h = unrolled_in_range p _
       (block_code ns b) (block_size b) n (λ k. block_in_range p ns all g true b k h)
-  stmt_in_range p ns all g inside (tree.leave at) exit h = only p _ (Skip exit) (tt, tt)
+  stmt_in_range p ns all g inside at tree.leave exit h = only p _ (Skip exit) (tt, tt)
 
   pub block_in_range : (p : Program) (ns : Names) (all : List Use) (g : NamesInRange p ns all)
       (inside : Bool) (b : Block) (exit : ℕ) → Right all ns.locals (block_uses inside b)
       → All (IsInRange p (length ns.locals)) (block_code ns b exit)
   block_in_range p ns all g inside tree.nothing exit h = All-nil (IsInRange p (length ns.locals))
-  block_in_range p ns all g inside (tree.next s b) exit h =
+  block_in_range p ns all g inside (tree.next at s b) exit h =
       All-append (IsInRange p (length ns.locals)) (stmt_code ns s (exit + block_size b))
       (block_code ns b exit)
-      (stmt_in_range p ns all g inside s (exit + block_size b)
-      (right_front all ns.locals (stmt_uses inside s) (block_uses inside b) h))
+      (stmt_in_range p ns all g inside at s (exit + block_size b)
+      (right_front all ns.locals (stmt_uses inside at s) (block_uses inside b) h))
       (block_in_range p ns all g inside b exit
-      (right_back all ns.locals (stmt_uses inside s) (block_uses inside b) h))
+      (right_back all ns.locals (stmt_uses inside at s) (block_uses inside b) h))

@@ -53,7 +53,7 @@ mutual
 
   pub block_reach : (ns : Names) (b : Block) (exit : ℕ) → Reach exit (block_code ns b exit)
   block_reach ns tree.nothing exit = tt
-  block_reach ns (tree.next s b) exit =
+  block_reach ns (tree.next at s b) exit =
       Reach-append (exit + block_size b) exit (stmt_code ns s (exit + block_size b))
       (block_code ns b exit) (omega (arith, block_length ns b exit))
       (stmt_reach ns s (exit + block_size b)) (block_reach ns b exit)

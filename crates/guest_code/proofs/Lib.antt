@@ -14,3 +14,4 @@ pub mod LoweredIsWellFormed
 pub mod InstructionEquality
 pub mod ProgramEquality
 pub mod JumpsWithin
+pub mod SourcePlaces

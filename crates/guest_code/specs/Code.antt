@@ -94,11 +94,11 @@ abbrev mutual
       SkipIfZero (expression_of ns e) (block_size b + 1) ∷
       (block_code ns b (exit + 1 + block_size c) ++ (Skip (block_size c) ∷ block_code ns c exit))
   stmt_code ns (tree.repeat n b) exit = unrolled (block_code ns b) (block_size b) n
-  stmt_code ns (tree.leave at) exit = Skip exit ∷ []
+  stmt_code ns tree.leave exit = Skip exit ∷ []
 
   pub block_code : Names → Block → ℕ → List Instruction
   block_code ns tree.nothing exit = []
-  block_code ns (tree.next s b) exit = stmt_code ns s (exit + block_size b) ++ block_code ns b exit
+  block_code ns (tree.next at s b) exit = stmt_code ns s (exit + block_size b) ++ block_code ns b exit
 
 -- ---- programs
 

@@ -6,4 +6,5 @@ pub mod ErrorTexts
 pub mod FirstFault
 pub mod Code
 pub mod Same
+pub mod SourceMap
 pub mod inner

@@ -22,8 +22,8 @@ abbrev mutual
   size (tree.if_then e b) = 1 + block_size b
   size (tree.if_else e b c) = 2 + block_size b + block_size c
   size (tree.repeat n b) = n * block_size b
-  size (tree.leave at) = 1
+  size tree.leave = 1
 
   pub block_size : Block → ℕ
   block_size tree.nothing = 0
-  block_size (tree.next s b) = size s + block_size b
+  block_size (tree.next at s b) = size s + block_size b

@@ -41,32 +41,32 @@ abbrev pub expr_uses : Expr → List Use
 expr_uses (tree.single a) = operand_uses a
 expr_uses (tree.both a op b) = operand_uses a ++ operand_uses b
 
--- of a statement and of a block, with whether a `repeat` is round it
+-- of a statement at this place and of a block, with whether a `repeat` is round them
 abbrev mutual
-  pub stmt_uses : Bool → Stmt → List Use
-  stmt_uses inside (tree.load r x) = local r ∷ object kinds.Variable x ∷ []
-  stmt_uses inside (tree.store x a) = object kinds.Variable x ∷ operand_uses a
-  stmt_uses inside (tree.add r x a) = local r ∷ object kinds.Variable x ∷ operand_uses a
-  stmt_uses inside (tree.cas r x a b) =
+  pub stmt_uses : Bool → Pos → Stmt → List Use
+  stmt_uses inside at (tree.load r x) = local r ∷ object kinds.Variable x ∷ []
+  stmt_uses inside at (tree.store x a) = object kinds.Variable x ∷ operand_uses a
+  stmt_uses inside at (tree.add r x a) = local r ∷ object kinds.Variable x ∷ operand_uses a
+  stmt_uses inside at (tree.cas r x a b) =
       local r ∷ object kinds.Variable x ∷ (operand_uses a ++ operand_uses b)
-  stmt_uses inside (tree.lock m) = object kinds.Mutex m ∷ []
-  stmt_uses inside (tree.unlock m) = object kinds.Mutex m ∷ []
-  stmt_uses inside (tree.wait c m) = object kinds.Condition c ∷ object kinds.Mutex m ∷ []
-  stmt_uses inside (tree.signal c) = object kinds.Condition c ∷ []
-  stmt_uses inside (tree.broadcast c) = object kinds.Condition c ∷ []
-  stmt_uses inside (tree.acquire s) = object kinds.Semaphore s ∷ []
-  stmt_uses inside (tree.release s) = object kinds.Semaphore s ∷ []
-  stmt_uses inside (tree.set r e) = local r ∷ expr_uses e
-  stmt_uses inside (tree.assert e) = expr_uses e
-  stmt_uses inside (tree.if_then e b) = expr_uses e ++ block_uses inside b
-  stmt_uses inside (tree.if_else e b c) = expr_uses e
+  stmt_uses inside at (tree.lock m) = object kinds.Mutex m ∷ []
+  stmt_uses inside at (tree.unlock m) = object kinds.Mutex m ∷ []
+  stmt_uses inside at (tree.wait c m) = object kinds.Condition c ∷ object kinds.Mutex m ∷ []
+  stmt_uses inside at (tree.signal c) = object kinds.Condition c ∷ []
+  stmt_uses inside at (tree.broadcast c) = object kinds.Condition c ∷ []
+  stmt_uses inside at (tree.acquire s) = object kinds.Semaphore s ∷ []
+  stmt_uses inside at (tree.release s) = object kinds.Semaphore s ∷ []
+  stmt_uses inside at (tree.set r e) = local r ∷ expr_uses e
+  stmt_uses inside at (tree.assert e) = expr_uses e
+  stmt_uses inside at (tree.if_then e b) = expr_uses e ++ block_uses inside b
+  stmt_uses inside at (tree.if_else e b c) = expr_uses e
       ++ (block_uses inside b ++ block_uses inside c)
-  stmt_uses inside (tree.repeat n b) = block_uses true b
-  stmt_uses inside (tree.leave at) = if inside then [] else outside at ∷ []
+  stmt_uses inside at (tree.repeat n b) = block_uses true b
+  stmt_uses inside at tree.leave = if inside then [] else outside at ∷ []
 
   pub block_uses : Bool → Block → List Use
   block_uses inside tree.nothing = []
-  block_uses inside (tree.next s b) = stmt_uses inside s ++ block_uses inside b
+  block_uses inside (tree.next at s b) = stmt_uses inside at s ++ block_uses inside b
 
 -- of a thread, of declarations and of threads
 abbrev pub thread_uses : Thread → List Use

@@ -1,7 +1,7 @@
 //! Which refusal a tree gets.
 
 ghost use Rattle.std.specs.Prelude.{◌≡◌, ◌≤◌, [], ◌∷◌, ◌++◌, length, map, IfOk, Ok, Err, cond, true, false};
-ghost use Rattle.guest_syntax.specs.Tree.{if_then, if_else, name_view, operand_view, expr_view, stmt_view, block_view, thread_view, tree_view};
+ghost use Rattle.guest_syntax.specs.Tree.{name_view, operand_view, expr_view, stmt_view, block_view, thread_view, tree_view};
 ghost use Rattle.guest_code.specs.Program.{names_view, locals_view};
 ghost use Rattle.guest_code.specs.Uses as used;
 ghost use Rattle.guest_code.specs.Uses.{object, kind_in, how_many, knows, operand_uses, expr_uses, stmt_uses, block_uses, threads_uses, tree_locals};
@@ -15,7 +15,7 @@ use crate::kinds::{Kind, kind_of};
 use crate::lengths::check_lengths;
 use crate::limits::{LOCALS, THREADS};
 use guest_syntax::place::Pos;
-use guest_syntax::tree::{Declaration, Expr, Name, Operand, Statement, Thread, Tree};
+use guest_syntax::tree::{Declaration, Expr, Name, Operand, Placed, Statement, Thread, Tree};
 use std::alloc::Global;
 
 /// Where statements are checked: in this tree, whose declarations are looked up, and inside a
@@ -248,13 +248,13 @@ fn check_wait(tree: &Tree, condition: &Name, mutex: &Name) -> Result<(), CheckEr
 fn check_statement(
     scope: Scope<'_>,
     locals: &mut Vec<Vec<u8>>,
-    statement: &Statement,
+    placed: &Placed,
 ) -> Result<(), CheckError>
     ensures { Meets result scope.entry locals.old locals.new
-        (stmt_uses scope.entry.inside (stmt_view statement.now)) }
+        (stmt_uses scope.entry.inside placed.now.at (stmt_view placed.now.statement)) }
 {
     let tree = scope.tree;
-    match statement {
+    match &placed.statement {
         Statement::Load { local, variable } => check_load(scope, locals, local, variable),
         Statement::Store { variable, value } => check_store(scope, locals, variable, value),
         Statement::Add {
@@ -290,7 +290,7 @@ fn check_statement(
             Some(other) => check_choice(scope, locals, test, then, other),
         },
         Statement::Repeat { body, .. } => check_repeat(scope, locals, body),
-        Statement::Leave(at) => check_leave(scope.inside, *at),
+        Statement::Leave => check_leave(scope.inside, placed.at),
     }
 }
 
@@ -301,10 +301,10 @@ fn check_if(
     scope: Scope<'_>,
     locals: &mut Vec<Vec<u8>>,
     test: &Expr,
-    then: &[Statement],
+    then: &[Placed],
 ) -> Result<(), CheckError>
     ensures { Meets result scope.entry locals.old locals.new
-        (stmt_uses scope.entry.inside (if_then (expr_view test.now) (block_view then.now))) }
+        (expr_uses (expr_view test.now) ++ block_uses scope.entry.inside (block_view then.now)) }
 {
     check_expr(scope, locals, test)?;
     check_block(scope, locals, then)
@@ -317,12 +317,12 @@ fn check_choice(
     scope: Scope<'_>,
     locals: &mut Vec<Vec<u8>>,
     test: &Expr,
-    then: &[Statement],
-    other: &[Statement],
+    then: &[Placed],
+    other: &[Placed],
 ) -> Result<(), CheckError>
     ensures { Meets result scope.entry locals.old locals.new
-        (stmt_uses scope.entry.inside
-        (if_else (expr_view test.now) (block_view then.now) (block_view other.now))) }
+        (expr_uses (expr_view test.now) ++ (block_uses scope.entry.inside (block_view then.now)
+        ++ block_uses scope.entry.inside (block_view other.now))) }
 {
     check_expr(scope, locals, test)?;
     check_block(scope, locals, then)?;
@@ -334,7 +334,7 @@ fn check_choice(
 fn check_repeat(
     scope: Scope<'_>,
     locals: &mut Vec<Vec<u8>>,
-    body: &[Statement],
+    body: &[Placed],
 ) -> Result<(), CheckError>
     ensures { Meets result scope.entry locals.old locals.new
         (block_uses true (block_view body.now)) }
@@ -352,13 +352,13 @@ fn check_repeat(
 fn check_block(
     scope: Scope<'_>,
     locals: &mut Vec<Vec<u8>>,
-    block: &[Statement],
+    block: &[Placed],
 ) -> Result<(), CheckError>
     ensures { Meets result scope.entry locals.old locals.new
         (block_uses scope.entry.inside (block_view block.now)) }
 {
-    for statement in block {
-        check_statement(scope, locals, statement)?;
+    for placed in block {
+        check_statement(scope, locals, placed)?;
     }
     Ok(())
 }

@@ -12,7 +12,7 @@ use crate::lengths::{size_of_block, size_of_statement};
 use crate::limits::INSTRUCTIONS;
 use crate::names::Names;
 use crate::program::Instruction;
-use guest_syntax::tree::{Expr, Name, Operand, Statement};
+use guest_syntax::tree::{Expr, Name, Operand, Placed, Statement};
 use std::alloc::AllocError;
 
 /// Where code is put: what names stand for there, and the distance to the exit.
@@ -156,7 +156,7 @@ fn emit_statement(
             Some(other) => emit_choice(code, context, test, then, other),
         },
         Statement::Repeat { times, body } => emit_copies(code, names, body, *times),
-        Statement::Leave(_) => put(code, Instruction::Skip(context.distance_to_exit)),
+        Statement::Leave => put(code, Instruction::Skip(context.distance_to_exit)),
     }
 }
 
@@ -166,7 +166,7 @@ fn emit_if(
     code: &mut Vec<Instruction>,
     context: Context<'_>,
     test: &Expr,
-    then: &[Statement],
+    then: &[Placed],
 ) -> Result<(), AllocError>
     requires small { 1 + size_of then.now ≤ INSTRUCTIONS }
     requires near { context.distance_to_exit + (1 + size_of then.now) < 2 ^ 32 }
@@ -187,8 +187,8 @@ fn emit_choice(
     code: &mut Vec<Instruction>,
     context: Context<'_>,
     test: &Expr,
-    then: &[Statement],
-    other: &[Statement],
+    then: &[Placed],
+    other: &[Placed],
 ) -> Result<(), AllocError>
     requires small { 2 + size_of then.now + size_of other.now ≤ INSTRUCTIONS }
     requires near { context.distance_to_exit + (2 + size_of then.now + size_of other.now) < 2 ^ 32 }
@@ -217,7 +217,7 @@ fn emit_choice(
 fn emit_copies(
     code: &mut Vec<Instruction>,
     names: Names<'_>,
-    body: &[Statement],
+    body: &[Placed],
     times: u8,
 ) -> Result<(), AllocError>
     requires { times * size_of body.now ≤ INSTRUCTIONS }
@@ -244,20 +244,20 @@ fn emit_copies(
 pub fn emit_block(
     code: &mut Vec<Instruction>,
     context: Context<'_>,
-    block: &[Statement],
+    block: &[Placed],
 ) -> Result<(), AllocError>
     requires small { size_of block.now ≤ INSTRUCTIONS }
     requires near { context.distance_to_exit + size_of block.now < 2 ^ 32 }
     ensures { Adds result code.old code.new (block_code_in context.entry (block_view block.now)) }
 {
     let mut left = size_of_block(block);
-    for statement in block {
-        left -= size_of_statement(statement);
+    for placed in block {
+        left -= size_of_statement(&placed.statement);
         let farther = Context {
             names: context.names,
             distance_to_exit: context.distance_to_exit + left,
         };
-        emit_statement(code, farther, statement)?;
+        emit_statement(code, farther, &placed.statement)?;
     }
     Ok(())
 }

@@ -1,15 +1,19 @@
 //! Laws, each the contract of a function that does nothing.
 
-ghost use Rattle.std.specs.Prelude.{◌≡◌, List, [], Some};
+ghost use Rattle.std.specs.Prelude.{◌≡◌, ℕ, List, [], Some};
 ghost use Rattle.guest_syntax.specs.declared.limits.TheConstants as texts;
 ghost use Rattle.guest_code.specs.Program.{IsWellFormed};
 ghost use Rattle.guest_code.specs.Uses.{Use};
 ghost use Rattle.guest_code.specs.Fault.{first};
 ghost use Rattle.guest_code.specs.FirstFault.{IsFirstFault};
+ghost use Rattle.guest_code.specs.SourceMap.{ArePlacesInThreads};
+ghost use Rattle.guest_syntax.specs.Grammar.{Spells};
+ghost use Rattle.guest_syntax.specs.Tree as model;
 ghost use Rattle.guest_code.specs.declared.error.CheckError.{CheckError};
 
 use crate::limits::{COUNT, INSTRUCTIONS, LOCALS, OBJECTS, THREADS, VARIABLES};
 use crate::program::Program;
+use guest_syntax::laws::statements_are_in_their_threads;
 
 /// The first fault among the uses of names is at one use, and no use before it has any: so what
 /// `lower` answers is the first in text order.
@@ -23,6 +27,14 @@ pub fn programs_are_well_formed(program: &Program)
     ensures { IsWellFormed program.now }
 {
     program.keeps_limits();
+}
+
+/// The places of a thread's instructions are in the thread's text: after its name, and before the
+/// names of the threads after it.
+pub fn places_are_in_their_threads()
+    ensures { (text : List ℕ) (t : model.Tree) → Spells text t → ArePlacesInThreads t.threads }
+{
+    statements_are_in_their_threads();
 }
 
 /// The number of each limit. The greatest count is that of a text.

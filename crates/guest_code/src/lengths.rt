@@ -8,7 +8,7 @@ ghost use Rattle.guest_code.specs.inner.Walk.{passed};
 
 use crate::error::CheckError;
 use crate::limits::{INSTRUCTIONS, THREADS};
-use guest_syntax::tree::{Statement, Thread};
+use guest_syntax::tree::{Placed, Statement, Thread};
 
 /// How many instructions a statement has, cut one above the limit.
 #[cycle(sizes)]
@@ -33,18 +33,18 @@ pub fn size_of_statement(statement: &Statement) -> usize
         Statement::Repeat { times, body } => (*times as usize * size_of_block(body)).min(
             INSTRUCTIONS + 1,
         ),
-        Statement::Leave(_) => 1,
+        Statement::Leave => 1,
     }
 }
 
 /// How many instructions a block has, cut one above the limit.
 #[cycle(sizes)]
-pub fn size_of_block(block: &[Statement]) -> usize
+pub fn size_of_block(block: &[Placed]) -> usize
     ensures { result ≡ min (block_size (block_view block.now)) (INSTRUCTIONS + 1) }
 {
     let mut total = 0;
-    for statement in block {
-        total = (total + size_of_statement(statement)).min(INSTRUCTIONS + 1);
+    for placed in block {
+        total = (total + size_of_statement(&placed.statement)).min(INSTRUCTIONS + 1);
     }
     total
 }

@@ -1,7 +1,10 @@
 use crate::error::CheckError;
-use crate::laws::{first_fault_is_first, limits_are, programs_are_well_formed};
+use crate::laws::{
+    first_fault_is_first, limits_are, places_are_in_their_threads, programs_are_well_formed,
+};
 use crate::lowering::lower;
 use crate::program::{Expression, Instruction, Program, Value};
+use crate::source_map::SourceMap;
 use guest_syntax::parse;
 use std::alloc::Global;
 use std::process::Abort;
@@ -382,5 +385,41 @@ fn are_same(alloc: Global, first: &str, second: &str) -> Result<bool, Fail> {
 fn programs_are_compared(rt: HostRuntime) -> Result<(), Fail> {
     assert!(rt; are_same(rt.alloc(), PARTS, PARTS)?);
     assert!(rt; !are_same(rt.alloc(), PARTS, "thread A { }")?);
+    Ok(())
+}
+
+/// A text whose first thread has a choice and copies.
+const PLACED: &str =
+    "var x;\nthread A {\n  if r == 0 {\n    store x 1;\n  } else {\n    repeat 2 { add old x 1; leave; }\n  }\n  assert r;\n}";
+
+/// The places of the first thread's instructions and the names of its locals, as they are printed.
+fn source(alloc: Global, text: &str) -> Result<String, Fail> {
+    let tree = parse(alloc, text.as_bytes())?;
+    let program = lower(alloc, &tree)?;
+    let map = SourceMap::new(alloc, &tree)?;
+    program.keeps_limits();
+    let mut shown = String::new(alloc);
+    for i in 0..program.code(0).len() {
+        let place = format!(in alloc; "{} ", map.place(0, i))?;
+        shown.push_str(&place)?;
+    }
+    for i in 0..program.locals(0) {
+        let name = format!(in alloc; "{:?}", map.local(0, i))?;
+        shown.push_str(&name)?;
+    }
+    Ok(shown)
+}
+
+#[test]
+fn instructions_have_places(rt: HostRuntime) -> Result<(), Fail> {
+    places_are_in_their_threads();
+    let shown = source(rt.alloc(), PLACED)?;
+    assert_eq!(rt;
+        shown.as_str(),
+        "3:3 4:5 3:3 6:16 6:29 6:16 6:29 8:3 [114][111, 108, 100]"
+    );
+    let empty = nested(rt.alloc(), "")?;
+    let shown = source(rt.alloc(), empty.as_str())?;
+    assert_eq!(rt; shown.as_str(), "");
     Ok(())
 }

@@ -10,6 +10,8 @@ pub mod TakesTokens
 pub mod StatementReaders
 pub mod TreeReaders
 pub mod NoBadTokens
+pub mod TokenOrder
+pub mod StatementsInThreads
 pub mod ByteClasses
 pub mod BlankRuns
 pub mod LongestPrefix

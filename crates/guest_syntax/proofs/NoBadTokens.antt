@@ -1,5 +1,6 @@
--- What is spelled has no `bad`.
-use Rattle.std.proofs.Common.{◌≡◌, ℕ, false, inl, inr, List, [], ◌∷◌, refl, sym, subst, ℤ}
+-- A form puts tokens before others, and none of them is `bad`.
+use Rattle.std.proofs.Common.{◌≡◌, ℕ, false, inl, inr, List, [], ◌∷◌, ◌++◌, refl, sym, ap, subst, ◌∙◌, append_assoc, ℤ}
+use Rattle.std.proofs.lemmas.List.{append-nil}
 use Rattle.guest_syntax.specs.Tokens.{Kind, name, number, Token}
 use Rattle.guest_syntax.specs.declared.tree.Op.{Op}
 use Rattle.guest_syntax.specs.declared.tree.Op.TheVariants as ops
@@ -7,31 +8,55 @@ use Rattle.guest_syntax.specs.declared.tree.Object.{Object}
 use Rattle.guest_syntax.specs.declared.tree.Object.TheVariants as objects
 use Rattle.guest_syntax.specs.Tree.{Name, Operand, local, literal, Expr, single, both, Stmt, load, store, add, cas, lock, unlock, wait, signal, broadcast, acquire, release, set, assert, if_then, if_else, repeat, leave, Block, nothing, next, Declaration, Thread, Tree}
 use Rattle.guest_syntax.specs.Forms.{Form, ◌then◌, IsToken, IsName, IsNumber, IsEnd, IsLiteral, in_braces, each}
-use Rattle.guest_syntax.specs.Grammar.{IsOperand, IsOp, IsExpr, IsTimes, IsStatement, AreStatements, IsObject, IsDeclaration, IsThread, IsTree}
+use Rattle.guest_syntax.specs.Grammar.{IsOperand, IsOp, IsExpr, IsTimes, IsStatement, AreStatements, IsBlock, IsObject, IsDeclaration, IsThread, IsTree}
 use Rattle.guest_syntax.specs.reader.SingleTokens.{is_bad}
 
 abbrev pub Clean : List Token → Type 0
 Clean [] = Unit {0}
 Clean (t ∷ ts) = (is_bad t.kind ≡ false) × Clean ts
 
-abbrev Cleans : Form → Type 0
-Cleans F = (ts rest : List Token) → F ts rest → Clean rest → Clean ts
+-- some tokens, none `bad`, and then the rest
+pub record Adds (ts rest : List Token) : Type 0 where
+  pub front : List Token
+  pub is : ts ≡ front ++ rest
+  pub clean : Clean front
+
+abbrev pub Cleans : Form → Type 0
+Cleans F = (ts rest : List Token) → F ts rest → Adds ts rest
+
+clean_append : (a b : List Token) → Clean a → Clean b → Clean (a ++ b)
+clean_append [] b c d = d
+clean_append (t ∷ a) b c d = (c.0, clean_append a b c.1 d)
+
+pub adds_none : (ts rest : List Token) → ts ≡ rest → Adds ts rest
+adds_none ts rest e = record { front = []; is = e; clean = tt }
+
+pub adds_then : {ts mid rest : List Token} → Adds ts mid → Adds mid rest → Adds ts rest
+adds_then {rest = rest} a b = record {
+  front = a.front ++ b.front;
+  is = a.is ∙ ap (λ us. a.front ++ us) b.is ∙ sym (append_assoc a.front b.front rest);
+  clean = clean_append a.front b.front a.clean b.clean;
+}
 
 then_c : (A B : Form) → Cleans A → Cleans B → Cleans (A then B)
-then_c A B a b ts rest h c = a ts h.0 h.1 (b h.0 rest h.2 c)
+then_c A B a b ts rest h = adds_then (a ts h.0 h.1) (b h.0 rest h.2)
 
-token_c : (k : Kind) → is_bad k ≡ false → Cleans (IsToken k)
-token_c k e ts rest h c = subst Clean (sym h.1) (e, c)
+pub token_c : (k : Kind) → is_bad k ≡ false → Cleans (IsToken k)
+token_c k e ts rest h = record {
+  front = record { kind = k; at = h.0 } ∷ [];
+  is = h.1;
+  clean = (e, tt);
+}
 
 name_c : (n : Name) → Cleans (IsName n)
-name_c n ts rest h c = token_c (name n.text) refl ts rest (n.at, h) c
+name_c n ts rest h = token_c (name n.text) refl ts rest (n.at, h)
 
 number_c : (limit n : ℕ) → Cleans (IsNumber limit n)
-number_c limit n ts rest h c = token_c (number n) refl ts rest h.1 c
+number_c limit n ts rest h = token_c (number n) refl ts rest h.1
 
 literal_c : (z : ℤ) → Cleans (IsLiteral z)
-literal_c z ts rest (n, inl h) c = number_c _ n ts rest h.1 c
-literal_c z ts rest (n, inr h) c = then_c _ _ (token_c _ refl) (number_c _ n) ts rest h.1 c
+literal_c z ts rest (n, inl h) = number_c _ n ts rest h.1
+literal_c z ts rest (n, inr h) = then_c _ _ (token_c _ refl) (number_c _ n) ts rest h.1
 
 operand_c : (a : Operand) → Cleans (IsOperand a)
 operand_c (local n) = name_c n
@@ -51,20 +76,20 @@ op_c ops.LessOrEqual = token_c _ refl
 op_c ops.Greater = token_c _ refl
 op_c ops.GreaterOrEqual = token_c _ refl
 
-expr_c : (e : Expr) → Cleans (IsExpr e)
+pub expr_c : (e : Expr) → Cleans (IsExpr e)
 expr_c (single a) = operand_c a
 expr_c (both a op b) = then_c _ _ (operand_c a) (then_c _ _ (op_c op) (operand_c b))
 
 braces_c : (inner : ℕ → Form) (room : ℕ) → ((less : ℕ) → Cleans (inner less))
     → Cleans (in_braces inner room)
-braces_c inner room h ts rest (less, is, b) c =
-    then_c _ _ (token_c _ refl) (then_c _ _ (h less) (token_c _ refl)) ts rest b c
+braces_c inner room h ts rest (less, is, b) =
+    then_c _ _ (token_c _ refl) (then_c _ _ (h less) (token_c _ refl)) ts rest b
 
-times_c : (n : ℕ) → Cleans (IsTimes n)
-times_c n ts rest h c = number_c _ n ts rest h.1 c
+pub times_c : (n : ℕ) → Cleans (IsTimes n)
+times_c n ts rest h = number_c _ n ts rest h.1
 
 mutual
-  statement_c : (s : Stmt) (room : ℕ) → Cleans (IsStatement s room)
+  pub statement_c : (s : Stmt) (room : ℕ) → Cleans (IsStatement s room)
   statement_c (load r x) room = then_c _ _ (token_c _ refl)
       (then_c _ _ (name_c r) (then_c _ _ (name_c x) (token_c _ refl)))
   statement_c (store x a) room = then_c _ _ (token_c _ refl)
@@ -95,39 +120,43 @@ mutual
       (then_c _ _ (token_c _ refl) (braces_c _ room (λ less. statements_c c less)))))
   statement_c (repeat n b) room = then_c _ _ (token_c _ refl)
       (then_c _ _ (times_c n) (braces_c _ room (λ less. statements_c b less)))
-  statement_c (leave at) room = λ ts rest h. then_c _ _ (token_c _ refl) (token_c _ refl) ts rest
-      (h.0, (at, h.1), h.2)
+  statement_c leave room = then_c _ _ (token_c _ refl) (token_c _ refl)
 
-  statements_c : (b : Block) (room : ℕ) → Cleans (AreStatements b room)
-  statements_c nothing room ts rest h c = subst Clean (sym h) c
-  statements_c (next s b) room ts rest h c =
-      statement_c s room ts h.0 h.1 (statements_c b room h.0 rest h.2 c)
+  pub statements_c : (b : Block) (room : ℕ) → Cleans (AreStatements b room)
+  statements_c nothing room ts rest h = adds_none ts rest h
+  statements_c (next at s b) room ts rest h =
+      adds_then (statement_c s room ts h.0 h.1.1) (statements_c b room h.0 rest h.2)
+
+pub block_c : (b : Block) (room : ℕ) → Cleans (IsBlock b room)
+block_c b room = braces_c _ room (λ less. statements_c b less)
 
 object_c : (n : Name) (o : Object) → Cleans (IsObject n o)
-object_c n (objects.Variable z) ts rest (inl h) c =
-    then_c _ _ (token_c _ refl) (then_c _ _ (name_c n) (token_c _ refl)) ts rest h.1 c
-object_c n (objects.Variable z) ts rest (inr h) c =
+object_c n (objects.Variable z) ts rest (inl h) =
+    then_c _ _ (token_c _ refl) (then_c _ _ (name_c n) (token_c _ refl)) ts rest h.1
+object_c n (objects.Variable z) ts rest (inr h) =
     then_c _ _ (token_c _ refl) (then_c _ _ (name_c n)
-    (then_c _ _ (token_c _ refl) (then_c _ _ (literal_c z) (token_c _ refl)))) ts rest h c
-object_c n objects.Mutex ts rest h c = then_c _ _ (token_c _ refl)
-    (then_c _ _ (name_c n) (token_c _ refl)) ts rest h c
-object_c n objects.Condition ts rest h c =
-    then_c _ _ (token_c _ refl) (then_c _ _ (name_c n) (token_c _ refl)) ts rest h c
-object_c n (objects.Semaphore k) ts rest h c =
+    (then_c _ _ (token_c _ refl) (then_c _ _ (literal_c z) (token_c _ refl)))) ts rest h
+object_c n objects.Mutex ts rest h = then_c _ _ (token_c _ refl)
+    (then_c _ _ (name_c n) (token_c _ refl)) ts rest h
+object_c n objects.Condition ts rest h =
+    then_c _ _ (token_c _ refl) (then_c _ _ (name_c n) (token_c _ refl)) ts rest h
+object_c n (objects.Semaphore k) ts rest h =
     then_c _ _ (token_c _ refl) (then_c _ _ (name_c n)
-    (then_c _ _ (token_c _ refl) (then_c _ _ (number_c _ k) (token_c _ refl)))) ts rest h c
+    (then_c _ _ (token_c _ refl) (then_c _ _ (number_c _ k) (token_c _ refl)))) ts rest h
 
-declaration_c : (d : Declaration) → Cleans (IsDeclaration d)
+pub declaration_c : (d : Declaration) → Cleans (IsDeclaration d)
 declaration_c d = object_c d.name d.object
 
 thread_c : (t : Thread) → Cleans (IsThread t)
 thread_c t = then_c _ _ (token_c _ refl)
-    (then_c _ _ (name_c t.name) (braces_c _ _ (λ less. statements_c t.body less)))
+    (then_c _ _ (name_c t.name) (block_c t.body _))
 
-each_c : {A : Type 0} (F : A → Form) → ((a : A) → Cleans (F a)) → (xs : List A) → Cleans (each F xs)
-each_c F f [] ts rest h c = subst Clean (sym h) c
-each_c F f (x ∷ xs) ts rest h c = f x ts h.0 h.1 (each_c F f xs h.0 rest h.2 c)
+pub each_c : {A : Type 0} (F : A → Form) → ((a : A) → Cleans (F a)) → (xs : List A) → Cleans (each F xs)
+each_c F f [] ts rest h = adds_none ts rest h
+each_c F f (x ∷ xs) ts rest h = adds_then (f x ts h.0 h.1) (each_c F f xs h.0 rest h.2)
 
 pub tree_clean : (t : Tree) (ts : List Token) → IsTree t ts → Clean ts
-tree_clean t ts h = then_c _ _ (each_c IsDeclaration declaration_c t.declarations)
-    (each_c IsThread thread_c t.threads) ts [] h tt
+tree_clean t ts h =
+    let a = then_c _ _ (each_c IsDeclaration declaration_c t.declarations)
+    (each_c IsThread thread_c t.threads) ts [] h in
+    subst Clean (sym (append-nil a.front) ∙ sym a.is) a.clean

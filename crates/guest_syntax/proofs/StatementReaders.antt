@@ -7,8 +7,8 @@ use Rattle.guest_syntax.specs.declared.token.Keyword.TheVariants as keywords
 use Rattle.guest_syntax.specs.declared.token.Symbol.TheVariants as symbols
 use Rattle.guest_syntax.specs.Tokens.{Kind, name, keyword, number, symbol, bad, Token}
 use Rattle.guest_syntax.specs.reader.Scanner.{◌>>=◌}
-use Rattle.guest_syntax.specs.Tree.{Name, Operand, Expr, Stmt, load, store, add, cas, lock, unlock, wait, signal, broadcast, acquire, release, set, assert, if_then, if_else, repeat, leave, Block, nothing, next, block_of}
-use Rattle.guest_syntax.specs.Forms.{Form, ◌then◌, IsTokenAt, IsToken, IsName, IsEnd, in_braces}
+use Rattle.guest_syntax.specs.Tree.{Name, Operand, Expr, Stmt, load, store, add, cas, lock, unlock, wait, signal, broadcast, acquire, release, set, assert, if_then, if_else, repeat, leave, Block, nothing, next, Placed, block_of}
+use Rattle.guest_syntax.specs.Forms.{Form, ◌then◌, IsTokenAt, IsToken, IsName, IsEnd, BeginsAt, placed_at, in_braces}
 use Rattle.guest_syntax.specs.Grammar.{IsOperand, IsExpr, IsTimes, IsStatement, AreStatements, IsBlock}
 use Rattle.guest_syntax.specs.reader.Reads.{Read}
 use Rattle.guest_syntax.specs.reader.SingleTokens.{token_at, symbol_from, name_from, times_from}
@@ -30,9 +30,9 @@ abbrev Takes : Reader → ℕ → Type 0
 Takes block room = (ts : List Token) (x : Block × List Token) → block ts ≡ Some x
     → IsBlock x.0 room ts x.1
 
-abbrev IsTurn : ℕ → Option Stmt → Form
+abbrev IsTurn : ℕ → Option Placed → Form
 IsTurn room None = IsToken (symbol symbols.Close)
-IsTurn room (Some s) = IsStatement s room
+IsTurn room (Some p) = placed_at p.at (IsStatement p.statement room)
 
 pub one_name_takes : (ts : List Token) (x : Name × List Token) → one_name_from ts ≡ Some x
     → (IsName x.0 then IsEnd) ts x.1
@@ -191,54 +191,54 @@ named_takes keywords.Repeat room before ts x h e = absurd cc
 named_takes keywords.Leave room before ts x h e = absurd cc
 named_takes keywords.Assert room before ts x h e = absurd cc
 
-simple_takes : (w : Keyword) (room : ℕ) (at : Pos) (before ts : List Token) (x : Stmt × List Token)
-    → IsTokenAt at (keyword w) before ts → simple_by w at ts ≡ Some x
+simple_takes : (w : Keyword) (room : ℕ) (before ts : List Token) (x : Stmt × List Token)
+    → IsToken (keyword w) before ts → simple_by w ts ≡ Some x
     → IsStatement x.0 room before x.1
-simple_takes keywords.Var room at before ts x h e =
-    named_takes keywords.Var room before ts x (at, h) e
-simple_takes keywords.Mutex room at before ts x h e =
-    named_takes keywords.Mutex room before ts x (at, h) e
-simple_takes keywords.Cond room at before ts x h e =
-    named_takes keywords.Cond room before ts x (at, h) e
-simple_takes keywords.Sem room at before ts x h e =
-    named_takes keywords.Sem room before ts x (at, h) e
-simple_takes keywords.Thread room at before ts x h e =
-    named_takes keywords.Thread room before ts x (at, h) e
-simple_takes keywords.Load room at before ts x h e =
+simple_takes keywords.Var room before ts x h e =
+    named_takes keywords.Var room before ts x h e
+simple_takes keywords.Mutex room before ts x h e =
+    named_takes keywords.Mutex room before ts x h e
+simple_takes keywords.Cond room before ts x h e =
+    named_takes keywords.Cond room before ts x h e
+simple_takes keywords.Sem room before ts x h e =
+    named_takes keywords.Sem room before ts x h e
+simple_takes keywords.Thread room before ts x h e =
+    named_takes keywords.Thread room before ts x h e
+simple_takes keywords.Load room before ts x h e =
     let n = bind_some (two_names_from ts) _ _ e in
     subst (IsSpelt room before) (some_is (load n.0.0.0 n.0.0.1, n.0.1) x n.2)
-    (ts, (at, h), two_names_takes ts n.0 n.1)
-simple_takes keywords.Store room at before ts x h e = store_takes room before ts x (at, h) e
-simple_takes keywords.Add room at before ts x h e = add_takes room before ts x (at, h) e
-simple_takes keywords.Cas room at before ts x h e = cas_takes room before ts x (at, h) e
-simple_takes keywords.Lock room at before ts x h e =
-    named_takes keywords.Lock room before ts x (at, h) e
-simple_takes keywords.Unlock room at before ts x h e =
-    named_takes keywords.Unlock room before ts x (at, h) e
-simple_takes keywords.Wait room at before ts x h e =
+    (ts, h, two_names_takes ts n.0 n.1)
+simple_takes keywords.Store room before ts x h e = store_takes room before ts x h e
+simple_takes keywords.Add room before ts x h e = add_takes room before ts x h e
+simple_takes keywords.Cas room before ts x h e = cas_takes room before ts x h e
+simple_takes keywords.Lock room before ts x h e =
+    named_takes keywords.Lock room before ts x h e
+simple_takes keywords.Unlock room before ts x h e =
+    named_takes keywords.Unlock room before ts x h e
+simple_takes keywords.Wait room before ts x h e =
     let n = bind_some (two_names_from ts) _ _ e in
     subst (IsSpelt room before) (some_is (wait n.0.0.0 n.0.0.1, n.0.1) x n.2)
-    (ts, (at, h), two_names_takes ts n.0 n.1)
-simple_takes keywords.Signal room at before ts x h e =
-    named_takes keywords.Signal room before ts x (at, h) e
-simple_takes keywords.Broadcast room at before ts x h e =
-    named_takes keywords.Broadcast room before ts x (at, h) e
-simple_takes keywords.Acquire room at before ts x h e =
-    named_takes keywords.Acquire room before ts x (at, h) e
-simple_takes keywords.Release room at before ts x h e =
-    named_takes keywords.Release room before ts x (at, h) e
-simple_takes keywords.Set room at before ts x h e = set_takes room before ts x (at, h) e
-simple_takes keywords.If room at before ts x h e =
-    named_takes keywords.If room before ts x (at, h) e
-simple_takes keywords.Else room at before ts x h e =
-    named_takes keywords.Else room before ts x (at, h) e
-simple_takes keywords.Repeat room at before ts x h e =
-    named_takes keywords.Repeat room before ts x (at, h) e
-simple_takes keywords.Leave room at before ts x h e =
+    (ts, h, two_names_takes ts n.0 n.1)
+simple_takes keywords.Signal room before ts x h e =
+    named_takes keywords.Signal room before ts x h e
+simple_takes keywords.Broadcast room before ts x h e =
+    named_takes keywords.Broadcast room before ts x h e
+simple_takes keywords.Acquire room before ts x h e =
+    named_takes keywords.Acquire room before ts x h e
+simple_takes keywords.Release room before ts x h e =
+    named_takes keywords.Release room before ts x h e
+simple_takes keywords.Set room before ts x h e = set_takes room before ts x h e
+simple_takes keywords.If room before ts x h e =
+    named_takes keywords.If room before ts x h e
+simple_takes keywords.Else room before ts x h e =
+    named_takes keywords.Else room before ts x h e
+simple_takes keywords.Repeat room before ts x h e =
+    named_takes keywords.Repeat room before ts x h e
+simple_takes keywords.Leave room before ts x h e =
     let s = bind_some (symbol_from symbols.End ts) _ _ e in
-    subst (IsSpelt room before) (some_is (leave at, s.0) x s.2)
+    subst (IsSpelt room before) (some_is (leave, s.0) x s.2)
     (ts, h, symbol_takes symbols.End ts s.0 s.1)
-simple_takes keywords.Assert room at before ts x h e = assert_takes room before ts x (at, h) e
+simple_takes keywords.Assert room before ts x h e = assert_takes room before ts x h e
 
 is_else_kind : (k : Kind) → is_else k ≡ true → k ≡ keyword keywords.Else
 unfolding is_else
@@ -322,65 +322,69 @@ repeat_takes block room ih before ts x w h =
     (ts, w, (n.0.1, times_takes ts n.0 n.1, ih n.0.1 b.0 b.1))
 
 statement_takes : (block : Reader) (room : ℕ) → Takes block room
-    → (w : Keyword) (at : Pos) (before ts : List Token) (x : Stmt × List Token)
-    → IsTokenAt at (keyword w) before ts → statement_by block w at ts ≡ Some x
+    → (w : Keyword) (before ts : List Token) (x : Stmt × List Token)
+    → IsToken (keyword w) before ts → statement_by block w ts ≡ Some x
     → IsStatement x.0 room before x.1
-statement_takes block room ih keywords.Var at before ts x h e =
-    simple_takes keywords.Var room at before ts x h e
-statement_takes block room ih keywords.Mutex at before ts x h e =
-    simple_takes keywords.Mutex room at before ts x h e
-statement_takes block room ih keywords.Cond at before ts x h e =
-    simple_takes keywords.Cond room at before ts x h e
-statement_takes block room ih keywords.Sem at before ts x h e =
-    simple_takes keywords.Sem room at before ts x h e
-statement_takes block room ih keywords.Thread at before ts x h e =
-    simple_takes keywords.Thread room at before ts x h e
-statement_takes block room ih keywords.Load at before ts x h e =
-    simple_takes keywords.Load room at before ts x h e
-statement_takes block room ih keywords.Store at before ts x h e =
-    simple_takes keywords.Store room at before ts x h e
-statement_takes block room ih keywords.Add at before ts x h e =
-    simple_takes keywords.Add room at before ts x h e
-statement_takes block room ih keywords.Cas at before ts x h e =
-    simple_takes keywords.Cas room at before ts x h e
-statement_takes block room ih keywords.Lock at before ts x h e =
-    simple_takes keywords.Lock room at before ts x h e
-statement_takes block room ih keywords.Unlock at before ts x h e =
-    simple_takes keywords.Unlock room at before ts x h e
-statement_takes block room ih keywords.Wait at before ts x h e =
-    simple_takes keywords.Wait room at before ts x h e
-statement_takes block room ih keywords.Signal at before ts x h e =
-    simple_takes keywords.Signal room at before ts x h e
-statement_takes block room ih keywords.Broadcast at before ts x h e =
-    simple_takes keywords.Broadcast room at before ts x h e
-statement_takes block room ih keywords.Acquire at before ts x h e =
-    simple_takes keywords.Acquire room at before ts x h e
-statement_takes block room ih keywords.Release at before ts x h e =
-    simple_takes keywords.Release room at before ts x h e
-statement_takes block room ih keywords.Set at before ts x h e =
-    simple_takes keywords.Set room at before ts x h e
-statement_takes block room ih keywords.If at before ts x h e =
-    choice_takes block room ih before ts x (at, h) e
-statement_takes block room ih keywords.Else at before ts x h e =
-    simple_takes keywords.Else room at before ts x h e
-statement_takes block room ih keywords.Repeat at before ts x h e =
-    repeat_takes block room ih before ts x (at, h) e
-statement_takes block room ih keywords.Leave at before ts x h e =
-    simple_takes keywords.Leave room at before ts x h e
-statement_takes block room ih keywords.Assert at before ts x h e =
-    simple_takes keywords.Assert room at before ts x h e
+statement_takes block room ih keywords.Var before ts x h e =
+    simple_takes keywords.Var room before ts x h e
+statement_takes block room ih keywords.Mutex before ts x h e =
+    simple_takes keywords.Mutex room before ts x h e
+statement_takes block room ih keywords.Cond before ts x h e =
+    simple_takes keywords.Cond room before ts x h e
+statement_takes block room ih keywords.Sem before ts x h e =
+    simple_takes keywords.Sem room before ts x h e
+statement_takes block room ih keywords.Thread before ts x h e =
+    simple_takes keywords.Thread room before ts x h e
+statement_takes block room ih keywords.Load before ts x h e =
+    simple_takes keywords.Load room before ts x h e
+statement_takes block room ih keywords.Store before ts x h e =
+    simple_takes keywords.Store room before ts x h e
+statement_takes block room ih keywords.Add before ts x h e =
+    simple_takes keywords.Add room before ts x h e
+statement_takes block room ih keywords.Cas before ts x h e =
+    simple_takes keywords.Cas room before ts x h e
+statement_takes block room ih keywords.Lock before ts x h e =
+    simple_takes keywords.Lock room before ts x h e
+statement_takes block room ih keywords.Unlock before ts x h e =
+    simple_takes keywords.Unlock room before ts x h e
+statement_takes block room ih keywords.Wait before ts x h e =
+    simple_takes keywords.Wait room before ts x h e
+statement_takes block room ih keywords.Signal before ts x h e =
+    simple_takes keywords.Signal room before ts x h e
+statement_takes block room ih keywords.Broadcast before ts x h e =
+    simple_takes keywords.Broadcast room before ts x h e
+statement_takes block room ih keywords.Acquire before ts x h e =
+    simple_takes keywords.Acquire room before ts x h e
+statement_takes block room ih keywords.Release before ts x h e =
+    simple_takes keywords.Release room before ts x h e
+statement_takes block room ih keywords.Set before ts x h e =
+    simple_takes keywords.Set room before ts x h e
+statement_takes block room ih keywords.If before ts x h e =
+    choice_takes block room ih before ts x h e
+statement_takes block room ih keywords.Else before ts x h e =
+    simple_takes keywords.Else room before ts x h e
+statement_takes block room ih keywords.Repeat before ts x h e =
+    repeat_takes block room ih before ts x h e
+statement_takes block room ih keywords.Leave before ts x h e =
+    simple_takes keywords.Leave room before ts x h e
+statement_takes block room ih keywords.Assert before ts x h e =
+    simple_takes keywords.Assert room before ts x h e
+
+begins : (at : Pos) (k : Kind) (ts rest : List Token) → IsTokenAt at k ts rest → BeginsAt at ts
+begins at k ts rest h = subst (BeginsAt at) (sym h) refl
 
 -- a word's statement, or the end
 turn_by_takes : (block : Reader) (room : ℕ) → Takes block room
-    → (k : Kind) (at : Pos) (before ts : List Token) (x : Option Stmt × List Token)
+    → (k : Kind) (at : Pos) (before ts : List Token) (x : Option Placed × List Token)
     → IsTokenAt at k before ts → turn_by block k at ts ≡ Some x → IsTurn room x.0 before x.1
 turn_by_takes block room ih (name s) at before ts x w h = absurd cc
 turn_by_takes block room ih (number n) at before ts x w h = absurd cc
 turn_by_takes block room ih bad at before ts x w h = absurd cc
 turn_by_takes block room ih (keyword v) at before ts x w h =
-    let s = bind_some (statement_by block v at ts) _ _ h in
-    subst (λ (y : Option Stmt × List Token). IsTurn room y.0 before y.1)
-    (some_is (Some s.0.0, s.0.1) x s.2) (statement_takes block room ih v at before ts s.0 w s.1)
+    let s = bind_some (statement_by block v ts) _ _ h in
+    subst (λ (y : Option Placed × List Token). IsTurn room y.0 before y.1)
+    (some_is (Some (record { at = at; statement = s.0.0 }), s.0.1) x s.2)
+    (begins at (keyword v) before ts w, statement_takes block room ih v before ts s.0 (at, w) s.1)
 turn_by_takes block room ih (symbol symbols.Equal) at before ts x w h = absurd cc
 turn_by_takes block room ih (symbol symbols.NotEqual) at before ts x w h = absurd cc
 turn_by_takes block room ih (symbol symbols.LessOrEqual) at before ts x w h = absurd cc
@@ -393,36 +397,37 @@ turn_by_takes block room ih (symbol symbols.Times) at before ts x w h = absurd c
 turn_by_takes block room ih (symbol symbols.Assign) at before ts x w h = absurd cc
 turn_by_takes block room ih (symbol symbols.Open) at before ts x w h = absurd cc
 turn_by_takes block room ih (symbol symbols.Close) at before ts x w h =
-    subst (λ (y : Option Stmt × List Token). IsTurn room y.0 before y.1) (some_is (None, ts) x h)
+    subst (λ (y : Option Placed × List Token). IsTurn room y.0 before y.1) (some_is (None, ts) x h)
     (at, w)
 turn_by_takes block room ih (symbol symbols.End) at before ts x w h = absurd cc
 
 turn_takes : (block : Reader) (room : ℕ) → Takes block room
-    → (ts : List Token) (x : Option Stmt × List Token) → turn_from block ts ≡ Some x
+    → (ts : List Token) (x : Option Placed × List Token) → turn_from block ts ≡ Some x
     → IsTurn room x.0 ts x.1
 unfolding turn_from
 turn_takes block room ih ts x h =
     let t = bind_some (token_at ts) _ _ h in
     turn_by_takes block room ih t.0.0.kind t.0.0.at ts t.0.1 x (token_takes ts t.0 t.1).1 t.2
 
-abbrev AreTurns : ℕ → List Stmt → Form
+abbrev AreTurns : ℕ → List Placed → Form
 AreTurns room ss = AreStatements (block_of ss) room then IsToken (symbol symbols.Close)
 
-many_by_takes : (more : List Token → Read (List Stmt)) (room : ℕ)
-    → ((ts : List Token) (x : List Stmt × List Token) → more ts ≡ Some x → AreTurns room x.0 ts x.1)
-    → (o : Option Stmt) (before ts : List Token) (x : List Stmt × List Token)
+many_by_takes : (more : List Token → Read (List Placed)) (room : ℕ)
+    → ((ts : List Token) (x : List Placed × List Token) → more ts ≡ Some x
+    → AreTurns room x.0 ts x.1)
+    → (o : Option Placed) (before ts : List Token) (x : List Placed × List Token)
     → IsTurn room o before ts → many_by more o ts ≡ Some x → AreTurns room x.0 before x.1
 many_by_takes more room ih None before ts x t h =
-    subst (λ (y : List Stmt × List Token). AreTurns room y.0 before y.1) (some_is ([], ts) x h)
+    subst (λ (y : List Placed × List Token). AreTurns room y.0 before y.1) (some_is ([], ts) x h)
     (before, refl, t)
 many_by_takes more room ih (Some s) before ts x t h =
     let m = bind_some (more ts) _ _ h in
     let r = ih ts m.0 m.1 in
-    subst (λ (y : List Stmt × List Token). AreTurns room y.0 before y.1)
+    subst (λ (y : List Placed × List Token). AreTurns room y.0 before y.1)
     (some_is (s ∷ m.0.0, m.0.1) x m.2) (r.0, (ts, t, r.1), r.2)
 
 many_takes : (block : Reader) (room : ℕ) → Takes block room
-    → (n : ℕ) (ts : List Token) (x : List Stmt × List Token) → many (turn_from block) n ts ≡ Some x
+    → (n : ℕ) (ts : List Token) (x : List Placed × List Token) → many (turn_from block) n ts ≡ Some x
     → AreTurns room x.0 ts x.1
 unfolding many
 many_takes block room ih zero ts x h = absurd cc
@@ -445,13 +450,13 @@ block_takes (suc room) ts x h =
 
 -- ---- what is spelled so is read
 
-abbrev pub statements_of : Block → List Stmt
+abbrev pub statements_of : Block → List Placed
 statements_of nothing = []
-statements_of (next s b) = s ∷ statements_of b
+statements_of (next at s b) = record { at = at; statement = s } ∷ statements_of b
 
 block_of-statements_of : (b : Block) → block_of (statements_of b) ≡ b
 block_of-statements_of nothing = refl
-block_of-statements_of (next s b) = ap (next s) (block_of-statements_of b)
+block_of-statements_of (next at s b) = ap (next at s) (block_of-statements_of b)
 
 keyword_ends : (w : Keyword) (ts rest : List Token) → is_else (keyword w) ≡ false
     → IsToken (keyword w) ts rest → Ends ts
@@ -493,14 +498,14 @@ statement_ends (assert e) room ts rest h = keyword_ends keywords.Assert ts h.0 r
 statement_ends (if_then e b) room ts rest h = keyword_ends keywords.If ts h.0 refl h.1
 statement_ends (if_else e b c) room ts rest h = keyword_ends keywords.If ts h.0 refl h.1
 statement_ends (repeat n b) room ts rest h = keyword_ends keywords.Repeat ts h.0 refl h.1
-statement_ends (leave at) room ts rest h = keyword_ends keywords.Leave ts h.0 refl (at, h.1)
+statement_ends leave room ts rest h = keyword_ends keywords.Leave ts h.0 refl h.1
 
 statements_end : (b : Block) (room : ℕ) (ts mid rest : List Token) → AreStatements b room ts mid
     → IsToken (symbol symbols.Close) mid rest → Ends ts
 statements_end nothing room ts mid rest h close =
     symbol_ends symbols.Close ts rest refl (subst (λ us. IsToken (symbol symbols.Close) us rest)
     (sym h) close)
-statements_end (next s b) room ts mid rest h close = statement_ends s room ts h.0 h.1
+statements_end (next at s b) room ts mid rest h close = statement_ends s room ts h.0 h.1.1
 
 -- the statements of a block are read, with their closing brace
 abbrev Again : Block → Type 0
@@ -610,12 +615,14 @@ unfolding repeat_from
 repeat_again n b again room ts rest (a, hn, hb) =
     rw (times_again n ts a hn, block_again_by b again room a rest hb) refl
 
--- a turn that begins with this word
-keyword_turn : (w : Keyword) (block : Reader) (ts mid : List Token) (x : Option Stmt × List Token)
-    → (h : IsToken (keyword w) ts mid) → turn_by block (keyword w) h.0 mid ≡ Some x
-    → turn_from block ts ≡ Some x
+-- a turn that begins with this word at this place
+keyword_turn : (w : Keyword) (block : Reader) (at : Pos) (ts mid : List Token)
+    (x : Option Placed × List Token) → BeginsAt at ts → IsToken (keyword w) ts mid
+    → turn_by block (keyword w) at mid ≡ Some x → turn_from block ts ≡ Some x
 unfolding turn_from
-keyword_turn w block ts mid x h e = rw (kind_again (keyword w) ts mid h refl) e
+keyword_turn w block at ts mid x first h e =
+    let here : h.0 ≡ at = subst (BeginsAt at) h.1 first in
+    rw (kind_again (keyword w) ts mid h refl, here) e
 
 end_again : (block : Reader) (n : ℕ) (ts rest : List Token)
     → IsToken (symbol symbols.Close) ts rest → length ts < n
@@ -635,54 +642,56 @@ next_again turn a xs zero ts mid rest e shorter lt more = absurd (omega arith)
 next_again turn a xs (suc n) ts mid rest e shorter lt more = rw (e, more n (omega arith)) refl
 
 mutual
-  statement_again : (s : Stmt) (room : ℕ) (ts rest : List Token) → IsStatement s room ts rest
-      → Ends rest → turn_from (block_from room) ts ≡ Some (Some s, rest)
-  statement_again (load r x) room ts rest (mid, w, h) ends =
-      keyword_turn keywords.Load _ ts mid _ w (rw (two_names_again r x mid rest h) refl)
-  statement_again (store x a) room ts rest (mid, w, h) ends =
-      keyword_turn keywords.Store _ ts mid _ w (rw (store_again x a mid rest h) refl)
-  statement_again (add r x a) room ts rest (mid, w, h) ends =
-      keyword_turn keywords.Add _ ts mid _ w (rw (add_again r x a mid rest h) refl)
-  statement_again (cas r x a b) room ts rest (mid, w, h) ends =
-      keyword_turn keywords.Cas _ ts mid _ w (rw (cas_again r x a b mid rest h) refl)
-  statement_again (lock m) room ts rest (mid, w, h) ends =
-      keyword_turn keywords.Lock _ ts mid _ w (rw (one_name_again m mid rest h) refl)
-  statement_again (unlock m) room ts rest (mid, w, h) ends =
-      keyword_turn keywords.Unlock _ ts mid _ w (rw (one_name_again m mid rest h) refl)
-  statement_again (wait c m) room ts rest (mid, w, h) ends =
-      keyword_turn keywords.Wait _ ts mid _ w (rw (two_names_again c m mid rest h) refl)
-  statement_again (signal c) room ts rest (mid, w, h) ends =
-      keyword_turn keywords.Signal _ ts mid _ w (rw (one_name_again c mid rest h) refl)
-  statement_again (broadcast c) room ts rest (mid, w, h) ends =
-      keyword_turn keywords.Broadcast _ ts mid _ w (rw (one_name_again c mid rest h) refl)
-  statement_again (acquire s) room ts rest (mid, w, h) ends =
-      keyword_turn keywords.Acquire _ ts mid _ w (rw (one_name_again s mid rest h) refl)
-  statement_again (release s) room ts rest (mid, w, h) ends =
-      keyword_turn keywords.Release _ ts mid _ w (rw (one_name_again s mid rest h) refl)
-  statement_again (set r e) room ts rest (mid, w, h) ends =
-      keyword_turn keywords.Set _ ts mid _ w (rw (set_again r e mid rest h) refl)
-  statement_again (assert e) room ts rest (mid, w, h) ends =
-      keyword_turn keywords.Assert _ ts mid _ w (rw (assert_again e mid rest h) refl)
-  statement_again (if_then e b) room ts rest (mid, w, h) ends =
-      keyword_turn keywords.If _ ts mid _ w (rw (then_again e b (statements_again b) room mid rest
+  statement_again : (at : Pos) (s : Stmt) (room : ℕ) (ts rest : List Token) → BeginsAt at ts
+      → IsStatement s room ts rest → Ends rest
+      → turn_from (block_from room) ts ≡ Some (Some (record { at = at; statement = s }), rest)
+  statement_again at (load r x) room ts rest first (mid, w, h) ends =
+      keyword_turn keywords.Load _ at ts mid _ first w (rw (two_names_again r x mid rest h) refl)
+  statement_again at (store x a) room ts rest first (mid, w, h) ends =
+      keyword_turn keywords.Store _ at ts mid _ first w (rw (store_again x a mid rest h) refl)
+  statement_again at (add r x a) room ts rest first (mid, w, h) ends =
+      keyword_turn keywords.Add _ at ts mid _ first w (rw (add_again r x a mid rest h) refl)
+  statement_again at (cas r x a b) room ts rest first (mid, w, h) ends =
+      keyword_turn keywords.Cas _ at ts mid _ first w (rw (cas_again r x a b mid rest h) refl)
+  statement_again at (lock m) room ts rest first (mid, w, h) ends =
+      keyword_turn keywords.Lock _ at ts mid _ first w (rw (one_name_again m mid rest h) refl)
+  statement_again at (unlock m) room ts rest first (mid, w, h) ends =
+      keyword_turn keywords.Unlock _ at ts mid _ first w (rw (one_name_again m mid rest h) refl)
+  statement_again at (wait c m) room ts rest first (mid, w, h) ends =
+      keyword_turn keywords.Wait _ at ts mid _ first w (rw (two_names_again c m mid rest h) refl)
+  statement_again at (signal c) room ts rest first (mid, w, h) ends =
+      keyword_turn keywords.Signal _ at ts mid _ first w (rw (one_name_again c mid rest h) refl)
+  statement_again at (broadcast c) room ts rest first (mid, w, h) ends =
+      keyword_turn keywords.Broadcast _ at ts mid _ first w (rw (one_name_again c mid rest h) refl)
+  statement_again at (acquire s) room ts rest first (mid, w, h) ends =
+      keyword_turn keywords.Acquire _ at ts mid _ first w (rw (one_name_again s mid rest h) refl)
+  statement_again at (release s) room ts rest first (mid, w, h) ends =
+      keyword_turn keywords.Release _ at ts mid _ first w (rw (one_name_again s mid rest h) refl)
+  statement_again at (set r e) room ts rest first (mid, w, h) ends =
+      keyword_turn keywords.Set _ at ts mid _ first w (rw (set_again r e mid rest h) refl)
+  statement_again at (assert e) room ts rest first (mid, w, h) ends =
+      keyword_turn keywords.Assert _ at ts mid _ first w (rw (assert_again e mid rest h) refl)
+  statement_again at (if_then e b) room ts rest first (mid, w, h) ends =
+      keyword_turn keywords.If _ at ts mid _ first w (rw (then_again e b (statements_again b) room mid rest
       h ends) refl)
-  statement_again (if_else e b c) room ts rest (mid, w, h) ends =
-      keyword_turn keywords.If _ ts mid _ w (rw (else_again e b c (statements_again b)
+  statement_again at (if_else e b c) room ts rest first (mid, w, h) ends =
+      keyword_turn keywords.If _ at ts mid _ first w (rw (else_again e b c (statements_again b)
       (statements_again c) room mid rest h) refl)
-  statement_again (repeat n b) room ts rest (mid, w, h) ends =
-      keyword_turn keywords.Repeat _ ts mid _ w
+  statement_again at (repeat n b) room ts rest first (mid, w, h) ends =
+      keyword_turn keywords.Repeat _ at ts mid _ first w
       (rw (repeat_again n b (statements_again b) room mid rest h) refl)
-  statement_again (leave at) room ts rest (mid, w, h) ends =
-      keyword_turn keywords.Leave _ ts mid _ (at, w) (rw (symbol_again symbols.End mid rest h) refl)
+  statement_again at leave room ts rest first (mid, w, h) ends =
+      keyword_turn keywords.Leave _ at ts mid _ first w (rw (symbol_again symbols.End mid rest h) refl)
 
   statements_again : (b : Block) → Again b
   statements_again nothing room n ts mid rest h close lt =
       end_again (block_from room) n ts rest (subst (λ us. IsToken (symbol symbols.Close) us rest)
       (sym h) close) lt
-  statements_again (next s b) room n ts mid rest h close lt =
-      next_again (turn_from (block_from room)) s (statements_of b) n ts h.0 rest
-      (statement_again s room ts h.0 h.1 (statements_end b room h.0 mid rest h.2 close))
-      (statement_shorter s room ts h.0 h.1) lt
+  statements_again (next at s b) room n ts mid rest h close lt =
+      next_again (turn_from (block_from room)) (record { at = at; statement = s })
+      (statements_of b) n ts h.0 rest
+      (statement_again at s room ts h.0 h.1.0 h.1.1
+      (statements_end b room h.0 mid rest h.2 close)) (statement_shorter s room ts h.0 h.1.1) lt
       (λ m more. statements_again b room m h.0 mid rest h.2 close more)
 
 pub block_again : (b : Block) (room : ℕ) (ts rest : List Token) → IsBlock b room ts rest

@@ -111,13 +111,12 @@ mutual
       (λ less. statements_shrink c less)))))
   statement_shorter (repeat n b) room = after_token _ _
       (then_shrinks _ _ (times_shrinks n) (braces_shrink _ room (λ less. statements_shrink b less)))
-  statement_shorter (leave at) room = λ ts rest h. after_token _ _ (token_shrinks _) ts rest
-      (h.0, (at, h.1), h.2)
+  statement_shorter leave room = after_token _ _ (token_shrinks _)
 
   pub statements_shrink : (b : Block) (room : ℕ) → Shrinks (AreStatements b room)
   statements_shrink nothing room ts rest h = omega (arith, ap length h)
-  statements_shrink (next s b) room ts rest h =
-      omega (arith, statement_shorter s room ts h.0 h.1, statements_shrink b room h.0 rest h.2)
+  statements_shrink (next at s b) room ts rest h =
+      omega (arith, statement_shorter s room ts h.0 h.1.1, statements_shrink b room h.0 rest h.2)
 
 pub block_shrinks : (b : Block) (room : ℕ) → Shrinks (IsBlock b room)
 block_shrinks b room = braces_shrink _ room (λ less. statements_shrink b less)

@@ -35,6 +35,15 @@ IsSymbol s = IsToken (symbol s)
 abbrev pub IsName : Name → Form
 IsName n = IsTokenAt n.at (name n.text)
 
+-- the first of these tokens is at this place
+abbrev pub BeginsAt : Pos → List Token → Type 0
+BeginsAt at [] = ⊥
+BeginsAt at (t ∷ ts) = t.at ≡ at
+
+-- a form whose first token is at this place
+abbrev pub placed_at : Pos → Form → Form
+placed_at at F ts rest = BeginsAt at ts × F ts rest
+
 -- a number up to a limit
 abbrev pub IsNumber : ℕ → ℕ → Form
 IsNumber limit n ts rest = (n ≤ limit) × IsToken (number n) ts rest

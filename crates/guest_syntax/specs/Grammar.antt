@@ -8,8 +8,8 @@ use Rattle.guest_syntax.specs.declared.tree.Op.{Op}
 use Rattle.guest_syntax.specs.declared.tree.Op.TheVariants as ops
 use Rattle.guest_syntax.specs.declared.tree.Object.{Object}
 use Rattle.guest_syntax.specs.declared.tree.Object.TheVariants as objects
-use Rattle.guest_syntax.specs.Tokens.{keyword, Token, Tokens}
-use Rattle.guest_syntax.specs.Forms.{Form, ◌then◌, IsTokenAt, IsKeyword, IsSymbol, IsName, IsNumber, IsEnd, IsLiteral, in_braces, each}
+use Rattle.guest_syntax.specs.Tokens.{Token, Tokens}
+use Rattle.guest_syntax.specs.Forms.{Form, ◌then◌, IsKeyword, IsSymbol, IsName, IsNumber, IsEnd, IsLiteral, placed_at, in_braces, each}
 use Rattle.guest_syntax.specs.Tree.{Name, Operand, local, literal, Expr, single, both, Stmt, load, store, add, cas, lock, unlock, wait, signal, broadcast, acquire, release, set, assert, if_then, if_else, repeat, leave, Block, nothing, next, Declaration, Thread, Tree}
 
 abbrev pub IsOperand : Operand → Form
@@ -60,11 +60,11 @@ abbrev mutual
       (AreStatements b) room then IsKeyword keywords.Else then in_braces (AreStatements c) room
   IsStatement (repeat n b) room = IsKeyword keywords.Repeat then IsTimes n then in_braces
       (AreStatements b) room
-  IsStatement (leave at) room = IsTokenAt at (keyword keywords.Leave) then IsEnd
+  IsStatement leave room = IsKeyword keywords.Leave then IsEnd
 
   pub AreStatements : Block → ℕ → Form
   AreStatements nothing room = λ ts rest. ts ≡ rest
-  AreStatements (next s b) room = IsStatement s room then AreStatements b room
+  AreStatements (next at s b) room = placed_at at (IsStatement s room) then AreStatements b room
 
 abbrev pub IsBlock : Block → ℕ → Form
 IsBlock b room = in_braces (AreStatements b) room

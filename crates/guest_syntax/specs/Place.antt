@@ -1,5 +1,5 @@
 -- How places follow the bytes.
-use Rattle.std.specs.Prelude.{◌≡◌, ℕ, ◌+◌, List, [], ◌∷◌, ◌++◌, ◌==◌, if◌then◌else◌}
+use Rattle.std.specs.Prelude.{◌≡◌, ℕ, ◌+◌, ◌<◌, ◌⊎◌, List, [], ◌∷◌, ◌++◌, ◌==◌, if◌then◌else◌}
 use Rattle.guest_syntax.specs.declared.place.Pos.{Pos}
 
 -- the place of a text's first byte
@@ -15,6 +15,10 @@ past p b = if b == 10 then record { line = p.line + 1; col = 1 } else
 unfoldable pub after : Pos → List ℕ → Pos
 after p [] = p
 after p (b ∷ bs) = after (past p b) bs
+
+-- one place comes before another
+abbrev pub Before : Pos → Pos → Type 0
+Before p q = (p.line < q.line) ⊎ ((p.line ≡ q.line) × (p.col < q.col))
 
 -- bytes at one place end with others at a later place
 pub record Follows (at : Pos) (bytes : List ℕ) (later : Pos) (rest : List ℕ) : Type 0 where

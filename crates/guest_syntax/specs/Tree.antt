@@ -11,8 +11,10 @@ use Rattle.guest_syntax.specs.declared.tree.Expr.TheVariants as exprs
 use Rattle.guest_syntax.specs.declared.tree.Declaration as code-declaration
 use Rattle.guest_syntax.specs.declared.tree.Thread as code-thread
 use Rattle.guest_syntax.specs.declared.tree.Tree as code-tree
+use Rattle.guest_syntax.specs.declared.tree.Placed as code-placed
 use Rattle.guest_syntax.specs.declared.tree.Statement.{Statement, fold-Statement}
-use Rattle.guest_syntax.specs.declared.tree.Statement.TheOpen.{Statement-F}
+use Rattle.guest_syntax.specs.declared.tree.Statement.TheFolds.{fold-Placed}
+use Rattle.guest_syntax.specs.declared.tree.Statement.TheOpen.{Statement-F, Placed-F}
 
 pub record Name : Type 0 where
   pub text : List ℕ
@@ -46,11 +48,16 @@ mutual
     if_then : Expr → Block → Stmt
     if_else : Expr → Block → Block → Stmt
     repeat : ℕ → Block → Stmt
-    leave : Pos → Stmt
+    leave : Stmt
 
   pub data Block : Type 0 where
     nothing : Block
-    next : Stmt → Block → Block
+    -- a statement, the place of its first byte, and those after it
+    next : Pos → Stmt → Block → Block
+
+pub record Placed : Type 0 where
+  pub at : Pos
+  pub statement : Stmt
 
 pub record Declaration : Type 0 where
   pub name : Name
@@ -77,12 +84,12 @@ abbrev pub expr_view : code-expr.Expr → Expr
 expr_view (exprs.Single a) = single (operand_view a)
 expr_view (exprs.Both a op b) = both (operand_view a) op (operand_view b)
 
-abbrev pub block_of : List Stmt → Block
+abbrev pub block_of : List Placed → Block
 block_of [] = nothing
-block_of (s ∷ ss) = next s (block_of ss)
+block_of (s ∷ ss) = next s.at s.statement (block_of ss)
 
 -- one level, with each statement inside already seen
-abbrev pub view_step : Statement-F Stmt → Stmt
+abbrev pub view_step : Statement-F Stmt Placed → Stmt
 view_step (Statement-F.Load r x) = load (name_view r) (name_view x)
 view_step (Statement-F.Store x a) = store (name_view x) (operand_view a)
 view_step (Statement-F.Add r x a) = add (name_view r) (name_view x) (operand_view a)
@@ -101,13 +108,19 @@ view_step (Statement-F.If e b None) = if_then (expr_view e) (block_of b.items)
 view_step (Statement-F.If e b (Some c)) =
     if_else (expr_view e) (block_of b.items) (block_of c.items)
 view_step (Statement-F.Repeat n b) = repeat n (block_of b.items)
-view_step (Statement-F.Leave at) = leave at
+view_step Statement-F.Leave = leave
+
+abbrev pub placed_step : Placed-F Stmt Placed → Placed
+placed_step p = record { at = p.at; statement = p.statement }
 
 abbrev pub stmt_view : Statement → Stmt
-stmt_view = fold-Statement Stmt view_step
+stmt_view = fold-Statement Stmt Placed view_step placed_step
 
-abbrev pub block_view : List Statement → Block
-block_view ss = block_of (map stmt_view ss)
+abbrev pub placed_view : code-placed.Placed → Placed
+placed_view = fold-Placed Stmt Placed view_step placed_step
+
+abbrev pub block_view : List code-placed.Placed → Block
+block_view ss = block_of (map placed_view ss)
 
 abbrev pub declaration_view : code-declaration.Declaration → Declaration
 declaration_view d = record { name = name_view d.name; object = d.object }

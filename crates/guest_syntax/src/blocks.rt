@@ -3,7 +3,7 @@
 ghost use Rattle.std.specs.Prelude.{◌≡◌, ◌<◌, length, map, IfOk, option_map};
 ghost use Rattle.guest_syntax.specs.reader.Gives.{Gives};
 ghost use Rattle.guest_syntax.specs.reader.TokenViews.{kind_view};
-ghost use Rattle.guest_syntax.specs.Tree.{stmt_view, block_view};
+ghost use Rattle.guest_syntax.specs.Tree.{stmt_view, placed_view, block_view};
 ghost use Rattle.guest_syntax.specs.reader.Reads.{IsPlaceOf, Reads, StaysIn, TakesToken};
 ghost use Rattle.guest_syntax.specs.reader.Items.{all_from};
 ghost use Rattle.guest_syntax.specs.reader.Statements.{is_else, choice_from, repeat_from, statement_by, turn_from, block_from};
@@ -15,7 +15,7 @@ use crate::place::Pos;
 use crate::statements::simple;
 use crate::token::{Keyword, Kind, Symbol};
 use crate::tokens::{symbol, times, token};
-use crate::tree::Statement;
+use crate::tree::{Placed, Statement};
 use std::alloc::Global;
 
 #[tactic(auto, unfolding(crate::specs::reader::Statements::is_else))]
@@ -87,7 +87,7 @@ fn statement<'a>(
     room: u32,
 ) -> Result<(Statement, Cursor<'a>), SyntaxError>
     requires place { IsPlaceOf text at }
-    ensures gives { Reads stmt_view result (statement_by (block_from room) keyword at) text.entry }
+    ensures gives { Reads stmt_view result (statement_by (block_from room) keyword) text.entry }
     ensures within { StaysIn result text.entry }
     ensures shorter { TakesToken result text.entry }
 {
@@ -105,8 +105,8 @@ fn turn<'a>(
     alloc: Global,
     text: Cursor<'a>,
     room: u32,
-) -> Result<(Option<Statement>, Cursor<'a>), SyntaxError>
-    ensures gives { Reads (option_map stmt_view) result (turn_from (block_from room)) text.entry }
+) -> Result<(Option<Placed>, Cursor<'a>), SyntaxError>
+    ensures gives { Reads (option_map placed_view) result (turn_from (block_from room)) text.entry }
     ensures within { StaysIn result text.entry }
     ensures shorter { TakesToken result text.entry }
 {
@@ -114,8 +114,9 @@ fn turn<'a>(
     match token.kind {
         Kind::Symbol(Symbol::Close) => Ok((None, after)),
         Kind::Keyword(keyword) => {
-            let (statement, after) = statement(alloc, keyword, token.at, after, room)?;
-            Ok((Some(statement), after))
+            let at = token.at;
+            let (statement, after) = statement(alloc, keyword, at, after, room)?;
+            Ok((Some(Placed { at, statement }), after))
         }
         _ => Err(SyntaxError::Expected(token.at)),
     }
@@ -127,8 +128,8 @@ fn statements<'a>(
     alloc: Global,
     text: Cursor<'a>,
     room: u32,
-) -> Result<(Vec<Statement>, Cursor<'a>), SyntaxError>
-    ensures gives { Reads (λ x. map stmt_view x.items) result
+) -> Result<(Vec<Placed>, Cursor<'a>), SyntaxError>
+    ensures gives { Reads (λ x. map placed_view x.items) result
         (all_from (turn_from (block_from room))) text.entry }
     ensures within { StaysIn result text.entry }
     ensures shorter { TakesToken result text.entry }
@@ -152,7 +153,7 @@ pub fn block<'a>(
     alloc: Global,
     text: Cursor<'a>,
     room: u32,
-) -> Result<(Vec<Statement>, Cursor<'a>), SyntaxError>
+) -> Result<(Vec<Placed>, Cursor<'a>), SyntaxError>
     ensures gives { Reads (λ x. block_view x.items) result (block_from room) text.entry }
     ensures within { StaysIn result text.entry }
     ensures shorter { TakesToken result text.entry }

@@ -3,12 +3,19 @@
 ghost use Rattle.std.specs.Prelude.{◌≡◌, List, ℕ};
 ghost use Rattle.guest_syntax.specs.Tree as model;
 ghost use Rattle.guest_syntax.specs.Grammar.{Spells};
+ghost use Rattle.guest_syntax.specs.StatementPlaces.{AreInThreads};
 
 use crate::limits::{COUNT, DEPTH, NUMBER, REPEATS, TEXT_BYTES};
 
 /// A text spells at most one tree.
 pub fn one_tree()
     ensures { (text : List ℕ) (t u : model.Tree) → Spells text t → Spells text u → t ≡ u }
+{}
+
+/// Each statement of a thread is after the thread's name and before the names of the threads after
+/// it.
+pub fn statements_are_in_their_threads()
+    ensures { (text : List ℕ) (t : model.Tree) → Spells text t → AreInThreads t.threads }
 {}
 
 /// The number of each limit.

@@ -13,6 +13,8 @@
 //! - Where the text spells a tree, that tree is answered, or memory ran out. So no good text is
 //!   refused, and a refusal for any other reason means that the text spells nothing.
 //! - A text spells at most one tree ([`laws::one_tree`]): the grammar has no two meanings.
+//! - A tree says of each statement where it begins, and that is in the text of its thread
+//!   ([`laws::statements_are_in_their_threads`]).
 //! - A text of more than [`TEXT_BYTES`] bytes is refused as too long, before it is read, and no
 //!   other text is.
 //! - What a refusal says is so at its place, the place after some number of the text's bytes: there

@@ -162,7 +162,7 @@ pub fn simple<'a>(
     text: Cursor<'a>,
 ) -> Result<(Statement, Cursor<'a>), SyntaxError>
     requires place { IsPlaceOf text at }
-    ensures gives { Reads stmt_view result (simple_by keyword at) text.entry }
+    ensures gives { Reads stmt_view result (simple_by keyword) text.entry }
     ensures within { StaysIn result text.entry }
     ensures shorter { TakesToken result text.entry }
 {
@@ -182,7 +182,7 @@ pub fn simple<'a>(
         Keyword::Assert => assertion(alloc, text),
         Keyword::Leave => {
             let (_, text) = symbol(text, Symbol::End)?;
-            Ok((Statement::Leave(at), text))
+            Ok((Statement::Leave, text))
         }
         _ => named(alloc, keyword, at, text),
     }

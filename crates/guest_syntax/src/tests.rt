@@ -1,5 +1,5 @@
 use super::*;
-use crate::tree::{Statement, Tree};
+use crate::tree::{Placed, Tree};
 use std::alloc::Global;
 use std::process::Abort;
 use std::test::*;
@@ -92,95 +92,95 @@ const FAULTS: [(&str, &str); 47] = [
 const STATEMENTS: [(&str, &str); 23] = [
     (
         "load r x;",
-        "[Load { local: Name { text: [114], at: Pos { line: 1, col: 17 } }, variable: Name { text: [120], at: Pos { line: 1, col: 19 } } }]",
+        "[Placed { at: Pos { line: 1, col: 12 }, statement: Load { local: Name { text: [114], at: Pos { line: 1, col: 17 } }, variable: Name { text: [120], at: Pos { line: 1, col: 19 } } } }]",
     ),
     (
         "store x -7;",
-        "[Store { variable: Name { text: [120], at: Pos { line: 1, col: 18 } }, value: Literal(-7) }]",
+        "[Placed { at: Pos { line: 1, col: 12 }, statement: Store { variable: Name { text: [120], at: Pos { line: 1, col: 18 } }, value: Literal(-7) } }]",
     ),
     (
         "store x r;",
-        "[Store { variable: Name { text: [120], at: Pos { line: 1, col: 18 } }, value: Local(Name { text: [114], at: Pos { line: 1, col: 20 } }) }]",
+        "[Placed { at: Pos { line: 1, col: 12 }, statement: Store { variable: Name { text: [120], at: Pos { line: 1, col: 18 } }, value: Local(Name { text: [114], at: Pos { line: 1, col: 20 } }) } }]",
     ),
     (
         "add r x -3;",
-        "[Add { local: Name { text: [114], at: Pos { line: 1, col: 16 } }, variable: Name { text: [120], at: Pos { line: 1, col: 18 } }, value: Literal(-3) }]",
+        "[Placed { at: Pos { line: 1, col: 12 }, statement: Add { local: Name { text: [114], at: Pos { line: 1, col: 16 } }, variable: Name { text: [120], at: Pos { line: 1, col: 18 } }, value: Literal(-3) } }]",
     ),
     (
         "add r x q;",
-        "[Add { local: Name { text: [114], at: Pos { line: 1, col: 16 } }, variable: Name { text: [120], at: Pos { line: 1, col: 18 } }, value: Local(Name { text: [113], at: Pos { line: 1, col: 20 } }) }]",
+        "[Placed { at: Pos { line: 1, col: 12 }, statement: Add { local: Name { text: [114], at: Pos { line: 1, col: 16 } }, variable: Name { text: [120], at: Pos { line: 1, col: 18 } }, value: Local(Name { text: [113], at: Pos { line: 1, col: 20 } }) } }]",
     ),
     (
         "cas r x 0 -1;",
-        "[Cas { local: Name { text: [114], at: Pos { line: 1, col: 16 } }, variable: Name { text: [120], at: Pos { line: 1, col: 18 } }, expected: Literal(0), new: Literal(-1) }]",
+        "[Placed { at: Pos { line: 1, col: 12 }, statement: Cas { local: Name { text: [114], at: Pos { line: 1, col: 16 } }, variable: Name { text: [120], at: Pos { line: 1, col: 18 } }, expected: Literal(0), new: Literal(-1) } }]",
     ),
     (
         "cas r x r q;",
-        "[Cas { local: Name { text: [114], at: Pos { line: 1, col: 16 } }, variable: Name { text: [120], at: Pos { line: 1, col: 18 } }, expected: Local(Name { text: [114], at: Pos { line: 1, col: 20 } }), new: Local(Name { text: [113], at: Pos { line: 1, col: 22 } }) }]",
+        "[Placed { at: Pos { line: 1, col: 12 }, statement: Cas { local: Name { text: [114], at: Pos { line: 1, col: 16 } }, variable: Name { text: [120], at: Pos { line: 1, col: 18 } }, expected: Local(Name { text: [114], at: Pos { line: 1, col: 20 } }), new: Local(Name { text: [113], at: Pos { line: 1, col: 22 } }) } }]",
     ),
     (
         "lock m;",
-        "[Lock(Name { text: [109], at: Pos { line: 1, col: 17 } })]",
+        "[Placed { at: Pos { line: 1, col: 12 }, statement: Lock(Name { text: [109], at: Pos { line: 1, col: 17 } }) }]",
     ),
     (
         "unlock m;",
-        "[Unlock(Name { text: [109], at: Pos { line: 1, col: 19 } })]",
+        "[Placed { at: Pos { line: 1, col: 12 }, statement: Unlock(Name { text: [109], at: Pos { line: 1, col: 19 } }) }]",
     ),
     (
         "wait c m;",
-        "[Wait { condition: Name { text: [99], at: Pos { line: 1, col: 17 } }, mutex: Name { text: [109], at: Pos { line: 1, col: 19 } } }]",
+        "[Placed { at: Pos { line: 1, col: 12 }, statement: Wait { condition: Name { text: [99], at: Pos { line: 1, col: 17 } }, mutex: Name { text: [109], at: Pos { line: 1, col: 19 } } } }]",
     ),
     (
         "signal c;",
-        "[Signal(Name { text: [99], at: Pos { line: 1, col: 19 } })]",
+        "[Placed { at: Pos { line: 1, col: 12 }, statement: Signal(Name { text: [99], at: Pos { line: 1, col: 19 } }) }]",
     ),
     (
         "broadcast c;",
-        "[Broadcast(Name { text: [99], at: Pos { line: 1, col: 22 } })]",
+        "[Placed { at: Pos { line: 1, col: 12 }, statement: Broadcast(Name { text: [99], at: Pos { line: 1, col: 22 } }) }]",
     ),
     (
         "acquire s;",
-        "[Acquire(Name { text: [115], at: Pos { line: 1, col: 20 } })]",
+        "[Placed { at: Pos { line: 1, col: 12 }, statement: Acquire(Name { text: [115], at: Pos { line: 1, col: 20 } }) }]",
     ),
     (
         "release s;",
-        "[Release(Name { text: [115], at: Pos { line: 1, col: 20 } })]",
+        "[Placed { at: Pos { line: 1, col: 12 }, statement: Release(Name { text: [115], at: Pos { line: 1, col: 20 } }) }]",
     ),
     (
         "set r -1;",
-        "[Set { local: Name { text: [114], at: Pos { line: 1, col: 16 } }, value: Single(Literal(-1)) }]",
+        "[Placed { at: Pos { line: 1, col: 12 }, statement: Set { local: Name { text: [114], at: Pos { line: 1, col: 16 } }, value: Single(Literal(-1)) } }]",
     ),
     (
         "set r q - 1;",
-        "[Set { local: Name { text: [114], at: Pos { line: 1, col: 16 } }, value: Both(Local(Name { text: [113], at: Pos { line: 1, col: 18 } }), Subtract, Literal(1)) }]",
+        "[Placed { at: Pos { line: 1, col: 12 }, statement: Set { local: Name { text: [114], at: Pos { line: 1, col: 16 } }, value: Both(Local(Name { text: [113], at: Pos { line: 1, col: 18 } }), Subtract, Literal(1)) } }]",
     ),
     (
         "set r q -1;",
-        "[Set { local: Name { text: [114], at: Pos { line: 1, col: 16 } }, value: Both(Local(Name { text: [113], at: Pos { line: 1, col: 18 } }), Subtract, Literal(1)) }]",
+        "[Placed { at: Pos { line: 1, col: 12 }, statement: Set { local: Name { text: [114], at: Pos { line: 1, col: 16 } }, value: Both(Local(Name { text: [113], at: Pos { line: 1, col: 18 } }), Subtract, Literal(1)) } }]",
     ),
     (
         "set r q - -1;",
-        "[Set { local: Name { text: [114], at: Pos { line: 1, col: 16 } }, value: Both(Local(Name { text: [113], at: Pos { line: 1, col: 18 } }), Subtract, Literal(-1)) }]",
+        "[Placed { at: Pos { line: 1, col: 12 }, statement: Set { local: Name { text: [114], at: Pos { line: 1, col: 16 } }, value: Both(Local(Name { text: [113], at: Pos { line: 1, col: 18 } }), Subtract, Literal(-1)) } }]",
     ),
     (
         "assert ifs;",
-        "[Assert(Single(Local(Name { text: [105, 102, 115], at: Pos { line: 1, col: 19 } })))]",
+        "[Placed { at: Pos { line: 1, col: 12 }, statement: Assert(Single(Local(Name { text: [105, 102, 115], at: Pos { line: 1, col: 19 } }))) }]",
     ),
     (
         "if 1 { leave; }",
-        "[If { test: Single(Literal(1)), then: [Leave(Pos { line: 1, col: 19 })], otherwise: None }]",
+        "[Placed { at: Pos { line: 1, col: 12 }, statement: If { test: Single(Literal(1)), then: [Placed { at: Pos { line: 1, col: 19 }, statement: Leave }], otherwise: None } }]",
     ),
     (
         "if r<=1 { } else { lock m; }",
-        "[If { test: Both(Local(Name { text: [114], at: Pos { line: 1, col: 15 } }), LessOrEqual, Literal(1)), then: [], otherwise: Some([Lock(Name { text: [109], at: Pos { line: 1, col: 36 } })]) }]",
+        "[Placed { at: Pos { line: 1, col: 12 }, statement: If { test: Both(Local(Name { text: [114], at: Pos { line: 1, col: 15 } }), LessOrEqual, Literal(1)), then: [], otherwise: Some([Placed { at: Pos { line: 1, col: 31 }, statement: Lock(Name { text: [109], at: Pos { line: 1, col: 36 } }) }]) } }]",
     ),
     (
         "repeat 007 { leave; }",
-        "[Repeat { times: 7, body: [Leave(Pos { line: 1, col: 25 })] }]",
+        "[Placed { at: Pos { line: 1, col: 12 }, statement: Repeat { times: 7, body: [Placed { at: Pos { line: 1, col: 25 }, statement: Leave }] } }]",
     ),
     (
         "repeat 100 { } leave;",
-        "[Repeat { times: 100, body: [] }, Leave(Pos { line: 1, col: 27 })]",
+        "[Placed { at: Pos { line: 1, col: 12 }, statement: Repeat { times: 100, body: [] } }, Placed { at: Pos { line: 1, col: 27 }, statement: Leave }]",
     ),
 ];
 
@@ -347,7 +347,10 @@ fn statements(rt: HostRuntime) -> Result<(), Fail> {
 fn check_operator(rt: &impl Abort, alloc: Global, operator: &str, name: &str) -> Result<(), Fail> {
     let statement = format!(in alloc; "assert 2{operator}1;")?;
     let shown = body_of(alloc, &statement)?;
-    let want = format!(in alloc; "[Assert(Both(Literal(2), {name}, Literal(1)))]")?;
+    let assertion = format!(in alloc; "Assert(Both(Literal(2), {name}, Literal(1)))")?;
+    let want = format!(in alloc;
+        "[Placed {{ at: Pos {{ line: 1, col: 12 }}, statement: {assertion} }}]"
+    )?;
     assert_eq!(rt; shown.as_str(), want.as_str(), "{operator}");
     Ok(())
 }
@@ -444,14 +447,14 @@ fn check_statement(
     rt: &impl Abort,
     alloc: Global,
     number: usize,
-    statement: &Statement,
+    placed: &Placed,
 ) -> Result<(), Fail> {
     let line = number.saturating_add(3);
     let name = format!(in alloc; "at: Pos {{ line: {line}, col:")?;
     let want = format!(in alloc;
-        "Add {{ local: Name {{ text: [114], {name} 5 }} }}, variable: Name {{ text: [120], {name} 7 }} }}, value: Literal({number}) }}"
+        "Placed {{ {name} 1 }}, statement: Add {{ local: Name {{ text: [114], {name} 5 }} }}, variable: Name {{ text: [120], {name} 7 }} }}, value: Literal({number}) }} }}"
     )?;
-    let shown = format!(in alloc; "{statement:?}")?;
+    let shown = format!(in alloc; "{placed:?}")?;
     assert_eq!(rt; shown.as_str(), want.as_str());
     Ok(())
 }
@@ -467,8 +470,8 @@ fn check_long_tree(
     assert_eq!(rt; tree.threads().len(), 1);
     let body = &tree.threads()[0].body;
     assert_eq!(rt; body.len(), statements);
-    for (i, statement) in body.iter().enumerate() {
-        check_statement(rt, alloc, i, statement)?;
+    for (i, placed) in body.iter().enumerate() {
+        check_statement(rt, alloc, i, placed)?;
     }
     Ok(())
 }

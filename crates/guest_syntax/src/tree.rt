@@ -56,8 +56,19 @@ pub enum Expr {
     Both(Operand, Op, Operand),
 }
 
+/// A statement, and where it is.
+#[derive(Debug, Drop)]
+#[cycle(statements)]
+pub struct Placed {
+    /// The place of its first byte, which is that of its keyword.
+    pub at: Pos,
+    /// The statement.
+    pub statement: Statement,
+}
+
 /// A statement of a thread, named after its keyword; `docs/LANGUAGE.md` says what each does.
 #[derive(Debug, Drop)]
+#[cycle(statements)]
 pub enum Statement {
     /// Reads the variable into the local.
     Load {
@@ -127,19 +138,19 @@ pub enum Statement {
         /// What is tested.
         test: Expr,
         /// The block after the test.
-        then: Vec<Statement>,
+        then: Vec<Placed>,
         /// The block after `else`, where there is one.
-        otherwise: Option<Vec<Statement>>,
+        otherwise: Option<Vec<Placed>>,
     },
     /// Runs a block a number of times.
     Repeat {
         /// How often: at least once, and at most the limit of `docs/LANGUAGE.md`.
         times: u8,
         /// The block.
-        body: Vec<Statement>,
+        body: Vec<Placed>,
     },
-    /// Leaves the nearest `repeat`. The place is that of the keyword.
-    Leave(Pos),
+    /// Leaves the nearest `repeat`.
+    Leave,
 }
 
 /// What a declaration declares, with its opening value.
@@ -170,7 +181,7 @@ pub struct Thread {
     /// Its name.
     pub name: Name,
     /// Its statements, in text order.
-    pub body: Vec<Statement>,
+    pub body: Vec<Placed>,
 }
 
 /// The tree of a text. Contracts see it by `tree_view` of `specs/Tree.antt`, without memory.

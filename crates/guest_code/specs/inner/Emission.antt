@@ -4,7 +4,7 @@ use Rattle.std.proofs.Common.{Vec, Global}
 use Rattle.guest_syntax.specs.declared.tree.Object.{Object}
 use Rattle.guest_syntax.specs.declared.tree.Declaration as code-declaration
 use Rattle.guest_syntax.specs.declared.tree.Thread as code-thread
-use Rattle.guest_syntax.specs.declared.tree.Statement.{Statement}
+use Rattle.guest_syntax.specs.declared.tree.Placed.{Placed}
 use Rattle.guest_syntax.specs.Tree.{Stmt, Block, declaration_view, thread_view, block_view}
 use Rattle.guest_code.specs.declared.names.Names as code-names
 use Rattle.guest_code.specs.declared.emit.Context as code-context
@@ -34,11 +34,11 @@ abbrev pub block_code_in : code-context.Context → Block → List Instruction
 block_code_in context b = block_code (names_of context.names) b context.distance_to_exit
 
 -- how many instructions these statements come to
-abbrev pub size_of : List Statement → ℕ
+abbrev pub size_of : List Placed → ℕ
 size_of body = block_size (block_view body)
 
 -- so many copies of these statements
-abbrev pub copies_of : code-names.Names → List Statement → ℕ → List Instruction
+abbrev pub copies_of : code-names.Names → List Placed → ℕ → List Instruction
 copies_of names body times = unrolled (block_code (names_of names) (block_view body))
     (size_of body) times
 

@@ -7,7 +7,7 @@ use Rattle.guest_syntax.specs.declared.token.Symbol.TheVariants as symbols
 use Rattle.guest_syntax.specs.Tokens.{Kind, keyword, symbol, Token}
 use Rattle.guest_syntax.specs.reader.Scanner.{◌>>=◌}
 use Rattle.guest_syntax.specs.Tree as tree
-use Rattle.guest_syntax.specs.Tree.{Name, Expr, Stmt, Block, block_of}
+use Rattle.guest_syntax.specs.Tree.{Name, Expr, Stmt, Block, Placed, block_of}
 use Rattle.guest_syntax.specs.reader.Reads.{Read}
 use Rattle.guest_syntax.specs.reader.SingleTokens.{token_at, symbol_from, name_from, times_from}
 use Rattle.guest_syntax.specs.reader.Expressions.{operand_from, expr_from}
@@ -75,17 +75,17 @@ named_by keywords.Acquire ts = one_name_from ts >>= λ n. Some (tree.acquire n.0
 named_by keywords.Release ts = one_name_from ts >>= λ n. Some (tree.release n.0, n.1)
 named_by _ ts = None
 
--- a statement without a block, whose keyword was read at this place
-abbrev pub simple_by : Keyword → Pos → List Token → Read Stmt
-simple_by keywords.Load at ts = two_names_from ts >>= λ n. Some (tree.load n.0.0 n.0.1, n.1)
-simple_by keywords.Wait at ts = two_names_from ts >>= λ n. Some (tree.wait n.0.0 n.0.1, n.1)
-simple_by keywords.Store at ts = store_from ts
-simple_by keywords.Add at ts = add_from ts
-simple_by keywords.Cas at ts = cas_from ts
-simple_by keywords.Set at ts = set_from ts
-simple_by keywords.Assert at ts = assert_from ts
-simple_by keywords.Leave at ts = symbol_from symbols.End ts >>= λ e. Some (tree.leave at, e)
-simple_by w at ts = named_by w ts
+-- a statement without a block, whose keyword was read
+abbrev pub simple_by : Keyword → List Token → Read Stmt
+simple_by keywords.Load ts = two_names_from ts >>= λ n. Some (tree.load n.0.0 n.0.1, n.1)
+simple_by keywords.Wait ts = two_names_from ts >>= λ n. Some (tree.wait n.0.0 n.0.1, n.1)
+simple_by keywords.Store ts = store_from ts
+simple_by keywords.Add ts = add_from ts
+simple_by keywords.Cas ts = cas_from ts
+simple_by keywords.Set ts = set_from ts
+simple_by keywords.Assert ts = assert_from ts
+simple_by keywords.Leave ts = symbol_from symbols.End ts >>= λ e. Some (tree.leave, e)
+simple_by w ts = named_by w ts
 
 unfoldable pub is_else : Kind → Bool
 is_else (keyword keywords.Else) = true
@@ -111,19 +111,20 @@ repeat_from block ts = do
   b ← block n.1
   Some (tree.repeat n.0 b.0, b.1)
 
--- a statement, whose keyword was read at this place
-abbrev pub statement_by : (List Token → Read Block) → Keyword → Pos → List Token → Read Stmt
-statement_by block keywords.If at ts = choice_from block ts
-statement_by block keywords.Repeat at ts = repeat_from block ts
-statement_by block w at ts = simple_by w at ts
+-- a statement, whose keyword was read
+abbrev pub statement_by : (List Token → Read Block) → Keyword → List Token → Read Stmt
+statement_by block keywords.If ts = choice_from block ts
+statement_by block keywords.Repeat ts = repeat_from block ts
+statement_by block w ts = simple_by w ts
 
--- a statement, whose keyword was read, or the end of a block
-abbrev pub turn_by : (List Token → Read Block) → Kind → Pos → List Token → Read (Option Stmt)
+-- a statement, whose keyword was read at this place, or the end of a block
+abbrev pub turn_by : (List Token → Read Block) → Kind → Pos → List Token → Read (Option Placed)
 turn_by block (symbol symbols.Close) at ts = Some (None, ts)
-turn_by block (keyword w) at ts = statement_by block w at ts >>= λ s. Some (Some s.0, s.1)
+turn_by block (keyword w) at ts = statement_by block w ts >>= λ s.
+    Some (Some (record { at = at; statement = s.0 }), s.1)
 turn_by block _ at ts = None
 
-unfoldable pub turn_from : (List Token → Read Block) → Turn Stmt
+unfoldable pub turn_from : (List Token → Read Block) → Turn Placed
 turn_from block ts = do
   t ← token_at ts
   turn_by block t.0.kind t.0.at t.1

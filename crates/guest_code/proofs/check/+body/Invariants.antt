@@ -1,6 +1,6 @@
 use Rattle.std.proofs.Common.{◌≡◌, ◌+◌, ◌*◌, max, drop}
 use denote.Param.Weighed.{most}
-use Rattle.guest_syntax.proofs.tree.Statement.TheLaws.{the_size}
+use Rattle.guest_syntax.proofs.tree.Placed.TheLaws.{the_size}
 use Rattle.guest_syntax.specs.Tree.{block_view}
 use Rattle.guest_code.specs.Program.{locals_view}
 use Rattle.guest_code.specs.Uses.{block_uses}
@@ -22,9 +22,9 @@ decreases-check_choice l = 3 * max (most the_size l.then.now) (most the_size l.o
 abbrev pub decreases-check_repeat : goal.decreases-check_repeat
 decreases-check_repeat l = 3 * goal.size-check_repeat l + 2
 
-abbrev pub invariant-check_block-loop-statement : goal.invariant-check_block-loop-statement
-invariant-check_block-loop-statement l =
+abbrev pub invariant-check_block-loop-placed : goal.invariant-check_block-loop-placed
+invariant-check_block-loop-placed l =
     walk (all_uses l.scope.tree.now) (locals_view l.locals)
-    (block_uses l.scope.inside (block_view (drop l.statement-index l.block)))
+    (block_uses l.scope.inside (block_view (drop l.placed-index l.block)))
     ≡ walk (all_uses l.scope.tree.now) (locals_view l.fn.locals)
     (block_uses l.scope.inside (block_view l.block))

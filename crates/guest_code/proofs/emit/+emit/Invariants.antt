@@ -1,6 +1,6 @@
 use Rattle.std.proofs.Common.{◌≡◌, ◌+◌, ◌*◌, ◌≤◌, ◌<◌, ◌++◌, ◌^◌, max, drop}
 use denote.Param.Weighed.{most}
-use Rattle.guest_syntax.proofs.tree.Statement.TheLaws.{the_size}
+use Rattle.guest_syntax.proofs.tree.Placed.TheLaws.{the_size}
 use Rattle.guest_syntax.specs.Tree.{block_view}
 use Rattle.guest_code.specs.declared.limits.TheConstants.{INSTRUCTIONS}
 use Rattle.guest_code.specs.Code.{block_code, unrolled}
@@ -33,11 +33,11 @@ invariant-emit_copies-loop-left l = record {
   less : l.left ≤ l.times;
 }
 
-abbrev pub invariant-emit_block-loop-statement : goal.invariant-emit_block-loop-statement
-invariant-emit_block-loop-statement l = record {
-  same : l.code.items ++ block_code_in l.context (block_view (drop l.statement-index l.block))
+abbrev pub invariant-emit_block-loop-placed : goal.invariant-emit_block-loop-placed
+invariant-emit_block-loop-placed l = record {
+  same : l.code.items ++ block_code_in l.context (block_view (drop l.placed-index l.block))
       ≡ l.fn.code.items ++ block_code_in l.context (block_view l.block);
-  left : l.left ≡ size_of (drop l.statement-index l.block);
+  left : l.left ≡ size_of (drop l.placed-index l.block);
   small : l.left ≤ INSTRUCTIONS;
   near : l.context.distance_to_exit + l.left < 2 ^ 32;
 }

@@ -1,5 +1,5 @@
 use Rattle.std.proofs.Common.{◌+◌, ◌*◌, ◌≡◌, ◌≤◌, length, map}
-use Rattle.guest_syntax.specs.Tree.{stmt_view}
+use Rattle.guest_syntax.specs.Tree.{placed_view}
 use Rattle.guest_syntax.specs.reader.Reads.{rest_of}
 use Rattle.guest_syntax.specs.reader.Items.{all_from}
 use Rattle.guest_syntax.specs.reader.Statements.{turn_from, block_from}
@@ -26,7 +26,7 @@ decreases-statements l = 5 * l.room + 4
 
 abbrev pub invariant-statements-items : goal.invariant-statements-items
 invariant-statements-items l = record {
-  goes : Goes (turn_from (block_from l.room)) (map stmt_view l.all.items) (rest_of l.rest)
+  goes : Goes (turn_from (block_from l.room)) (map placed_view l.all.items) (rest_of l.rest)
       (all_from (turn_from (block_from l.room)) (rest_of l.fn.text));
   same : l.rest.text.now ≡ l.fn.text.text.now;
   shorter : length (rest_of l.rest) ≤ length (rest_of l.fn.text);
