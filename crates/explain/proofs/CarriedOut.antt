@@ -1,5 +1,5 @@
 -- A schedule that is carried out up to a place, and what is told of its steps.
-use Rattle.std.proofs.Common.{length-append, ◌≡◌, ℕ, zero, suc, ◌+◌, ◌<◌, ◌≤◌, true, false, List, [], ◌∷◌, ◌++◌, length, take, map, replicate, get_or, Option, Some, None, refl, ap, ◌∙◌, sym, subst, inl, inr, arith, absurd, cc}
+use Rattle.std.proofs.Common.{length-append, ◌≡◌, ℕ, zero, suc, ◌+◌, ◌<◌, ◌≤◌, true, false, List, [], ◌∷◌, ◌++◌, length, take, map, replicate, get_or, Option, Some, None, refl, ap, ◌∙◌, sym, subst, inl, inr, arith}
 use Rattle.std.specs.List.{slice_get, All}
 use Rattle.std.proofs.lemmas.List.{map-append, length-replicate}
 use Rattle.std.proofs.lemmas.List.Elements.{All-nil, All-push}
@@ -28,14 +28,14 @@ line_in told = told.line
 
 -- the first k steps are carried out
 pub record IsCarriedUpTo (p : Program) (w : List ℕ) (k : ℕ) (e : ExecutionView)
-    (steps : List Step) (holders : List (Option Holder)) : Type 0 where
+    (steps : List Step) (owned : List (Option Holder)) : Type 0 where
   pub of : IsExecutionOf p e
   pub count : length steps ≡ k
   pub told : IsToldUpTo p w k e (map line_in steps)
   pub each : (j : ℕ) (told : Step) → slice_get steps j ≡ Some told →
       Tells p (carried_out p w j) (number_at w j) told
   pub within : All (λ told. IsWithin told.line) steps
-  pub holders : TellsHolders p w k holders
+  pub holders : TellsHolders p w k owned
 
 -- none is
 free_at : {A : Type 0} → (n m : ℕ) → get_or (replicate {A = Option A} n None) m None ≡ None

@@ -1,5 +1,5 @@
 -- A chain of threads that wait, with one more at its end.
-use Rattle.std.proofs.Common.{◌≡◌, sym, subst, refl, ℕ, List, [], ◌∷◌, ◌++◌, tt}
+use Rattle.std.proofs.Common.{◌≡◌, sym, subst, refl, ℕ, List, [], ◌∷◌, ◌++◌}
 use Rattle.guest_code.specs.Program.{Program}
 use Rattle.semantics.specs.Machine.{Snapshot}
 use Rattle.explain.specs.Circles.{WaitsOn, first_or, IsChainTo, IsCircle}

@@ -1,5 +1,5 @@
 -- The elements of a list to which one more was added.
-use Rattle.std.proofs.Common.{◌≡◌, ◌⊎◌, ℕ, zero, suc, ◌+◌, ◌<◌, List, [], ◌∷◌, ◌++◌, length, Some, None, refl, ap, subst, sym, inl, inr, arith, absurd, cc}
+use Rattle.std.proofs.Common.{length-append, get_or, Option, ◌∙◌, ◌≡◌, ◌⊎◌, ℕ, zero, suc, ◌+◌, ◌<◌, List, [], ◌∷◌, ◌++◌, length, Some, None, refl, ap, subst, sym, inl, inr, arith}
 use Rattle.std.specs.Prelude.{unwrap_or}
 use Rattle.std.specs.List.{slice_get}
 
@@ -14,3 +14,20 @@ pushed_at (z ∷ xs) x (suc k) y h = elim (pushed_at xs x k y h) [
   | inl old ↦ inl old
   | inr new ↦ inr (let e : suc k ≡ length (z ∷ xs) = omega (arith, new.0) in (e, new.1))
 ]
+
+-- the same of a list of options
+pub pushed_option : {A : Type 0} → (xs : List (Option A)) (x : Option A) (k : ℕ) (y : A) →
+    get_or (xs ++ x ∷ []) k None ≡ Some y →
+    (get_or xs k None ≡ Some y) ⊎ ((k ≡ length xs) × (x ≡ Some y))
+pushed_option [] x zero y h = inr (refl, h)
+pushed_option [] x (suc k) y h = inl h
+pushed_option (z ∷ xs) x zero y h = inl h
+pushed_option (z ∷ xs) x (suc k) y h = elim (pushed_option xs x k y h) [
+  | inl old ↦ inl old
+  | inr new ↦ inr (let e : suc k ≡ length (z ∷ xs) = omega (arith, new.0) in (e, new.1))
+]
+
+-- with one more element, a list is one longer
+pub one_longer : {A : Type 0} → (xs more : List A) (x : A) (n : ℕ) → more ≡ xs ++ x ∷ [] →
+    length xs ≡ n → length more ≡ n + 1
+one_longer xs more x n e h = ap length e ∙ (length-append xs (x ∷ []) ∙ ap (λ k. k + 1) h)

@@ -1,13 +1,16 @@
 -- A step of a program is one of few threads and few variables.
-use Rattle.std.proofs.Common.{◌≡◌, ℕ, ◌<◌, ◌≤◌, length, Option, Some, None, ap, subst, arith, absurd, cc}
+use Rattle.std.proofs.Common.{zero, suc, List, [], ◌∷◌, ◌≡◌, ℕ, ◌<◌, ◌≤◌, length, Option, Some, None, ap, subst, arith}
 use Rattle.std.specs.Prelude.{unwrap_or}
+use Rattle.std.specs.List.{All}
 use Rattle.guest_code.specs.declared.limits.TheConstants.{THREADS, VARIABLES}
 use Rattle.guest_code.specs.Program.{Program, IsWellFormed}
 use Rattle.replay.specs.declared.run.Act.{Act}
 use Rattle.replay.specs.declared.run.Act.TheVariants.{Load, Store, Add, Cas, Lock, Unlock, Wait, Retake, Signal, Broadcast, Acquire, Release}
 use Rattle.replay.specs.declared.run.Line.{Line}
 use Rattle.replay.specs.Trace.{IsValidAct, IsValidLine}
-use Rattle.explain.specs.Lost.{IsWithin, read_by, written_by}
+use Rattle.explain.specs.declared.step.Step.{Step}
+use Rattle.explain.specs.Steps.{lines_of}
+use Rattle.explain.specs.Lost.{IsWithin, line_of, read_by, written_by}
 
 only : (x y : ℕ) → Some x ≡ Some y → x ≡ y
 only x y e = ap (λ o. unwrap_or o x) e
@@ -55,3 +58,11 @@ is_within p line f valid = record {
   writes = λ x e. let l = writes p line.act x valid.act e in let n = f.variables in
       omega (arith, l, n);
 }
+
+-- so is the step at a place
+pub within_at : (steps : List Step) (k : ℕ) → All (λ (told : Step). IsWithin told.line) steps →
+    k < length steps → IsWithin (line_of (lines_of steps) k)
+within_at [] k h l = absurd (omega (arith, l))
+within_at (x ∷ xs) zero h l = h 0 x (omega arith)
+within_at (x ∷ xs) (suc k) h l = within_at xs k (λ j d m. h (suc j) d (omega (arith, m)))
+    (let e : k < length xs = omega (arith, l) in e)

@@ -12,7 +12,6 @@ mod focus;
 mod html;
 mod json;
 mod lost;
-pub mod map;
 mod object;
 mod page;
 mod prose;

@@ -513,8 +513,9 @@ impl Teller<'_> {
             });
         };
         words.extend_from_slice(b" is blocked at ")?;
-        let place = self.source.map.place(thread, standing.instruction);
-        words.extend_from_slice(place.to_string(self.alloc)?.as_bytes())?;
+        if let Some(place) = self.source.place(thread, standing.instruction) {
+            words.extend_from_slice(place.to_string(self.alloc)?.as_bytes())?;
+        }
         words.extend_from_slice(b", ")?;
         self.put_blocked_statement(words, thread, reason)?;
         words.extend_from_slice(b": ")?;

@@ -23,8 +23,47 @@ pub struct Setting {
     pub value: i64,
 }
 
-/// The local that a visible statement sets.
-pub fn setting_of(instruction: usize, statement: &Instruction, act: Act) -> Option<Setting>
+/// Where a thread was before a step, with the values of its locals, and where it came to.
+#[derive(Clone, Copy, Debug)]
+pub struct Passage {
+    /// The number of the instruction of the step.
+    pub from: usize,
+    /// The number of the instruction that it came to; the first one where it didn't run on.
+    pub to: usize,
+    /// The values of its locals before the step.
+    pub locals: [i64; LOCALS],
+}
+
+/// The locals that a thread set in a step that did this, and by itself after it.
+///
+/// # Errors
+///
+/// `AllocError` where memory runs out.
+pub fn settings_of(
+    alloc: Global,
+    code: &[Instruction],
+    passage: Passage,
+    act: Act,
+) -> Result<Vec<Setting>, AllocError>
+    requires { (p : Program) × IsValidCode p code.now }
+{
+    let mut settings = Vec::new(alloc);
+    let Some(statement) = code.get(passage.from) else {
+        return Ok(settings);
+    };
+    let mut locals = passage.locals;
+    if let Some(setting) = setting_of(passage.from, statement, act) {
+        locals[setting.local] = setting.value;
+        settings.push(setting)?;
+    }
+    if passage.to != passage.from {
+        put_settings(&mut settings, code, &mut locals, passage.from + 1)?;
+    }
+    Ok(settings)
+}
+
+// The local that a visible statement sets.
+fn setting_of(instruction: usize, statement: &Instruction, act: Act) -> Option<Setting>
     requires { (p : Program) × IsValid p statement.now }
     ensures { IfSome result (λ setting. setting.local < LOCALS) }
 {

@@ -1,12 +1,16 @@
 //! What a text is told with: the file, its text, and the program that it spells.
 
-use crate::map::SourceMap;
+ghost use Rattle.std.specs.Prelude.{◌≡◌, ℕ, length};
+ghost use Rattle.guest_code.specs.Program.{thread_at};
+ghost use Rattle.guest_code.specs.SourceMap.{places_of, locals_of};
+
 use crate::object::Object;
 use guest_code::program::{Instruction, Program};
-use std::alloc::AllocError;
+use guest_code::source_map::SourceMap;
+use guest_syntax::Pos;
 
 /// A guest file and its program, which has the names.
-#[derive(Clone, Copy)]
+#[derive(Drop)]
 pub struct Source<'a> {
     /// The name of the file.
     pub file: &'a [u8],
@@ -16,6 +20,8 @@ pub struct Source<'a> {
     pub program: &'a Program,
     /// The place of each instruction in the text, and the names of the locals.
     pub map: &'a SourceMap,
+    ghost places: { (t : ℕ) → length (places_of map.now t) ≡ length (thread_at program.now t).code },
+    ghost locals: { (t : ℕ) → length (locals_of map.now t) ≡ (thread_at program.now t).locals },
 }
 
 impl<'a> Source<'a> {
@@ -47,7 +53,11 @@ impl<'a> Source<'a> {
 
     /// The name of a local of a thread.
     pub fn local(&self, thread: u8, local: usize) -> &'a [u8] {
-        self.map.local(thread, local)
+        if thread < self.program.threads() && local < self.program.locals(thread) {
+            self.map.local(thread, local)
+        } else {
+            b"?"
+        }
     }
 
     /// An instruction of a thread; `None` at the end of its code.
@@ -59,8 +69,20 @@ impl<'a> Source<'a> {
         }
     }
 
+    /// The place in the text of an instruction of a thread; `None` at the end of its code.
+    pub fn place(&self, thread: u8, instruction: usize) -> Option<Pos> {
+        if thread < self.program.threads() && instruction < self.program.code(thread).len() {
+            Some(self.map.place(thread, instruction))
+        } else {
+            None
+        }
+    }
+
     /// The line of an instruction of a thread, from 1; 0 at the end of its code.
     pub fn line(&self, thread: u8, instruction: usize) -> u32 {
-        self.map.place(thread, instruction).line
+        match self.place(thread, instruction) {
+            Some(place) => place.line,
+            None => 0,
+        }
     }
 }

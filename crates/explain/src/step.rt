@@ -1,18 +1,17 @@
 //! One step of a run, and what it changed.
 
-ghost use Rattle.std.specs.Prelude.{◌≡◌, ◌<◌, ◌+◌, ◌^◌, IfOk, IsTrue, length};
+ghost use Rattle.std.specs.Prelude.{◌≡◌, ◌<◌, ◌+◌, ◌^◌, IfOk, IsTrue, length, take};
 ghost use Rattle.guest_code.specs.Program.{Program};
-ghost use Rattle.semantics.specs.Machine.{is_enabled};
+ghost use Rattle.semantics.specs.Machine.{is_enabled, owns, queue_of};
 ghost use Rattle.semantics.specs.Reachable.{IsOf, IsValidAction};
 ghost use Rattle.semantics.specs.Execution.{IsExecutionOf, stepped};
 ghost use Rattle.explain.specs.Lost.{line_of};
 ghost use Rattle.explain.specs.Steps.{IsTakenStep, held_in, lines_of, woken_in};
 
 use crate::object::{Object, Reading};
-use crate::settings::{Setting, put_settings, setting_of};
+use crate::settings::{Passage, Setting, settings_of};
 use guest_code::program::Program;
-use guest_syntax::Pos;
-use replay::{Act, Line, act_of};
+use replay::{Line, act_of};
 use semantics::execution::Execution;
 use semantics::state::{Action, ConditionAction, State};
 use std::alloc::{AllocError, Global};
@@ -53,6 +52,7 @@ impl Step {
         thread: u8,
     ) -> Result<Step, AllocError>
         requires of { IsExecutionOf program.now execution.old }
+        requires thread { thread < length program.now.threads }
         requires enabled { IsTrue (is_enabled program.now execution.old.state thread) }
         requires room { execution.old.preemptions + 1 < 2 ^ 64 }
         ensures { IfOk result (IsTakenStep program.now execution.old execution.new thread) }
@@ -66,29 +66,24 @@ impl Step {
         let held = held_by(alloc, state, program, thread)?;
         let woken = woken_by(alloc, state, action)?;
         let preempting = execution.preempts(program, thread);
-        let mut locals = *state.locals(thread);
+        let locals = *state.locals(thread);
         execution.step(program, thread);
         let state = execution.state();
-        let line = Line {
-            thread,
-            act,
-            preempting,
-            stop: state.status(thread).stop(),
+        let passage = Passage {
+            from: instruction,
+            to: state.pc(thread),
+            locals,
         };
-        let mut settings = Vec::new(alloc);
-        let code = program.code(thread);
-        if let Some(setting) = setting_of(instruction, &code[instruction], act) {
-            locals[setting.local] = setting.value;
-            settings.push(setting)?;
-        }
-        let to = state.pc(thread);
-        if to != instruction {
-            put_settings(&mut settings, code, &mut locals, instruction + 1)?;
-        }
+        let settings = settings_of(alloc, program.code(thread), passage, act)?;
         Ok(Step {
-            line,
+            line: Line {
+                thread,
+                act,
+                preempting,
+                stop: state.status(thread).stop(),
+            },
             instruction,
-            next: to,
+            next: passage.to,
             object,
             old,
             new: object.reading(state),
@@ -111,11 +106,21 @@ fn held_by(
 {
     let mut held = Vec::new(alloc);
     for m in 0..program.mutexes() as usize {
-        if state.owner(m) == Some(thread) {
+        if owns(thread, state.owner(m)) {
             held.push(m)?;
         }
     }
     Ok(held)
+}
+
+// Whether a thread is the owner.
+fn owns(thread: u8, owner: Option<u8>) -> bool
+    ensures { result ≡ owns thread owner }
+{
+    match owner {
+        Some(other) => thread == other,
+        None => false,
+    }
 }
 
 // The threads that an action wakes, the one that waited longest first.
@@ -123,18 +128,33 @@ fn woken_by(alloc: Global, state: &State, action: Action) -> Result<Vec<u8>, All
     requires { (p : Program) × IsOf p state.now × IsValidAction p action }
     ensures { IfOk result (λ v. v.items ≡ woken_in state.now action) }
 {
-    let mut woken = Vec::new(alloc);
-    let (condition, most) = match action {
-        Action::OnCondition(c, ConditionAction::Signal) => (c, 1),
-        Action::OnCondition(c, ConditionAction::Broadcast) => (c, state.queue_length(c)),
-        _ => return Ok(woken),
-    };
+    match action {
+        Action::OnCondition(c, ConditionAction::Signal) => first_queued(alloc, state, c, 1),
+        Action::OnCondition(c, ConditionAction::Broadcast) => {
+            first_queued(alloc, state, c, state.queue_length(c))
+        }
+        _ => Ok(Vec::new(alloc)),
+    }
+}
+
+// The first threads in the queue of a condition, at most so many.
+fn first_queued(
+    alloc: Global,
+    state: &State,
+    condition: usize,
+    most: usize,
+) -> Result<Vec<u8>, AllocError>
+    requires { condition < length state.now.queues }
+    ensures { IfOk result (λ v. v.items ≡ take most (queue_of state.now condition)) }
+{
+    let mut queued = Vec::new(alloc);
     for place in 0..most {
-        if let Some(thread) = state.queued(condition, place) {
-            woken.push(thread)?;
+        match state.queued(condition, place) {
+            Some(thread) => queued.push(thread)?,
+            None => break,
         }
     }
-    Ok(woken)
+    Ok(queued)
 }
 
 /// What the step at a place did.

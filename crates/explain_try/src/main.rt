@@ -1,7 +1,7 @@
 #![tactic(auto)]
 
 use explain::{Explanation, Shape, Source};
-use explain::map::SourceMap;
+use guest_code::source_map::SourceMap;
 use guest_code::lowering::lower;
 use guest_syntax::parse;
 use replay::schedule_from;
