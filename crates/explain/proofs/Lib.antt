@@ -5,3 +5,4 @@ mod Within
 mod Chains
 mod LocalRunsTold
 mod LastAccesses
+mod Taken

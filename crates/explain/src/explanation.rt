@@ -171,11 +171,16 @@ impl Carried {
     fn out(alloc: Global, program: &Program, schedule: &[u8]) -> Result<Carried, AllocError>
         ensures { IfOk result (IsCarriedOut program.now schedule.now) }
     {
+        program.keeps_limits();
         let mut execution = Execution::start(alloc, program)?;
         let mut holders = vec![in alloc; None; program.mutexes() as usize]?;
         let mut steps = Vec::new(alloc);
         for (at, thread) in schedule.iter().enumerate() {
-            if !can_step(execution.state(), program, *thread) {
+            if can_step(execution.state(), program, *thread) {
+                let step = Step::take(alloc, &mut execution, program, *thread)?;
+                steps.push(step)?;
+                follow(&mut holders, execution.state(), at);
+            } else {
                 return Ok(Carried {
                     execution,
                     steps,
@@ -183,8 +188,6 @@ impl Carried {
                     refused: Some(*thread),
                 });
             }
-            steps.push(Step::take(alloc, &mut execution, program, *thread)?)?;
-            follow(&mut holders, execution.state(), at);
         }
         Ok(Carried {
             execution,

@@ -1,6 +1,8 @@
 //! Which steps of a run are told, and which are folded.
 
 ghost use Rattle.std.specs.Prelude.{◌≡◌, ◌<◌, ◌++◌, ◌↔◌, length, IsTrue, IfOk, OnOk, Any};
+ghost use Rattle.std.specs.List.{list_any};
+ghost use Rattle.semantics.specs.Ends.{is_stopped};
 ghost use Rattle.semantics.specs.Waiters.{In};
 ghost use Rattle.explain.specs.Objects.{touched_by};
 ghost use Rattle.explain.specs.Steps.{lines_of};
@@ -8,8 +10,10 @@ ghost use Rattle.explain.specs.Folding.{FollowsSwitch, IsBesidePreemption, IsTol
 
 use crate::explanation::Explanation;
 use crate::object::Object;
+use crate::standing::Standing;
 use crate::step::{Step, line_at};
 use replay::Act;
+use semantics::state::Status;
 use std::alloc::{AllocError, Global};
 
 impl Explanation {
@@ -23,7 +27,7 @@ impl Explanation {
         ensures { IfOk result (λ v. v.items
             ≡ focus_of (lines_of self.now.steps.items) self.now.standings.items) }
     {
-        let failed = self.standings.iter().any(|thread| thread.is_stopped());
+        let failed = some_stopped(self.standings.as_slice());
         let mut focus = Vec::new(alloc);
         for (t, standing) in self.standings.iter().enumerate() {
             if standing.counts(failed) {
@@ -84,6 +88,15 @@ fn touches(objects: &[Object], act: Act) -> bool
     ensures { IsTrue result ↔ Any (λ o. In (touched_by act) o) objects.now }
 {
     objects.iter().any(|object| object.is_touched(act))
+}
+
+// Whether a thread has stopped.
+fn some_stopped(standings: &[Standing]) -> bool
+    ensures { result ≡ list_any (λ s. is_stopped s.status) standings.now }
+{
+    standings
+        .iter()
+        .any(|standing| matches!(standing.status, Status::Stopped(_)))
 }
 
 // What a thread did last.

@@ -151,7 +151,7 @@ fn first_queued(
     for place in 0..most {
         match state.queued(condition, place) {
             Some(thread) => queued.push(thread)?,
-            None => break,
+            None => return Ok(queued),
         }
     }
     Ok(queued)
