@@ -1,24 +1,22 @@
 -- A schedule that is carried out up to a place, and what is told of its steps.
-use Rattle.std.proofs.Common.{length-append, ◌≡◌, ℕ, zero, suc, ◌+◌, ◌<◌, ◌≤◌, true, false, List, [], ◌∷◌, ◌++◌, length, take, map, replicate, get_or, Option, Some, None, refl, ap, ◌∙◌, sym, subst, inl, inr, arith}
+use Rattle.std.proofs.Common.{length-append, ◌≡◌, ℕ, zero, suc, ◌+◌, ◌<◌, true, false, List, [], ◌∷◌, ◌++◌, length, take, map, replicate, get_or, Option, Some, None, refl, ap, ◌∙◌, sym, subst, inl, inr, arith}
 use Rattle.std.specs.List.{slice_get, All}
 use Rattle.std.proofs.lemmas.List.{map-append, length-replicate}
 use Rattle.std.proofs.lemmas.List.Elements.{All-nil, All-push}
 use Rattle.guest_code.specs.Program.{Program, IsWellFormed}
-use Rattle.semantics.specs.Machine.{Snapshot, start, is_enabled, owner_of, step}
-use Rattle.semantics.specs.Schedules.{state_after}
-use Rattle.semantics.specs.Execution.{ExecutionView, IsExecutionOf, Reaches, stepped}
+use Rattle.semantics.specs.Machine.{Snapshot, is_enabled, owner_of}
+use Rattle.semantics.specs.Execution.{ExecutionView, IsExecutionOf, Reaches}
 use Rattle.replay.specs.declared.run.Line.{Line}
-use Rattle.replay.specs.Run.{IsFirstBad, number_at}
-use Rattle.replay.specs.Trace.{IsValidLine}
+use Rattle.replay.specs.Run.{number_at}
 use Rattle.replay.proofs.LinesOfSteps.{IsToldUpTo, told_none, told_more}
 use Rattle.explain.specs.declared.step.Step.{Step}
 use Rattle.explain.specs.declared.explanation.Holder.{Holder}
 use Rattle.explain.specs.declared.explanation.Carried.{Carried}
 use Rattle.explain.specs.Steps.{Tells, IsTakenStep}
-use Rattle.explain.specs.Holders.{owner_at, IsHeldBy}
+use Rattle.explain.specs.Holders.{IsHeldBy}
 use Rattle.explain.specs.Lost.{IsWithin}
 use Rattle.explain.specs.Explains.{carried_out, TellsSteps, TellsHolders, StopsAt}
-use Rattle.explain.specs.inner.Carrying.{AreFollowed, IsCarriedOut, is_followed}
+use Rattle.explain.specs.inner.Carrying.{AreFollowed, IsCarriedOut}
 use Rattle.explain.proofs.Pushed.{pushed_at}
 use Rattle.explain.proofs.HeldOn.{held_on, held_by_none}
 use Rattle.explain.proofs.Within.{is_within}

@@ -1,9 +1,7 @@
 -- What a local run sets, one instruction after the other.
-use Rattle.std.proofs.Common.{◌≡◌, ℕ, zero, suc, ◌+◌, ◌-◌, ◌<◌, ◌≤◌, ℤ, List, [], ◌∷◌, ◌++◌, length, drop, get_or, Option, Some, None, refl, ap, ◌∙◌, sym, subst, arith, add-one}
+use Rattle.std.proofs.Common.{◌≡◌, ℕ, zero, suc, ◌+◌, ◌-◌, ◌<◌, ℤ, List, [], ◌∷◌, length, drop, get_or, refl, ap, ◌∙◌, sym, arith, add-one}
 use Rattle.guest_code.specs.declared.program.Instruction.{Instruction}
-use Rattle.explain.specs.declared.settings.Setting.{Setting}
 use Rattle.explain.specs.Settings.{settings_in}
-use Rattle.explain.specs.inner.Runs.{settings_after}
 
 drops : (code : List Instruction) (k : ℕ) (d : Instruction) → k < length code →
     drop k code ≡ get_or code k d ∷ drop (suc k) code

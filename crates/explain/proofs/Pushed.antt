@@ -1,5 +1,5 @@
 -- The elements of a list to which one more was added.
-use Rattle.std.proofs.Common.{◌≤◌, take, drop, append-nil, length-append, get_or, Option, ◌∙◌, ◌≡◌, ◌⊎◌, ℕ, zero, suc, ◌+◌, ◌<◌, List, [], ◌∷◌, ◌++◌, length, Some, None, refl, ap, subst, sym, inl, inr, arith}
+use Rattle.std.proofs.Common.{◌≤◌, take, drop, append-nil, length-append, get_or, Option, ◌∙◌, ◌≡◌, ◌⊎◌, ℕ, zero, suc, ◌+◌, List, [], ◌∷◌, ◌++◌, length, Some, None, refl, ap, inl, inr, arith}
 use Rattle.std.specs.Prelude.{unwrap_or}
 use Rattle.std.specs.List.{slice_get}
 use Rattle.std.proofs.lemmas.List.{take_all}

@@ -1,8 +1,7 @@
 -- A step of a program is one of few threads and few variables.
-use Rattle.std.proofs.Common.{zero, suc, List, [], ◌∷◌, ◌≡◌, ℕ, ◌<◌, ◌≤◌, length, Option, Some, None, ap, subst, arith}
+use Rattle.std.proofs.Common.{zero, suc, List, [], ◌∷◌, ◌≡◌, ℕ, ◌<◌, length, Some, None, ap, subst, arith}
 use Rattle.std.specs.Prelude.{unwrap_or}
 use Rattle.std.specs.List.{All}
-use Rattle.guest_code.specs.declared.limits.TheConstants.{THREADS, VARIABLES}
 use Rattle.guest_code.specs.Program.{Program, IsWellFormed}
 use Rattle.replay.specs.declared.run.Act.{Act}
 use Rattle.replay.specs.declared.run.Act.TheVariants.{Load, Store, Add, Cas, Lock, Unlock, Wait, Retake, Signal, Broadcast, Acquire, Release}

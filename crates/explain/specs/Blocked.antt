@@ -1,7 +1,6 @@
 -- Why a thread can't take a step: the definition of an enabled thread turned round.
-use Rattle.std.specs.Prelude.{◌≡◌, ◌≢◌, ◌⊎◌, ℕ, zero, suc, ◌<◌, ◌≤◌, true, List, [], ◌∷◌, length, Option, Some, None, slice_get, option_and_then}
+use Rattle.std.specs.Prelude.{◌≡◌, ◌≢◌, ◌⊎◌, ℕ, true, Option, Some, None}
 use Rattle.guest_code.specs.Program.{Program}
-use Rattle.semantics.specs.declared.state.Status.{Status}
 use Rattle.semantics.specs.declared.state.Status.TheVariants.{Waiting}
 use Rattle.semantics.specs.declared.state.Action.TheVariants.{OnMutex, OnSemaphore}
 use Rattle.semantics.specs.declared.state.MutexAction.TheVariants.{Lock as Locks, Retake as Retakes}

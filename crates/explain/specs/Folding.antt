@@ -6,7 +6,7 @@ use Rattle.semantics.specs.Ends.{is_stopped}
 use Rattle.replay.specs.declared.run.Act.{Act}
 use Rattle.replay.specs.declared.run.Line.{Line}
 use Rattle.explain.specs.declared.object.Object.{Object}
-use Rattle.explain.specs.declared.object.Object.TheVariants.{Variable, Mutex, Condition, Semaphore}
+use Rattle.explain.specs.declared.object.Object.TheVariants.{Mutex, Condition, Semaphore}
 use Rattle.explain.specs.declared.standing.Reason.{Reason}
 use Rattle.explain.specs.declared.standing.Reason.TheVariants.{Lock, Retake, Acquire, Signal}
 use Rattle.explain.specs.declared.standing.Standing.{Standing}

@@ -1,7 +1,7 @@
 -- A write that is lost: a thread reads a variable, then another thread writes it, and the next write
 -- is a store of the first thread, which has not read it since.
 use Rattle.guest_code.specs.declared.limits.TheConstants.{THREADS, VARIABLES}
-use Rattle.std.specs.Prelude.{◌≡◌, ◌≢◌, ℕ, ℤ, ◌<◌, false, List, length, Option, Some, None, slice_index_or}
+use Rattle.std.specs.Prelude.{◌≡◌, ◌≢◌, ℕ, ℤ, ◌<◌, false, List, Option, Some, None, slice_index_or}
 use Rattle.replay.specs.declared.run.Act.{Act}
 use Rattle.replay.specs.declared.run.Act.TheVariants.{Load, Store, Add, Cas, Lock, Unlock, Wait, Retake, Signal, Broadcast, Acquire, Release}
 use Rattle.replay.specs.declared.run.Line.{Line}

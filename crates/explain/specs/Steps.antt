@@ -1,9 +1,9 @@
 -- What is told of a step.
-use Rattle.std.specs.Prelude.{◌≡◌, ℕ, List, [], ◌∷◌, length, filter, map, Option, Some, None}
+use Rattle.std.specs.Prelude.{◌≡◌, ℕ, List, [], ◌∷◌, length, filter, map, Some}
 use Rattle.guest_code.specs.Program.{Program}
 use Rattle.semantics.specs.declared.state.Action.{Action}
 use Rattle.semantics.specs.declared.state.Action.TheVariants.{OnVariable, OnMutex, Wait as Waits, OnCondition, OnSemaphore}
-use Rattle.semantics.specs.Machine.{Snapshot, thread_at, next_of, owner_of, queue_of, owns, threads_to_wake, step, is_enabled}
+use Rattle.semantics.specs.Machine.{Snapshot, thread_at, next_of, owner_of, queue_of, owns, threads_to_wake, step}
 use Rattle.semantics.specs.Schedules.{up_from}
 use Rattle.semantics.specs.Execution.{ExecutionView, IsExecutionOf, stepped}
 use Rattle.replay.specs.declared.run.Line.{Line}

@@ -1,4 +1,4 @@
-use Rattle.std.proofs.Common.{◌<◌, ◌∙◌, ap, sym, subst, arith, length}
+use Rattle.std.proofs.Common.{◌∙◌, ap, sym, subst, arith}
 use Rattle.explain.specs.Circles.{WaitsOn, IsChainTo, IsCircle, first_or}
 use Rattle.explain.proofs.Chains.{chain_on, closed, same_first}
 use Rattle.explain.proofs.circle.circle_from.Goals as goal

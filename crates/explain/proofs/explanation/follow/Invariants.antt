@@ -1,4 +1,4 @@
-use Rattle.std.proofs.Common.{◌≡◌, ◌≤◌, ◌<◌, ℕ, length, get_or, None}
+use Rattle.std.proofs.Common.{◌≡◌, ◌≤◌, ◌<◌, ℕ, get_or, None}
 use Rattle.semantics.specs.Machine.{owner_of}
 use Rattle.explain.specs.inner.Carrying.{is_followed}
 use Rattle.explain.proofs.explanation.follow.Given as goal

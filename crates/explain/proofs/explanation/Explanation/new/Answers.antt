@@ -1,4 +1,4 @@
-use Rattle.std.proofs.Common.{◌≡◌, ◌∙◌, sym, subst, ap}
+use Rattle.std.proofs.Common.{◌∙◌, subst, ap}
 use Rattle.semantics.specs.Ends.{kind_of}
 use Rattle.explain.specs.Explains.{TellsThreads, TellsLost}
 use Rattle.explain.specs.Circles.{IsCircle}

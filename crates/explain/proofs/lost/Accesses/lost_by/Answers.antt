@@ -1,4 +1,4 @@
-use Rattle.std.proofs.Common.{◌<◌, ◌∙◌, ap, sym, subst, arith}
+use Rattle.std.proofs.Common.{◌∙◌, ap, sym, subst, arith}
 use Rattle.replay.specs.declared.run.Line.{Line}
 use Rattle.explain.specs.Steps.{lines_of}
 use Rattle.explain.specs.Lost.{IsWithin, IsLastRead, written_by}
