@@ -1,0 +1,40 @@
+-- Why a thread can't take a step: the definition of an enabled thread turned round.
+use Rattle.std.specs.Prelude.{◌≡◌, ◌≢◌, ◌⊎◌, ℕ, true, Option, Some, None}
+use Rattle.guest_code.specs.Program.{Program}
+use Rattle.semantics.specs.declared.state.Status.TheVariants.{Waiting}
+use Rattle.semantics.specs.declared.state.Action.TheVariants.{OnMutex, OnSemaphore}
+use Rattle.semantics.specs.declared.state.MutexAction.TheVariants.{Lock as Locks, Retake as Retakes}
+use Rattle.semantics.specs.declared.state.SemaphoreAction.TheVariants.{Acquire as Acquires}
+use Rattle.semantics.specs.Machine.{Snapshot, thread_at, next_of, owner_of, count_of, is_enabled}
+use Rattle.explain.specs.declared.standing.Reason.{Reason}
+use Rattle.explain.specs.declared.standing.Reason.TheVariants.{Lock, Retake, Acquire, Signal}
+use Rattle.explain.specs.declared.standing.Standing.{Standing}
+
+-- the mutex that a thread waits for by this reason
+abbrev pub mutex_of : Reason → Option ℕ
+mutex_of (Lock m) = Some m
+mutex_of (Retake m) = Some m
+mutex_of (Acquire k) = None
+mutex_of (Signal c) = None
+
+-- thread t can't take a step for this reason: it is to lock a mutex, or to take one again, that a
+-- thread owns, or to acquire a semaphore whose count is 0, or it waits for a condition
+abbrev pub IsBlockedBy : Program → Snapshot → ℕ → Reason → Type 0
+IsBlockedBy p s t (Lock m) = (next_of p s t ≡ Some (OnMutex m Locks)) × (owner_of s m ≢ None)
+IsBlockedBy p s t (Retake m) = (next_of p s t ≡ Some (OnMutex m Retakes)) × (owner_of s m ≢ None)
+IsBlockedBy p s t (Acquire k) =
+    (next_of p s t ≡ Some (OnSemaphore k Acquires)) × (count_of s k ≡ 0)
+IsBlockedBy p s t (Signal c) = (thread_at s t).status ≡ Waiting c
+
+-- thread t is not blocked: it is enabled, or it is about to do nothing and waits for no condition
+abbrev pub IsUnblocked : Program → Snapshot → ℕ → Type 0
+IsUnblocked p s t = (is_enabled p s t ≡ true)
+    ⊎ ((next_of p s t ≡ None) × ((c : ℕ) → (thread_at s t).status ≢ Waiting c))
+
+-- what is told of thread t in a state
+pub record Stands (p : Program) (s : Snapshot) (t : ℕ) (told : Standing) : Type 0 where
+  pub status : told.status ≡ (thread_at s t).status
+  pub instruction : told.instruction ≡ (thread_at s t).pc
+  pub locals : told.locals ≡ (thread_at s t).locals
+  pub blocked : (r : Reason) → told.reason ≡ Some r → IsBlockedBy p s t r
+  pub unblocked : told.reason ≡ None → IsUnblocked p s t

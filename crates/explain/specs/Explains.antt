@@ -1,0 +1,72 @@
+-- What is told of a schedule.
+use Rattle.std.specs.Prelude.{◌≡◌, ℕ, ◌<◌, ◌≤◌, true, List, length, take, Option, Some, None, slice_get, slice_index_or}
+use Rattle.guest_code.specs.Program.{Program}
+use Rattle.semantics.specs.Machine.{Snapshot, start}
+use Rattle.semantics.specs.Schedules.{state_after, runs, preemptions, last_of}
+use Rattle.semantics.specs.Ends.{kind_of}
+use Rattle.semantics.specs.Execution.{ExecutionView}
+use Rattle.replay.specs.Run.{lines_from, number_at, IsFirstBad}
+use Rattle.explain.specs.declared.explanation.Explanation.{Explanation}
+use Rattle.explain.specs.declared.standing.Standing.{Standing}
+use Rattle.explain.specs.declared.explanation.Holder.{Holder}
+use Rattle.explain.specs.declared.step.Step.{Step}
+use Rattle.explain.specs.declared.lost.Lost.{Lost}
+use Rattle.explain.specs.Steps.{Tells, lines_of}
+use Rattle.explain.specs.Blocked.{Stands}
+use Rattle.explain.specs.Circles.{IsCircle}
+use Rattle.explain.specs.Holders.{IsHeldBy}
+use Rattle.explain.specs.Lost.{IsLost}
+
+-- a schedule that was carried out up to a place
+abbrev pub carried_out : Program → List ℕ → ℕ → ExecutionView
+carried_out p w k = record {
+  state = state_after p (start p) (take k w);
+  last = last_of (take k w);
+  preemptions = preemptions p (take k w);
+}
+
+-- the state that the steps lead to
+abbrev pub reached : Program → List ℕ → ℕ → Snapshot
+reached p w n = state_after p (start p) (take n w)
+
+-- the first n steps run, and they are told each once and in order
+pub record TellsSteps (p : Program) (w : List ℕ) (n : ℕ) (steps : List Step) : Type 0 where
+  pub ran : runs p (start p) (take n w) ≡ true
+  pub lines : lines_of steps ≡ lines_from p (start p) None (take n w)
+  pub each : (k : ℕ) (step : Step) → slice_get steps k ≡ Some step →
+      Tells p (carried_out p w k) (number_at w k) step
+
+-- the schedule ends after n steps, or its next step is of no thread that is enabled, of this number
+abbrev pub StopsAt : Program → List ℕ → ℕ → Option ℕ → Type 0
+StopsAt p w n None = length w ≤ n
+StopsAt p w n (Some t) = IsFirstBad p w n × (number_at w n ≡ t)
+
+-- each thread at the end
+pub record TellsThreads (p : Program) (s : Snapshot) (told : List Standing) : Type 0 where
+  pub all : length told ≡ length p.threads
+  pub each : (t : ℕ) (standing : Standing) → slice_get told t ≡ Some standing →
+      Stands p s t standing
+
+-- each mutex at the end
+pub record TellsHolders (p : Program) (w : List ℕ) (n : ℕ) (told : List (Option Holder)) :
+    Type 0 where
+  pub all : length told ≡ length p.mutexes
+  pub each : (m : ℕ) → m < length p.mutexes → IsHeldBy p w n m (slice_index_or told m None)
+
+-- what each step overwrites unread
+pub record TellsLost (steps : List Step) (told : List (Option Lost)) : Type 0 where
+  pub all : length told ≡ length steps
+  pub each : (k : ℕ) (lost : Lost) → slice_index_or told k None ≡ Some lost →
+      IsLost (lines_of steps) k lost
+
+-- this is told of a schedule of the program
+pub record Explains (p : Program) (w : List ℕ) (told : Explanation) : Type 0 where
+  pub schedule : told.schedule.items ≡ w
+  pub steps : TellsSteps p w (length told.steps.items) told.steps.items
+  pub stops : StopsAt p w (length told.steps.items) told.refused
+  pub threads : TellsThreads p (reached p w (length told.steps.items)) told.standings.items
+  pub holders : TellsHolders p w (length told.steps.items) told.holders.items
+  pub circle : IsCircle p (reached p w (length told.steps.items)) told.circle.items
+  pub lost : TellsLost told.steps.items told.lost.items
+  pub preemptions : told.preemptions ≡ preemptions p (take (length told.steps.items) w)
+  pub kind : told.kind ≡ kind_of p (reached p w (length told.steps.items))

@@ -1,0 +1,260 @@
+//! The explanation of a schedule, as a value.
+
+ghost use Rattle.std.specs.Prelude.{◌≡◌, ◌<◌, ◌^◌, ◌∷◌, ℕ, length, Option, Some, None, IfOk, IsTrue, ◌↔◌, slice_get, take};
+ghost use Rattle.semantics.specs.Machine.{is_enabled, owner_of};
+ghost use Rattle.semantics.specs.Reachable.{IsOf};
+ghost use Rattle.explain.specs.Blocked.{Stands};
+ghost use Rattle.explain.specs.Explains.{Explains, TellsThreads};
+ghost use Rattle.explain.specs.inner.Carrying.{IsCarriedOut, AreFollowed, is_followed};
+
+use crate::circle::circle_of;
+use crate::lost::{Lost, lost_writes};
+use crate::settings::{Setting, put_settings};
+use crate::standing::{Reason, Standing};
+use crate::step::Step;
+use guest_code::limits::LOCALS;
+use guest_code::program::Program;
+use semantics::execution::Execution;
+use semantics::state::{State, Stop};
+use semantics::view::Kind;
+use std::alloc::{AllocError, Global};
+
+/// The thread that owns a mutex, and since which step.
+#[derive(Clone, Copy, Debug, PartialEq, Eq)]
+pub struct Holder {
+    /// The thread, by its number.
+    pub thread: u8,
+    /// The place of the step by which it took the mutex.
+    pub since: usize,
+}
+
+/// A thread before its first step.
+#[derive(Debug, Drop)]
+pub struct Start {
+    /// The locals that it set by itself.
+    pub settings: Vec<Setting>,
+    /// The number of the instruction that it came to.
+    pub next: usize,
+    /// Why it stopped, if it did.
+    pub stop: Option<Stop>,
+}
+
+/// A schedule as far as it runs, and where it leads.
+#[derive(Debug, Drop)]
+pub struct Explanation {
+    pub(crate) schedule: Vec<u8>,
+    pub(crate) steps: Vec<Step>,
+    pub(crate) lost: Vec<Option<Lost>>,
+    pub(crate) opening: Vec<Start>,
+    pub(crate) standings: Vec<Standing>,
+    pub(crate) holders: Vec<Option<Holder>>,
+    pub(crate) circle: Vec<u8>,
+    pub(crate) preemptions: usize,
+    pub(crate) kind: Option<Kind>,
+    pub(crate) refused: Option<u8>,
+}
+
+impl Explanation {
+    /// The explanation of a schedule, up to its end or to where it can't go on.
+    ///
+    /// # Errors
+    ///
+    /// `AllocError` where memory runs out.
+    pub fn new(alloc: Global, program: &Program, schedule: &[u8]) -> Result<Explanation, AllocError>
+        ensures { IfOk result (Explains program.now schedule.now) }
+    {
+        let carried = Carried::out(alloc, program, schedule)?;
+        let state = carried.execution.state();
+        let standings = standings_in(alloc, state, program)?;
+        let circle = circle_of(alloc, state, program)?;
+        let kind = state.kind(program);
+        let preemptions = carried.execution.preemptions();
+        let lost = lost_writes(alloc, carried.steps.as_slice())?;
+        Ok(Explanation {
+            schedule: schedule.to_vec(alloc)?,
+            steps: carried.steps,
+            lost,
+            opening: starts_of(alloc, program)?,
+            standings,
+            holders: carried.holders,
+            circle,
+            preemptions,
+            kind,
+            refused: carried.refused,
+        })
+    }
+
+    /// Each step that ran, in the order of the schedule.
+    pub fn steps(&self) -> &[Step]
+        ensures { result.now ≡ self.now.steps.items }
+    {
+        self.steps.as_slice()
+    }
+
+    /// For each step what it overwrites unread, if it does.
+    pub fn lost(&self) -> &[Option<Lost>]
+        ensures { result.now ≡ self.now.lost.items }
+    {
+        self.lost.as_slice()
+    }
+
+    /// Each thread at the end of what ran.
+    pub fn standings(&self) -> &[Standing]
+        ensures { result.now ≡ self.now.standings.items }
+    {
+        self.standings.as_slice()
+    }
+
+    /// Who owns each mutex at the end, and since which step.
+    pub fn holders(&self) -> &[Option<Holder>]
+        ensures { result.now ≡ self.now.holders.items }
+    {
+        self.holders.as_slice()
+    }
+
+    /// Threads of which each waits for a mutex that the next owns, and the last for one that the
+    /// first owns. Empty where there are none.
+    pub fn circle(&self) -> &[u8]
+        ensures { result.now ≡ self.now.circle.items }
+    {
+        self.circle.as_slice()
+    }
+
+    /// How many of its switches were preempting.
+    pub fn preemptions(&self) -> usize
+        ensures { result ≡ self.now.preemptions }
+    {
+        self.preemptions
+    }
+
+    /// How the schedule ends; `None` where it isn't complete or can't go on.
+    pub fn kind(&self) -> Option<Kind>
+        ensures { result ≡ self.now.kind }
+    {
+        self.kind
+    }
+
+    /// The number of the thread that was to take the next step, where it can't.
+    pub fn refused(&self) -> Option<u8>
+        ensures { result ≡ self.now.refused }
+    {
+        self.refused
+    }
+
+    /// A thread at the end of what ran.
+    pub fn standing(&self, thread: u8) -> Option<&Standing> {
+        self.standings.get(thread as usize)
+    }
+
+    /// What a thread waits for at the end, if it is blocked.
+    pub fn reason(&self, thread: u8) -> Option<Reason> {
+        self.standings.get(thread as usize)?.reason
+    }
+
+    /// Who owns a mutex at the end, if a thread does.
+    pub fn holder(&self, mutex: usize) -> Option<Holder> {
+        self.holders.get(mutex).copied().flatten()
+    }
+}
+
+// A schedule as far as it runs.
+#[derive(Drop)]
+struct Carried {
+    execution: Execution,
+    steps: Vec<Step>,
+    holders: Vec<Option<Holder>>,
+    refused: Option<u8>,
+}
+
+impl Carried {
+    // Carries a schedule out, up to its end or to where it can't go on.
+    fn out(alloc: Global, program: &Program, schedule: &[u8]) -> Result<Carried, AllocError>
+        ensures { IfOk result (IsCarriedOut program.now schedule.now) }
+    {
+        program.keeps_limits();
+        let mut execution = Execution::start(alloc, program)?;
+        let mut holders = vec![in alloc; None; program.mutexes() as usize]?;
+        let mut steps = Vec::new(alloc);
+        for (at, thread) in schedule.iter().enumerate() {
+            if can_step(execution.state(), program, *thread) {
+                let step = Step::take(alloc, &mut execution, program, *thread)?;
+                steps.push(step)?;
+                follow(&mut holders, execution.state(), at);
+            } else {
+                return Ok(Carried {
+                    execution,
+                    steps,
+                    holders,
+                    refused: Some(*thread),
+                });
+            }
+        }
+        Ok(Carried {
+            execution,
+            steps,
+            holders,
+            refused: None,
+        })
+    }
+}
+
+// Whether a number is that of a thread that is enabled.
+fn can_step(state: &State, program: &Program, thread: u8) -> bool
+    requires { IsOf program.now state.now }
+    ensures { result ≡ is_enabled program.now state.now thread }
+{
+    thread < program.threads() && state.is_enabled(program, thread)
+}
+
+// The owners of the mutexes after the step at a place.
+fn follow(holders: &mut [Option<Holder>], state: &State, at: usize)
+    requires { length holders.old ≡ length state.now.owners }
+    ensures { AreFollowed holders.old holders.new state.now at }
+{
+    for m in 0..holders.len() {
+        holders[m] = followed(holders[m], state.owner(m), at);
+    }
+}
+
+// The owner of a mutex, who has it since this step or since before.
+fn followed(holder: Option<Holder>, owner: Option<u8>, at: usize) -> Option<Holder>
+    ensures { result ≡ is_followed holder owner at }
+{
+    let thread = owner?;
+    match holder {
+        Some(holder) if holder.thread == thread => Some(holder),
+        _ => Some(Holder { thread, since: at }),
+    }
+}
+
+// Each thread in a state.
+fn standings_in(
+    alloc: Global,
+    state: &State,
+    program: &Program,
+) -> Result<Vec<Standing>, AllocError>
+    requires { IsOf program.now state.now }
+    ensures { IfOk result (λ v. TellsThreads program.now state.now v.items) }
+{
+    let mut standings = Vec::new(alloc);
+    for t in 0..program.threads() {
+        standings.push(Standing::of(state, program, t))?;
+    }
+    Ok(standings)
+}
+
+// Each thread before its first step.
+fn starts_of(alloc: Global, program: &Program) -> Result<Vec<Start>, AllocError> {
+    let state = State::start(alloc, program)?;
+    let mut starts = Vec::new(alloc);
+    for t in 0..program.threads() {
+        let mut settings = Vec::new(alloc);
+        put_settings(&mut settings, program.code(t), &mut [0; LOCALS], 0)?;
+        starts.push(Start {
+            settings,
+            next: state.pc(t),
+            stop: state.status(t).stop(),
+        })?;
+    }
+    Ok(starts)
+}

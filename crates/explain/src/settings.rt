@@ -1,0 +1,150 @@
+//! The locals that a thread sets, one after the other.
+
+ghost use Rattle.std.specs.Prelude.{List, ◌+◌, ◌∷◌, IfOk, ◌≡◌, ◌≤◌, ◌<◌, ◌++◌, length, drop, OnOk, IfSome};
+ghost use Rattle.guest_code.specs.Program.{Program, IsValidCode, IsValid};
+ghost use Rattle.guest_code.specs.declared.program.Instruction.{Instruction};
+ghost use Rattle.explain.specs.Settings.{settings_in};
+ghost use Rattle.explain.specs.inner.Runs.{settings_after};
+
+use guest_code::limits::LOCALS;
+use guest_code::program::Instruction;
+use replay::Act;
+use semantics::expression_at;
+use std::alloc::{AllocError, Global};
+
+/// A local that gets a value.
+#[derive(Clone, Copy, Debug, PartialEq, Eq)]
+pub struct Setting {
+    /// The number of the instruction that sets it.
+    pub instruction: usize,
+    /// The local, by its number.
+    pub local: usize,
+    /// What it gets.
+    pub value: i64,
+}
+
+/// Where a thread was before a step, with the values of its locals, and where it came to.
+#[derive(Clone, Copy, Debug)]
+pub struct Passage {
+    /// The number of the instruction of the step.
+    pub from: usize,
+    /// The number of the instruction that it came to; the first one where it didn't run on.
+    pub to: usize,
+    /// The values of its locals before the step.
+    pub locals: [i64; LOCALS],
+}
+
+/// The locals that a thread set in a step that did this, and by itself after it.
+///
+/// # Errors
+///
+/// `AllocError` where memory runs out.
+pub fn settings_of(
+    alloc: Global,
+    code: &[Instruction],
+    passage: Passage,
+    act: Act,
+) -> Result<Vec<Setting>, AllocError>
+    requires { (p : Program) × IsValidCode p code.now }
+{
+    let mut settings = Vec::new(alloc);
+    let Some(statement) = code.get(passage.from) else {
+        return Ok(settings);
+    };
+    let mut locals = passage.locals;
+    if let Some(setting) = setting_of(passage.from, statement, act) {
+        locals[setting.local] = setting.value;
+        settings.push(setting)?;
+    }
+    if passage.to != passage.from {
+        put_settings(&mut settings, code, &mut locals, passage.from + 1)?;
+    }
+    Ok(settings)
+}
+
+// The local that a visible statement sets.
+fn setting_of(instruction: usize, statement: &Instruction, act: Act) -> Option<Setting>
+    requires { (p : Program) × IsValid p statement.now }
+    ensures { IfSome result (λ setting. setting.local < LOCALS) }
+{
+    let (local, value) = match (statement, act) {
+        (Instruction::Load { local, .. }, Act::Load { value, .. }) => (*local, value),
+        (Instruction::Add { local, .. }, Act::Add { old, .. }) => (*local, old),
+        (Instruction::Cas { local, .. }, Act::Cas { hit, .. }) => {
+            (*local, i64::from(hit.is_some()))
+        }
+        _ => return None,
+    };
+    Some(Setting {
+        instruction,
+        local,
+        value,
+    })
+}
+
+/// Adds what a local run sets from an instruction on, where the locals have these values.
+pub fn put_settings(
+    settings: &mut Vec<Setting>,
+    code: &[Instruction],
+    locals: &mut [i64; LOCALS],
+    from: usize,
+) -> Result<(), AllocError>
+    requires { (p : Program) × IsValidCode p code.now }
+    ensures { OnOk result (settings.new.items
+        ≡ settings.old.items ++ settings_in (drop from code.now) from 0 locals.old) }
+{
+    let mut skip = 0;
+    for at in from..code.len() {
+        if skip > 0 {
+            skip -= 1;
+            continue;
+        }
+        match put_setting(settings, &code[at], locals, at)? {
+            Some(next) => skip = next,
+            None => return Ok(()),
+        }
+    }
+    Ok(())
+}
+
+// Adds what an instruction sets by itself. The answer is how many of the next ones are jumped over;
+// `None` where the local run is over.
+fn put_setting(
+    settings: &mut Vec<Setting>,
+    instruction: &Instruction,
+    locals: &mut [i64; LOCALS],
+    at: usize,
+) -> Result<Option<usize>, AllocError>
+    requires { (p : Program) × IsValid p instruction.now }
+    ensures { IfOk result (λ next. (rest : List Instruction) → settings.old.items
+        ++ settings_in (instruction.now ∷ rest) at 0 locals.old
+        ≡ settings.new.items ++ settings_after next rest (at + 1) locals.new) }
+{
+    match instruction {
+        Instruction::Set { local, value } => {
+            let local = *local;
+            let value = expression_at(locals, value);
+            locals[local] = value;
+            settings.push(Setting {
+                instruction: at,
+                local,
+                value,
+            })?;
+            Ok(Some(0))
+        }
+        Instruction::Assert(test) => {
+            if expression_at(locals, test) == 0 {
+                return Ok(None);
+            }
+            Ok(Some(0))
+        }
+        Instruction::SkipIfZero(test, n) => {
+            if expression_at(locals, test) == 0 {
+                return Ok(Some(*n));
+            }
+            Ok(Some(0))
+        }
+        Instruction::Skip(n) => Ok(Some(*n)),
+        _ => Ok(None),
+    }
+}

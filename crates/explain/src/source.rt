@@ -1,0 +1,88 @@
+//! What a text is told with: the file, its text, and the program that it spells.
+
+ghost use Rattle.std.specs.Prelude.{◌≡◌, ℕ, length};
+ghost use Rattle.guest_code.specs.Program.{thread_at};
+ghost use Rattle.guest_code.specs.SourceMap.{places_of, locals_of};
+
+use crate::object::Object;
+use guest_code::program::{Instruction, Program};
+use guest_code::source_map::SourceMap;
+use guest_syntax::Pos;
+
+/// A guest file and its program, which has the names.
+#[derive(Drop)]
+pub struct Source<'a> {
+    /// The name of the file.
+    pub file: &'a [u8],
+    /// What is in it.
+    pub text: &'a [u8],
+    /// The program that it spells.
+    pub program: &'a Program,
+    /// The place of each instruction in the text, and the names of the locals.
+    pub map: &'a SourceMap,
+    ghost places: { (t : ℕ) → length (places_of map.now t) ≡ length (thread_at program.now t).code },
+    ghost locals: { (t : ℕ) → length (locals_of map.now t) ≡ (thread_at program.now t).locals },
+}
+
+impl<'a> Source<'a> {
+    /// The name of a thread.
+    pub fn thread(&self, thread: u8) -> &'a [u8] {
+        if thread < self.program.threads() {
+            self.program.thread_name(thread)
+        } else {
+            b"?"
+        }
+    }
+
+    /// The name of an object.
+    pub fn object(&self, object: Object) -> &'a [u8] {
+        match object {
+            Object::Variable(x) if x < self.program.variables() as usize => {
+                self.program.variable_name(x)
+            }
+            Object::Mutex(m) if m < self.program.mutexes() as usize => self.program.mutex_name(m),
+            Object::Condition(c) if c < self.program.conditions() as usize => {
+                self.program.condition_name(c)
+            }
+            Object::Semaphore(k) if k < self.program.semaphores() as usize => {
+                self.program.semaphore_name(k)
+            }
+            _ => b"?",
+        }
+    }
+
+    /// The name of a local of a thread.
+    pub fn local(&self, thread: u8, local: usize) -> &'a [u8] {
+        if thread < self.program.threads() && local < self.program.locals(thread) {
+            self.map.local(thread, local)
+        } else {
+            b"?"
+        }
+    }
+
+    /// An instruction of a thread; `None` at the end of its code.
+    pub fn instruction(&self, thread: u8, instruction: usize) -> Option<Instruction> {
+        if thread < self.program.threads() {
+            self.program.code(thread).get(instruction).copied()
+        } else {
+            None
+        }
+    }
+
+    /// The place in the text of an instruction of a thread; `None` at the end of its code.
+    pub fn place(&self, thread: u8, instruction: usize) -> Option<Pos> {
+        if thread < self.program.threads() && instruction < self.program.code(thread).len() {
+            Some(self.map.place(thread, instruction))
+        } else {
+            None
+        }
+    }
+
+    /// The line of an instruction of a thread, from 1; 0 at the end of its code.
+    pub fn line(&self, thread: u8, instruction: usize) -> u32 {
+        match self.place(thread, instruction) {
+            Some(place) => place.line,
+            None => 0,
+        }
+    }
+}

@@ -1,0 +1,124 @@
+//! Where a thread is at the end, and why it can't go on.
+
+ghost use Rattle.std.specs.Prelude.{◌≡◌, ◌<◌, length, MatchOption, Some};
+ghost use Rattle.semantics.specs.Reachable.{IsOf};
+ghost use Rattle.semantics.specs.Ends.{is_stopped};
+ghost use Rattle.explain.specs.Blocked.{IsBlockedBy, IsUnblocked, Stands, mutex_of};
+ghost use Rattle.explain.specs.Folding.{counts, waited_for};
+
+use crate::object::Object;
+use guest_code::limits::LOCALS;
+use guest_code::program::Program;
+use semantics::state::{Action, MutexAction, SemaphoreAction, State, Status};
+
+/// What a blocked thread waits for.
+#[derive(Clone, Copy, Debug, PartialEq, Eq)]
+pub enum Reason {
+    /// It is to lock the mutex of this number, which a thread owns.
+    Lock(usize),
+    /// It was woken and is to take the mutex of this number again, which a thread owns.
+    Retake(usize),
+    /// It is to acquire the semaphore of this number, whose count is 0.
+    Acquire(usize),
+    /// It is in the queue of the condition of this number.
+    Signal(usize),
+}
+
+impl Reason {
+    /// The mutex that it waits for.
+    pub fn mutex(self) -> Option<usize>
+        ensures { result ≡ mutex_of self }
+    {
+        match self {
+            Reason::Lock(m) | Reason::Retake(m) => Some(m),
+            Reason::Acquire(_) | Reason::Signal(_) => None,
+        }
+    }
+}
+
+impl Reason {
+    /// The object that it waits for.
+    pub fn object(self) -> Object
+        ensures { result ≡ waited_for self }
+    {
+        match self {
+            Reason::Lock(m) | Reason::Retake(m) => Object::Mutex(m),
+            Reason::Acquire(k) => Object::Semaphore(k),
+            Reason::Signal(c) => Object::Condition(c),
+        }
+    }
+}
+
+/// A thread at the end of what ran.
+#[derive(Clone, Copy, Debug)]
+pub struct Standing {
+    /// Whether it goes on, waits, ended or stopped.
+    pub status: Status,
+    /// The number of the instruction that it has come to; the length of its code at the end.
+    pub instruction: usize,
+    /// The values of its locals.
+    pub locals: [i64; LOCALS],
+    /// What it waits for; `None` where it is enabled, ended or stopped.
+    pub reason: Option<Reason>,
+}
+
+impl Standing {
+    /// Where a thread is in a state.
+    pub fn of(state: &State, program: &Program, thread: u8) -> Standing
+        requires of { IsOf program.now state.now }
+        requires thread { thread < length program.now.threads }
+        ensures { Stands program.now state.now thread result }
+    {
+        Standing {
+            status: state.status(thread),
+            instruction: state.pc(thread),
+            locals: *state.locals(thread),
+            reason: reason_of(state, program, thread),
+        }
+    }
+
+    /// Whether the thread can take a step.
+    pub fn is_enabled(&self) -> bool {
+        self.reason.is_none() && matches!(self.status, Status::Running | Status::Woken)
+    }
+
+    /// Whether it matters, where some thread failed or none did.
+    pub fn counts(&self, failed: bool) -> bool
+        ensures { result ≡ counts failed self.now }
+    {
+        if failed {
+            self.is_stopped()
+        } else {
+            self.reason.is_some()
+        }
+    }
+
+    /// Whether it has stopped.
+    pub fn is_stopped(&self) -> bool
+        ensures { result ≡ is_stopped self.now.status }
+    {
+        matches!(self.status, Status::Stopped(_))
+    }
+}
+
+/// Why a thread can't take a step; `None` where it can, ended or stopped.
+pub fn reason_of(state: &State, program: &Program, thread: u8) -> Option<Reason>
+    requires of { IsOf program.now state.now }
+    requires thread { thread < length program.now.threads }
+    ensures { MatchOption result (IsUnblocked program.now state.now thread)
+        (IsBlockedBy program.now state.now thread) }
+{
+    if let Status::Waiting(c) = state.status(thread) {
+        return Some(Reason::Signal(c as usize));
+    }
+    match state.next(program, thread)? {
+        Action::OnMutex(m, MutexAction::Lock) if state.owner(m).is_some() => Some(Reason::Lock(m)),
+        Action::OnMutex(m, MutexAction::Retake) if state.owner(m).is_some() => {
+            Some(Reason::Retake(m))
+        }
+        Action::OnSemaphore(k, SemaphoreAction::Acquire) if state.count(k) == 0 => {
+            Some(Reason::Acquire(k))
+        }
+        _ => None,
+    }
+}

@@ -1,0 +1,166 @@
+//! One step of a run, and what it changed.
+
+ghost use Rattle.std.specs.Prelude.{◌≡◌, ◌<◌, ◌+◌, ◌^◌, IfOk, IsTrue, length, take};
+ghost use Rattle.guest_code.specs.Program.{Program};
+ghost use Rattle.semantics.specs.Machine.{is_enabled, owns, queue_of};
+ghost use Rattle.semantics.specs.Reachable.{IsOf, IsValidAction};
+ghost use Rattle.semantics.specs.Execution.{IsExecutionOf, stepped};
+ghost use Rattle.explain.specs.Lost.{line_of};
+ghost use Rattle.explain.specs.Steps.{IsTakenStep, held_in, lines_of, woken_in};
+
+use crate::object::{Object, Reading};
+use crate::settings::{Passage, Setting, settings_of};
+use guest_code::program::Program;
+use replay::{Line, act_of};
+use semantics::execution::Execution;
+use semantics::state::{Action, ConditionAction, State};
+use std::alloc::{AllocError, Global};
+
+/// One step of a run.
+#[derive(Debug, Drop)]
+pub struct Step {
+    /// The thread, what it did, whether the switch to it was preempting, and whether it stopped.
+    pub line: Line,
+    /// The number of the instruction that was carried out.
+    pub instruction: usize,
+    /// The number of the instruction that its thread came to.
+    pub next: usize,
+    /// The object that it is on: of a `wait` the condition.
+    pub object: Object,
+    /// What the object was before.
+    pub old: Reading,
+    /// What the object was afterwards.
+    pub new: Reading,
+    /// The locals that the thread set, in the step and by itself after it.
+    pub settings: Vec<Setting>,
+    /// The threads that it woke, the one that waited longest first.
+    pub woken: Vec<u8>,
+    /// The mutexes that its thread owned when it took the step, rising.
+    pub held: Vec<usize>,
+}
+
+impl Step {
+    /// Takes a step of a thread that is enabled, and says what it was.
+    ///
+    /// # Errors
+    ///
+    /// `AllocError` where memory runs out.
+    pub fn take(
+        alloc: Global,
+        execution: &mut Execution,
+        program: &Program,
+        thread: u8,
+    ) -> Result<Step, AllocError>
+        requires of { IsExecutionOf program.now execution.old }
+        requires thread { thread < length program.now.threads }
+        requires enabled { IsTrue (is_enabled program.now execution.old.state thread) }
+        requires room { execution.old.preemptions + 1 < 2 ^ 64 }
+        ensures { IfOk result (IsTakenStep program.now execution.old execution.new thread) }
+    {
+        let state = execution.state();
+        let action = state.next(program, thread).unwrap();
+        let act = act_of(state, program, thread, action);
+        let instruction = state.pc(thread);
+        let object = Object::of(action);
+        let old = object.reading(state);
+        let held = held_by(alloc, state, program, thread)?;
+        let woken = woken_by(alloc, state, action)?;
+        let preempting = execution.preempts(program, thread);
+        let locals = *state.locals(thread);
+        execution.step(program, thread);
+        let state = execution.state();
+        let passage = Passage {
+            from: instruction,
+            to: state.pc(thread),
+            locals,
+        };
+        let settings = settings_of(alloc, program.code(thread), passage, act)?;
+        Ok(Step {
+            line: Line {
+                thread,
+                act,
+                preempting,
+                stop: state.status(thread).stop(),
+            },
+            instruction,
+            next: passage.to,
+            object,
+            old,
+            new: object.reading(state),
+            settings,
+            woken,
+            held,
+        })
+    }
+}
+
+// The mutexes that a thread owns, rising.
+fn held_by(
+    alloc: Global,
+    state: &State,
+    program: &Program,
+    thread: u8,
+) -> Result<Vec<usize>, AllocError>
+    requires { IsOf program.now state.now }
+    ensures { IfOk result (λ v. v.items ≡ held_in state.now thread) }
+{
+    let mut held = Vec::new(alloc);
+    for m in 0..program.mutexes() as usize {
+        if owns(thread, state.owner(m)) {
+            held.push(m)?;
+        }
+    }
+    Ok(held)
+}
+
+// Whether a thread is the owner.
+fn owns(thread: u8, owner: Option<u8>) -> bool
+    ensures { result ≡ owns thread owner }
+{
+    match owner {
+        Some(other) => thread == other,
+        None => false,
+    }
+}
+
+// The threads that an action wakes, the one that waited longest first.
+fn woken_by(alloc: Global, state: &State, action: Action) -> Result<Vec<u8>, AllocError>
+    requires { (p : Program) × IsOf p state.now × IsValidAction p action }
+    ensures { IfOk result (λ v. v.items ≡ woken_in state.now action) }
+{
+    match action {
+        Action::OnCondition(c, ConditionAction::Signal) => first_queued(alloc, state, c, 1),
+        Action::OnCondition(c, ConditionAction::Broadcast) => {
+            first_queued(alloc, state, c, state.queue_length(c))
+        }
+        _ => Ok(Vec::new(alloc)),
+    }
+}
+
+// The first threads in the queue of a condition, at most so many.
+fn first_queued(
+    alloc: Global,
+    state: &State,
+    condition: usize,
+    most: usize,
+) -> Result<Vec<u8>, AllocError>
+    requires { condition < length state.now.queues }
+    ensures { IfOk result (λ v. v.items ≡ take most (queue_of state.now condition)) }
+{
+    let mut queued = Vec::new(alloc);
+    for place in 0..most {
+        match state.queued(condition, place) {
+            Some(thread) => queued.push(thread)?,
+            None => return Ok(queued),
+        }
+    }
+    Ok(queued)
+}
+
+/// What the step at a place did.
+pub fn line_at(steps: &[Step], at: usize) -> Line
+    requires { at < length steps.now }
+    ensures { result ≡ line_of (lines_of steps.now) at }
+{
+    steps[at].line
+}

@@ -1,0 +1,164 @@
+#!/usr/bin/env python3
+"""Runs `ctxbound explain`, and compares what it prints.
+
+Usage: tests/explain.py BINARY
+
+- The table CASES: each has a guest of examples/ or of tests/explain/, the words after its name, the
+  status, and the file of tests/explain/ that has the output byte for byte.
+- Of each example, with the schedule that a search finds: the text is ASCII and no line but the last is
+  wider than it may be; the steps of the JSON are those of the trace, in its order; and the page has
+  one script of data, which is the JSON with the text of the guest.
+- The explanation of the longest run that is asked for here takes a moment.
+"""
+import json
+import re
+import subprocess
+import sys
+import time
+from pathlib import Path
+
+ROOT = Path(__file__).resolve().parent.parent
+HERE = ROOT / "tests" / "explain"
+EXAMPLES = ROOT / "examples"
+SECONDS = 60
+LONG = 20  # seconds that the longest run may take on a busy machine; it takes one
+
+# folder, guest, words, status, file with the output
+CASES = [
+    (EXAMPLES, "deadlock4.guest", [], 1, "deadlock4.txt"),
+    (EXAMPLES, "bank60.guest", [], 1, "bank60.txt"),
+    (EXAMPLES, "deadlock4.guest", ["0x4,2x3", "--width", "60"], 1, "deadlock4_60.txt"),
+    (HERE, "stops.guest", ["0x2,1"], 0, "not_held.txt"),
+    (HERE, "stops.guest", ["2"], 0, "sem_full.txt"),
+    (HERE, "stops.guest", ["3,0"], 2, "after_assert.txt"),
+    (HERE, "start.guest", ["0"], 1, "start.txt"),
+    (HERE, "stops.guest", ["0,3"], 2, "refused.txt"),
+    (HERE, "stops.guest", ["0,16"], 2, "no_thread.txt"),
+    (HERE, "waits.guest", ["0x2,1x2,2x5", "--all"], 1, "retake.txt"),
+    (HERE, "lost_wakeup.guest", ["1,0x2"], 1, "lost_wakeup.txt"),
+    (HERE, "no_slot.guest", ["-"], 1, "no_slot.txt"),
+    (HERE, "sixteen.guest", ["3x5,9x4"], 1, "sixteen_100.txt"),
+    (HERE, "sixteen.guest", ["3x5,9x4", "--width", "60"], 1, "sixteen_60.txt"),
+]
+
+
+class Tester:
+    def __init__(self, binary):
+        self.binary, self.passed, self.failed = binary, 0, 0
+
+    def expect(self, what, holds, detail=""):
+        self.passed += bool(holds)
+        self.failed += not holds
+        if not holds:
+            print("%s%s" % (what, "\n" + detail if detail else ""))
+
+    def run(self, folder, *words):
+        done = subprocess.run([self.binary] + list(words), cwd=folder, stdin=subprocess.DEVNULL,
+                              stdout=subprocess.PIPE, stderr=subprocess.PIPE, timeout=SECONDS)
+        return done.returncode, done.stdout, done.stderr
+
+    def case(self, folder, guest, words, status, file):
+        got = self.run(folder, "explain", guest, *words)
+        want = (status, (HERE / file).read_bytes(), b"")
+        self.expect("explain %s %s" % (guest, " ".join(words)), got == want,
+                    "-- expected: %r\n%s-- printed: %r\n%s%s" % (
+                        want[0], want[1].decode(), got[0], got[1].decode("latin1"), got[2].decode("latin1")))
+
+    def widths(self, guest, schedule):
+        for width in (40, 60, 100):
+            _, text, _ = self.run(EXAMPLES, "explain", guest, schedule, "--width", str(width), "--all")
+            lines = text.decode("ascii").split("\n")
+            self.expect("%s: the text ends with its command" % guest,
+                        lines[-1] == "" and lines[-2].startswith("Replay: ctxbound replay "))
+            for line in lines[:-2]:
+                self.expect("%s: %r is wider than %d" % (guest, line, width), len(line) <= width)
+                self.expect("%s: %r ends with a space" % (guest, line), line == line.rstrip())
+
+    def steps(self, guest, schedule):
+        _, text, _ = self.run(EXAMPLES, "explain", guest, schedule, "--json")
+        told = json.loads(text)
+        _, trace, _ = self.run(EXAMPLES, "replay", guest, schedule)
+        lines = [l for l in trace.decode().split("\n") if re.match(r"\d", l)]
+        self.expect("%s: as many steps as the trace has" % guest, len(lines) == len(told["steps"]))
+        for line, step in zip(lines, told["steps"]):
+            self.expect("%s: step %d is %r" % (guest, step["step"], line), line == trace_line(step),
+                        trace_line(step))
+        values = sorted(trace.decode().split("\nvars")[1].split())
+        self.expect("%s: the values reached" % guest, values == values_after(told))
+        return told
+
+    def page(self, guest, schedule, told):
+        _, text, _ = self.run(EXAMPLES, "explain", guest, schedule, "--html")
+        page = text.decode("ascii")
+        found = re.findall(r'<script type="application/json" id="data">(.*?)</script>', page, re.S)
+        self.expect("%s: the page has its data once" % guest, len(found) == 1)
+        self.expect("%s: nothing in the data ends it" % guest, all("<" not in data for data in found))
+        data = json.loads(found[0])
+        source = data.pop("source")
+        self.expect("%s: the page has the source" % guest, source == (EXAMPLES / guest).read_text())
+        self.expect("%s: the page has the explanation" % guest, data == told)
+        self.expect("%s: the page asks no network" % guest, not re.search(r"https?://(?!www\.w3\.org)", page))
+
+    def example(self, path):
+        _, report, _ = self.run(EXAMPLES, "explore", path.name)
+        schedule = json.loads(report).get("schedule") or "-"
+        self.widths(path.name, schedule)
+        self.page(path.name, schedule, self.steps(path.name, schedule))
+
+    def long_run(self, folder):
+        text = "var x; " + " ".join("thread T%d { repeat 100 { repeat 10 { store x %d; } } }" % (t, t)
+                                    for t in range(16))
+        (folder / "long.guest").write_text(text)
+        schedule = ",".join("%dx1000" % t for t in range(16))
+        for words in ([], ["--all"], ["--json"], ["--html"]):
+            begun = time.monotonic()
+            status, out, _ = self.run(folder, "explain", "long.guest", schedule, *words)
+            self.expect("16,000 steps %s: status %d" % (words, status), status == 0 and out)
+            self.expect("16,000 steps %s take long" % words, time.monotonic() - begun < LONG)
+
+
+def trace_line(step):
+    """The line of the trace that a step of the JSON is."""
+    words = [str(step["step"]), step["name"], step["act"], step["object"]]
+    if step["act"] == "wait":
+        words.append(step["mutex"])
+    if step["act"] in ("load", "store"):
+        words.append(str(step["new"]))
+    if step["act"] == "add":
+        words += [str(step["old"]), str(step["new"])]
+    if step["act"] == "cas":
+        hit = step["sets"][0]["value"]
+        words += [str(step["old"])] + (["hit", str(step["new"])] if hit else ["miss"])
+    if step["preempting"]:
+        words.append("preempt")
+    if step["stop"] is not None:
+        words += ["stop", step["stop"]]
+    return " ".join(words)
+
+
+def values_after(told):
+    """The values of the variables after the last step, in the order of their declaration."""
+    values = dict(told["opening"]["variables"])
+    for step in told["steps"]:
+        if step["object"] in values:
+            values[step["object"]] = step["new"]
+    return sorted("%s=%d" % item for item in values.items())
+
+
+def main():
+    if len(sys.argv) != 2 or not Path(sys.argv[1]).is_file():
+        raise SystemExit("usage: tests/explain.py BINARY")
+    tester = Tester(str(Path(sys.argv[1]).resolve()))
+    for case in CASES:
+        tester.case(*case)
+    for path in sorted(EXAMPLES.glob("*.guest")):
+        tester.example(path)
+    import tempfile
+    with tempfile.TemporaryDirectory() as folder:
+        tester.long_run(Path(folder))
+    print("%d passed, %d failed" % (tester.passed, tester.failed))
+    raise SystemExit(1 if tester.failed or not tester.passed else 0)
+
+
+if __name__ == "__main__":
+    main()
