@@ -1,8 +1,9 @@
 # `make help`, which is what a bare `make` does, lists the targets with what each costs.
-.PHONY: help run try quick build install uninstall dist check test shown bench clean
+.PHONY: help run try quick build install uninstall dist check test shown fuzz bench clean
 
 PREFIX ?= /usr/local
 PROGRAM ?= build/ctxbound
+MINUTES ?= 10
 GUEST ?=
 SCHEDULE ?=
 EXAMPLE = examples/lock_order.guest
@@ -26,7 +27,10 @@ define HELP
   make test       the gate: each proof from nothing, each wrong body, each test, the commands
                   that the documents show, and refused memory
                     MEASURE minutes on four processors, MEASURE on two; MEASURE GB, and MEASURE GB on disk
-  make shown      runs the documents' commands by build/ctxbound: a minute
+  make shown      runs the documents' commands by build/ctxbound, and all else that is tried of it by
+                  scripts: a few minutes
+  make fuzz [MINUTES=10]
+                  compares build/ctxbound with an independent explorer, on programs made at random
   make bench      times walks, and searches where build/ctxbound is there; it proves the benchmark
                   first, so it takes some minutes after `make build`, and else as long as that
   make install    copies build/ctxbound to $$(DESTDIR)$$(PREFIX)/bin, and the man page, the completions,
@@ -142,10 +146,18 @@ test:
 
 shown:
 	@$(NEEDS_PROGRAM)
-	python3 tests/docs.py build/ctxbound
-	python3 tests/commands.py build/ctxbound
-	python3 tests/around.py build/ctxbound
-	build/ctxbound suite examples
+	python3 tests/docs.py $(PROGRAM)
+	python3 tests/commands.py $(PROGRAM)
+	python3 tests/check.py $(PROGRAM)
+	python3 tests/explain.py $(PROGRAM)
+	python3 tests/page.py $(PROGRAM)
+	python3 tests/around.py $(PROGRAM)
+	$(PROGRAM) suite examples examples/real
+
+# Small programs made at random, other ones each time.
+fuzz:
+	@$(NEEDS_PROGRAM)
+	python3 tests/reference.py $(PROGRAM) --minutes $(MINUTES) --seed $(shell date +%s)
 
 bench:
 	@mkdir -p build

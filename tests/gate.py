@@ -21,6 +21,16 @@ CLOSING = re.compile(r"(\d+) passed, (\d+) failed$")
 PROGRAM = "build/ctxbound"
 BENCHMARK = "crates/walk_bench/out/walk_bench"
 LEFT_OUT = re.compile(r"\w+ \S+: proved$")
+# What is tried of the built program after the commands that the documents show.
+TRIED = {
+    "commands": [sys.executable, "tests/commands.py", PROGRAM],
+    "refusals and warnings": [sys.executable, "tests/check.py", PROGRAM],
+    "explanations": [sys.executable, "tests/explain.py", PROGRAM],
+    "pages": [sys.executable, "tests/page.py", PROGRAM],
+    "the examples as suites": [PROGRAM, "suite", "examples", "examples/real"],
+    "programs made at random": [sys.executable, "tests/reference.py", PROGRAM],
+    "what stands around the program": [sys.executable, "tests/around.py", PROGRAM],
+}
 # What the gate counts in the lines that it passes on.
 COUNTED = {
     "proved": re.compile(r"rt: \w+ proved$"),
@@ -73,10 +83,11 @@ class Gate:
     def whole(self):
         kept = self.counts["kept"]
         earlier = " (%d of them by an earlier run on this machine)" % kept if kept else ""
-        return ("proved: %d crates%s; refused: %d wrong bodies; passed: %d tests, %d commands that are "
-                "shown, and %d runs with each request for memory refused in turn; %d minutes"
+        return ("proved: %d crates%s; refused: %d wrong bodies; passed: %d tests, %d commands that are shown, "
+                "%d other comparisons, and %d runs with each request for memory refused in turn; %d minutes"
                 % (self.counts["proved"] + kept, earlier, self.counts["refused"], self.counts["tests"],
-                   self.passed["shown commands"], self.passed["refused memory"], self.minute()))
+                   self.passed["shown commands"], sum(self.passed[name] for name in TRIED),
+                   self.passed["refused memory"], self.minute()))
 
 
 def main():
@@ -89,6 +100,10 @@ def main():
     shutil.copyfile(ROOT / "crates/ctxbound/out/ctxbound", ROOT / PROGRAM)
     (ROOT / PROGRAM).chmod(0o755)
     print(gate.part("shown commands", [sys.executable, "tests/docs.py", PROGRAM]), flush=True)
+    for name, words in TRIED.items():
+        closing = gate.part(name, words)
+        if closing:
+            print(closing, flush=True)
     closing = gate.part("refused memory", [sys.executable, "tests/allocations.py", PROGRAM, BENCHMARK])
     gate.say(gate.whole())
     print(closing, flush=True)
