@@ -42,16 +42,16 @@ pub struct Start {
 /// A schedule as far as it runs, and where it leads.
 #[derive(Debug, Drop)]
 pub struct Explanation {
-    pub(crate) schedule: Vec<u8>,
-    pub(crate) steps: Vec<Step>,
-    pub(crate) lost: Vec<Option<Lost>>,
-    pub(crate) opening: Vec<Start>,
-    pub(crate) standings: Vec<Standing>,
-    pub(crate) holders: Vec<Option<Holder>>,
-    pub(crate) circle: Vec<u8>,
-    pub(crate) preemptions: usize,
-    pub(crate) kind: Option<Kind>,
-    pub(crate) refused: Option<u8>,
+    schedule: Vec<u8>,
+    steps: Vec<Step>,
+    lost: Vec<Option<Lost>>,
+    opening: Vec<Start>,
+    standings: Vec<Standing>,
+    holders: Vec<Option<Holder>>,
+    circle: Vec<u8>,
+    preemptions: usize,
+    kind: Option<Kind>,
+    refused: Option<u8>,
 }
 
 impl Explanation {
@@ -82,6 +82,20 @@ impl Explanation {
             kind,
             refused: carried.refused,
         })
+    }
+
+    /// The schedule, with what didn't run.
+    pub fn schedule(&self) -> &[u8]
+        ensures { result.now ≡ self.now.schedule.items }
+    {
+        self.schedule.as_slice()
+    }
+
+    /// Each thread before its first step.
+    pub fn opening(&self) -> &[Start]
+        ensures { result.now ≡ self.now.opening.items }
+    {
+        self.opening.as_slice()
     }
 
     /// Each step that ran, in the order of the schedule.
