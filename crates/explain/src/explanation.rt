@@ -42,16 +42,16 @@ pub struct Start {
 /// A schedule as far as it runs, and where it leads.
 #[derive(Debug, Drop)]
 pub struct Explanation {
-    pub(crate) schedule: Vec<u8>,
-    pub(crate) steps: Vec<Step>,
-    pub(crate) lost: Vec<Option<Lost>>,
-    pub(crate) opening: Vec<Start>,
-    pub(crate) standings: Vec<Standing>,
-    pub(crate) holders: Vec<Option<Holder>>,
-    pub(crate) circle: Vec<u8>,
-    pub(crate) preemptions: usize,
-    pub(crate) kind: Option<Kind>,
-    pub(crate) refused: Option<u8>,
+    schedule: Vec<u8>,
+    steps: Vec<Step>,
+    lost: Vec<Option<Lost>>,
+    opening: Vec<Start>,
+    standings: Vec<Standing>,
+    holders: Vec<Option<Holder>>,
+    circle: Vec<u8>,
+    preemptions: usize,
+    kind: Option<Kind>,
+    refused: Option<u8>,
 }
 
 impl Explanation {
@@ -63,7 +63,7 @@ impl Explanation {
     pub fn new(alloc: Global, program: &Program, schedule: &[u8]) -> Result<Explanation, AllocError>
         ensures { IfOk result (Explains program.now schedule.now) }
     {
-        let carried = Carried::out(alloc, program, schedule)?;
+        let carried = Carried::along(alloc, program, schedule)?;
         let state = carried.execution.state();
         let standings = standings_in(alloc, state, program)?;
         let circle = circle_of(alloc, state, program)?;
@@ -82,6 +82,20 @@ impl Explanation {
             kind,
             refused: carried.refused,
         })
+    }
+
+    /// The schedule, with what didn't run.
+    pub fn schedule(&self) -> &[u8]
+        ensures { result.now ≡ self.now.schedule.items }
+    {
+        self.schedule.as_slice()
+    }
+
+    /// Each thread before its first step.
+    pub fn opening(&self) -> &[Start]
+        ensures { result.now ≡ self.now.opening.items }
+    {
+        self.opening.as_slice()
     }
 
     /// Each step that ran, in the order of the schedule.
@@ -168,7 +182,7 @@ struct Carried {
 
 impl Carried {
     // Carries a schedule out, up to its end or to where it can't go on.
-    fn out(alloc: Global, program: &Program, schedule: &[u8]) -> Result<Carried, AllocError>
+    fn along(alloc: Global, program: &Program, schedule: &[u8]) -> Result<Carried, AllocError>
         ensures { IfOk result (IsCarriedOut program.now schedule.now) }
     {
         program.keeps_limits();

@@ -27,11 +27,11 @@ impl Explanation {
         ensures { IfOk result (λ v. v.items
             ≡ focus_of (lines_of self.now.steps.items) self.now.standings.items) }
     {
-        let failed = some_stopped(self.standings.as_slice());
+        let failed = some_stopped(self.standings());
         let mut focus = Vec::new(alloc);
-        for (t, standing) in self.standings.iter().enumerate() {
+        for (t, standing) in self.standings().iter().enumerate() {
             if standing.counts(failed) {
-                if let Some(act) = last_act(self.steps.as_slice(), t) {
+                if let Some(act) = last_act(self.steps(), t) {
                     put_touched(&mut focus, act)?;
                 }
                 if let Some(reason) = standing.reason {
@@ -45,7 +45,7 @@ impl Explanation {
     /// The place of a thread's last step.
     pub fn last_place(&self, thread: usize) -> Option<usize> {
         let mut last = None;
-        for (at, step) in self.steps.iter().enumerate() {
+        for (at, step) in self.steps().iter().enumerate() {
             if step.line.thread as usize == thread {
                 last = Some(at);
             }
@@ -59,7 +59,7 @@ impl Explanation {
     pub fn is_told(&self, focus: &[Object], at: usize) -> bool
         ensures { IsTrue result ↔ IsTold (lines_of self.now.steps.items) focus.now at }
     {
-        let steps = self.steps.as_slice();
+        let steps = self.steps();
         at < steps.len()
             && (follows_switch(steps, at)
                 || is_beside_preemption(steps, at)

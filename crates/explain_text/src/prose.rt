@@ -1,11 +1,8 @@
 //! What stands above and below the table.
 
-use crate::explanation::Holder;
-use crate::lost::{Lost, held_between};
-use crate::object::{Object, Reading};
-use crate::standing::{Reason, Standing};
 use crate::text::Teller;
-use crate::words::{pad_to, put_both, put_number, put_value, put_wrapped};
+use explain::words::{pad_to, put_both, put_number, put_value, put_wrapped};
+use explain::{Holder, Lost, Object, Reading, Reason, Standing, held_between};
 use guest_code::program::{Expression, Instruction, Value};
 use replay::{Act, schedule_text};
 use semantics::state::{Status, Stop};
@@ -40,17 +37,17 @@ impl Teller<'_> {
         if let Some(thread) = self.failed() {
             return self.put_failure(text, &mut words, thread);
         }
-        match self.explanation.kind {
+        match self.explanation.kind() {
             Some(Kind::Stuck) => words.extend_from_slice(b": STUCK")?,
             Some(_) => words.extend_from_slice(b": DONE")?,
-            None if self.explanation.refused.is_some() => words.extend_from_slice(b": REFUSED")?,
+            None if self.explanation.refused().is_some() => words.extend_from_slice(b": REFUSED")?,
             None => words.extend_from_slice(b": NOT COMPLETE")?,
         }
         words.push(b' ')?;
-        self.put_after(&mut words, self.explanation.steps.len())?;
+        self.put_after(&mut words, self.explanation.steps().len())?;
         words.push(b'.')?;
-        if self.explanation.kind == Some(Kind::Stuck) && self.shape.is_least {
-            match self.explanation.preemptions {
+        if self.explanation.kind() == Some(Kind::Stuck) && self.shape.is_least {
+            match self.explanation.preemptions() {
                 0 => {}
                 1 => words.extend_from_slice(b" No schedule with 0 is bad.")?,
                 _ => words.extend_from_slice(b" No schedule with fewer is bad.")?,
@@ -71,7 +68,7 @@ impl Teller<'_> {
         words.extend_from_slice(b"after ")?;
         self.put_counted(words, steps, b" step")?;
         words.extend_from_slice(b" with ")?;
-        self.put_counted(words, self.explanation.preemptions, b" preemption")
+        self.put_counted(words, self.explanation.preemptions(), b" preemption")
     }
 
     // A number of things.
@@ -195,7 +192,7 @@ impl Teller<'_> {
     // Who owns a mutex, and since when.
     fn put_owner(&self, words: &mut Vec<u8>, mutex: usize) -> Result<(), AllocError> {
         words.extend_from_slice(self.source.object(Object::Mutex(mutex)))?;
-        let Some(Some(holder)) = self.explanation.holders.get(mutex) else {
+        let Some(Some(holder)) = self.explanation.holders().get(mutex) else {
             return words.extend_from_slice(b" is free");
         };
         put_both(words, b" is held by ", self.source.thread(holder.thread))
@@ -213,7 +210,7 @@ impl Teller<'_> {
     fn put_place_of(&self, words: &mut Vec<u8>, at: usize) -> Result<(), AllocError> {
         words.extend_from_slice(b"step ")?;
         put_number(words, self.alloc, at)?;
-        if let Some(step) = self.explanation.steps.get(at) {
+        if let Some(step) = self.explanation.steps().get(at) {
             words.extend_from_slice(b", line ")?;
             let line = self.source.line(step.line.thread, step.instruction);
             put_number(words, self.alloc, line as usize)?;
@@ -245,7 +242,7 @@ impl Teller<'_> {
         match reason {
             Reason::Lock(m) | Reason::Retake(m) => {
                 self.put_owner(words, m)?;
-                if let Some(Some(holder)) = self.explanation.holders.get(m) {
+                if let Some(Some(holder)) = self.explanation.holders().get(m) {
                     if is_new {
                         self.put_since(words, *holder)?;
                     }
@@ -310,7 +307,7 @@ impl Teller<'_> {
             }
             None => words.extend_from_slice(b"; none came")?,
         }
-        if self.explanation.kind == Some(Kind::Stuck) {
+        if self.explanation.kind() == Some(Kind::Stuck) {
             words.extend_from_slice(b"; nobody is left to signal")?;
         }
         Ok(())
@@ -319,7 +316,7 @@ impl Teller<'_> {
     // The place of the last step that did one of these.
     fn last_act(&self, act: Act, other: Act) -> Option<usize> {
         let mut last = None;
-        for (at, step) in self.explanation.steps.iter().enumerate() {
+        for (at, step) in self.explanation.steps().iter().enumerate() {
             if step.line.act == act || step.line.act == other {
                 last = Some(at);
             }
@@ -329,7 +326,7 @@ impl Teller<'_> {
 
     // The thread of the step at a place.
     fn thread_of(&self, at: usize) -> u8 {
-        match self.explanation.steps.get(at) {
+        match self.explanation.steps().get(at) {
             Some(step) => step.line.thread,
             None => u8::MAX,
         }
@@ -337,11 +334,11 @@ impl Teller<'_> {
 
     /// Why nobody can go on, or why the next step of the schedule can't be taken.
     pub fn put_reasons(&self, text: &mut Vec<u8>) -> Result<(), AllocError> {
-        if self.explanation.kind == Some(Kind::Stuck) {
+        if self.explanation.kind() == Some(Kind::Stuck) {
             text.extend_from_slice(b"Why nobody can go on\n")?;
             self.put_blocked(text)?;
             text.push(b'\n')?;
-        } else if self.explanation.kind.is_none() {
+        } else if self.explanation.kind().is_none() {
             self.put_refusal(text)?;
         }
         Ok(())
@@ -349,7 +346,7 @@ impl Teller<'_> {
 
     // The blocked threads, those of the circle first.
     fn put_blocked(&self, text: &mut Vec<u8>) -> Result<(), AllocError> {
-        let circle = self.explanation.circle.as_slice();
+        let circle = self.explanation.circle();
         let end = self.circle_end()?.saturating_add(WIDE_GAP + MARK);
         let is_marked = end <= self.columns.width;
         let mut told = Vec::new(self.alloc);
@@ -375,11 +372,11 @@ impl Teller<'_> {
     // The circle in a line of its own.
     fn put_circle(&self, text: &mut Vec<u8>) -> Result<(), AllocError> {
         let mut words = Vec::from_slice(self.alloc, b"  Circle:")?;
-        for thread in self.explanation.circle.iter() {
+        for thread in self.explanation.circle().iter() {
             put_both(&mut words, b" ", self.source.thread(*thread))?;
             words.extend_from_slice(b" ->")?;
         }
-        if let Some(first) = self.explanation.circle.first() {
+        if let Some(first) = self.explanation.circle().first() {
             put_both(&mut words, b" ", self.source.thread(*first))?;
         }
         self.put_line(text, words.as_slice(), INDENT)
@@ -454,7 +451,7 @@ impl Teller<'_> {
     // The column after the longest reason in the circle.
     fn circle_end(&self) -> Result<usize, AllocError> {
         let mut longest = 0;
-        for thread in self.explanation.circle.as_slice() {
+        for thread in self.explanation.circle() {
             if let Some(reason) = self.explanation.reason(*thread) {
                 let mut words = Vec::new(self.alloc);
                 self.put_reason(&mut words, *thread, reason, true)?;
@@ -468,7 +465,7 @@ impl Teller<'_> {
     // Why the next step of the schedule can't be taken, and who could go on.
     fn put_refusal(&self, text: &mut Vec<u8>) -> Result<(), AllocError> {
         let mut words = Vec::new(self.alloc);
-        if let Some(thread) = self.explanation.refused {
+        if let Some(thread) = self.explanation.refused() {
             self.put_refused(&mut words, thread)?;
             words.push(b' ')?;
         }
@@ -532,7 +529,7 @@ impl Teller<'_> {
         reason: Reason,
     ) -> Result<(), AllocError> {
         let holder = match reason.mutex() {
-            Some(m) => self.explanation.holders.get(m).copied(),
+            Some(m) => self.explanation.holders().get(m).copied(),
             None => None,
         };
         match (reason, holder) {
@@ -558,7 +555,7 @@ impl Teller<'_> {
         let mut last = None;
         for (at, lost) in self
             .explanation
-            .lost
+            .lost()
             .iter()
             .take(end.saturating_add(1))
             .enumerate()
@@ -575,7 +572,7 @@ impl Teller<'_> {
 
     // What a store overwrote unread.
     fn put_overwritten(&self, text: &mut Vec<u8>, at: usize, lost: Lost) -> Result<(), AllocError> {
-        let steps = self.explanation.steps.as_slice();
+        let steps = self.explanation.steps();
         let (Some(read), Some(write), Some(store)) = (
             steps.get(lost.read),
             steps.get(lost.write),
@@ -611,7 +608,7 @@ impl Teller<'_> {
 
     // The mutexes that both sides of a lost write owned.
     fn put_held(&self, text: &mut Vec<u8>, at: usize, lost: Lost) -> Result<(), AllocError> {
-        let steps = self.explanation.steps.as_slice();
+        let steps = self.explanation.steps();
         let (Some(write), Some(store)) = (steps.get(lost.write), steps.get(at)) else {
             return Ok(());
         };
@@ -645,7 +642,7 @@ impl Teller<'_> {
 
     /// How many steps are told, where some are folded.
     pub fn put_count(&self, text: &mut Vec<u8>, told: usize) -> Result<(), AllocError> {
-        let count = self.explanation.steps.len();
+        let count = self.explanation.steps().len();
         if told == count {
             return Ok(());
         }
@@ -660,7 +657,7 @@ impl Teller<'_> {
     /// The command that replays the schedule.
     pub fn put_replay(&self, text: &mut Vec<u8>) -> Result<(), AllocError> {
         put_both(text, b"Replay: ctxbound replay ", self.source.file)?;
-        let schedule = schedule_text(self.alloc, self.explanation.schedule.as_slice())?;
+        let schedule = schedule_text(self.alloc, self.explanation.schedule())?;
         put_both(text, b" ", schedule.as_slice())?;
         text.push(b'\n')?;
         Ok(())

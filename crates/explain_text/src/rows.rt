@@ -1,14 +1,11 @@
 //! The rows of the table.
 
 use crate::columns::COLUMN;
-use crate::object::{Object, Reading};
-use crate::settings::Setting;
-use crate::standing::Reason;
-use crate::step::Step;
 use crate::text::Teller;
-use crate::words::{
+use explain::words::{
     pad_to, put_both, put_cut, put_number, put_right, put_times, put_value, put_wrapped,
 };
+use explain::{Object, Reading, Reason, Setting, Step};
 use guest_code::program::{Expression, Instruction};
 use replay::Act;
 use semantics::state::Stop;
@@ -84,7 +81,7 @@ impl Teller<'_> {
         if count < LONG {
             return Ok(());
         }
-        let Some(step) = self.explanation.steps.get(from) else {
+        let Some(step) = self.explanation.steps().get(from) else {
             return Ok(());
         };
         let mut row = Vec::new(self.alloc);
@@ -118,7 +115,7 @@ impl Teller<'_> {
             let mut last = None;
             for step in self
                 .explanation
-                .steps
+                .steps()
                 .iter()
                 .skip(from)
                 .take(to.saturating_sub(from))
@@ -174,7 +171,7 @@ impl Teller<'_> {
     /// The row of a step, and what belongs under it: that it failed, and that its thread was
     /// interrupted.
     pub fn put_step_rows(&self, text: &mut Vec<u8>, at: usize) -> Result<(), AllocError> {
-        let Some(step) = self.explanation.steps.get(at) else {
+        let Some(step) = self.explanation.steps().get(at) else {
             return Ok(());
         };
         self.put_step_row(text, at, step)?;
@@ -183,7 +180,7 @@ impl Teller<'_> {
             put_right(&mut row, self.alloc, at, STEP)?;
             self.put_stop_row(text, &mut row, step.line.thread)?;
         }
-        match self.explanation.steps.get(at.wrapping_add(1)) {
+        match self.explanation.steps().get(at.wrapping_add(1)) {
             Some(next) if next.line.preempting => self.put_interruption(text, step),
             _ => Ok(()),
         }
@@ -318,10 +315,10 @@ impl Teller<'_> {
 
     // That a store overwrote what another thread had written.
     fn put_lost_mark(&self, changes: &mut Vec<u8>, at: usize) -> Result<(), AllocError> {
-        let Some(Some(lost)) = self.explanation.lost.get(at) else {
+        let Some(Some(lost)) = self.explanation.lost().get(at) else {
             return Ok(());
         };
-        let Some(write) = self.explanation.steps.get(lost.write) else {
+        let Some(write) = self.explanation.steps().get(lost.write) else {
             return Ok(());
         };
         if let Reading::Value(value) = write.new {
@@ -365,7 +362,7 @@ impl Teller<'_> {
             Expression::Single(a) => put_value(changes, self.alloc, self.value_at_end(thread, a)),
             Expression::Both(a, op, b) => {
                 put_value(changes, self.alloc, self.value_at_end(thread, a))?;
-                changes.extend_from_slice(crate::statement::op_text(op))?;
+                changes.extend_from_slice(explain::op_text(op))?;
                 put_value(changes, self.alloc, self.value_at_end(thread, b))
             }
         }
@@ -397,7 +394,7 @@ impl Teller<'_> {
 
     /// Where each thread with a column of its own is at the end of a deadlock.
     pub fn put_end_rows(&self, text: &mut Vec<u8>) -> Result<(), AllocError> {
-        if self.explanation.kind != Some(Kind::Stuck) || self.columns.own == 0 {
+        if self.explanation.kind() != Some(Kind::Stuck) || self.columns.own == 0 {
             return Ok(());
         }
         let mut row = Vec::from_slice(self.alloc, b" end")?;
