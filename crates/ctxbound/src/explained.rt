@@ -10,7 +10,9 @@ use crate::answer::{Printed, replay_status, verdict_status};
 use crate::asked::{ExplainRequest, Form};
 use crate::fault::Fault;
 use crate::progress::Teller;
-use explain::{Explanation, Shape, Source};
+use explain::{Explanation, Source};
+use explain_page::{explanation_html, explanation_json};
+use explain_text::{Shape, explanation_text};
 use guest_code::lowering::lower;
 use guest_code::source_map::SourceMap;
 use guest_syntax::parse;
@@ -88,10 +90,10 @@ fn explained(
                 all,
                 is_least,
             };
-            explanation.text(alloc, source, shape)?
+            explanation_text(alloc, &explanation, source, shape)?
         }
-        Form::Json => explanation.json(alloc, source)?,
-        Form::Html => explanation.html(alloc, source)?,
+        Form::Json => explanation_json(alloc, &explanation, source)?,
+        Form::Html => explanation_html(alloc, &explanation, source)?,
     };
     let status = match explanation.refused() {
         Some(_) => REFUSED,
