@@ -11,7 +11,8 @@ In README.md and docs/*.md, fenced blocks are read by their first line:
 
     ```guest NAME    a program; the commands below it find it as the file NAME
     ```console       commands `$ ctxbound ..`, each followed by the lines that it prints:
-                     standard output, then standard error, then `[status N]` unless N is 0
+                     standard output, then standard error, then `[status N]` unless N is 0;
+                     empty lines before the next command don't count
 
 In examples/*.guest the same stands in comments; there, a line that is no comment, or an empty
 one, ends what a command prints. `build/ctxbound` means the same as `ctxbound`, and every command
@@ -59,10 +60,13 @@ def commands(lines, number):
     for number, line in enumerate(lines, number + 1):
         if line.startswith("$ "):
             found.append((number, line[2:], []))
-        elif line and found:
+        elif found:
             found[-1][2].append(line)
         elif line:
             raise ValueError("line %d: output without a command" % number)
+    for _, _, printed in found:
+        while printed and not printed[-1]:
+            printed.pop()
     return found
 
 

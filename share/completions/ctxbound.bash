@@ -8,10 +8,10 @@ _ctxbound() {
         return
     fi
     case $command in
-    explore) words='--bound --workers --limit --quick --trace --help' ;;
-    unbounded) words='--workers --limit --quick --trace --help' ;;
+    explore) words='--bound --workers --limit --quick --trace --progress --help' ;;
+    unbounded) words='--workers --limit --quick --trace --progress --help' ;;
     replay) words='--help' ;;
-    explain) words='--bound --workers --limit --quick --unbounded --all --width --html --json --help' ;;
+    explain) words='--bound --workers --limit --quick --progress --unbounded --all --width --html --json --help' ;;
     check) words='--strict --deep --limit --help' ;;
     suite) words='--bound --workers --limit --json --help' ;;
     help)
