@@ -111,7 +111,8 @@ other_reads_on lines k a old t x j apart e = let was = old.reads t x j e in reco
 
 pub reads_on : (lines : List Line) (k : ℕ) (a new : Accesses) → AreAccesses lines k a →
     new.reads ≡ slice_set a.reads (line_of lines k).thread
-    (put_at (slice_index_or a.reads (line_of lines k).thread []) (read_by (line_of lines k).act) k) →
+    (put_at (slice_index_or a.reads (line_of lines k).thread [])
+    (read_by (line_of lines k).act) k) →
     (t x j : ℕ) → place_of (slice_index_or new.reads t []) x ≡ Some j →
     IsLastRead lines (k + 1) t x j
 reads_on lines k a new old made t x j e = elim (cases_eq (line_of lines k).thread t) [
@@ -135,7 +136,8 @@ reads_on lines k a new old made t x j e = elim (cases_eq (line_of lines k).threa
 pub accesses_on : (lines : List Line) (k : ℕ) (a new : Accesses) → AreAccesses lines k a →
     new.writes ≡ put_at a.writes (written_by (line_of lines k).act) k →
     new.reads ≡ slice_set a.reads (line_of lines k).thread
-    (put_at (slice_index_or a.reads (line_of lines k).thread []) (read_by (line_of lines k).act) k) →
+    (put_at (slice_index_or a.reads (line_of lines k).thread [])
+    (read_by (line_of lines k).act) k) →
     AreAccesses lines (k + 1) new
 accesses_on lines k a new old writes reads = record {
   writes = writes_on lines k a new old writes;
@@ -161,5 +163,6 @@ accesses_none lines n m a writes reads = record {
   writes = λ x j e. absurd (not_some j
       (sym (none_there m x) ∙ subst (λ ws. place_of ws x ≡ Some j) writes e));
   reads = λ t x j e. absurd (not_some j
-      (sym (rows_there n m t x) ∙ subst (λ rs. place_of (slice_index_or rs t []) x ≡ Some j) reads e));
+      (sym (rows_there n m t x)
+      ∙ subst (λ rs. place_of (slice_index_or rs t []) x ≡ Some j) reads e));
 }

@@ -1,5 +1,5 @@
--- A write that is lost: a thread reads a variable, then another thread writes it, and the next write
--- is a store of the first thread, which has not read it since.
+-- A write that is lost: a thread reads a variable, then another thread writes it, and the next
+-- write is a store of the first thread, which has not read it since.
 use Rattle.guest_code.specs.declared.limits.TheConstants.{THREADS, VARIABLES}
 use Rattle.std.specs.Prelude.{◌≡◌, ◌≢◌, ℕ, ℤ, ◌<◌, false, List, Option, Some, None, slice_index_or}
 use Rattle.replay.specs.declared.run.Act.{Act}

@@ -1,6 +1,6 @@
 -- What is told of a step.
 use Rattle.std.specs.Prelude.{◌≡◌, ℕ, List, [], ◌∷◌, length, filter, map, Some}
-use Rattle.guest_code.specs.Program.{Program}
+use Rattle.guest_code.specs.Program.{Program, code_of}
 use Rattle.semantics.specs.declared.state.Action.{Action}
 use Rattle.semantics.specs.declared.state.Action.TheVariants.{OnVariable, OnMutex, Wait as Waits, OnCondition, OnSemaphore}
 use Rattle.semantics.specs.Machine.{Snapshot, thread_at, next_of, owner_of, queue_of, owns, threads_to_wake, step}
@@ -11,6 +11,7 @@ use Rattle.replay.specs.Run.{line_at}
 use Rattle.replay.specs.Trace.{IsValidLine}
 use Rattle.explain.specs.declared.step.Step.{Step}
 use Rattle.explain.specs.Objects.{object_of, reading_of}
+use Rattle.explain.specs.Settings.{settings_by}
 
 -- the lines of steps
 abbrev pub lines_of : List Step → List Line
@@ -29,8 +30,8 @@ woken_in s (OnCondition c d) = threads_to_wake d (queue_of s c)
 woken_in s (OnSemaphore k d) = []
 
 -- this is told of a step of thread t: it is the line of the step; before it the thread was at this
--- instruction and owned these mutexes, and after it the thread is at that instruction; the object of
--- its action was so before it and is so after it; and it woke these threads
+-- instruction and owned these mutexes, and after it the thread is at that one; the object of its
+-- action was so before it and is so after it; it set these locals, and woke these threads
 pub record Tells (p : Program) (e : ExecutionView) (t : ℕ) (told : Step) : Type 0 where
   pub action : Action
   pub next_action : next_of p e.state t ≡ Some action
@@ -40,11 +41,12 @@ pub record Tells (p : Program) (e : ExecutionView) (t : ℕ) (told : Step) : Typ
   pub object : told.object ≡ object_of action
   pub old : told.old ≡ reading_of e.state (object_of action)
   pub new : told.new ≡ reading_of (step p e.state t) (object_of action)
+  pub settings : told.settings.items ≡ settings_by (code_of p t) told.instruction told.next
+      (thread_at e.state t).locals told.line.act
   pub woken : told.woken.items ≡ woken_in e.state action
   pub held : told.held.items ≡ held_in e.state t
 
--- a step of thread t, which was enabled, led from the old execution to the new one, and this is told
--- of it
+-- a step of thread t led from the old execution to the new one, and this is told of it
 pub record IsTakenStep (p : Program) (old new : ExecutionView) (t : ℕ) (told : Step) : Type 0 where
   pub tells : Tells p old t told
   pub valid : IsValidLine p told.line

@@ -17,8 +17,8 @@ use semantics::state::Status;
 use std::alloc::{AllocError, Global};
 
 impl Explanation {
-    /// The objects that matter: those that the threads which stopped touched in their last steps, or
-    /// where none did, those that the blocked threads touched so and those that they wait for.
+    /// The objects that matter: those that the threads which stopped touched in their last steps;
+    /// where none stopped, those that the blocked threads touched so and those that they wait for.
     ///
     /// # Errors
     ///

@@ -15,6 +15,8 @@ mod source;
 mod standing;
 mod statement;
 mod step;
+#[cfg(test)]
+mod tests;
 pub mod words;
 
 pub use crate::explanation::{Explanation, Holder, Start};

@@ -3,7 +3,7 @@
 ghost use Rattle.std.specs.Prelude.{List, ◌+◌, ◌∷◌, IfOk, ◌≡◌, ◌≤◌, ◌<◌, ◌++◌, length, drop, OnOk, IfSome};
 ghost use Rattle.guest_code.specs.Program.{Program, IsValidCode, IsValid};
 ghost use Rattle.guest_code.specs.declared.program.Instruction.{Instruction};
-ghost use Rattle.explain.specs.Settings.{settings_in};
+ghost use Rattle.explain.specs.Settings.{settings_in, setting_by, listed, locals_with, settings_by};
 ghost use Rattle.explain.specs.inner.Runs.{settings_after};
 
 use guest_code::limits::LOCALS;
@@ -45,41 +45,67 @@ pub fn settings_of(
     passage: Passage,
     act: Act,
 ) -> Result<Vec<Setting>, AllocError>
-    requires { (p : Program) × IsValidCode p code.now }
+    requires valid { (p : Program) × IsValidCode p code.now }
+    requires inside { passage.from < length code.now }
+    ensures { IfOk result (λ v. v.items
+        ≡ settings_by code.now passage.from passage.to passage.locals act) }
+{
+    let first = setting_of(passage.from, &code[passage.from], act);
+    let mut settings = listed(alloc, first)?;
+    let mut locals = passage.locals;
+    set(&mut locals, first);
+    if passage.to == passage.from {
+        return Ok(settings);
+    }
+    put_settings(&mut settings, code, &mut locals, passage.from + 1)?;
+    Ok(settings)
+}
+
+// The local that a visible statement sets, where its step did this.
+fn setting_of(instruction: usize, statement: &Instruction, act: Act) -> Option<Setting>
+    requires { (p : Program) × IsValid p statement.now }
+    ensures value { result ≡ setting_by instruction statement.now act }
+    ensures local { IfSome result (λ setting. setting.local < LOCALS) }
+{
+    match (statement, act) {
+        (Instruction::Load { local, .. }, Act::Load { value, .. }) => Some(Setting {
+            instruction,
+            local: *local,
+            value,
+        }),
+        (Instruction::Add { local, .. }, Act::Add { old, .. }) => Some(Setting {
+            instruction,
+            local: *local,
+            value: old,
+        }),
+        (Instruction::Cas { local, .. }, Act::Cas { hit, .. }) => Some(Setting {
+            instruction,
+            local: *local,
+            value: i64::from(hit.is_some()),
+        }),
+        _ => None,
+    }
+}
+
+// A list of it, if it is there.
+fn listed(alloc: Global, setting: Option<Setting>) -> Result<Vec<Setting>, AllocError>
+    ensures { IfOk result (λ v. v.items ≡ listed setting) }
 {
     let mut settings = Vec::new(alloc);
-    let Some(statement) = code.get(passage.from) else {
-        return Ok(settings);
-    };
-    let mut locals = passage.locals;
-    if let Some(setting) = setting_of(passage.from, statement, act) {
-        locals[setting.local] = setting.value;
+    if let Some(setting) = setting {
         settings.push(setting)?;
-    }
-    if passage.to != passage.from {
-        put_settings(&mut settings, code, &mut locals, passage.from + 1)?;
     }
     Ok(settings)
 }
 
-// The local that a visible statement sets.
-fn setting_of(instruction: usize, statement: &Instruction, act: Act) -> Option<Setting>
-    requires { (p : Program) × IsValid p statement.now }
-    ensures { IfSome result (λ setting. setting.local < LOCALS) }
+// The locals after it.
+fn set(locals: &mut [i64; LOCALS], setting: Option<Setting>)
+    requires { IfSome setting (λ setting. setting.local < LOCALS) }
+    ensures { locals.new ≡ locals_with locals.old setting }
 {
-    let (local, value) = match (statement, act) {
-        (Instruction::Load { local, .. }, Act::Load { value, .. }) => (*local, value),
-        (Instruction::Add { local, .. }, Act::Add { old, .. }) => (*local, old),
-        (Instruction::Cas { local, .. }, Act::Cas { hit, .. }) => {
-            (*local, i64::from(hit.is_some()))
-        }
-        _ => return None,
-    };
-    Some(Setting {
-        instruction,
-        local,
-        value,
-    })
+    if let Some(setting) = setting {
+        locals[setting.local] = setting.value;
+    }
 }
 
 /// Adds what a local run sets from an instruction on, where the locals have these values.

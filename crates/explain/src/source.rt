@@ -20,7 +20,8 @@ pub struct Source<'a> {
     pub program: &'a Program,
     /// The place of each instruction in the text, and the names of the locals.
     pub map: &'a SourceMap,
-    ghost places: { (t : ℕ) → length (places_of map.now t) ≡ length (thread_at program.now t).code },
+    ghost places: { (t : ℕ) →
+        length (places_of map.now t) ≡ length (thread_at program.now t).code },
     ghost locals: { (t : ℕ) → length (locals_of map.now t) ≡ (thread_at program.now t).locals },
 }
 

@@ -231,7 +231,8 @@ impl Teller<'_> {
         }
     }
 
-    // Why a thread can't go on, with the step by which its mutex was taken where that isn't told yet.
+    // Why a thread can't go on, and, where that isn't told yet, the step by which its mutex was
+    // taken.
     fn put_reason(
         &self,
         words: &mut Vec<u8>,

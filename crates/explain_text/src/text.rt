@@ -14,8 +14,8 @@ pub struct Teller<'a> {
     pub columns: Columns,
 }
 
-/// The explanation as text: plain ASCII, a column for each thread, at most as wide as the shape says.
-/// Only the last line, a command, may be longer.
+/// The explanation as text: plain ASCII, a column for each thread, at most as wide as the shape
+/// says. Only the last line, a command, may be longer.
 ///
 /// # Errors
 ///

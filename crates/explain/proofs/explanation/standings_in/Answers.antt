@@ -16,7 +16,8 @@ loop-t-preserved c =
           (pushed_at old c.of.result t standing
           (subst (λ l. slice_get l t ≡ Some standing) pushed h)) [
             | inl earlier ↦ c.loop-t.invariant.each t standing earlier
-            | inr here ↦ subst (λ n. Stands p s n standing) (sym (here.0 ∙ c.loop-t.invariant.count))
+            | inr here ↦ subst (λ n. Stands p s n standing)
+                (sym (here.0 ∙ c.loop-t.invariant.count))
                 (subst (Stands p s c.loop-t.t) here.1 c.of.ensures)
           ];
     }
