@@ -23,10 +23,10 @@ define HELP
                     at first 1 to 10 minutes and those of the crates below it, then seconds
                     to minutes; up to 4 GB, and up to 2 GB on disk
   make build      proves and builds the program, and leaves it at build/ctxbound
-                    half an hour at first, MEASURE GB, and 2 GB on disk
+                    half an hour at first, up to 8 GB, and 3 GB on disk
   make test       the gate: each proof from nothing, each wrong body, each test, the commands
                   that the documents show, and refused memory
-                    MEASURE minutes on four processors, MEASURE on two; MEASURE GB, and MEASURE GB on disk
+                    about an hour on four processors, two on two; up to 12 GB, and up to 10 GB on disk
   make shown      runs the documents' commands by build/ctxbound, and all else that is tried of it by
                   scripts: a few minutes
   make fuzz [MINUTES=10]
