@@ -35,6 +35,7 @@ PROGRAMS = {
     "two": "var x; thread A { load r x; store x 1; } thread B { load r x; store x 1; }",
     "cut": "thread A { assert 0;",
     "unknown": "thread A { lock m; }",
+    "odd": "var x; thread A { store x q; }",
 }
 # A command, a guest, further words, and the status with ample memory.
 RUNS = [
@@ -56,6 +57,9 @@ RUNS = [
     ("unbounded", "locks", "--workers 1", 1), ("unbounded", "locks", "--workers 2", 1),
     ("unbounded", "waits", "--workers 1", 1), ("unbounded", "waits", "--workers 2", 1),
     ("unbounded", "two", "--workers 1", 0), ("unbounded", "two", "--workers 2", 0),
+    ("explore", "race", "--trace", 1), ("explain", "locks", "0,1", 1), ("explain", "race", "", 1),
+    ("explain", "race", "1,1,1", 2), ("explain", "waits", "--json", 1), ("explain", "race", "0,1,0 --html", 1),
+    ("check", "unknown", "", 2), ("check", "cut", "", 2), ("check", "odd", "", 0), ("check", "odd", "--deep", 0),
 ]
 # A guest and a mode: the walk ends with status 0.
 WALKS = [("race", "1"), ("locks", "1"), ("waits", "0"), ("two", "1"),
