@@ -31,8 +31,8 @@ define HELP
                   scripts: a few minutes
   make fuzz [MINUTES=10]
                   compares build/ctxbound with an independent explorer, on programs made at random
-  make bench      times walks, and searches where build/ctxbound is there; it proves the benchmark
-                  first, so it takes some minutes after `make build`, and else as long as that
+  make bench      times walks and, where build/ctxbound is there, searches, and four of them beside
+                  Spin's; it proves the benchmark first, so it takes some minutes after `make build`
   make install    copies build/ctxbound to $$(DESTDIR)$$(PREFIX)/bin, and the man page, the completions,
                   the syntax files and the examples to $$(DESTDIR)$$(PREFIX)/share
   make uninstall  removes all that
@@ -164,6 +164,8 @@ bench:
 	@cd crates/walk_bench && rt run -- data/race.guest 1 > ../../build/log 2>&1 || { cat ../../build/log; exit 1; }
 	@python3 bench/walk.py
 	@test ! -x build/ctxbound || python3 bench/workers.py build/ctxbound
+	@test ! -x build/ctxbound || python3 bench/beside.py build/ctxbound
+	@test ! -x build/ctxbound || python3 bench/spin.py build/ctxbound
 
 clean:
 	rm -rf build crates/*/out
