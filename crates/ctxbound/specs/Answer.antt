@@ -30,16 +30,12 @@ use Rattle.runner.specs.ReportText.{report_text, named_schedule}
 use Rattle.runner.specs.Texts.{IsProgramOf, IsFaultOf, IsReportOfText}
 use Rattle.ctxbound.specs.declared.answer.Printed.{Printed}
 use Rattle.ctxbound.specs.declared.asked.Asked.{Asked}
-use Rattle.ctxbound.specs.declared.asked.ExplainRequest.{ExplainRequest}
 use Rattle.ctxbound.specs.declared.asked.Asked.TheVariants as asked
 use Rattle.ctxbound.specs.declared.fault.Fault.{Fault}
 use Rattle.ctxbound.specs.declared.fault.Fault.TheVariants.{File, Syntax, Check, Schedule}
 use Rattle.ctxbound.specs.declared.fault.Fault.TheVariants.{Replay, Memory}
 use Rattle.ctxbound.specs.Lines.{fault_line}
-use Rattle.ctxbound.specs.Status.{replay_status, verdict_status, fault_status, explained_status}
-use Rattle.explain.specs.declared.explanation.Explanation.{Explanation}
-use Rattle.explain.specs.Explains.{Explains}
-use Rattle.runner.specs.Promises.{IsReport}
+use Rattle.ctxbound.specs.Status.{replay_status, verdict_status, fault_status}
 
 -- the text spells a program, the schedule's text a schedule that runs in it; its trace is printed,
 -- and the status is that of how it ends
@@ -77,42 +73,6 @@ pub record IsTracedExplorationOf (text : List ℕ) (o : Options) (a : Printed) :
   pub traced : IsTraceOf text (named_schedule report) trace
   pub output : a.output.items ≡ report_text report ++ codes "\n" ++ trace
   pub status : a.status ≡ verdict_status report.verdict
-
--- an explanation of this schedule of the program was told, and the status is that of how it ends
-pub record IsExplained (p : Program) (steps : List ℕ) (a : Printed) : Type 0 where
-  pub told : Explanation
-  pub explains : Explains p steps told
-  pub status : a.status ≡ explained_status told.refused told.kind
-
--- what is printed where a search was made for an explanation: that of the schedule that its report
--- names, or what the report says where it names none
-abbrev pub IsFoundExplained : Program → Report → Option (List ℕ) → Printed → Type 0
-IsFoundExplained p report (Some steps) a = IsExplained p steps a
-IsFoundExplained p report None a = a.status ≡ verdict_status report.verdict
-
--- the schedule's text spells a schedule, which is explained
-pub record IsGivenExplained (p : Program) (schedule : List ℕ) (a : Printed) : Type 0 where
-  pub steps : List ℕ
-  pub spelt : spelling.Spells schedule steps
-  pub explained : IsExplained p steps a
-
--- this is the report of a search, and what it found is explained
-pub record IsSearchExplained (p : Program) (o : Options) (a : Printed) : Type 0 where
-  pub report : Report
-  pub of_program : IsReport false p o report
-  pub explained : IsFoundExplained p report (named_schedule report) a
-
--- the schedule that was asked for is explained, or where none was, what a search finds
-abbrev pub IsAskedExplained : Program → Option (List ℕ) → Options → Printed → Type 0
-IsAskedExplained p (Some schedule) o a = IsGivenExplained p schedule a
-IsAskedExplained p None o a = IsSearchExplained p o a
-
--- the text spells a program, of which this is explained
-pub record IsExplanationOf (text : List ℕ) (schedule : Option (List ℕ)) (o : Options) (a : Printed)
-    : Type 0 where
-  pub program : Program
-  pub is_program : IsProgramOf text program
-  pub explained : IsAskedExplained program schedule o a
 
 -- the text spells a program, and this is what is wrong with the schedule's text
 pub record IsNoSchedule (text schedule : List ℕ) (e : ScheduleError) : Type 0 where
@@ -161,15 +121,6 @@ ReplayMeans text w result = MatchResult result (IsReplayOf text w) (FaultMeans t
 -- what a search answers for this text
 abbrev pub ExplorationMeans : List ℕ → Options → Result Printed Fault → Type 0
 ExplorationMeans text o result = MatchResult result (IsExplorationOf text o) (TextFaultMeans text)
-
--- what a request to explain answers for this text: a fault is one of the text or of the schedule's
-abbrev pub ExplainFaultMeans : List ℕ → Option (List ℕ) → Fault → Type 0
-ExplainFaultMeans text (Some schedule) fault = FaultMeans text schedule fault
-ExplainFaultMeans text None fault = TextFaultMeans text fault
-
-abbrev pub ExplainMeans : List ℕ → Option (List ℕ) → Options → Result Printed Fault → Type 0
-ExplainMeans text schedule o result =
-    MatchResult result (IsExplanationOf text schedule o) (ExplainFaultMeans text schedule)
 
 -- what a search and a trace answer for this text: a fault is one of the text, or else the report
 -- names a schedule that can't be replayed, which its promise rules out
@@ -230,18 +181,13 @@ answer_of (Err fault) = record {
   status = fault_status fault;
 }
 
--- what a request to explain answers for this text
-abbrev pub ExplanationMeans : List ℕ → ExplainRequest → Result Printed Fault → Type 0
-ExplanationMeans text asked result = MatchOption asked.schedule
-    (ExplainMeans text None asked.search.options result)
-    (λ schedule. ExplainMeans text (Some (string_bytes schedule)) asked.search.options result)
-
--- what is answered to a request for this text
+-- what is answered to a request for this text; what an explanation says of a schedule is in the
+-- contracts of `explain`, and the way to it is only tested
 abbrev pub Means : Asked → List ℕ → Result Printed Fault → Type 0
 Means (asked.Replay schedule) text result = ReplayMeans text (string_bytes schedule) result
 Means (asked.Explore exploration) text result = ExplorationMeans text exploration.options result
 Means (asked.Trace exploration) text result = TracedMeans text exploration.options result
-Means (asked.Explain request) text result = ExplanationMeans text request result
+Means (asked.Explain request) text result = Unit {0}
 
 -- the answer to a request for this text: what was done, or what is wrong
 pub record IsAnswerOf (request : Asked) (text : List ℕ) (a : AnswerView) : Type 0 where

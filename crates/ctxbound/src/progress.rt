@@ -5,24 +5,34 @@ use std::fmt;
 use std::io::Eprint;
 use std::sync::atomic::{AtomicU64, Ordering};
 
-/// Most groups of three digits after the first that a number of 64 bits has.
-const GROUPS: u32 = 6;
-
 /// A number, with a comma before each three digits but the first ones.
 #[derive(Clone, Copy)]
 struct Grouped(u64);
 
 impl fmt::Display for Grouped {
     fn fmt<W: fmt::Write>(&self, f: &mut fmt::Formatter<W>) -> fmt::Result {
+        let groups = [
+            self.0 / 1_000_000_000_000_000_000,
+            self.0 / 1_000_000_000_000_000 % 1_000,
+            self.0 / 1_000_000_000_000 % 1_000,
+            self.0 / 1_000_000_000 % 1_000,
+            self.0 / 1_000_000 % 1_000,
+            self.0 / 1_000 % 1_000,
+        ];
         let mut begun = false;
-        for above in 0..=GROUPS {
-            let group = self.0 / 1_000u64.pow(GROUPS - above) % 1_000;
+        for group in groups {
             if begun {
-                write!(f, ",{group:03}")?;
-            } else if group > 0 || above == GROUPS {
-                write!(f, "{group}")?;
+                write!(f, "{group:03},")?;
+            } else if group > 0 {
+                write!(f, "{group},")?;
                 begun = true;
             }
+        }
+        let last = self.0 % 1_000;
+        if begun {
+            write!(f, "{last:03}")?;
+        } else {
+            write!(f, "{last}")?;
         }
         Ok(())
     }
