@@ -11,13 +11,13 @@ export GUEST SCHEDULE
 
 define HELP
   make run        searches an example for a deadlock and shows how it comes about; nothing is proved
-                    a minute, 2 GB of memory
+                    one to three minutes, 2 GB of memory
   make try GUEST=file [SCHEDULE=0,1,0]
                   the same with a guest of yours; with SCHEDULE it only replays that
-                    1 to 2 minutes, 2 GB
+                    one to three minutes, 2 GB
   make quick      all that needs no proof: the tests, the commands that the documents show,
                   the table of wrong bodies
-                    up to 6 minutes on four processors, 5 GB
+                    some ten minutes on four processors, 5 GB
   make check C=crate
                   proves one crate, over what earlier checks kept
                     at first 1 to 10 minutes and those of the crates below it, then seconds
@@ -56,7 +56,7 @@ TRY = mkdir -p build && cd crates/ctxbound && rt try --data program.guest="$$gue
 # One run: the report, and then the trace of the schedule that it names, if any.
 SEARCH = words="explore program.guest --trace"; $(TRY)
 
-COMPILING = echo "Compiling the program, without proofs, which takes under a minute .."
+COMPILING = echo "Compiling the program, without proofs, which takes a minute or two .."
 
 NEEDS_PROGRAM = test -x $(PROGRAM) || \
 	{ echo "$(PROGRAM) isn't there: run \`make build\` first" >&2; exit 2; }
