@@ -152,6 +152,7 @@ shown:
 	python3 tests/explain.py $(PROGRAM)
 	python3 tests/page.py $(PROGRAM)
 	python3 tests/around.py $(PROGRAM)
+	@test ! -x crates/rounds/out/rounds || python3 tests/rounds.py $(PROGRAM) crates/rounds/out/rounds
 	$(PROGRAM) suite examples examples/real
 
 # Small programs made at random, other ones each time.

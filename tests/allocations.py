@@ -1,13 +1,16 @@
 #!/usr/bin/env python3
-"""allocations.py BINARY WALKER: each request of a run for memory or a thread fails in turn.
+"""allocations.py BINARY WALKER AGAIN: each request of a run for memory or a thread fails in turn, alone or with
+all later ones.
 
 BINARY is the program. With ample memory each run must end with its own status and say something.
 With a request refused, its answer must be the same, or `ctxbound: memory` with status 4 and nothing
 on standard output. WALKER is the program of the benchmark, which walks all schedules of a guest:
 with ample memory it must count them and end with status 0, and with a request refused do the same,
-or say nothing and end with status 1 or 2. A run that doesn't end in time fails its sweep. The sweep of
-a run ends at the first number that is past its last request; since runs of several threads have more
-requests or fewer, it ends only after some such numbers in a row. The last line is
+or say nothing and end with status 1 or 2. AGAIN is the program of the crate `again`, which makes each
+call of the libraries again that was refused: it must say the same, or nothing with status 2. A run that
+doesn't end in time fails its sweep. The sweep of a run ends at the first number that is past its last
+request; since runs of several threads have more requests or fewer, it ends only after some such numbers
+in a row. So many workers must make threads for all but one of them. The last line is
 `N passed, M failed`.
 """
 import os
@@ -20,6 +23,13 @@ MOST = 5000
 # So many runs in a row without a refusal end a sweep.
 QUIET = 5
 SECONDS = 60
+
+
+def stores(names):
+    """Threads of one step each, which all store to variables of their own."""
+    variables = "".join("var %s; " % name for name in names)
+    return variables + "".join("thread %s { store %s 1; } " % (name.upper(), name) for name in names)
+
 
 PROGRAMS = {
     "race": "var x; thread A { store x 1; store x 0; } thread B { load r x; assert r == 0; }",
@@ -36,6 +46,11 @@ PROGRAMS = {
     "cut": "thread A { assert 0;",
     "unknown": "thread A { lock m; }",
     "odd": "var x; thread A { store x q; }",
+    # Some rounds of several items.
+    "six": stores("abcdef"), "five": stores("abcde"),
+    # All fail that have Y before X.
+    "bad": "var x; " + stores("cdef").replace("thread C", "thread X { load r x; assert r == 0; } "
+                                              "thread Y { store x 1; } thread C"),
 }
 # A command, a guest, further words, and the status with ample memory.
 RUNS = [
@@ -57,21 +72,35 @@ RUNS = [
     ("unbounded", "locks", "--workers 1", 1), ("unbounded", "locks", "--workers 2", 1),
     ("unbounded", "waits", "--workers 1", 1), ("unbounded", "waits", "--workers 2", 1),
     ("unbounded", "two", "--workers 1", 0), ("unbounded", "two", "--workers 2", 0),
+    ("explore", "updates", "--limit 1 --workers 2", 3), ("explore", "updates", "--limit 1 --quick", 3),
+    ("explore", "late", "--quick --workers 2", 1), ("unbounded", "locks", "--quick --workers 2", 1),
+    ("explore", "six", "--bound 0 --workers 2", 0), ("explore", "six", "--bound 0 --limit 100 --workers 2", 3),
+    ("explore", "six", "--bound 0 --limit 100", 3), ("explore", "bad", "--bound 0 --quick", 1),
     ("explore", "race", "--trace", 1), ("explain", "locks", "0,1", 1), ("explain", "race", "", 1),
     ("explain", "race", "1,1,1", 2), ("explain", "waits", "--json", 1), ("explain", "race", "0,1,0 --html", 1),
     ("check", "unknown", "", 2), ("check", "cut", "", 2), ("check", "odd", "", 0), ("check", "odd", "--deep", 0),
 ]
+# The same, where all later requests fail, too.
+LASTING = [
+    ("explore", "updates", "--workers 1", 0), ("explore", "updates", "--workers 2", 0),
+    ("explore", "six", "--bound 0 --workers 2", 0), ("explore", "bad", "--bound 0 --workers 2", 1),
+    ("unbounded", "locks", "--workers 3", 1), ("replay", "race", "0,1,0", 1),
+]
 # A guest and a mode: the walk ends with status 0.
 WALKS = [("race", "1"), ("locks", "1"), ("waits", "0"), ("two", "1"),
          ("two", "reduced"), ("locks", "reduced")]
+# A guest and a schedule of it.
+AGAIN = [("updates", "0,1,0,1"), ("locks", "0,1"), ("waits", "1,1,1,0,0"), ("late", "1,0,0"), ("five", "0,1,2,3,4")]
 
 
-def run(binary, words, library=None, fail_at=0):
-    """What a run writes and its status, and whether a request of it was refused."""
+def run(binary, words, library=None, fail_at=0, lasting=False):
+    """What a run writes and its status, and what the library told of it."""
     env = dict(os.environ)
     told, tells = os.pipe()
     if library:
-        env.update(LD_PRELOAD=library, FAIL_AT=str(fail_at), REFUSED_FD=str(tells))
+        env.update(LD_PRELOAD=library, FAIL_AT=str(fail_at), TOLD_FD=str(tells))
+    if lasting:
+        env["FAIL_ON"] = "1"
     try:
         done = subprocess.run([binary] + words, env=env, capture_output=True, timeout=SECONDS,
                               pass_fds=[tells])
@@ -80,7 +109,7 @@ def run(binary, words, library=None, fail_at=0):
         answer = b"", b"no end after %d seconds" % SECONDS, None
     os.close(tells)
     with os.fdopen(told, "rb") as file:
-        return answer, file.read() != b""
+        return answer, file.read()
 
 
 def says_memory(answer):
@@ -91,14 +120,19 @@ def says_nothing(answer):
     return answer in [(b"", b"", 1), (b"", b"", 2)]
 
 
-def sweep(binary, words, library, status, is_refusal):
+def says_nothing_of_words(answer):
+    return answer == (b"", b"", 2)
+
+
+def sweep(binary, words, library, status, is_refusal, lasting=False):
     """How many requests were refused in turn, and a line that says what went wrong, or None."""
     ample, _ = run(binary, words)
     if ample[2] != status or ample[0] + ample[1] == b"":
         return 0, "%s, with ample memory: %r" % (" ".join(words), ample)
     refusals = quiet = 0
     for fail_at in range(1, MOST):
-        answer, was_refused = run(binary, words, library, fail_at)
+        answer, told = run(binary, words, library, fail_at, lasting)
+        was_refused = b"r" in told
         if answer != ample and not (was_refused and is_refusal(answer)):
             return refusals, "%s, request %d refused: %r" % (" ".join(words), fail_at, answer)
         refusals += was_refused
@@ -108,7 +142,15 @@ def sweep(binary, words, library, status, is_refusal):
     return refusals, "%s: no end after %d requests" % (" ".join(words), MOST)
 
 
-def main(binary, walker):
+def threads(binary, words, library, workers):
+    """No refusals, and what is wrong with the number of threads that so many workers make, or None."""
+    answer, told = run(binary, words + ["--workers", str(workers)], library)
+    made = told.count(b"t")
+    wrong = answer[2] != 0 or (made != 0 if workers == 1 else made < workers - 1)
+    return 0, "%d workers: %d threads, status %r" % (workers, made, answer[2]) if wrong else None
+
+
+def main(binary, walker, again):
     passed = failed = refusals = 0
     with tempfile.TemporaryDirectory() as folder:
         library = os.path.join(folder, "fail_alloc.so")
@@ -119,17 +161,22 @@ def main(binary, walker):
             with open(os.path.join(folder, name), "w") as file:
                 file.write(text)
         program, walk = os.path.abspath(binary), os.path.abspath(walker)
-        sweeps = [(program, [command, os.path.join(folder, name)] + words.split(), library, status, says_memory)
-                  for command, name, words, status in RUNS]
-        sweeps += [(walk, [os.path.join(folder, name), mode], library, 0, says_nothing)
+        trials = [(threads, program, ["explore", os.path.join(folder, "six"), "--bound", "0"], library, workers)
+                  for workers in (1, 2, 4, 16)]
+        trials += [(sweep, program, [command, os.path.join(folder, name)] + words.split(), library, status,
+                    says_memory, lasting)
+                   for runs, lasting in ((RUNS, False), (LASTING, True)) for command, name, words, status in runs]
+        trials += [(sweep, walk, [os.path.join(folder, name), mode], library, 0, says_nothing)
                    for name, mode in WALKS]
-        for arguments in sweeps:
-            count, wrong = sweep(*arguments)
+        trials += [(sweep, os.path.abspath(again), [os.path.join(folder, name), schedule], library, 0,
+                    says_nothing_of_words) for name, schedule in AGAIN]
+        for trial, *arguments in trials:
+            count, wrong = trial(*arguments)
             refusals += count
             passed, failed = passed + (wrong is None), failed + (wrong is not None)
             if wrong:
                 print(wrong)
-    print("%d requests for memory or a thread were refused, one a run" % refusals)
+    print("%d requests for memory or a thread were refused, one a run or all from one on" % refusals)
     print("%d passed, %d failed" % (passed, failed))
     return 1 if failed or refusals == 0 else 0
 

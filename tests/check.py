@@ -8,6 +8,8 @@ of an entry's text stands before the byte that is marked; it isn't part of the t
 is shown is that line of the text, cut round the place where it is long, and the carets lie under
 the marked bytes.
 """
+import json
+import re
 import subprocess
 import sys
 import tempfile
@@ -115,6 +117,11 @@ DEEP = [
      "W10 NeverRun"),
     ("var x;\nthread A { ^repeat 2 { load r x; if r { leave; } } }\nthread B { store x 1; }", 6,
      "W12 RanOut"),
+    # before any step
+    ("var x;\nthread A { set r 0; ^repeat 2 { if r { leave; } } store x 1; }", 6, "W12 RanOut"),
+    # in the last step of four
+    ("var x;\nthread A { store x 1; store x 1; ^repeat 2 { load r x; if r { leave; } } }\n"
+     "thread B { load s x; if s { store x 0; } }", 6, "W12 RanOut"),
 ]
 
 # Texts of which `--deep` says nothing.
@@ -187,6 +194,19 @@ class Checker:
                     err)
         self.expect("%r: %s" % (text[:80], words), words in err, err)
 
+    def replays(self, text):
+        """The schedule that is named with a loop runs, and leads a thread past that loop: to its end here."""
+        data, _, _ = marked(text)
+        _, err = self.run(data, "--deep")
+        named = re.findall(r"replay: (\S+)$", err, re.M)
+        done = subprocess.run([self.binary, "explain", str(self.folder / "text.guest"), *named, "--json"],
+                              capture_output=True, timeout=60)
+        self.expect("%r: one schedule is named" % text, len(named) == 1, err)
+        told = json.loads(done.stdout)
+        looped = [t["status"] for t in told["threads"] if t["name"] == "A"]
+        self.expect("%r: %s" % (text, named), told["refused"] is None and looped in (["ended"], ["enabled"]),
+                    done.stdout.decode())
+
 
 def main():
     with tempfile.TemporaryDirectory() as folder:
@@ -204,6 +224,8 @@ def main():
             check.expect("%r" % repaired, name not in err, err)
         for text, length, name in DEEP:
             check.place(text, length, "warning %s at" % name, "", 0, "--deep")
+            if name == "W12 RanOut":
+                check.replays(text)
         for text in DEEP_CLEAN:
             status, err = check.run(text.encode(), "--deep")
             check.expect("%r" % text, not any(w in err for w in ("W10", "W11", "W12")), err)

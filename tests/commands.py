@@ -7,6 +7,7 @@ What is expected was worked out by hand from docs/LANGUAGE.md and docs/FORMATS.m
 command has to print. `make shown` runs it.
 """
 import json
+import re
 import subprocess
 import sys
 import tempfile
@@ -21,7 +22,7 @@ RACE = "var x;\nthread A { store x 1; store x 0; }\nthread B { load r x; assert 
 APART = "var x; var y;\nthread A { store x 1; }\nthread B { store y 1; }\n"
 # Two threads of eight steps: 12,870 schedules. With no preemption 2, with at most one 2 + 7 + 7.
 EIGHTS = ("var x;\nthread A { repeat 8 { store x 1; } }\nthread B { repeat 8 { store x 2; } }\n")
-# The same, and the first schedule of all fails, in which B comes after A.
+# EIGHTS, but the first schedule of all fails, in which B comes after A.
 FAILING_EIGHTS = EIGHTS.replace("thread B {", "thread B { load r x; assert r == 0;")
 # Many schedules. B fails between A's last two steps, which takes a preemption.
 LATE = EIGHTS.replace("var x;", "var x; var y;").replace("}\nthread B {",
@@ -108,6 +109,23 @@ tab\\x09name.guest  clean    -      -            -         1
      '{"file":"race.guest","expect":null,"status":1,' + RACE_REPORT, 4),
 ]
 
+# What `--progress` writes on standard error. Of RACE no schedule but the bad one has a preemption. Of
+# EIGHTS the prefixes put off at bound 0 are those of a thread that is interrupted after one of its
+# first seven steps, and at bound 1 those with such a place in each of both threads, for either order.
+RACE_PROGRESS = ("bound 0: 2 tried, 0 bad, 0 open, 1 deferred\n"
+                 "bound 1: 3 tried, 1 bad, 0 open, 0 deferred\n")
+PROGRESS = [
+    (["explore", "race.guest"], RACE_PROGRESS),
+    (["explore", "race.guest", "--trace"], RACE_PROGRESS),
+    (["explain", "race.guest"], RACE_PROGRESS),
+    (["explore", "eights.guest", "--bound", "1"],
+     "bound 0: 2 tried, 0 bad, 0 open, 14 deferred\nbound 1: 16 tried, 0 bad, 0 open, 98 deferred\n"),
+    (["unbounded", "race.guest"], "unbounded: 3 tried, 1 bad, 0 open, 0 deferred\n"),
+    (["explain", "race.guest", "--unbounded"], "unbounded: 3 tried, 1 bad, 0 open, 0 deferred\n"),
+]
+PROGRESS_LINE = re.compile(r"(?:bound (\d+)|unbounded): ([\d,]+) tried, ([\d,]+) bad, ([\d,]+) open, "
+                           r"([\d,]+) deferred")
+
 
 class Checker:
     def __init__(self, binary, folder):
@@ -162,6 +180,40 @@ class Checker:
         self.compare(["explore", "refused.guest", "--trace"],
                      self.run(["explore", "refused.guest", "--trace"]),
                      ("", "ctxbound: syntax S3 Expected at 2:1\n", 2))
+
+    def progress(self):
+        """With `--progress` standard error tells how far the search is, and standard output and the
+        status are as without it, for one worker and for two."""
+        for words, lines in PROGRESS:
+            for more in ([], ["--workers", "2"]):
+                out, err, status = self.run(words + more)
+                self.compare(words + more, err, "")
+                self.compare(words + more + ["--progress"], self.run(words + more + ["--progress"]),
+                             (out, lines, status))
+
+    def long_progress(self):
+        """A longer search tells of each bound once it is at it, and of one again only where twice as
+        many schedules were tried."""
+        for words, bounds in ((["explore", "eights.guest", "--bound", "14"], list(map(str, range(15)))),
+                              (["unbounded", "eights.guest"], [None])):
+            for more in ([], ["--workers", "2"]):
+                out, _, status = self.run(words + more)
+                told, err, found = self.run(words + more + ["--progress"])
+                lines = [PROGRESS_LINE.fullmatch(line) for line in err.splitlines()]
+                self.compare(words + more + ["--progress"], (told, found, all(lines), len(lines) > len(bounds)),
+                             (out, status, True, True))
+                self.told_often_enough(words + more, [line.groups() for line in lines if line], bounds)
+
+    def told_often_enough(self, words, lines, bounds):
+        """The lines of a search of EIGHTS: of these bounds in their order, each number with its commas."""
+        counts = [[int(number.replace(",", "")) for number in line[1:]] for line in lines]
+        self.compare(words, list(dict.fromkeys(line[0] for line in lines)), bounds)
+        self.compare(words, [line[1:] for line in lines], [tuple(map("{:,}".format, of)) for of in counts])
+        for one, two, old, new in zip(lines, lines[1:], counts, counts[1:]):
+            self.compare(words, new[0] >= old[0] * (2 if one[0] == two[0] else 1), True)
+        self.compare(words, max((tried for tried, *_ in counts), default=0) <= 12870, True)
+        self.compare(words, any(open_items for _, _, open_items, _ in counts), True)
+        self.compare(words, [bad for _, bad, _, _ in counts], [0] * len(counts))
 
     def explanations(self):
         """What is explained is what a replay of the schedule shows; where a search finds none, a sentence
@@ -250,6 +302,8 @@ def main():
         checker.suites_cut_short()
         checker.examples()
         checker.traces()
+        checker.progress()
+        checker.long_progress()
         checker.explanations()
         checker.checks()
         checker.standard_input()

@@ -8,20 +8,18 @@ Usage: tests/explain.py BINARY
 - Of each example, with the schedule that a search finds: the text is ASCII and no line but the last is
   wider than it may be; the steps of the JSON are those of the trace, in its order; and the page has
   one script of data, which is the JSON with the text of the guest.
-- The explanation of the longest run that is asked for here takes a moment.
+- A run of 31,682 steps is explained, each step once.
 """
 import json
 import re
 import subprocess
 import sys
-import time
 from pathlib import Path
 
 ROOT = Path(__file__).resolve().parent.parent
 HERE = ROOT / "tests" / "explain"
 EXAMPLES = ROOT / "examples"
 SECONDS = 60
-LONG = 20  # seconds that the longest run may take on a busy machine; it takes one
 
 # folder, guest, words, status, file with the output
 CASES = [
@@ -106,15 +104,30 @@ class Tester:
         self.page(path.name, schedule, self.steps(path.name, schedule))
 
     def long_run(self, folder):
-        text = "var x; " + " ".join("thread T%d { repeat 100 { repeat 10 { store x %d; } } }" % (t, t)
-                                    for t in range(16))
-        (folder / "long.guest").write_text(text)
-        schedule = ",".join("%dx1000" % t for t in range(16))
+        """Fifteen threads wait again and again, and one wakes them all each time: near the most steps that
+        a program has. Each step is told, once and in order."""
+        rounds = 1022
+        turns = "repeat 31 { repeat 32 { %s } } repeat 30 { %s }"
+        text = "mutex m; cond c; " + " ".join(
+            "thread T%d { lock m; %s }" % (t, turns % (("wait c m;",) * 2)) for t in range(15))
+        (folder / "long.guest").write_text(text + " thread B { %s }" % (turns % (("broadcast c;",) * 2)))
+        schedule = ",".join(["%dx2" % t for t in range(15)] + ["15"]) + ","
+        schedule = (schedule * rounds)[:-1]
+        steps = rounds * 31
         for words in ([], ["--all"], ["--json"], ["--html"]):
-            begun = time.monotonic()
-            status, out, _ = self.run(folder, "explain", "long.guest", schedule, *words)
-            self.expect("16,000 steps %s: status %d" % (words, status), status == 0 and out)
-            self.expect("16,000 steps %s take long" % words, time.monotonic() - begun < LONG)
+            status, out, err = self.run(folder, "explain", "long.guest", schedule, *words)
+            self.expect("%d steps %s: status %d" % (steps, words, status), (status, err) == (0, b""))
+            if not words or words == ["--all"]:
+                lines = out.decode().split("\n")
+                found = [re.match(r" *(\d+) +\d+  ", line) for line in lines]
+                rows = [int(row.group(1)) for row in found if row]
+                self.expect("%d steps are told" % steps, "after %d steps with" % steps in lines[0], lines[0])
+                self.expect("the rows are in order", rows == sorted(set(rows)))
+                self.expect("each has a row", not words or rows == list(range(steps)))
+                self.expect("the command is last", lines[-2] == "Replay: ctxbound replay long.guest " + schedule)
+            if words == ["--json"]:
+                told = [step["step"] for step in json.loads(out)["steps"]]
+                self.expect("each step is an object", told == list(range(steps)))
 
 
 def trace_line(step):

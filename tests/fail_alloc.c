@@ -1,6 +1,8 @@
-/* Preloaded before a program: its request number FAIL_AT, counted from 1, is refused; a request is one
-   for memory or for a thread. Where one was refused, a byte is written to the file REFUSED_FD. Only
-   requests of the program itself count: those before `main` are the C library's own. */
+/* Preloaded before a program: its request number FAIL_AT, counted from 1, is refused, and where FAIL_ON
+   is set all later ones are, too; a request is one for memory or for a thread. Each request for FAIL_SIZE
+   bytes is refused. For one that is refused
+   an `r` is written to the file TOLD_FD, and for a thread that is made a `t`. Only requests of the
+   program itself count: those before `main` are the C library's own. */
 #define _GNU_SOURCE
 #include <dlfcn.h>
 #include <errno.h>
@@ -9,22 +11,31 @@
 #include <stddef.h>
 #include <unistd.h>
 
-static unsigned long requests, fail_at;
-static int started, refused_fd = -1;
+static unsigned long requests, fail_at, fail_size;
+static int started, fail_on, told_fd = -1;
 
 __attribute__((constructor)) static void start(void) {
     const char *text = getenv("FAIL_AT");
     fail_at = text ? strtoul(text, NULL, 10) : 0;
-    text = getenv("REFUSED_FD");
-    refused_fd = text ? atoi(text) : -1;
+    fail_on = getenv("FAIL_ON") != NULL;
+    text = getenv("FAIL_SIZE");
+    fail_size = text ? strtoul(text, NULL, 10) : 0;
+    text = getenv("TOLD_FD");
+    told_fd = text ? atoi(text) : -1;
     started = 1;
 }
 
-static int refused(void) {
-    if (!started || __atomic_add_fetch(&requests, 1, __ATOMIC_SEQ_CST) != fail_at)
-        return 0;
-    if (refused_fd >= 0 && write(refused_fd, "r", 1) != 1)
+static void tell(const char *what) {
+    if (told_fd >= 0 && write(told_fd, what, 1) != 1)
         abort();
+}
+
+static int refused(size_t size) {
+    unsigned long number = started ? __atomic_add_fetch(&requests, 1, __ATOMIC_SEQ_CST) : 0;
+    int by_number = fail_at && number >= fail_at && (number == fail_at || fail_on);
+    if (!started || (!by_number && (!fail_size || size != fail_size)))
+        return 0;
+    tell("r");
     errno = ENOMEM;
     return 1;
 }
@@ -35,33 +46,36 @@ void *malloc(size_t size) {
     static void *(*next)(size_t);
     if (!next)
         next = NEXT(malloc);
-    return refused() ? NULL : next(size);
+    return refused(size) ? NULL : next(size);
 }
 
 void *realloc(void *old, size_t size) {
     static void *(*next)(void *, size_t);
     if (!next)
         next = NEXT(realloc);
-    return refused() ? NULL : next(old, size);
+    return refused(size) ? NULL : next(old, size);
 }
 
 void *aligned_alloc(size_t align, size_t size) {
     static void *(*next)(size_t, size_t);
     if (!next)
         next = NEXT(aligned_alloc);
-    return refused() ? NULL : next(align, size);
+    return refused(size) ? NULL : next(align, size);
 }
 
 int posix_memalign(void **out, size_t align, size_t size) {
     static int (*next)(void **, size_t, size_t);
     if (!next)
         next = NEXT(posix_memalign);
-    return refused() ? ENOMEM : next(out, align, size);
+    return refused(size) ? ENOMEM : next(out, align, size);
 }
 
 int pthread_create(pthread_t *thread, const pthread_attr_t *attributes, void *(*run)(void *), void *given) {
     static int (*next)(pthread_t *, const pthread_attr_t *, void *(*)(void *), void *);
     if (!next)
         next = NEXT(pthread_create);
-    return refused() ? EAGAIN : next(thread, attributes, run, given);
+    if (refused(0))
+        return EAGAIN;
+    tell("t");
+    return next(thread, attributes, run, given);
 }

@@ -20,6 +20,8 @@ ROOT = Path(__file__).resolve().parent.parent
 CLOSING = re.compile(r"(\d+) passed, (\d+) failed$")
 PROGRAM = "build/ctxbound"
 BENCHMARK = "crates/walk_bench/out/walk_bench"
+LISTENER = "crates/rounds/out/rounds"
+AGAIN = "crates/again/out/again"
 LEFT_OUT = re.compile(r"\w+ \S+: proved$")
 # What is tried of the built program after the commands that the documents show.
 TRIED = {
@@ -29,6 +31,7 @@ TRIED = {
     "pages": [sys.executable, "tests/page.py", PROGRAM],
     "the examples as suites": [PROGRAM, "suite", "examples", "examples/real"],
     "programs made at random": [sys.executable, "tests/reference.py", PROGRAM],
+    "what workers do": [sys.executable, "tests/rounds.py", PROGRAM, LISTENER],
     "what stands around the program": [sys.executable, "tests/around.py", PROGRAM],
 }
 # What the gate counts in the lines that it passes on.
@@ -104,7 +107,7 @@ def main():
         closing = gate.part(name, words)
         if closing:
             print(closing, flush=True)
-    closing = gate.part("refused memory", [sys.executable, "tests/allocations.py", PROGRAM, BENCHMARK])
+    closing = gate.part("refused memory", [sys.executable, "tests/allocations.py", PROGRAM, BENCHMARK, AGAIN])
     gate.say(gate.whole())
     print(closing, flush=True)
 

@@ -1,4 +1,1 @@
-mod KindsOfThreads
-mod PathMarks
-mod WarningLists
 mod Tellings

@@ -10,9 +10,10 @@ use Rattle.guest_code.specs.declared.error.CheckError.{CheckError}
 use Rattle.guest_code.specs.declared.error.CheckError.TheVariants.{Duplicate, Unknown, WrongKind, NoThreads, TooMany, CodeTooLong, LeaveOutside, OutOfMemory}
 use Rattle.guest_code.specs.ErrorTexts.{check_error_text}
 use Rattle.guest_code.specs.Fault.{fault, Refuses}
-use Rattle.advice.specs.declared.message.Advice.{Advice}
+use Rattle.hints.specs.declared.message.Advice.{Advice}
 use Rattle.advice.specs.declared.Checked.TheVariants.{Sound, Refused}
-use Rattle.advice.specs.Told.{syntax_place, check_place, IsAdviceOf, Tells, is_sound, spells_none, has_fault}
+use Rattle.hints.specs.Refusals.{syntax_place, check_place, IsAdviceOf}
+use Rattle.advice.specs.Told.{Tells, is_sound, spells_none, has_fault}
 
 -- a refusal that isn't out of memory is the fault
 refused_by : (e : CheckError) (f : Option CheckError) → e ≢ OutOfMemory → Refuses e f → f ≡ Some e

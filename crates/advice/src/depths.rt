@@ -1,14 +1,15 @@
 //! The words of what schedules show.
 
-use crate::deep::{Depths, explore};
 use crate::findings::Source;
-use crate::message::{Advice, Grade, Span};
-use crate::pieces::piece_at;
-use crate::seen::{Seen, Sight, and_now};
-use crate::told::{Told, note};
-use crate::words::{decimal, signed};
-use guest_code::program::{Expression, Instruction, Value};
+use guest_code::program::Instruction;
 use guest_syntax::place::Pos;
+use hints::message::{Advice, Grade, Span};
+use hints::pieces::piece_at;
+use hints::told::{Told, note};
+use hints::words::signed;
+use probe::deep::explore;
+use probe::seen::{Seen, Sight, and_now};
+use replay::schedule_text;
 use std::alloc::{AllocError, Global};
 
 /// What was seen of a statement, of two of its instructions.
@@ -21,30 +22,6 @@ fn both(first: Sight, second: Sight) -> Sight {
         },
         _ => Sight::Varied,
     }
-}
-
-/// A schedule as `replay` reads it: `-` where it is empty.
-fn spelled(alloc: Global, path: &[u8]) -> Result<Vec<u8>, AllocError> {
-    let mut text = Vec::new(alloc);
-    let mut run = 0_u64;
-    for (i, thread) in path.iter().enumerate() {
-        run = run.saturating_add(1);
-        if path.get(i.saturating_add(1)) != Some(thread) {
-            if !text.is_empty() {
-                text.push(b',')?;
-            }
-            text.extend_from_slice(decimal(alloc, *thread as u64)?.as_bytes())?;
-            if run > 1 {
-                text.push(b'x')?;
-                text.extend_from_slice(decimal(alloc, run)?.as_bytes())?;
-            }
-            run = 0;
-        }
-    }
-    if text.is_empty() {
-        text.push(b'-')?;
-    }
-    Ok(text)
 }
 
 impl Source<'_> {
@@ -137,7 +114,7 @@ impl Source<'_> {
             alloc,
             &[b"this `repeat` runs out of turns with no `leave` in some schedule"],
         )?;
-        let schedule = spelled(alloc, path)?;
+        let schedule = schedule_text(alloc, path)?;
         told.add(note(alloc, &[b"replay: ", &schedule])?)?;
         let headline = format!(in alloc; "warning W12 RanOut at {at}")?;
         Ok(self.advice_at(Grade::Warning, headline, at, told))

@@ -3,14 +3,14 @@
 ghost use Rattle.std.specs.Prelude.{◌≡◌, ◌<◌, length};
 ghost use Rattle.guest_code.specs.SourceMap.{IsMapOf};
 
-use crate::pieces::Piece;
-use crate::uses::Use;
-use crate::warning::{Kind, Warning};
-use crate::warnings::all_warnings;
 use guest_code::program::{Instruction, Program};
 use guest_code::source_map::SourceMap;
 use guest_syntax::place::Pos;
 use guest_syntax::tree::{Object, Tree};
+use hints::pieces::Piece;
+use lint::uses::Use;
+use lint::warning::{Kind, Warning};
+use lint::warnings::all_warnings;
 use std::alloc::{AllocError, Global};
 
 /// A warning, and the place of the statement or the declaration that it is of.

@@ -3,14 +3,11 @@
 //! - [`check`] answers why a text is refused, or the warnings of its program: a text is refused
 //!   exactly where it spells no tree or its tree has a fault, and the short form and the place are
 //!   those of the refusal.
-//! - The warnings are exactly those that are so by `IsSo` of `specs/Warnings.antt`. What a path
-//!   through the code of a thread is, is said in `specs/Paths.antt`; all paths are looked at in one
-//!   pass, since jumps go forwards.
-//! - [`advice_text`] answers the lines that `specs/Lines.antt` defines: carets lie under the bytes
-//!   that are meant.
+//! - The warnings are those of `lint`; here they get their places and their words. With a depth, what
+//!   `probe` saw is told too.
+//! - [`advice_text`] answers the lines that `hints` defines: carets lie under the bytes that are meant.
 //!
-//! Which words an advice has, and all that schedules show, is shown by tests. What is in
-//! `specs/inner` only the proofs need.
+//! Which words an advice has, and all that schedules show, is shown by tests.
 #![tactic(auto)]
 
 ghost use Rattle.std.specs.Prelude.{◌≡◌, ◌≢◌, IfOk, MatchBool};
@@ -25,39 +22,22 @@ ghost use Rattle.guest_code.specs.Code.{code};
 ghost use Rattle.guest_code.specs.Fault.{fault, Refuses};
 ghost use Rattle.advice.specs.Told.{Tells, is_warning, is_warned, checked_lines};
 
-mod braces;
-mod declared;
-mod deep;
 mod depths;
 mod findings;
-mod forms;
-mod locals;
-mod message;
-mod paths;
-mod pieces;
-mod refusal;
 mod remarks;
-mod seen;
 mod spins;
-#[cfg(test)]
-mod tests;
-mod told;
-mod uses;
-mod warning;
-mod warnings;
-mod words;
 
 use crate::findings::Source;
-use crate::message::texts::put_all;
-pub use crate::message::{Advice, Grade, Note, Span};
-use crate::pieces::pieces;
-use crate::refusal::{check_advice, syntax_advice};
 use guest_code::error::CheckError;
 use guest_code::lowering::lower;
 use guest_code::program::Program;
 use guest_code::source_map::SourceMap;
 use guest_syntax::tree::Tree as SyntaxTree;
 use guest_syntax::{SyntaxError, parse};
+use hints::message::texts::put_all;
+pub use hints::message::{Advice, Grade, Note, Span};
+use hints::pieces::pieces;
+use hints::refusal::{check_advice, syntax_advice};
 use std::alloc::{AllocError, Global};
 
 /// What [`check`] finds.
@@ -149,7 +129,7 @@ fn refused_tree(
     Ok(Checked::Refused(advice))
 }
 
-/// The same of a text that spells a tree.
+/// Why a text that spells a tree is refused, or what is odd about its program.
 fn check_tree(
     alloc: Global,
     text: &[u8],

@@ -1,15 +1,15 @@
 //! The words of a warning.
 
-use crate::declared::near_name;
 use crate::findings::{Finding, Source};
-use crate::forms::is_boundary;
-use crate::message::{Advice, Grade, Span};
-use crate::pieces::piece_at;
-use crate::told::{Told, note};
-use crate::uses::Use;
-use crate::warning::Kind;
-use crate::words::joined;
 use guest_syntax::place::Pos;
+use hints::declared::near_name;
+use hints::forms::is_boundary;
+use hints::message::{Advice, Grade, Span};
+use hints::pieces::piece_at;
+use hints::told::{Told, note};
+use hints::words::joined;
+use lint::uses::Use;
+use lint::warning::Kind;
 use std::alloc::{AllocError, Global};
 
 /// The number and the name of a kind of warnings.

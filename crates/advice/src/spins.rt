@@ -2,24 +2,13 @@
 
 ghost use Rattle.std.specs.Prelude.{◌≡◌, ◌<◌, ◌≤◌, length};
 
-use crate::braces::closing;
 use crate::findings::Source;
-use crate::pieces::{Piece, piece_at};
 use guest_code::program::Instruction;
 use guest_syntax::place::Pos;
+use hints::braces::closing;
+use hints::pieces::{Piece, piece_at};
+use probe::spin::Spin;
 use std::alloc::{AllocError, Global};
-
-/// A copy of a `repeat` that has a `leave`.
-#[derive(Drop)]
-pub struct Spin {
-    pub thread: u8,
-    /// Where the `repeat` is.
-    pub at: Pos,
-    /// The instruction after its last turn.
-    pub exit: usize,
-    /// Which instructions are inside it, and none of its own `leave`s.
-    pub inside: Vec<bool>,
-}
 
 /// Where a `repeat` is among the pieces of a text: its keyword, and the braces of its block.
 #[derive(Clone, Copy)]
@@ -136,12 +125,5 @@ impl Source<'_> {
             self.add_spins(alloc, thread, &mut spins)?;
         }
         Ok(spins)
-    }
-}
-
-impl Spin {
-    /// Whether it runs out of turns where a thread goes from one instruction to another one.
-    pub fn runs_out(&self, thread: u8, from: usize, to: usize) -> bool {
-        self.thread == thread && self.exit == to && self.inside.get(from).copied().unwrap_or(false)
     }
 }

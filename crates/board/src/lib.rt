@@ -13,10 +13,9 @@
 mod account;
 mod board;
 mod claims;
+pub mod laws;
 mod rule;
 mod seat;
-#[cfg(test)]
-mod tests;
 
 pub use crate::board::{Board, NONE_TOLD};
 pub use crate::claims::Claims;

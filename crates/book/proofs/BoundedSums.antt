@@ -3,17 +3,18 @@ use Rattle.std.proofs.Common.{◌≡◌, ℕ, ◌+◌, ◌≤◌, Bool, true, fa
 use Rattle.std.specs.List.{filter, All, Contains}
 use Rattle.std.proofs.lemmas.List.Elements.{All-nil, All-cons, All-head, All-tail}
 use Rattle.guest_code.specs.Program.{Program}
-use Rattle.semantics.specs.Order.{precedes, lesser, least, is_bad}
-use Rattle.semantics.specs.Schedules.{begins_with}
+use Rattle.schedules.specs.Order.{precedes, lesser, least}
+use Rattle.semantics.specs.View.{is_bad}
+use Rattle.schedules.specs.Schedules.{begins_with}
 use Rattle.semantics.specs.Waiters.{In}
-use Rattle.semantics.proofs.LeastSchedule.{least_some}
+use Rattle.schedules.proofs.LeastSchedule.{least_some}
 use Rattle.semantics.proofs.ListMembers.{in_contains, contains_in, from_filter}
 use Rattle.walk.specs.declared.mode.Mode.{Mode}
-use Rattle.walk.specs.Summaries.{SummaryView, IsSummary, nothing, cut, greatest_count, end_kind, sum_of, join, sorted_views}
+use Rattle.summary.specs.Summaries.{SummaryView, IsSummary, nothing, cut, greatest_count, end_kind, sum_of, join, sorted_views}
 use Rattle.walk.specs.Items.{ItemView, root_of, schedules_of, goes_beyond, item_sum, item_sums, is_under, whole}
 use Rattle.walk.specs.Walks.{clear_of}
 use Rattle.walk.proofs.ListParts.{all_left}
-use Rattle.walk.proofs.SumsJoin.{sum_kept, nothing_kept, join_kept, join_comm, join_assoc, join_nothing, join_first_bad, join_members}
+use Rattle.summary.proofs.SumsJoin.{sum_kept, nothing_kept, join_kept, join_comm, join_assoc, join_nothing, join_first_bad, join_members}
 use Rattle.walk.proofs.WalkedItems.{HasItsOf, rest_has}
 use Rattle.walk.proofs.Splits.{split_sum, split_kept}
 use Rattle.book.specs.Quick.{IsBoundedBy}

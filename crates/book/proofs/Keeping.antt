@@ -1,11 +1,11 @@
 -- What the calls of a book keep where no item was dropped.
 use Rattle.std.proofs.Common.{◌≡◌, ℕ, ◌+◌, ◌<◌, ◌≤◌, Bool, false, List, [], take, drop, suc, sym, ◌∙◌, subst, arith}
 use Rattle.guest_code.specs.Program.{Program}
-use Rattle.semantics.specs.Schedules.{preemptions}
+use Rattle.schedules.specs.Schedules.{preemptions}
 use Rattle.walk.specs.declared.mode.Mode.{Mode}
 use Rattle.walk.specs.declared.mode.Mode.TheVariants.{Bounded, Reduced}
 use Rattle.walk.specs.declared.limits.TheConstants.{BOUND}
-use Rattle.walk.specs.Summaries.{SummaryView, with_beyond}
+use Rattle.summary.specs.Summaries.{SummaryView, with_beyond}
 use Rattle.walk.specs.Items.{ItemView, root_of, whole}
 use Rattle.walk.specs.Walks.{WalkView, IsWalked, IsSplit}
 use Rattle.walk.proofs.Splits.{split_opening, split_further, split_next, split_closed}

@@ -1,9 +1,9 @@
 -- What comes after a schedule.
 use Rattle.std.proofs.Common.{◌≡◌, ℕ, zero, suc, ◌+◌, ◌<◌, ◌≤◌, Bool, true, false, cond, ◌&&◌, ◌||◌, nat_eq, nat_lt, List, [], ◌∷◌, length, drop, get_or, Option, Some, None, refl, ap, ◌∙◌, sym, subst, arith, inl, inr, ◌⊎◌}
 use Rattle.std.proofs.lemmas.Bool.Decides.{nat_tests}
-use Rattle.semantics.specs.Schedules.{begins_with}
-use Rattle.semantics.specs.Order.{precedes, lesser}
-use Rattle.semantics.proofs.LeastSchedule.{before_later, never_before_itself}
+use Rattle.schedules.specs.Schedules.{begins_with}
+use Rattle.schedules.specs.Order.{precedes, lesser}
+use Rattle.schedules.proofs.LeastSchedule.{before_later, never_before_itself}
 use Rattle.book.specs.Quick.{is_later}
 
 pub later_precedes : (w p : List ℕ) → is_later w p ≡ true → precedes w p ≡ true

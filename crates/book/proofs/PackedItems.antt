@@ -8,7 +8,7 @@ use Rattle.std.proofs.lemmas.List.{reverse-append, take_all, drop_at, drop_all, 
 use Rattle.guest_code.specs.Program.{Program}
 use Rattle.semantics.specs.Mask.{no_threads}
 use Rattle.walk.specs.Items.{ItemView, AreOf, IsItem, item_at}
-use Rattle.walk.specs.PrefixLists.{last_of}
+use Rattle.prefix_list.specs.PrefixLists.{last_of}
 use Rattle.walk.specs.Walks.{IsBelow, items_at}
 use Rattle.walk.proofs.ListParts.{all_left, all_right}
 use Rattle.book.specs.ItemLists.{ListView, all_of}

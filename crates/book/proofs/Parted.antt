@@ -3,10 +3,11 @@ use Rattle.std.proofs.Common.{◌≡◌, ℕ, ◌+◌, ◌≤◌, Bool, true, fa
 use Rattle.std.specs.List.{filter, list_any, All}
 use Rattle.std.proofs.lemmas.List.Elements.{All-cons, All-append, All-head, All-tail}
 use Rattle.std.proofs.lemmas.List.Folds.{list_any-append}
-use Rattle.semantics.specs.Schedules.{begins_with, preemptions, one_if}
+use Rattle.schedules.specs.Schedules.{begins_with, preemptions}
+use Rattle.semantics.specs.Mask.{one_if}
 use Rattle.walk.specs.declared.mode.Mode.{Mode}
 use Rattle.walk.specs.declared.mode.Mode.TheVariants.{Bounded, Reduced}
-use Rattle.walk.specs.Summaries.{SummaryView, sum_of, with_beyond}
+use Rattle.summary.specs.Summaries.{SummaryView, sum_of, with_beyond}
 use Rattle.walk.specs.Items.{ItemView, schedules_of, goes_beyond, covers, is_under}
 use Rattle.walk.specs.Walks.{IsBelow, IsCut, IsSplit}
 use Rattle.walk.proofs.ListParts.{all_left, all_right}

@@ -1,13 +1,13 @@
 -- Books of which it is known that they drop none of their open items.
 use Rattle.std.proofs.Common.{◌≡◌, ℕ, suc, Bool, true, false, cond, ◌&&◌, ◌||◌, not, List, [], ◌∷◌, ◌++◌, take, drop, None, refl, ap, ◌∙◌, sym, subst}
 use Rattle.std.specs.List.{filter, list_any}
-use Rattle.semantics.specs.Order.{lesser}
-use Rattle.walk.specs.Summaries.{join}
+use Rattle.schedules.specs.Order.{lesser}
+use Rattle.summary.specs.Summaries.{join}
 use Rattle.walk.specs.Items.{ItemView}
 use Rattle.walk.specs.Walks.{WalkView}
 use Rattle.std.proofs.lemmas.List.Folds.{list_any-append}
-use Rattle.walk.proofs.LesserSchedules.{lesser_none}
-use Rattle.walk.proofs.SumsJoin.{join_first_bad}
+use Rattle.summary.proofs.LesserSchedules.{lesser_none}
+use Rattle.summary.proofs.SumsJoin.{join_first_bad}
 use Rattle.book.specs.Books.{BookView, IsSwept, IsOpenAt, settled, cannot_hold, drops}
 use Rattle.book.proofs.DroppedCounts.{IsDropped, after_drop, thinned_is}
 use Rattle.book.proofs.Lists.{parted}

@@ -3,9 +3,9 @@ use Rattle.std.specs.declared.alloc.AllocError.{AllocError}
 use Rattle.std.proofs.Common.{◌≡◌, ℕ, zero, suc, ◌<◌, ◌≤◌, Bool, true, false, Option, None, List, [], ◌∷◌, ◌++◌, length, take, refl, ap, sym, ◌∙◌, subst, arith, append_assoc, Result, Ok, Err, OnOk, is_ok, if◌then◌else◌}
 use Rattle.std.specs.List.{remove}
 use Rattle.std.proofs.lemmas.List.{take_at}
-use Rattle.semantics.specs.Order.{lesser}
+use Rattle.schedules.specs.Order.{lesser}
 use Rattle.guest_code.specs.Program.{Program}
-use Rattle.walk.specs.Summaries.{SummaryView}
+use Rattle.summary.specs.Summaries.{SummaryView}
 use Rattle.walk.specs.Items.{ItemView}
 use Rattle.walk.specs.declared.found.Found.{Found}
 use Rattle.walk.specs.Walks.{items_at, found_walk}

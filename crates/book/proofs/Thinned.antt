@@ -2,13 +2,13 @@
 use Rattle.std.proofs.Common.{◌≡◌, ℕ, suc, Bool, true, false, cond, ◌&&◌, ◌||◌, not, List, [], ◌∷◌, ◌++◌, take, drop, Some, refl, ap, ◌∙◌, sym, subst, append_assoc}
 use Rattle.std.specs.List.{filter, list_any, All}
 use Rattle.std.proofs.lemmas.List.Elements.{All-nil, All-cons, All-append, All-weaker}
-use Rattle.semantics.specs.Order.{precedes, lesser}
+use Rattle.schedules.specs.Order.{precedes, lesser}
 use Rattle.walk.specs.declared.mode.Mode.{Mode}
-use Rattle.walk.specs.Summaries.{join}
+use Rattle.summary.specs.Summaries.{join}
 use Rattle.walk.specs.Items.{ItemView, root_of}
 use Rattle.walk.specs.Walks.{WalkView, IsWalked, IsSplit}
 use Rattle.walk.proofs.Splits.{split_further}
-use Rattle.walk.proofs.SumsJoin.{join_first_bad}
+use Rattle.summary.proofs.SumsJoin.{join_first_bad}
 use Rattle.book.specs.Books.{BookView, ComeAfter, IsThinned, Keeps, KeepsWhere, IsWalkOf, IsOpenAt, settled, cannot_hold, drops, thinned}
 use Rattle.book.proofs.Keeping.{settles}
 use Rattle.book.proofs.Later.{later_precedes, lesser_some}

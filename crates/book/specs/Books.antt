@@ -5,12 +5,12 @@ use Rattle.std.specs.declared.sync.Arc.{Arc}
 use Rattle.std.specs.Arc.{arc_value}
 use Rattle.std.specs.List.{remove, list_any}
 use Rattle.guest_code.specs.Program.{Program}
-use Rattle.semantics.specs.Order.{precedes}
-use Rattle.semantics.specs.Schedules.{begins_with}
+use Rattle.schedules.specs.Order.{precedes}
+use Rattle.schedules.specs.Schedules.{begins_with}
 use Rattle.walk.specs.declared.limits.TheConstants.{BOUND}
 use Rattle.walk.specs.declared.mode.Mode.{Mode}
 use Rattle.walk.specs.declared.mode.Mode.TheVariants.{Bounded, Reduced}
-use Rattle.walk.specs.Summaries.{SummaryView, nothing, join, with_beyond}
+use Rattle.summary.specs.Summaries.{SummaryView, nothing, join, with_beyond}
 use Rattle.walk.specs.Items.{ItemView, root_of, schedules_of}
 use Rattle.walk.specs.declared.found.Found.{Found}
 use Rattle.walk.specs.Walks.{WalkView, IsSplit, IsWalked, items_at, found_walk}

@@ -1,6 +1,6 @@
 -- What a quick search may leave out.
 use Rattle.std.specs.Prelude.{◌≡◌, ℕ, ◌≤◌, Bool, false, ◌||◌, ◌&&◌, nat_lt, nat_eq, List, [], ◌∷◌, All, Contains}
-use Rattle.walk.specs.Summaries.{SummaryView}
+use Rattle.summary.specs.Summaries.{SummaryView}
 
 -- the prefix differs from the schedule at some place, and is greater at the first such place
 abbrev pub is_later : List ℕ → List ℕ → Bool

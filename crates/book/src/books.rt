@@ -18,12 +18,11 @@ use std::alloc::{AllocError, Global};
 use std::marker::Model;
 use std::mem;
 use std::sync::Arc;
+use summary::{EndHints, Summary};
 use walk::found::Found;
-use walk::hints::EndHints;
 use walk::item::Item;
 use walk::limits::BOUND;
 use walk::mode::Mode;
-use walk::summary::Summary;
 use walk::walked::Walked;
 use walk::walker::Walker;
 
@@ -76,7 +75,7 @@ impl Book {
         Book::open_as(alloc, program, mode, false)
     }
 
-    /// The same for a quick search, which may drop open items.
+    /// A book of a quick search, which may drop open items. Its one open item is the root.
     ///
     /// # Errors
     ///
@@ -209,7 +208,8 @@ impl Book {
     ///
     /// # Errors
     ///
-    /// `AllocError` where memory runs out. There are some items of the program then.
+    /// `AllocError` where memory runs out. The book is as before then, and these are some items of the
+    /// program, not its next round.
     pub fn next_round(&mut self, alloc: Global, items: &mut Vec<Item>) -> Result<(), AllocError>
         requires { AreOf self.old.program items.old.items }
         ensures items { OnOk result (items.new.items
@@ -320,7 +320,7 @@ impl Book {
         self.settle_own(alloc, walked)
     }
 
-    // The same where the walk is of the book's program and mode.
+    // Settles a walk that is of the book's program and mode.
     fn settle_own(&mut self, alloc: Global, walked: Walked) -> Result<(), SettleError>
         requires { IsWalkOf self.old walked }
         ensures ok { OnOk result (Settles self.old walked self.new) }
@@ -342,7 +342,8 @@ impl Book {
     ///
     /// # Errors
     ///
-    /// As those of `settle`, but for `Stranger`.
+    /// As those of `settle`, but for `Stranger`. Of what was found some may be lost then, so an item that
+    /// is open has to be walked again.
     pub fn settle_found(
         &mut self,
         alloc: Global,
@@ -371,7 +372,8 @@ impl Book {
     ///
     /// # Errors
     ///
-    /// `AllocError` where memory runs out. The book is as before then.
+    /// `AllocError` where memory runs out. The book is as before then, and the item has to be walked
+    /// again.
     pub fn walk_at(
         &mut self,
         alloc: Global,

@@ -11,6 +11,7 @@ ghost use Rattle.book.specs.ItemLists.{all_of};
 
 use crate::packed::{last_item, last_items, last_packed};
 use guest_code::program::Program;
+use prefix_list::Prefixes;
 use semantics::mask::Mask;
 use std::alloc::{AllocError, Global};
 use std::collections::VecDeque;
@@ -18,7 +19,6 @@ use std::marker::Model;
 use std::mem;
 use std::sync::Arc;
 use walk::item::Item;
-use walk::prefixes::Prefixes;
 
 /// A list of items of one program, which its holder knows: prefixes after which no thread sleeps
 /// are packed, a few bytes each, and items that came later or were asked for stand after them as

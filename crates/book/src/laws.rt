@@ -3,10 +3,10 @@
 
 ghost use Rattle.std.specs.Prelude.{◌≡◌, ◌≤◌, ◌<◌, ◌++◌, ℕ, [], false, true, List, Some, Contains, All, length, slice_index_or};
 ghost use Rattle.semantics.specs.Machine.{start};
-ghost use Rattle.semantics.specs.Order.{is_bad};
-ghost use Rattle.semantics.specs.Schedules.{complete_schedules, begins_with, preemptions};
+ghost use Rattle.semantics.specs.View.{is_bad};
+ghost use Rattle.schedules.specs.Schedules.{complete_schedules, begins_with, preemptions};
 ghost use Rattle.walk.specs.declared.mode.Mode.TheVariants.{Bounded, Reduced};
-ghost use Rattle.walk.specs.Summaries.{sum_of, join, with_beyond, end_kind};
+ghost use Rattle.summary.specs.Summaries.{sum_of, join, with_beyond, end_kind};
 ghost use Rattle.walk.specs.FullSums.{full_sum, full_sums};
 ghost use Rattle.walk.specs.Items.{ItemView, root_of, item_sums, is_under, whole};
 ghost use Rattle.walk.specs.Walks.{IsBelow, IsDeferred, clear_of};

@@ -18,5 +18,3 @@ mod item_list;
 pub mod laws;
 pub mod limits;
 mod packed;
-#[cfg(test)]
-mod tests;

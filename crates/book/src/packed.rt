@@ -3,14 +3,14 @@
 ghost use Rattle.std.specs.Prelude.{◌≡◌, ◌-◌, ◌<◌, ◌≤◌, length, drop, IfOk, All};
 ghost use Rattle.std.specs.Arc.{arc_value};
 ghost use Rattle.walk.specs.Items.{IsItem, item_at};
-ghost use Rattle.walk.specs.PrefixLists.{last_of};
+ghost use Rattle.prefix_list.specs.PrefixLists.{last_of};
 ghost use Rattle.walk.specs.Walks.{items_at};
 
 use guest_code::program::Program;
+use prefix_list::{LastFirst, Prefixes};
 use std::alloc::{AllocError, Global};
 use std::sync::Arc;
 use walk::item::Item;
-use walk::prefixes::{LastFirst, Prefixes};
 
 // The items of the last prefixes of a list, so many, in their order. The prefixes run.
 pub(crate) fn last_items(

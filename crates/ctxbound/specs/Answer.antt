@@ -13,7 +13,7 @@ use Rattle.guest_code.specs.declared.error.CheckError.{CheckError}
 use Rattle.guest_code.specs.declared.error.CheckError.TheVariants as check
 use Rattle.guest_code.specs.Program.{Program}
 use Rattle.semantics.specs.Machine.{start}
-use Rattle.semantics.specs.Schedules.{state_after, runs}
+use Rattle.schedules.specs.Schedules.{state_after, runs}
 use Rattle.semantics.specs.Ends.{kind_of}
 use Rattle.replay.specs.declared.error.ReplayError.{ReplayError}
 use Rattle.replay.specs.declared.error.ReplayError.TheVariants as replay
@@ -131,7 +131,7 @@ abbrev pub TracedMeans : List ℕ → Options → Result Printed Fault → Type 
 TracedMeans text o result =
     MatchResult result (IsTracedExplorationOf text o) (TracedFaultMeans text o)
 
--- the fault of a refusal: out of memory is one fault, whoever met it
+-- the fault of a refusal: out of memory is one fault, wherever it was met
 abbrev pub of_syntax : SyntaxError → Fault
 of_syntax syntax.OutOfMemory = Memory
 of_syntax e = Syntax e

@@ -15,7 +15,8 @@ use guest_code::lowering::lower;
 use guest_code::source_map::SourceMap;
 use guest_syntax::parse;
 use replay::schedule_from;
-use runner::{Report, Verdict, report_text};
+use runner::{Report, Verdict, report_text, report_value};
+use serde_json::Value;
 use std::alloc::{AllocError, Global};
 use std::io::Eprint;
 use std::sync::{Arc, Wait};
@@ -40,31 +41,73 @@ pub fn explain_text<R: Threads + Wait + Sync + Eprint>(
     text: &[u8],
     asked: &ExplainRequest,
 ) -> Result<Printed, Fault> {
+    match &asked.schedule {
+        Some(schedule) => explain_given(alloc, text, asked, schedule.as_bytes()),
+        None => explain_found(rt, alloc, text, asked),
+    }
+}
+
+// The explanation of the schedule that this text spells.
+fn explain_given(
+    alloc: Global,
+    text: &[u8],
+    asked: &ExplainRequest,
+    schedule: &[u8],
+) -> Result<Printed, Fault> {
     let tree = parse(alloc, text)?;
-    let program = Arc::new(alloc, lower(alloc, &tree)?)?;
+    let program = lower(alloc, &tree)?;
     let map = SourceMap::new(alloc, &tree)?;
+    let schedule = schedule_from(alloc, schedule)?;
     let source = Source {
         file: asked.file.as_bytes(),
         text,
         program: &program,
         map: &map,
     };
-    if let Some(schedule) = &asked.schedule {
-        let schedule = schedule_from(alloc, schedule.as_bytes())?;
-        return explained(alloc, &source, schedule.as_slice(), asked.form, false);
-    }
-    let options = asked.search.options;
+    explained(alloc, &source, schedule.as_slice(), asked.form, None)
+}
+
+// The explanation of what a search finds.
+fn explain_found<R: Threads + Wait + Sync + Eprint>(
+    rt: &R,
+    alloc: Global,
+    text: &[u8],
+    asked: &ExplainRequest,
+) -> Result<Printed, Fault> {
+    let tree = parse(alloc, text)?;
+    let program = Arc::new(alloc, lower(alloc, &tree)?)?;
+    let map = SourceMap::new(alloc, &tree)?;
     let gate = Teller::new(rt, asked.search.progress);
-    let report = runner::explore(rt, alloc, &program, options, asked.search.workers, &gate)?;
+    let (options, workers) = (asked.search.options, asked.search.workers);
+    let report = runner::explore(rt, alloc, &program, options, workers, &gate)?;
+    let source = Source {
+        file: asked.file.as_bytes(),
+        text,
+        program: &program,
+        map: &map,
+    };
+    named_explained(alloc, &source, asked, &report)
+}
+
+// The explanation of the schedule that a report names, or what is said where it names none.
+fn named_explained(
+    alloc: Global,
+    source: &Source<'_>,
+    asked: &ExplainRequest,
+    report: &Report,
+) -> Result<Printed, Fault> {
     match report.schedule() {
-        Some(schedule) => explained(alloc, &source, schedule, asked.form, is_least(&report)),
-        None => nothing_found(alloc, asked, &report),
+        Some(schedule) => explained(alloc, source, schedule, asked.form, Some(report)),
+        None => nothing_found(alloc, asked, report),
     }
 }
 
-// Whether no schedule with fewer preemptions than the one that the report names is bad.
-fn is_least(report: &Report) -> bool {
-    matches!(&report.verdict, Verdict::Bad { .. }) && report.bound.is_some()
+// Whether a search showed that no schedule with fewer preemptions than the one that it names is bad.
+fn is_least(search: Option<&Report>) -> bool {
+    match search {
+        Some(report) => matches!(&report.verdict, Verdict::Bad { .. }) && report.bound.is_some(),
+        None => false,
+    }
 }
 
 // The status after an explanation: that of a replay, or that of a refusal where the schedule doesn't
@@ -78,33 +121,52 @@ fn explained_status(explanation: &Explanation) -> u8
     }
 }
 
-// The explanation of a schedule.
+// The explanation of a schedule, which this search found, if one did.
 fn explained(
     alloc: Global,
     source: &Source<'_>,
     schedule: &[u8],
     form: Form,
-    is_least: bool,
+    search: Option<&Report>,
 ) -> Result<Printed, Fault>
     ensures { IfErr result (λ fault. fault ≡ Memory) }
 {
     let explanation = Explanation::new(alloc, source.program, schedule)?;
-    let output = match form {
-        Form::Text { width, all } => {
-            let shape = Shape {
-                width,
-                all,
-                is_least,
-            };
-            explanation_text(alloc, &explanation, source, shape)?
-        }
-        Form::Json => explanation_json(alloc, &explanation, source)?,
-        Form::Html => explanation_html(alloc, &explanation, source)?,
-    };
+    let output = told_as(alloc, &explanation, source, form, search)?;
     Ok(Printed {
         output,
         status: explained_status(&explanation),
     })
+}
+
+// The bytes of an explanation, which is that of a schedule of the source's program.
+fn told_as(
+    alloc: Global,
+    explanation: &Explanation,
+    source: &Source<'_>,
+    form: Form,
+    search: Option<&Report>,
+) -> Result<Vec<u8>, AllocError> {
+    match form {
+        Form::Text { width, all } => {
+            let shape = Shape {
+                width,
+                all,
+                is_least: is_least(search),
+            };
+            explanation_text(alloc, explanation, source, shape)
+        }
+        Form::Json => explanation_json(alloc, explanation, source, ends_of(alloc, search)?),
+        Form::Html => explanation_html(alloc, explanation, source, ends_of(alloc, search)?),
+    }
+}
+
+// The report of a search as JSON, if there was one.
+fn ends_of(alloc: Global, search: Option<&Report>) -> Result<Option<Value>, AllocError> {
+    match search {
+        Some(report) => Ok(Some(report_value(alloc, report)?)),
+        None => Ok(None),
+    }
 }
 
 // What is printed where a search found no bad schedule: a sentence, or the report as JSON.

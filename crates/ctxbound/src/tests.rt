@@ -78,7 +78,7 @@ fn answered(
     Written { out, err, status }
 }
 
-/// The same of a replay.
+/// What is written where a schedule is replayed, and the status.
 fn served(
     rt: &(impl Threads + Wait + Sync + Eprint + Alloc<A = Global>),
     text: &[u8],
@@ -236,7 +236,7 @@ fn readers_fail(
     }
 }
 
-/// The same of each call of a writer.
+/// Each call of a writer fails in turn.
 fn writers_fail(
     rt: &(impl Abort + Threads + Wait + Sync + Eprint + Alloc<A = Global>),
     request: &Asked,

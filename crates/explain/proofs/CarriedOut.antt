@@ -5,7 +5,7 @@ use Rattle.std.proofs.lemmas.List.{map-append, length-replicate}
 use Rattle.std.proofs.lemmas.List.Elements.{All-nil, All-push}
 use Rattle.guest_code.specs.Program.{Program, IsWellFormed}
 use Rattle.semantics.specs.Machine.{Snapshot, is_enabled, owner_of}
-use Rattle.semantics.specs.Execution.{ExecutionView, IsExecutionOf, Reaches}
+use Rattle.schedules.specs.Execution.{ExecutionView, IsExecutionOf, Reaches}
 use Rattle.replay.specs.declared.run.Line.{Line}
 use Rattle.replay.specs.Run.{number_at}
 use Rattle.replay.proofs.LinesOfSteps.{IsToldUpTo, told_none, told_more}

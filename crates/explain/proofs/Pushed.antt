@@ -16,7 +16,7 @@ pushed_at (z ∷ xs) x (suc k) y h = elim (pushed_at xs x k y h) [
   | inr new ↦ inr (let e : suc k ≡ length (z ∷ xs) = omega (arith, new.0) in (e, new.1))
 ]
 
--- the same of a list of options
+-- an option pushed onto a list of options
 pub pushed_option : {A : Type 0} → (xs : List (Option A)) (x : Option A) (k : ℕ) (y : A) →
     get_or (xs ++ x ∷ []) k None ≡ Some y →
     (get_or xs k None ≡ Some y) ⊎ ((k ≡ length xs) × (x ≡ Some y))

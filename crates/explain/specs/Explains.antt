@@ -2,9 +2,9 @@
 use Rattle.std.specs.Prelude.{◌≡◌, ℕ, ◌<◌, ◌≤◌, true, List, length, take, Option, Some, None, slice_get, slice_index_or}
 use Rattle.guest_code.specs.Program.{Program}
 use Rattle.semantics.specs.Machine.{Snapshot, start}
-use Rattle.semantics.specs.Schedules.{state_after, runs, preemptions, last_of}
+use Rattle.schedules.specs.Schedules.{state_after, runs, preemptions, last_of}
 use Rattle.semantics.specs.Ends.{kind_of}
-use Rattle.semantics.specs.Execution.{ExecutionView}
+use Rattle.schedules.specs.Execution.{ExecutionView}
 use Rattle.replay.specs.Run.{lines_from, number_at, IsFirstBad}
 use Rattle.explain.specs.declared.explanation.Explanation.{Explanation}
 use Rattle.explain.specs.declared.standing.Standing.{Standing}

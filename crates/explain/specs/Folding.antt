@@ -39,7 +39,7 @@ waited_for (Retake m) = Mutex m
 waited_for (Acquire k) = Semaphore k
 waited_for (Signal c) = Condition c
 
--- the same as a list
+-- the object of a reason as a list, if there is a reason
 abbrev pub all_waited_for : Option Reason → List Object
 all_waited_for None = []
 all_waited_for (Some r) = waited_for r ∷ []

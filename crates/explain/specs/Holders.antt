@@ -2,7 +2,7 @@
 use Rattle.std.specs.Prelude.{◌≡◌, ◌≢◌, ℕ, ◌<◌, ◌≤◌, List, take, Option, Some, None}
 use Rattle.guest_code.specs.Program.{Program}
 use Rattle.semantics.specs.Machine.{start, owner_of}
-use Rattle.semantics.specs.Schedules.{state_after}
+use Rattle.schedules.specs.Schedules.{state_after}
 use Rattle.explain.specs.declared.explanation.Holder.{Holder}
 
 -- the owner of a mutex after the first k steps of a schedule

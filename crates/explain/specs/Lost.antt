@@ -46,7 +46,7 @@ written_by (Broadcast c) = None
 written_by (Acquire k) = None
 written_by (Release k) = None
 
--- a step of one of so many threads on one of so many variables as a program has at most
+-- a step of a thread and on a variable whose numbers are below the limits of a program
 pub record IsWithin (line : Line) : Type 0 where
   pub thread : line.thread < THREADS
   pub reads : (x : ℕ) → read_by line.act ≡ Some x → x < VARIABLES

@@ -42,7 +42,7 @@ setting_by at (Cas r x a b) (Swaps y v hit) =
     Some (record { instruction = at; local = r; value = one_or_zero (is_some hit) })
 setting_by at _ _ = None
 
--- the same as a list
+-- that local as a list, if one is set
 abbrev pub listed : Option Setting → List Setting
 listed None = []
 listed (Some setting) = setting ∷ []

@@ -4,8 +4,8 @@ use Rattle.guest_code.specs.Program.{Program, code_of}
 use Rattle.semantics.specs.declared.state.Action.{Action}
 use Rattle.semantics.specs.declared.state.Action.TheVariants.{OnVariable, OnMutex, Wait as Waits, OnCondition, OnSemaphore}
 use Rattle.semantics.specs.Machine.{Snapshot, thread_at, next_of, owner_of, queue_of, owns, threads_to_wake, step}
-use Rattle.semantics.specs.Schedules.{up_from}
-use Rattle.semantics.specs.Execution.{ExecutionView, IsExecutionOf, stepped}
+use Rattle.semantics.specs.Work.{up_from}
+use Rattle.schedules.specs.Execution.{ExecutionView, IsExecutionOf, stepped}
 use Rattle.replay.specs.declared.run.Line.{Line}
 use Rattle.replay.specs.Run.{line_at}
 use Rattle.replay.specs.Trace.{IsValidLine}

@@ -14,7 +14,7 @@ use crate::standing::{Reason, Standing};
 use crate::step::Step;
 use guest_code::limits::LOCALS;
 use guest_code::program::Program;
-use semantics::execution::Execution;
+use schedules::execution::Execution;
 use semantics::state::{State, Stop};
 use semantics::view::Kind;
 use std::alloc::{AllocError, Global};

@@ -15,8 +15,6 @@ mod source;
 mod standing;
 mod statement;
 mod step;
-#[cfg(test)]
-mod tests;
 pub mod words;
 
 pub use crate::explanation::{Explanation, Holder, Start};

@@ -4,7 +4,7 @@ ghost use Rattle.std.specs.Prelude.{◌≡◌, ◌<◌, ◌+◌, ◌^◌, IfOk, 
 ghost use Rattle.guest_code.specs.Program.{Program};
 ghost use Rattle.semantics.specs.Machine.{is_enabled, owns, queue_of};
 ghost use Rattle.semantics.specs.Reachable.{IsOf, IsValidAction};
-ghost use Rattle.semantics.specs.Execution.{IsExecutionOf, stepped};
+ghost use Rattle.schedules.specs.Execution.{IsExecutionOf, stepped};
 ghost use Rattle.explain.specs.Lost.{line_of};
 ghost use Rattle.explain.specs.Steps.{IsTakenStep, held_in, lines_of, woken_in};
 
@@ -12,7 +12,7 @@ use crate::object::{Object, Reading};
 use crate::settings::{Passage, Setting, settings_of};
 use guest_code::program::Program;
 use replay::{Line, act_of};
-use semantics::execution::Execution;
+use schedules::execution::Execution;
 use semantics::state::{Action, ConditionAction, State};
 use std::alloc::{AllocError, Global};
 

@@ -1,5 +1,7 @@
 //! Words, numbers and columns of a text.
 
+ghost use Rattle.std.specs.Prelude.{◌≡◌, ◌++◌, OnOk};
+
 use std::alloc::{AllocError, Global};
 
 /// A number.
@@ -13,7 +15,9 @@ pub fn put_value(text: &mut Vec<u8>, alloc: Global, value: i64) -> Result<(), Al
 }
 
 /// Two words, one after the other.
-pub fn put_both(text: &mut Vec<u8>, first: &[u8], second: &[u8]) -> Result<(), AllocError> {
+pub fn put_both(text: &mut Vec<u8>, first: &[u8], second: &[u8]) -> Result<(), AllocError>
+    ensures { OnOk result (text.new.items ≡ text.old.items ++ first.now ++ second.now) }
+{
     text.extend_from_slice(first)?;
     text.extend_from_slice(second)
 }

@@ -7,7 +7,8 @@ use serde_json::Value;
 use std::alloc::{AllocError, Global};
 
 /// The explanation as compact JSON of one object, its keys in the order of their bytes, with a line
-/// feed. `docs/FORMATS.md` says what each key has.
+/// feed. `docs/FORMATS.md` says what each key has. `search` is the report of the search that found the
+/// schedule, if one did.
 ///
 /// # Errors
 ///
@@ -16,19 +17,21 @@ pub fn explanation_json(
     alloc: Global,
     explanation: &Explanation,
     source: &Source<'_>,
+    search: Option<Value>,
 ) -> Result<Vec<u8>, AllocError> {
     let teller = Teller {
         alloc,
         explanation,
         source,
     };
-    let mut text = Value::Object(teller.members()?).to_vec(alloc)?;
+    let mut text = Value::Object(teller.members(search)?).to_vec(alloc)?;
     text.push(b'\n')?;
     Ok(text)
 }
 
 /// The explanation as a page: one file, which asks no network. Its data is the JSON of the
-/// explanation with the text of the guest, and its script draws it.
+/// explanation with the text of the guest, and its script draws it. `search` is the report of the
+/// search that found the schedule, if one did: the page shows its other ends.
 ///
 /// # Errors
 ///
@@ -37,13 +40,14 @@ pub fn explanation_html(
     alloc: Global,
     explanation: &Explanation,
     source: &Source<'_>,
+    search: Option<Value>,
 ) -> Result<Vec<u8>, AllocError> {
     let teller = Teller {
         alloc,
         explanation,
         source,
     };
-    let mut members = teller.members()?;
+    let mut members = teller.members(search)?;
     teller.put(&mut members, "source", teller.text(source.text)?)?;
     let data = Value::Object(members).to_vec(alloc)?;
     let mut page = Vec::from_slice(alloc, PAGE_BEGIN.as_bytes())?;

@@ -22,8 +22,8 @@ pub struct Teller<'a> {
 }
 
 impl Teller<'_> {
-    /// The members of the object.
-    pub fn members(&self) -> Result<Members, AllocError> {
+    /// The members of the object, with the report of a search or null.
+    pub fn members(&self, search: Option<Value>) -> Result<Members, AllocError> {
         let told = self.explanation;
         let mut members = Map::new(self.alloc);
         let schedule = schedule_text(self.alloc, told.schedule())?;
@@ -34,6 +34,7 @@ impl Teller<'_> {
         self.put(&mut members, "preemptions", preemptions)?;
         let refused = told.refused().map_or(Value::Null, Value::from);
         self.put(&mut members, "refused", refused)?;
+        self.put(&mut members, "search", search.unwrap_or(Value::Null))?;
         self.put(&mut members, "opening", self.opening()?)?;
         self.put(&mut members, "steps", self.steps()?)?;
         self.put(&mut members, "threads", self.threads()?)?;
@@ -224,12 +225,23 @@ impl Teller<'_> {
             conditions.push(self.object(Object::Condition(c))?)?;
         }
         let mut members = Map::new(self.alloc);
+        self.put(&mut members, "declared", self.declared()?)?;
         self.put(&mut members, "variables", self.variables()?)?;
         self.put(&mut members, "semaphores", self.semaphores()?)?;
         self.put(&mut members, "mutexes", Value::Array(mutexes))?;
         self.put(&mut members, "conditions", Value::Array(conditions))?;
         self.put(&mut members, "threads", self.starts()?)?;
         Ok(Value::Object(members))
+    }
+
+    // The names of the variables, in the order of their declaration.
+    fn declared(&self) -> Result<Value, AllocError> {
+        let program = self.source.program;
+        let mut names = Vec::new(self.alloc);
+        for x in 0..program.variables() as usize {
+            names.push(self.text(program.variable_name(x))?)?;
+        }
+        Ok(Value::Array(names))
     }
 
     // The variables with their opening values.

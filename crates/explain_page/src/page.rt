@@ -37,6 +37,7 @@ table { border-collapse: collapse; font: 12px ui-monospace, monospace; } td { pa
 <section id="lanes"></section>
 <section id="state"></section>
 <section><h2>Who waits for whom</h2><div id="graph"></div></section>
+<section id="search" hidden><h2>How schedules end</h2><p id="counts"></p><table id="ends"></table></section>
 </div>
 </main>
 <script type="application/json" id="data">"##;
@@ -50,6 +51,8 @@ const steps = data.steps, names = data.opening.threads.map((t) => t.name);
 const colours = ["#3559a8", "#2e7d32", "#8e44ad", "#b8601a", "#00796b", "#ad1457", "#5d4037", "#37474f"];
 const colour = (t) => colours[t % colours.length];
 const byId = (id) => document.getElementById(id);
+// A table by name, in which no name is there already, whatever it is.
+const byName = (of) => Object.assign(Object.create(null), of);
 function make(tag, text, name) {
   const e = document.createElement(tag);
   if (text !== undefined) e.textContent = text;
@@ -65,8 +68,8 @@ function draw(parent, tag, attributes, text) {
 }
 // The state after so many steps.
 function stateAfter(count) {
-  const s = { variables: { ...data.opening.variables }, owners: {}, queues: {},
-    counts: { ...data.opening.semaphores }, locals: names.map(() => ({})), next: [], stop: [], waiting: names.map(() => null), woken: names.map(() => false) };
+  const s = { variables: byName(data.opening.variables), owners: byName(), queues: byName(),
+    counts: byName(data.opening.semaphores), locals: names.map(() => byName()), next: [], stop: [], waiting: names.map(() => null), woken: names.map(() => false) };
   data.opening.mutexes.forEach((m) => { s.owners[m] = null; });
   data.opening.conditions.forEach((c) => { s.queues[c] = []; });
   data.opening.threads.forEach((t, i) => {
@@ -116,7 +119,7 @@ const lane = 120, row = 22, top0 = 26, left = 44;
 const xOf = (t) => left + t * lane + 14, yOf = (k) => top0 + k * row + row / 2;
 // Where each load read what a store wrote, and each retake follows its signal.
 function arrows() {
-  const wrote = {}, called = {}, found = [];
+  const wrote = byName(), called = byName(), found = [];
   steps.forEach((s, k) => {
     if (["load", "add", "cas"].includes(s.act) && s.object in wrote && steps[wrote[s.object]].thread !== s.thread) found.push([wrote[s.object], k]);
     if (s.act === "retake" && s.name in called) found.push([called[s.name], k]);
@@ -137,7 +140,7 @@ function drawLanes() {
   steps.forEach((s, k) => {
     if (s.preempting) draw(svg, "rect", { x: 0, y: yOf(k) - row / 2 - 2, width: left + names.length * lane + 20, height: 4, fill: "#c62828", opacity: 0.35, class: "interruption" });
   });
-  const owned = {};
+  const owned = byName();
   const stripe = (m, to) => { const [t, from] = owned[m]; draw(svg, "rect", { x: xOf(t) - 12 - 5 * (data.opening.mutexes.indexOf(m) % 2), y: yOf(from), width: 4, height: Math.max(4, yOf(to) - yOf(from)), fill: "#b8bec8", class: "held" }); delete owned[m]; };
   steps.forEach((s, k) => {
     if (s.act === "lock" || s.act === "retake") owned[s.object] = [s.thread, k];
@@ -213,6 +216,26 @@ function showGraph(s) {
   });
   byId("graph").replaceChildren(svg);
 }
+// How the schedules end that the search tried, where one found this schedule.
+function showEnds() {
+  const search = data.search, kinds = byId("ends"), last = stateAfter(steps.length);
+  if (search === null) return;
+  byId("search").hidden = false;
+  const tried = search.tried + (search.tried === 1 ? " schedule" : " schedules");
+  const within = search.bound === null ? "" : " with at most " + search.bound + (search.bound === 1 ? " preemption" : " preemptions");
+  byId("counts").textContent = tried + within + " tried: " + search.failed + " failed, " + search.stuck + " stuck"
+    + (search.quick ? ", others left out by a quick search" : "") + (search.verdict === "incomplete" ? ", then cut short" : "") + ".";
+  const head = make("tr");
+  head.append(make("td", "ends"), ...data.opening.declared.map((name) => make("td", name)));
+  kinds.append(head);
+  search.ends.forEach((end) => {
+    const own = end.kind === data.kind && data.opening.declared.every((name, x) => last.variables[name] === end.vars[x]);
+    const tr = make("tr", undefined, own ? "changed" : "");
+    tr.append(make("td", end.kind, end.kind === "done" ? "" : "bad"), ...end.vars.map((value) => make("td", String(value))));
+    if (own) tr.append(make("td", "this schedule"));
+    kinds.append(tr);
+  });
+}
 function show(count) {
   const s = stateAfter(count);
   byId("slider").value = count;
@@ -229,6 +252,7 @@ byId("slider").addEventListener("input", (e) => show(Number(e.target.value)));
 byId("back").addEventListener("click", () => show(Math.max(0, Number(byId("slider").value) - 1)));
 byId("on").addEventListener("click", () => show(Math.min(steps.length, Number(byId("slider").value) + 1)));
 drawLanes();
+showEnds();
 show(steps.length);
 </script>
 </body>

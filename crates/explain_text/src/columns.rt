@@ -40,7 +40,7 @@ pub struct Columns {
 }
 
 impl Columns {
-    /// The columns of a table of so many threads.
+    /// The columns of a table, one for each thread.
     pub fn new(width: usize, threads: usize) -> Columns {
         let width = width.max(NARROWEST).min(WIDEST);
         let room = width - MARGIN;

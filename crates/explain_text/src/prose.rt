@@ -522,7 +522,7 @@ impl Teller<'_> {
         Ok(())
     }
 
-    // The same in a sentence.
+    // Why a thread is blocked, in a few words for the end of a sentence.
     fn put_short_reason(
         &self,
         words: &mut Vec<u8>,
@@ -674,7 +674,7 @@ fn is_before(place: Option<usize>, other: Option<usize>) -> bool {
     }
 }
 
-// What stands behind a thread of a circle, at its place among so many.
+// What is written after a thread of a circle, by its place in it.
 fn mark_of(place: usize, count: usize) -> &'static [u8] {
     if count == 1 {
         b"itself"

@@ -12,7 +12,7 @@ use semantics::state::Stop;
 use semantics::view::Kind;
 use std::alloc::AllocError;
 
-/// A folded run of at least so many steps has a row.
+/// The least number of steps with which a folded run has a row.
 const LONG: usize = 10;
 /// The column after the number of a step, and the one after the number of a line.
 const STEP: usize = 4;

@@ -1,6 +1,7 @@
 -- Instructions are the same exactly where `==` says so.
 use Rattle.std.proofs.Common.{◌≡◌, ℕ, ℤ, ◌&&◌, true, false, Bool, refl, ap}
 use Rattle.std.specs.Cmp.{unsigned_Decides, signed_Decides}
+use Rattle.std.proofs.lemmas.Bool.{false≢true}
 use Rattle.guest_syntax.specs.declared.tree.Op.{Op}
 use Rattle.guest_syntax.specs.declared.tree.Op.TheVariants as ops
 use Rattle.guest_syntax.specs.contracts.tree.OpPartialEq.TheImpl.{eq-value as same-op}
@@ -28,12 +29,12 @@ op_is ops.Less ops.Less e = refl
 op_is ops.LessOrEqual ops.LessOrEqual e = refl
 op_is ops.Greater ops.Greater e = refl
 op_is ops.GreaterOrEqual ops.GreaterOrEqual e = refl
-op_is _ _ e = absurd cc
+op_is _ _ e = absurd (false≢true e)
 
 pub value_is : (a b : Value) → same-value.it a b ≡ true → a ≡ b
 value_is (Local r) (Local q) e = ap (λ (n : ℕ). Local n) ((unsigned_Decides r q).0 e)
 value_is (Literal m) (Literal n) e = ap (λ (z : ℤ). Literal z) ((signed_Decides m n).0 e)
-value_is _ _ e = absurd cc
+value_is _ _ e = absurd (false≢true e)
 
 pub expression_is : (a b : Expression) → same-expression.it a b ≡ true → a ≡ b
 expression_is (Single a) (Single b) e = ap (λ (v : Value). Single v) (value_is a b e)
@@ -41,7 +42,7 @@ expression_is (Both a o b) (Both c p d) e =
     let t = both _ _ e in
     let u = both _ _ t.1 in
     λ i. Both (value_is a c t.0 i) (op_is o p u.0 i) (value_is b d u.1 i)
-expression_is _ _ e = absurd cc
+expression_is _ _ e = absurd (false≢true e)
 
 pub instruction_is : (a b : Instruction) → same-instruction.it a b ≡ true → a ≡ b
 instruction_is (Load r x) (Load q y) e = let t = both _ _ e in λ i. Load
@@ -73,4 +74,4 @@ instruction_is (Assert a) (Assert b) e = ap (λ (v : Expression). Assert v) (exp
 instruction_is (SkipIfZero a m) (SkipIfZero b n) e = let t = both _ _ e in λ i. SkipIfZero
     (expression_is a b t.0 i) ((unsigned_Decides m n).0 t.1 i)
 instruction_is (Skip m) (Skip n) e = ap (λ (k : ℕ). Skip k) ((unsigned_Decides m n).0 e)
-instruction_is _ _ e = absurd cc
+instruction_is _ _ e = absurd (false≢true e)

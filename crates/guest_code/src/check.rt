@@ -136,7 +136,7 @@ fn check_local(scope: Scope<'_>, locals: &mut Vec<Vec<u8>>, name: &Name) -> Resu
     Ok(())
 }
 
-/// The same of an operand.
+/// Checks the local that an operand may be.
 fn check_operand(
     scope: Scope<'_>,
     locals: &mut Vec<Vec<u8>>,
@@ -151,7 +151,7 @@ fn check_operand(
     }
 }
 
-/// The same of two operands.
+/// Checks two operands, the first one first.
 fn check_operands(
     scope: Scope<'_>,
     locals: &mut Vec<Vec<u8>>,

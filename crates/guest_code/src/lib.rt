@@ -33,5 +33,3 @@ pub mod lowering;
 mod names;
 pub mod program;
 pub mod source_map;
-#[cfg(test)]
-mod tests;

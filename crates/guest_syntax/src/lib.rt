@@ -47,6 +47,3 @@ pub use error::SyntaxError;
 pub use limits::TEXT_BYTES;
 pub use place::Pos;
 pub use reading::parse;
-
-#[cfg(test)]
-mod tests;

@@ -13,13 +13,14 @@ use Rattle.semantics.specs.declared.state.MutexAction.TheVariants.{Lock as Locks
 use Rattle.semantics.specs.declared.state.ConditionAction.TheVariants.{Signal as Signals, Broadcast as Broadcasts}
 use Rattle.semantics.specs.declared.state.SemaphoreAction.TheVariants.{Acquire as Acquires, Release as Releases}
 use Rattle.semantics.specs.Machine.{Snapshot, thread_at, next_of, can_do, is_enabled, step, start}
-use Rattle.semantics.specs.Schedules.{up_from, runs, state_after}
+use Rattle.semantics.specs.Work.{up_from}
+use Rattle.schedules.specs.Schedules.{runs, state_after}
 use Rattle.semantics.specs.Ends.{is_stopped}
 use Rattle.semantics.specs.Reachable.{IsOf, IsValidAction}
 use Rattle.semantics.proofs.ValidActions.{valid_action_at}
 use Rattle.semantics.proofs.WorkFalls.{enabled_below}
 use Rattle.semantics.proofs.StepsKeepStates.{step_is_of}
-use Rattle.semantics.proofs.UnfoldingUnderPrefix.{and_true}
+use Rattle.schedules.proofs.UnfoldingUnderPrefix.{and_true}
 use Rattle.replay.specs.Run.{Run, act_of, line_at, line_of, lines_from, stopped_in, IsRunOf}
 use Rattle.replay.specs.Trace.{IsValidAct, IsValidLine, IsValidRun}
 

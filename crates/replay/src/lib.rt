@@ -13,8 +13,6 @@ pub mod laws;
 mod piece;
 mod run;
 mod schedule;
-#[cfg(test)]
-mod tests;
 mod trace;
 
 pub use crate::error::ReplayError;

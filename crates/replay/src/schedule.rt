@@ -8,7 +8,7 @@ ghost use Rattle.replay.specs.Spelling.{printed, Spells, IsReadable, ScheduleErr
 ghost use Rattle.replay.specs.inner.Piece.{RefusalMeans};
 
 use crate::piece::{Piece, piece_of, put_piece, put_steps};
-use semantics::limits::STEPS;
+use schedules::limits::STEPS;
 use std::alloc::{AllocError, AllocFailed, Global};
 use std::fmt;
 use thiserror::Error;

@@ -1,5 +1,5 @@
 -- What a book is after a round that several workers settled into it.
-use Rattle.std.proofs.Common.{◌≡◌, ◌∙◌, ◌+◌, ap, sym, subst}
+use Rattle.std.proofs.Common.{◌≡◌, ◌∙◌, ◌+◌, Bool, ap, sym, subst}
 use Rattle.guest_code.specs.Program.{Program}
 use Rattle.walk.specs.declared.mode.Mode.{Mode}
 use Rattle.walk.specs.declared.mode.Mode.TheVariants.{Bounded}
@@ -7,6 +7,11 @@ use Rattle.book.specs.Books.{BookView, Raises, thinned, bound_of}
 use Rattle.runner.specs.declared.options.Options.{Options}
 use Rattle.runner.specs.inner.Judging.{IsStage, IsOf, CanRaise}
 use Rattle.runner.proofs.Judgments.{next_stage}
+
+-- a book is one of the mode that it is known to have
+pub was_of : (b : BookView) (p : Program) (mode : Mode) (q : Bool) → mode ≡ b.mode
+    → IsOf b p b.mode q → IsOf b p mode q
+was_of b p mode q is of = record { program = of.program; mode = sym is; quick = of.quick }
 
 -- a book that drops items stays one of its program and mode
 pub thinned_of : (old b : BookView) (p : Program) (mode : Mode) (o : Options) → b ≡ thinned old

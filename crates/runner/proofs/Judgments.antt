@@ -4,11 +4,11 @@ use Rattle.std.proofs.Common.{List, [], ◌++◌, Option, Some, None, refl, ap, 
 use Rattle.std.specs.List.{Contains}
 use Rattle.guest_code.specs.Program.{Program}
 use Rattle.semantics.specs.Machine.{start}
-use Rattle.semantics.specs.Schedules.{complete_schedules, preemptions}
+use Rattle.schedules.specs.Schedules.{complete_schedules, preemptions}
 use Rattle.walk.specs.declared.limits.TheConstants.{BOUND}
 use Rattle.walk.specs.declared.mode.Mode.{Mode}
 use Rattle.walk.specs.declared.mode.Mode.TheVariants.{Bounded, Reduced}
-use Rattle.walk.specs.Summaries.{SummaryView, end_kind}
+use Rattle.summary.specs.Summaries.{SummaryView, end_kind}
 use Rattle.walk.specs.Items.{whole}
 use Rattle.book.specs.Books.{BookView, Keeps, KeepsWhere, bound_of}
 use Rattle.runner.specs.declared.options.Options.{Options}

@@ -1,4 +1,5 @@
 pub mod AfterRounds
+pub mod Agreement
 pub mod Judgments
 pub mod Preemptions
 pub mod PrintedSchedules

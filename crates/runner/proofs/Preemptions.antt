@@ -3,7 +3,7 @@ use Rattle.std.proofs.Common.{ℕ, ◌<◌, ◌^◌, List, arith}
 use Rattle.std.specs.List.{Contains}
 use Rattle.guest_code.specs.Program.{Program, IsWellFormed}
 use Rattle.semantics.specs.Machine.{start}
-use Rattle.semantics.specs.Schedules.{complete_schedules, preemptions}
+use Rattle.schedules.specs.Schedules.{complete_schedules, preemptions}
 use Rattle.walk.proofs.Turns.{preemptions_limit}
 use Rattle.runner.proofs.Promises.{runs_through}
 

@@ -6,17 +6,16 @@ use Rattle.std.proofs.lemmas.Bool.{cases_lt}
 use Rattle.guest_code.specs.Program.{Program}
 use Rattle.semantics.specs.declared.view.Kind.{Kind}
 use Rattle.semantics.specs.Machine.{start}
-use Rattle.semantics.specs.Schedules.{complete_schedules, state_after, runs, preemptions}
-use Rattle.semantics.specs.Schedules.{schedules_within}
-use Rattle.semantics.specs.Order.{precedes, least, ends_badly}
+use Rattle.schedules.specs.Schedules.{complete_schedules, state_after, runs, preemptions, schedules_within}
+use Rattle.schedules.specs.Order.{precedes, least, ends_badly}
 use Rattle.semantics.specs.Ends.{kind_of, final_kind}
 use Rattle.semantics.specs.Waiters.{In}
-use Rattle.semantics.proofs.LeastSchedule.{least_none, least_some}
+use Rattle.schedules.proofs.LeastSchedule.{least_none, least_some}
 use Rattle.semantics.proofs.ListMembers.{in_contains, contains_in, in_filter, from_filter}
-use Rattle.semantics.proofs.StatedLaws.{complete}
-use Rattle.semantics.proofs.SchedulesUnderPrefix.{in_under, in_within, beyond_is, complete_is}
+use Rattle.schedules.proofs.StatedLaws.{complete}
+use Rattle.schedules.proofs.SchedulesUnderPrefix.{in_under, in_within, beyond_is, complete_is}
 use Rattle.walk.specs.declared.mode.Mode.TheVariants.{Bounded}
-use Rattle.walk.specs.Summaries.{SummaryView, sum_of, end_kind}
+use Rattle.summary.specs.Summaries.{SummaryView, sum_of, end_kind}
 use Rattle.walk.specs.Items.{whole}
 use Rattle.runner.specs.Reports.{IsBadSchedule, NoBadBelow, SomeExceeds, IsBad, IsClean}
 use Rattle.runner.specs.Reports.{IsFinished, IsSummaryOf}

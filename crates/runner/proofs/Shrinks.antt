@@ -10,7 +10,7 @@ use mathlib.Core.Logic.{dite}
 use native.Mathlib.Decide.{ℕ_discrete}
 use Rattle.guest_code.specs.Program.{Program}
 use Rattle.walk.specs.declared.mode.Mode.{Mode}
-use Rattle.walk.specs.Summaries.{cut}
+use Rattle.summary.specs.Summaries.{cut}
 use Rattle.walk.specs.Items.{ItemView, schedule_count, schedules_of, root_of}
 use Rattle.walk.specs.Walks.{WalkView, IsWalked, IsBelow, tried_by}
 use Rattle.walk.proofs.WalkedItems.{walked_counts, walked_count}

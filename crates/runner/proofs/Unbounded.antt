@@ -5,18 +5,17 @@ use Rattle.std.specs.List.{filter}
 use Rattle.guest_code.specs.Program.{Program}
 use Rattle.semantics.specs.declared.view.Kind.{Kind}
 use Rattle.semantics.specs.Machine.{start}
-use Rattle.semantics.specs.Schedules.{complete_schedules, preemptions}
-use Rattle.semantics.specs.Sleep.{reduced_schedules, none_asleep}
-use Rattle.semantics.specs.Order.{least, ends_badly}
-use Rattle.semantics.specs.Ends.{end_of}
+use Rattle.schedules.specs.Schedules.{complete_schedules, preemptions}
+use Rattle.schedules.specs.Sleep.{reduced_schedules, none_asleep}
+use Rattle.schedules.specs.Order.{least, ends_badly, end_of}
 use Rattle.semantics.specs.Waiters.{In}
-use Rattle.semantics.proofs.LeastSchedule.{least_none, least_some}
+use Rattle.schedules.proofs.LeastSchedule.{least_none, least_some}
 use Rattle.semantics.proofs.ListMembers.{in_contains, contains_in, in_filter, from_filter}
-use Rattle.semantics.proofs.ReducedSchedules.{least_bad, ends_pass}
+use Rattle.schedules.proofs.ReducedSchedules.{least_bad, ends_pass}
 use Rattle.walk.specs.declared.mode.Mode.TheVariants.{Reduced}
-use Rattle.walk.specs.Summaries.{SummaryView, sum_of, end_kind, sorted_views}
+use Rattle.summary.specs.Summaries.{SummaryView, sum_of, end_kind, sorted_views}
 use Rattle.walk.specs.Items.{whole, root_of, kept_schedules}
-use Rattle.walk.proofs.SortedViews.{sorted_views-alike}
+use Rattle.summary.proofs.SortedViews.{sorted_views-alike}
 use Rattle.walk.proofs.WalkedItems.{root_pruned}
 use Rattle.runner.specs.Reports.{IsSummaryOf}
 use Rattle.runner.specs.Unbounded.{IsReducedSummary, IsReducedSummaryOf, IsFirstBad, HasNoBad}

@@ -2,7 +2,7 @@
 use Rattle.std.specs.Prelude.{◌≡◌, ℕ, ◌+◌, Option, Some, None, length}
 use Rattle.walk.specs.declared.mode.Mode.{Mode}
 use Rattle.walk.specs.declared.mode.Mode.TheVariants.{Bounded, Reduced}
-use Rattle.walk.specs.Summaries.{cut}
+use Rattle.summary.specs.Summaries.{cut}
 use Rattle.book.specs.Books.{BookView}
 use Rattle.runner.specs.declared.progress.Progress.{Progress}
 

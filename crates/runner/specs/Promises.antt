@@ -3,7 +3,7 @@ use Rattle.std.specs.Prelude.{◌≡◌, ◌≤◌, ℕ, Bool, true, Some, None}
 use Rattle.guest_code.specs.Program.{Program}
 use Rattle.walk.specs.declared.limits.TheConstants.{BOUND}
 use Rattle.walk.specs.declared.mode.Mode.TheVariants.{Bounded, Reduced}
-use Rattle.walk.specs.Summaries.{SummaryView}
+use Rattle.summary.specs.Summaries.{SummaryView}
 use Rattle.runner.specs.declared.options.Options.{Options}
 use Rattle.runner.specs.declared.options.Search.{Search}
 use Rattle.runner.specs.declared.options.Search.TheVariants.{UpTo, Unbounded}
@@ -44,3 +44,9 @@ IsReportFor may p o Unbounded r =
 -- the report of a search of the program, which a gate may have stopped or not
 abbrev pub IsReport : Bool → Program → Options → Report → Type 0
 IsReport may p o r = (r.quick ≡ o.quick) × IsReportFor may p o o.search r
+
+-- the search was not cut short
+abbrev pub IsWhole : Verdict → Type 0
+IsWhole (Clean all) = Unit {0}
+IsWhole (Bad k w kind) = Unit {0}
+IsWhole (Incomplete cause finished) = ⊥

@@ -5,11 +5,11 @@ use Rattle.std.specs.Prelude.{List, Option, Some, None, Contains}
 use Rattle.guest_code.specs.Program.{Program}
 use Rattle.semantics.specs.declared.view.Kind.{Kind}
 use Rattle.semantics.specs.Machine.{start}
-use Rattle.semantics.specs.Schedules.{complete_schedules, preemptions}
-use Rattle.semantics.specs.Order.{precedes, ends_badly}
+use Rattle.schedules.specs.Schedules.{complete_schedules, preemptions}
+use Rattle.schedules.specs.Order.{precedes, ends_badly}
 use Rattle.walk.specs.declared.mode.Mode.{Mode}
 use Rattle.walk.specs.declared.mode.Mode.TheVariants.{Bounded}
-use Rattle.walk.specs.Summaries.{SummaryView, end_kind}
+use Rattle.summary.specs.Summaries.{SummaryView, end_kind}
 use Rattle.walk.specs.Items.{ItemView, root_of, whole}
 use Rattle.walk.specs.Walks.{IsSplit}
 use Rattle.book.specs.Quick.{IsBoundedBy}

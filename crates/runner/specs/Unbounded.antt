@@ -4,11 +4,10 @@ use Rattle.std.specs.Prelude.{◌≡◌, ℕ, Bool, true, false, List, map}
 use Rattle.guest_code.specs.Program.{Program}
 use Rattle.semantics.specs.declared.view.Kind.{Kind}
 use Rattle.semantics.specs.Machine.{start}
-use Rattle.semantics.specs.Schedules.{complete_schedules, preemptions}
-use Rattle.semantics.specs.Order.{precedes}
-use Rattle.semantics.specs.Ends.{end_of}
+use Rattle.schedules.specs.Schedules.{complete_schedules, preemptions}
+use Rattle.schedules.specs.Order.{precedes, end_of}
 use Rattle.walk.specs.declared.mode.Mode.TheVariants.{Reduced}
-use Rattle.walk.specs.Summaries.{SummaryView, end_kind, sorted_views}
+use Rattle.summary.specs.Summaries.{SummaryView, end_kind, sorted_views}
 use Rattle.walk.specs.Items.{whole}
 use Rattle.book.specs.Quick.{IsBoundedBy}
 use Rattle.runner.specs.Reports.{IsBadSchedule}

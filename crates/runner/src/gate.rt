@@ -34,8 +34,9 @@ pub trait Gate: Sync {
     /// Is told that a worker has walked an item. The walk is not settled yet.
     fn walked(&self, worker: u32, item: u64);
 
-    /// Is told how far the search is after a round, when all its workers have ended. This is told by a
-    /// single worker, too.
+    /// Is told how far the search is after a round, when all its items are done and before another one
+    /// begins. No worker is at an item then, so none may be waited for. This is told by a single worker,
+    /// too.
     fn round_ended(&self, _progress: Progress) {}
 }
 

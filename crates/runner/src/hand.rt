@@ -1,11 +1,12 @@
-//! What a worker walks with, from round to round.
+//! What a worker walks with, and what it walked.
 
 ghost use Rattle.std.specs.Prelude.{◌≡◌, ◌<◌, ◌≤◌, vec_len, take, IfOk, OnOk};
 ghost use Rattle.std.specs.Arc.{arc_value};
-ghost use Rattle.runner.specs.inner.Rounds.{IsRound, IsRoundOf, IsSlotOf, AreKept};
+ghost use Rattle.runner.specs.inner.Rounds.{IsRoundOf, IsSlotOf, AreKept};
 
-use crate::limits::KEPT_WALKS;
-use crate::shared::{NamedBook, Naming, Round};
+use crate::limits::SETTLED_WALKS;
+use crate::named::{NamedBook, Naming};
+use crate::round::Round;
 use guest_code::program::Program;
 use std::alloc::{AllocError, Global};
 use std::mem;
@@ -13,10 +14,10 @@ use std::sync::Arc;
 use walk::found::Found;
 use walk::walker::Walker;
 
-/// A walk of an item of a round, which is named by its number, or the memory for one.
+/// A walk of an item of a round, which is named by its place there, or the memory for one.
 #[derive(Drop)]
 pub(crate) struct Slot {
-    pub number: usize,
+    pub place: usize,
     pub found: Found,
 }
 
@@ -36,33 +37,31 @@ impl Slot {
         alloc: Global,
         walker: &mut Walker,
         round: &Round,
-        number: usize,
+        place: usize,
     ) -> Result<bool, AllocError>
-        requires round { IsRound round.now }
-        requires walker { walker.old ≡ arc_value round.now.program }
-        requires number { number < vec_len round.now.items }
+        requires round { IsRoundOf walker.old round.now.mode round.now }
+        requires place { place < vec_len round.now.items }
         ensures walker { walker.new ≡ walker.old }
         ensures walk { IfOk result (λ _. IsSlotOf round.now self.new) }
     {
-        self.number = number;
-        let item = &round.items[number];
+        self.place = place;
+        let item = &round.items[place];
         walker.walk_into(alloc, &mut self.found, item, round.mode, round.quota)?;
         Ok(self.found.part.first_bad().is_some())
     }
 
-    // Settles the walk in the round's book. Answers whether the book took it: it doesn't where the
-    // item isn't open.
+    // Settles the walk in the round's book, if its item is open.
     fn settle<N: Naming>(
         &mut self,
         alloc: Global,
         book: &mut NamedBook<N>,
         round: &Round,
-    ) -> Result<bool, AllocError>
-        requires round { IsRound round.now }
-        requires named { IsRoundOf N.program N.mode round.now }
+    ) -> Result<(), AllocError>
+        requires round { IsRoundOf N.program N.mode round.now }
         requires walk { IsSlotOf round.now self.old }
     {
-        book.settle(alloc, &round.items[self.number], &mut self.found)
+        let _is_taken = book.settle(alloc, &round.items[self.place], &mut self.found)?;
+        Ok(())
     }
 }
 
@@ -86,14 +85,9 @@ impl Hand {
         self.count = 0;
     }
 
-    /// Whether it keeps no walk.
-    pub fn is_empty(&self) -> bool {
-        self.count == 0
-    }
-
-    /// Whether it keeps as many walks as are settled together.
-    pub fn is_full(&self) -> bool {
-        self.count >= KEPT_WALKS
+    /// Whether it keeps as many walks as are settled together where the book is free.
+    pub fn is_worth_a_lock(&self) -> bool {
+        self.count >= SETTLED_WALKS
     }
 
     // Makes a slot for one more walk where there is none.
@@ -108,36 +102,35 @@ impl Hand {
     {
         if self.count == self.slots.len() {
             self.slots.push(Slot {
-                number: 0,
+                place: 0,
                 found: Found::new(alloc),
             })?;
         }
         Ok(())
     }
 
-    /// Walks an item of a round, by its number, and keeps the walk. Answers whether a bad schedule
+    /// Walks an item of a round, by its place there, and keeps the walk. Answers whether a bad schedule
     /// was found.
     ///
     /// # Errors
     ///
     /// `AllocError` where memory runs out; it keeps those walks that it had then.
-    pub fn walk(&mut self, alloc: Global, round: &Round, number: usize) -> Result<bool, AllocError>
-        requires round { IsRound round.now }
-        requires walker { self.old.walker ≡ arc_value round.now.program }
-        requires number { number < vec_len round.now.items }
+    pub fn walk(&mut self, alloc: Global, round: &Round, place: usize) -> Result<bool, AllocError>
+        requires round { IsRoundOf self.old.walker round.now.mode round.now }
+        requires place { place < vec_len round.now.items }
         requires kept { AreKept round.now self.old }
         ensures walker { self.new.walker ≡ self.old.walker }
         ensures kept { AreKept round.now self.new }
     {
         self.make_room(alloc)?;
         let slot = &mut self.slots[self.count];
-        let is_bad = slot.walk(alloc, &mut self.walker, round, number)?;
+        let is_bad = slot.walk(alloc, &mut self.walker, round, place)?;
         self.count += 1;
         Ok(is_bad)
     }
 
-    /// Settles the walks that it keeps in the round's book, in their order, and keeps none then.
-    /// Answers whether the book took them all: it leaves out those whose item isn't open.
+    /// Settles the walks that it keeps in the round's book, in their order, and keeps none then. A walk
+    /// of an item that isn't open is given up.
     ///
     /// # Errors
     ///
@@ -147,19 +140,16 @@ impl Hand {
         alloc: Global,
         book: &mut NamedBook<N>,
         round: &Round,
-    ) -> Result<bool, AllocError>
-        requires round { IsRound round.now }
-        requires named { IsRoundOf N.program N.mode round.now }
+    ) -> Result<(), AllocError>
+        requires round { IsRoundOf N.program N.mode round.now }
         requires kept { AreKept round.now self.old }
         ensures walker { self.new.walker ≡ self.old.walker }
         ensures count { self.new.count ≡ 0 }
     {
         let count = mem::replace(&mut self.count, 0);
-        let mut all = true;
         for place in 0..count {
-            let is_taken = self.slots[place].settle(alloc, book, round)?;
-            all &= is_taken;
+            self.slots[place].settle(alloc, book, round)?;
         }
-        Ok(all)
+        Ok(())
     }
 }

@@ -2,7 +2,7 @@
 
 ghost use Rattle.std.specs.Prelude.{◌≡◌, ◌↔◌, ◌<◌, Bool, true, false, Some, None, IfOk, IfErr, IfSome, IfNone, IsTrue, Contains};
 ghost use Rattle.semantics.specs.Machine.{start};
-ghost use Rattle.semantics.specs.Schedules.{complete_schedules};
+ghost use Rattle.schedules.specs.Schedules.{complete_schedules};
 ghost use Rattle.replay.specs.Run.{IsRunOf};
 ghost use Rattle.book.specs.Books.{Keeps, IsClosed};
 ghost use Rattle.runner.specs.declared.error.ExploreError.TheVariants.{OutOfMemory};
@@ -21,8 +21,8 @@ use replay::laws::one_place_is_the_first_bad;
 use replay::{ReplayError, Run, replay};
 use semantics::view::Kind;
 use std::alloc::Global;
+use summary::Summary;
 use walk::mode::Mode;
-use walk::summary::Summary;
 
 /// What comes next.
 #[derive(Drop)]

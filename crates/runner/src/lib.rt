@@ -12,19 +12,22 @@
 #![tactic(auto)]
 
 mod alone;
-mod crew;
+mod desk;
 mod error;
 mod gate;
 mod hand;
 mod judge;
+pub mod laws;
 pub mod limits;
+mod named;
 mod options;
 mod printing;
 mod progress;
 mod report;
+mod round;
 mod shared;
-#[cfg(test)]
-mod tests;
+mod stretch;
+mod team;
 mod text;
 mod together;
 mod worker;
@@ -34,7 +37,7 @@ pub use error::ExploreError;
 pub use gate::{Answer, Gate, Open};
 pub use limits::{BOUND, QUOTA, WORKERS};
 pub use options::{Options, Search};
-pub use printing::report_text;
+pub use printing::{report_text, report_value};
 pub use progress::Progress;
 pub use report::{Cause, Report, Verdict};
 pub use text::{explore_text, explore_text_alone};

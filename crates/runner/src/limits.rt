@@ -8,12 +8,13 @@ pub const QUOTA: u32 = 256;
 /// The most workers of a search.
 pub const WORKERS: u32 = 16;
 
-/// A round of as many items as one can have is a small one where it tried fewer schedules than
-/// this. The next one like it is walked by one thread: to make more takes longer than they save.
-/// Measured: 64 items of some ten schedules each take up to a third longer with a thread for each
-/// worker.
-pub const SMALL_ROUND: u64 = 2048;
+/// How often a worker that waits, for the book or for a round to end, looks and pauses, before it
+/// lets other threads run or sleeps.
+pub const SPINS: u32 = 1000;
 
-/// How many walks a worker keeps at most before it settles them under one lock. Measured: the memory
-/// of so many stays in a processor's first cache.
-pub const KEPT_WALKS: usize = 8;
+/// How often it looks and lets other threads run, before it sleeps.
+pub const YIELDS: u32 = 50;
+
+/// From how many walks on a worker settles those that it keeps, if the book is free. It settles all of
+/// them at the end of a round.
+pub const SETTLED_WALKS: usize = 4;

@@ -10,7 +10,7 @@ use replay::schedule_text;
 use semantics::view::{EndView, Kind};
 use serde_json::{Map, Value, put};
 use std::alloc::{AllocError, Global};
-use walk::summary::Summary;
+use summary::Summary;
 
 /// The text of a report: compact JSON of one object, its keys in the order of their bytes, with no
 /// line feed.
@@ -32,8 +32,12 @@ pub fn report_text(alloc: Global, report: &Report) -> Result<Vec<u8>, AllocError
     report_value(alloc, report)?.to_vec(alloc)
 }
 
-// The object of a report.
-fn report_value(alloc: Global, report: &Report) -> Result<Value, AllocError>
+/// The object of a report, whose text is [`report_text`].
+///
+/// # Errors
+///
+/// `AllocError` where memory runs out.
+pub fn report_value(alloc: Global, report: &Report) -> Result<Value, AllocError>
     ensures { IfOk result (λ v. view v ≡ report_data report.now) }
 {
     let mut members = Map::new(alloc);

@@ -4,7 +4,7 @@ ghost use Rattle.std.specs.Prelude.{◌≡◌, Some, None, MatchOption};
 ghost use Rattle.runner.specs.ReportText.{named_schedule};
 
 use semantics::view::Kind;
-use walk::summary::Summary;
+use summary::Summary;
 
 /// Why a search was cut short.
 #[derive(Clone, Copy, Debug, PartialEq, Eq)]

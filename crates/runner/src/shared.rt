@@ -1,137 +1,107 @@
-//! What the workers of a round share.
+//! What the workers of a stretch of rounds share.
 
-ghost use Rattle.std.specs.Prelude.{◌≡◌, true, false, Ok, All};
-ghost use Rattle.walk.specs.Walks.{IsWalked, found_walk};
-ghost use Rattle.book.specs.Books.{Settles};
-ghost use Rattle.runner.specs.inner.Judging.{IsOf};
-ghost use Rattle.runner.specs.inner.Rounds.{IsRoundOf};
+ghost use Rattle.std.specs.Prelude.{◌≡◌};
 
+use crate::desk::Desk;
+use crate::limits::{SPINS, YIELDS};
+use crate::named::Naming;
 use board::Board;
-use book::books::Book;
-use book::errors::SettleError;
-use guest_code::program::Program;
-use std::alloc::{AllocError, Global};
-use std::marker::{Brand, Model, PhantomData};
-use std::sync::{Arc, Mutex};
-use walk::found::Found;
-use walk::item::Item;
-use walk::mode::Mode;
+use std::alloc::Global;
+use std::sync::atomic::{AtomicU64, Ordering};
+use std::sync::{Mutex, MutexGuard, Wait};
+use std::{hint, thread};
 
-/// The items of a round, how they are walked, and the board that their numbers are drawn from.
+/// The gate, the board that the numbers of items are drawn from, and the desk under its lock.
 #[derive(Drop)]
-pub(crate) struct Round {
-    pub program: Arc<Program>,
-    pub mode: Mode,
-    pub quick: bool,
-    pub quota: u32,
-    /// How many threads walk them at most.
-    pub threads: usize,
-    pub items: Vec<Item>,
+pub(crate) struct Shared<'a, N: Naming, G> {
+    pub alloc: Global,
+    pub gate: &'a G,
     pub board: Board,
+    desk: Mutex<Desk<N>>,
+    /// How many rounds of the stretch have ended.
+    ended: AtomicU64,
 }
 
-/// Which search a book is of. Each round picks it.
-pub(crate) trait Naming {
-    ghost use Rattle.std.specs.Prelude.{Bool};
-    ghost use Rattle.guest_code.specs.Program.{Program};
-    ghost use Rattle.walk.specs.declared.mode.Mode.{Mode};
-
-    ghost program: { Program };
-
-    ghost mode: { Mode };
-
-    ghost quick: { Bool };
-}
-
-// What stands here is never used: each call picks its own.
-impl Naming for Brand {
-    ghost use Rattle.std.specs.Prelude.{[], false};
-    ghost use Rattle.walk.specs.declared.mode.Mode.TheVariants.{Reduced};
-
-    ghost program = { record {
-      variables = [];
-      mutexes = [];
-      conditions = [];
-      semaphores = [];
-      threads = [];
-    } };
-
-    ghost mode = { Reduced };
-
-    ghost quick = { false };
-}
-
-/// A book that is known to be of one search. So whoever gets it from a lock has nothing to compare.
-/// Contracts see the book.
-#[derive(Drop)]
-pub(crate) struct NamedBook<N: Naming> {
-    book: Book,
-    of: PhantomData<N>,
-}
-
-impl<N: Naming> Model for NamedBook<N> {
-    ghost use Rattle.book.specs.Books.{BookView};
-    ghost use Rattle.runner.specs.inner.Judging.{IsOf};
-
-    ghost Value = { BookView };
-
-    ghost view = { λ n. n.book };
-
-    ghost invariant = { λ n. IsOf n.book N.program N.mode N.quick };
-}
-
-impl<N: Naming> NamedBook<N> {
-    /// A book of this search.
-    pub fn new(book: Book) -> NamedBook<N>
-        requires { IsOf book N.program N.mode N.quick }
-        ensures { result ≡ book }
+impl<'a, N: Naming, G> Shared<'a, N, G> {
+    /// What is shared where the first round of the stretch begins.
+    pub fn new(alloc: Global, gate: &'a G, board: Board, desk: Desk<N>) -> Shared<'a, N, G>
+        ensures gate { result.gate.now ≡ gate.now }
+        ensures board { result.board ≡ board }
     {
-        NamedBook {
-            book,
-            of: PhantomData,
+        Shared {
+            alloc,
+            gate,
+            board,
+            desk: Mutex::new(desk),
+            ended: AtomicU64::new(0),
         }
     }
 
-    /// The book.
-    pub fn into_book(self) -> Book
-        ensures same { result ≡ self }
-        ensures of { IsOf result N.program N.mode N.quick }
+    /// The board and the desk, where no worker is at them any more.
+    pub fn into_parts(self) -> (Board, Desk<N>)
+        ensures { result.0 ≡ self.entry.board }
     {
-        self.book
+        (self.board, self.desk.into_inner())
     }
 
-    /// Settles what a walk of an item found. Answers whether the book took it: it doesn't where the
-    /// item isn't open. The memory of what was found serves a later walk.
-    ///
-    /// # Errors
-    ///
-    /// `AllocError` where memory runs out. The book is as before then.
-    pub fn settle(
-        &mut self,
-        alloc: Global,
-        item: &Item,
-        found: &mut Found,
-    ) -> Result<bool, AllocError>
-        requires program { item.now.program ≡ N.program }
-        requires walked { IsWalked (found_walk N.mode item.now found.old) }
-        ensures taken { result ≡ Ok true →
-            Settles self.old (found_walk N.mode item.now found.old) self.new }
-        ensures not_open { result ≡ Ok false → All (λ i. i ≡ item.now → ⊥) self.old.open_items }
-        ensures same { (result ≡ Ok true → ⊥) → self.new ≡ self.old }
-    {
-        match self.book.settle_found(alloc, item, found) {
-            Ok(()) => Ok(true),
-            Err(SettleError::OutOfMemory) => Err(AllocError),
-            Err(SettleError::NotOpen) => Ok(false),
-            Err(SettleError::Stranger) => unreachable!(),
+    /// The desk, if it is free.
+    pub fn desk_if_free(&self) -> Option<MutexGuard<'_, Desk<N>>> {
+        self.desk.try_lock()
+    }
+
+    /// The desk, once it is free. To sleep and be woken takes longer than most workers are at it.
+    pub fn desk<R: Wait>(&self, rt: &R) -> MutexGuard<'_, Desk<N>> {
+        for _ in 0..SPINS {
+            if let Some(desk) = self.desk.try_lock() {
+                return desk;
+            }
+            hint::spin_loop();
+        }
+        self.desk.lock(rt)
+    }
+
+    /// Tells the workers that wait that a round has ended. Two rounds may be told in the other
+    /// order, so the word only rises.
+    pub fn tell_end(&self, turn: u64) {
+        self.ended.fetch_max(turn, Ordering::SeqCst);
+        self.ended.wake_all();
+    }
+
+    // Whether a round has ended.
+    fn has_ended(&self, turn: u64) -> bool {
+        self.ended.load(Ordering::SeqCst) >= turn
+    }
+
+    /// Waits until a round has ended: looks, then lets other threads run, then sleeps.
+    pub fn wait_for_end<R: Wait>(&self, rt: &R, turn: u64) {
+        for _ in 0..SPINS {
+            if self.has_ended(turn) {
+                return;
+            }
+            hint::spin_loop();
+        }
+        for _ in 0..YIELDS {
+            if self.has_ended(turn) {
+                return;
+            }
+            thread::yield_now();
+        }
+        self.sleep_to_end(rt, turn);
+    }
+
+    // Sleeps until a round has ended.
+    fn sleep_to_end<R: Wait>(&self, rt: &R, turn: u64) {
+        for _ in rt.forever() {
+            let ended = self.ended.load(Ordering::SeqCst);
+            if ended >= turn {
+                return;
+            }
+            self.ended.park(rt, low_half(ended));
         }
     }
 }
 
-/// A round, and the book that its walks are settled in.
-#[derive(Drop)]
-pub(crate) struct Shared<N: Naming> {
-    pub round: Round,
-    pub book: Mutex<NamedBook<N>>,
-    pub ghost named: { IsRoundOf N.program N.mode round },
+// The low half of a word.
+fn low_half(word: u64) -> u32 {
+    (word % (1 << 32)) as u32
 }

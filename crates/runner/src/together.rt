@@ -9,53 +9,44 @@ ghost use Rattle.runner.specs.inner.Judging.{IsStage, IsOf};
 ghost use Rattle.runner.specs.inner.Rounds.{Follows};
 
 use crate::alone::{first_mode, open_book, search_alone};
-use crate::crew::Crew;
 use crate::error::ExploreError;
 use crate::gate::Gate;
 use crate::judge::{Next, judge};
 use crate::options::Options;
 use crate::progress::Progress;
 use crate::report::Report;
+use crate::team::Team;
 use book::books::Book;
 use book::errors::RaiseError;
 use guest_code::program::Program;
 use std::alloc::Global;
 use std::sync::{Arc, Wait};
 use std::thread::Threads;
-use walk::mode::Mode;
-
-/// What follows a round.
-#[derive(Drop)]
-pub(crate) enum Turn {
-    /// The search ends.
-    Ends(Report),
-    /// There is another round, in this mode.
-    Goes(Mode),
-}
 
 // What follows a round whose workers settled what they walked in this book, where one of them was
-// stopped or not. A quick book first drops what can't hold the first bad schedule any more.
+// stopped or not: a report, or another round of the book. A quick book first drops what can't hold
+// the first bad schedule any more.
 fn after_round(
     alloc: Global,
     program: &Program,
     options: Options,
-    mode: Mode,
     book: &mut Book,
     stopped: bool,
-) -> Result<Turn, ExploreError>
+) -> Result<Option<Report>, ExploreError>
     requires search { IsSearch options.search }
-    requires stage { IsStage program.now options.search mode }
-    requires of { IsOf book.old program.now mode options.quick }
-    ensures turn { IfOk result (λ t. (may : Bool) → (stopped ≡ true → may ≡ true) →
-        Follows may program.now options book.new t) }
+    requires stage { IsStage program.now options.search book.old.mode }
+    requires of { IsOf book.old program.now book.old.mode options.quick }
+    ensures report { IfOk result (λ r. (may : Bool) → (stopped ≡ true → may ≡ true) →
+        Follows may program.now options book.new r) }
     ensures error { IfErr result (λ e. e ≡ OutOfMemory) }
 {
+    let mode = book.mode();
     let _number = book.drop_later();
     match judge(alloc, program, options, mode, book, stopped)? {
-        Next::Answer(report) => Ok(Turn::Ends(report)),
-        Next::Again => Ok(Turn::Goes(mode)),
+        Next::Answer(report) => Ok(Some(report)),
+        Next::Again => Ok(None),
         Next::Raise => match book.raise() {
-            Ok(()) => Ok(Turn::Goes(book.mode())),
+            Ok(()) => Ok(None),
             Err(RaiseError::StillOpen) => unreachable!(),
             Err(RaiseError::Dropped) => unreachable!(),
             Err(RaiseError::LastBound) => unreachable!(),
@@ -65,9 +56,11 @@ fn after_round(
 
 /// The report of a search of a program by several workers, from 1 to [`WORKERS`](crate::WORKERS).
 ///
-/// The search goes by rounds. The workers of a round draw its items one by one; each asks the gate,
+/// The search goes by rounds. The workers draw the items of a round one by one; each asks the gate,
 /// walks the item while it holds no lock, and settles some walks at a time in the one book that all
-/// share. The report is that of [`explore_alone`], whatever the workers and the quota, but for the
+/// share. They go from round to round in the threads that they have, until the round after which
+/// something has to be judged: the last of a bound, one in which the limit was reached or the gate
+/// stopped a worker, and in a quick search one in which a bad schedule was found. The report is that of [`explore_alone`], whatever the workers and the quota, but for the
 /// numbers of an incomplete one, and for what a quick search leaves out.
 ///
 /// A worker that the gate stops walks no more in its round. Where the search has no answer then, it
@@ -75,7 +68,7 @@ fn after_round(
 /// several do.
 ///
 /// The contract holds if the call returns. That it does is not proved: it waits for the lock of the
-/// book, and for the gate.
+/// book, for the gate, and for a round to end.
 ///
 /// # Errors
 ///
@@ -97,18 +90,15 @@ pub fn explore<G: Gate, R: Threads + Wait + Sync>(
     if workers == 1 {
         return search_alone(alloc, program, options, gate);
     }
-    let mut mode = first_mode(options.search);
-    let mut book = open_book(alloc, program, mode, options.quick)?;
-    let mut crew = Crew::new(alloc, program, workers)?;
+    let book = open_book(alloc, program, first_mode(options.search), options.quick)?;
+    let mut team = Team::new(alloc, book, workers)?;
     for _ in rt.forever() {
-        let left = crew.walk_round(rt, alloc, gate, options.quota, book)?;
-        let stopped = left.ending.is_stopped()?;
-        book = left.book;
-        crew = left.crew;
-        gate.round_ended(Progress::of(&book));
-        match after_round(alloc, program, options, mode, &mut book, stopped)? {
-            Turn::Ends(report) => return Ok(report),
-            Turn::Goes(next) => mode = next,
+        let (next, ending) = team.walk_rounds(rt, alloc, gate, options)?;
+        let stopped = ending.is_stopped()?;
+        team = next;
+        gate.round_ended(Progress::of(&team.book));
+        if let Some(report) = after_round(alloc, program, options, &mut team.book, stopped)? {
+            return Ok(report);
         }
     }
     unreachable!()

@@ -8,8 +8,7 @@ use Rattle.semantics.specs.declared.state.ConditionAction.{ConditionAction}
 use Rattle.semantics.specs.declared.state.Action.TheVariants.{OnCondition}
 use Rattle.semantics.specs.Machine.{Snapshot, thread_at, missing_thread, can_do, queue_of, woken, wake, threads_to_wake}
 use Rattle.semantics.specs.Reachable.{IsReady}
-use Rattle.semantics.proofs.IndependentStepsCommute.{thread_awake}
-use Rattle.semantics.proofs.Waking.{wake-get, wake-length}
+use Rattle.semantics.proofs.Waking.{thread_awake, wake-get, wake-length}
 
 -- the threads W, written over n threads I
 abbrev pub over : ℕ → List Thread → List Thread → List Thread

@@ -16,8 +16,9 @@ use Rattle.semantics.specs.declared.state.Thread.{Thread}
 use Rattle.semantics.specs.declared.state.Action.TheVariants.{OnVariable, OnMutex, Wait as Waits, OnCondition, OnSemaphore}
 use Rattle.semantics.specs.Machine.{Snapshot, is_enabled, acts, can_do, next_of, thread_at, missing_thread, action_at}
 use Rattle.std.specs.Prelude.{slice_get}
-use Rattle.semantics.specs.Mask.{has, no_threads, members_from, bits_of, mask_of}
-use Rattle.semantics.specs.Schedules.{up_from, enabled, one_if}
+use Rattle.semantics.specs.Mask.{has, no_threads, members_from, bits_of, mask_of, one_if}
+use Rattle.semantics.specs.Work.{up_from}
+use Rattle.semantics.specs.Ends.{enabled}
 
 members_one : (m : Mask) (n k : ℕ) → k ≡ 16 - (n + 1) → n < 16
     → members_from m n ≡ cond (has m n) (n ∷ filter (has m) (up_from (n + 1) k))
@@ -184,19 +185,6 @@ members-without_first m n t h none off others =
 
 -- a mask with those of another
 
-either_bit : (x y : ℕ) → x < 2 → y < 2 → nat_eq (max x y) 1 ≡ (nat_eq x 1 || nat_eq y 1)
-either_bit zero zero h k = refl
-either_bit zero (suc zero) h k = refl
-either_bit (suc zero) zero h k = refl
-either_bit (suc zero) (suc zero) h k = refl
-either_bit (suc (suc x)) y h k = absurd (omega arith)
-either_bit x (suc (suc y)) h k = absurd (omega arith)
-
-pub union_bits : (a b u : ℕ) → nat_eq (bit_at (bit_or a b) u) 1
-    ≡ (nat_eq (bit_at a u) 1 || nat_eq (bit_at b u) 1)
-union_bits a b u = ap (λ n. nat_eq n 1) (bit_at_or a b u)
-    ∙ either_bit (bit_at a u) (bit_at b u) (bit_at-lt a u) (bit_at-lt b u)
-
 -- a mask without those of another
 
 both_bits : (x y : ℕ) → x < 2 → y < 2 → nat_eq (min x (1 - y)) 1 ≡ (nat_eq x 1 && not (nat_eq y 1))
@@ -306,16 +294,6 @@ next_one m t fits h some = record {
 
 -- the threads that aren't in a mask
 
-opposite : (x : ℕ) → x < 2 → nat_eq (1 - x) 1 ≡ not (nat_eq x 1)
-opposite zero h = refl
-opposite (suc zero) h = refl
-opposite (suc (suc x)) h = absurd (omega arith)
-
-pub complement_bits : (a u : ℕ) → a < 2 ^ 16 → u < 16
-    → nat_eq (bit_at (bit_not w16 a) u) 1 ≡ not (nat_eq (bit_at a u) 1)
-complement_bits a u fits h = ap (λ n. nat_eq n 1) (bit_at_not w16 a u fits h) ∙ opposite
-    (bit_at a u) (bit_at-lt a u)
-
 -- where no member is left from a number on
 none_in : (f : ℕ → Bool) (n k u : ℕ) → filter f (up_from n k) ≡ [] → n ≤ u → u < n + k → f u ≡ false
 none_in f n zero u e a b = absurd (omega (arith, a, b))
@@ -334,3 +312,18 @@ none_in f n (suc k) u e a b = at (λ none l. none_in f (suc n) k u none (omega (
 pub none_left : (m : Mask) (n u : ℕ) → members_from m n ≡ [] → n ≤ u → u < THREADS → has m u ≡ false
 unfolding members_from
 none_left m n u e a b = none_in (has m) n (16 - n) u e a (omega (arith, a, b))
+
+-- a mask with those of another
+
+either_bit : (x y : ℕ) → x < 2 → y < 2 → nat_eq (max x y) 1 ≡ (nat_eq x 1 || nat_eq y 1)
+either_bit zero zero h k = refl
+either_bit zero (suc zero) h k = refl
+either_bit (suc zero) zero h k = refl
+either_bit (suc zero) (suc zero) h k = refl
+either_bit (suc (suc x)) y h k = absurd (omega arith)
+either_bit x (suc (suc y)) h k = absurd (omega arith)
+
+pub union_bits : (a b u : ℕ) → nat_eq (bit_at (bit_or a b) u) 1
+    ≡ (nat_eq (bit_at a u) 1 || nat_eq (bit_at b u) 1)
+union_bits a b u = ap (λ n. nat_eq n 1) (bit_at_or a b u)
+    ∙ either_bit (bit_at a u) (bit_at b u) (bit_at-lt a u) (bit_at-lt b u)

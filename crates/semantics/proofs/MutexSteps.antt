@@ -13,7 +13,6 @@ use Rattle.semantics.specs.declared.state.MutexAction.TheVariants.{Lock as Locks
 use Rattle.semantics.specs.declared.state.Action.{Action}
 use Rattle.semantics.specs.declared.state.Action.TheVariants.{OnVariable, OnMutex, Wait as Waits, OnCondition, OnSemaphore}
 use Rattle.semantics.specs.Machine.{Snapshot, acts, step, is_enabled, can_do, next_of, action_at, thread_at, missing_thread, owner_of, queue_of, with_status, resumed, is_free, owns, mutex_allows, given_back, owner_after, taker_after, waiter_after, woken, woken_status, wake}
-use Rattle.semantics.specs.Schedules.{runs, state_after}
 use Rattle.semantics.specs.Effects.{IsAboutTo, RunsOn, StopsNotHeld, IsOver}
 use Rattle.semantics.proofs.StepFrame.{set_unchanged, step_is, set_thread}
 use Rattle.semantics.proofs.Waking.{wake-get}
@@ -209,7 +208,7 @@ over_asleep c th over = λ i. with_status th (same over i)
     same (inl a) = ap (woken_status c) a.1 ∙ sym a.1
     same (inr e) = ap (woken_status c) e ∙ sym e
 
-over_same : (p : Program) (s : Snapshot) (t u : ℕ) → is_enabled p s t ≡ true → t ≢ u
+pub over_same : (p : Program) (s : Snapshot) (t u : ℕ) → is_enabled p s t ≡ true → t ≢ u
     → IsOver (thread_at s u) → thread_at (step p s t) u ≡ thread_at s u
 over_same p s t u h ne over =
     let m : Moves p s t = moves p s t h in
@@ -219,27 +218,9 @@ over_same p s t u h ne over =
     ∙ (get_or-set_other woke t u m.to missing_thread (λ e. ne (sym e))
     ∙ wake-get m.condition m.threads_to_wake u s.threads asleep)
 
-over_other : (p : Program) (s : Snapshot) (t u : ℕ)
+pub over_other : (p : Program) (s : Snapshot) (t u : ℕ)
     → is_enabled p s t ≡ true → IsOver (thread_at s u) → t ≢ u
 over_other p s t u h over e =
     let f : is_enabled p s t ≡ is_enabled p s u = ap (is_enabled p s) e in
     let g : is_enabled p s u ≡ false = over_idle p s u over in
     cc
-
-pub over_stays : (p : Program) (s : Snapshot) (u : ℕ) (w : List ℕ)
-    → IsOver (thread_at s u) → runs p s w ≡ true → thread_at (state_after p s w) u ≡ thread_at s u
-over_stays p s u [] over h = refl
-over_stays p s u (t ∷ w) over h =
-    let on = and_parts (is_enabled p s t) (runs p (step p s t) w) h in
-    let same = over_same p s t u on.0 (over_other p s t u on.0 over) over in
-    over_stays p (step p s t) u w (subst IsOver (sym same) over) on.1 ∙ same
-
-pub over_keeps : (p : Program) (s : Snapshot) (u m : ℕ) (w : List ℕ) → IsOver (thread_at s u)
-    → owner_of s m ≡ Some u → runs p s w ≡ true → owner_of (state_after p s w) m ≡ Some u
-over_keeps p s u m [] over own h = own
-over_keeps p s u m (t ∷ w) over own h =
-    let on = and_parts (is_enabled p s t) (runs p (step p s t) w) h in
-    let ne = over_other p s t u on.0 over in
-    let same = over_same p s t u on.0 ne over in
-    over_keeps p (step p s t) u m w (subst IsOver (sym same) over)
-    (owner_stays p s t u m on.0 own ne) on.1

@@ -11,9 +11,9 @@ use Rattle.semantics.specs.declared.state.VariableAction.TheVariants.{Load as Lo
 use Rattle.semantics.specs.declared.state.Action.{Action}
 use Rattle.semantics.specs.declared.state.Action.TheVariants.{OnVariable, OnMutex, Wait as Waits, OnCondition, OnSemaphore}
 use Rattle.semantics.specs.Machine.{Snapshot, acts, step, is_enabled, next_of, thread_at, missing_thread, value_of, owner_of, queue_of, count_of, var_after, woken, woken_status, wake}
-use Rattle.semantics.specs.Sleep.Access.{writes_var, writes_mutex, writes_condition, writes_semaphore}
-use Rattle.semantics.specs.Dependence.{Writes}
-use Rattle.semantics.specs.Dependence.Object.{variable, mutex, condition, semaphore}
+use Rattle.semantics.specs.Accesses.Access.{writes_var, writes_mutex, writes_condition, writes_semaphore}
+use Rattle.semantics.specs.Accesses.{Writes}
+use Rattle.semantics.specs.Accesses.Object.{variable, mutex, condition, semaphore}
 use Rattle.semantics.specs.Effects.{IsAboutTo, WasWoken, IsLeft}
 use Rattle.semantics.proofs.WorkFalls.{Moves, moves}
 

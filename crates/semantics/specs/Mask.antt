@@ -1,11 +1,11 @@
 -- Sets of thread numbers.
-use Rattle.std.specs.Prelude.{◌≡◌, ℕ, zero, suc, ◌+◌, ◌-◌, ◌*◌, ◌^◌, Bool, nat_eq, List, filter}
+use Rattle.std.specs.Prelude.{◌≡◌, ℕ, zero, suc, ◌+◌, ◌-◌, ◌*◌, ◌^◌, Bool, nat_eq, List, filter, true, false}
 use Rattle.std.specs.Int.{bit_at}
 use Rattle.guest_code.specs.declared.limits.TheConstants.{THREADS}
 use Rattle.guest_code.specs.Program.{Program}
 use Rattle.semantics.specs.declared.mask.Mask.{Mask}
 use Rattle.semantics.specs.Machine.{Snapshot, is_enabled}
-use Rattle.semantics.specs.Schedules.{up_from, one_if}
+use Rattle.semantics.specs.Work.{up_from}
 
 -- the thread is in the set
 abbrev pub has : Mask → ℕ → Bool
@@ -18,6 +18,11 @@ no_threads = record { bits = 0 }
 -- its members from a number on, rising
 unfoldable pub members_from : Mask → ℕ → List ℕ
 members_from m n = filter (has m) (up_from n (THREADS - n))
+
+-- 1 where it holds, else 0
+abbrev pub one_if : Bool → ℕ
+one_if true = 1
+one_if false = 0
 
 -- the number whose bits are set at those of the first n places that are picked
 abbrev pub bits_of : (ℕ → Bool) → ℕ → ℕ

@@ -1,14 +1,12 @@
-//! What a thread does next, and whether the objects allow it.
+//! What a thread does next.
 
 ghost use Rattle.std.specs.Prelude.{◌≡◌, Some};
 ghost use Rattle.semantics.specs.Machine.{action_of, retake_of, action_at, owns};
 
-use crate::contenders::Resource;
 use crate::state::{Action, ConditionAction, MutexAction, SemaphoreAction, Status, VariableAction};
 use guest_code::program::Instruction;
 
 /// The step of a visible statement.
-#[inline(always)]
 pub fn action_of(instruction: &Instruction) -> Option<Action>
     ensures { result ≡ action_of instruction.now }
 {
@@ -47,7 +45,6 @@ pub fn action_of(instruction: &Instruction) -> Option<Action>
 }
 
 /// The step of a woken thread, which takes the mutex of its `wait` again.
-#[inline(always)]
 pub fn retake_of(instruction: &Instruction) -> Option<Action>
     ensures { result ≡ retake_of instruction.now }
 {
@@ -58,7 +55,6 @@ pub fn retake_of(instruction: &Instruction) -> Option<Action>
 }
 
 /// What a thread of this status does next at this instruction.
-#[inline(always)]
 pub fn action_at(status: Status, instruction: &Instruction) -> Option<Action>
     ensures { result ≡ action_at status (Some instruction.now) }
 {
@@ -77,35 +73,4 @@ pub fn owns(thread: u8, owner: Option<u8>) -> bool
         Some(other) => thread == other,
         None => false,
     }
-}
-
-/// What a step does to which other threads are enabled.
-#[derive(Clone, Copy, Debug, PartialEq, Eq)]
-pub enum Others {
-    /// They stay enabled or disabled.
-    Same,
-    /// Those that are about to take this are enabled where it can be taken now; the others stay
-    /// enabled or disabled.
-    At(Resource),
-    /// None is disabled that wasn't.
-    More,
-}
-
-/// Where a thread has come to by its step.
-#[derive(Clone, Copy, Debug, PartialEq, Eq)]
-pub enum Standing {
-    /// It is at a visible statement that no object holds up.
-    Free,
-    /// It may be at one that an object holds up.
-    Bound,
-    /// It takes no step as it is: it ended, stopped, or waits.
-    Over,
-}
-
-/// What a step does to which threads are enabled.
-#[derive(Clone, Copy, Debug)]
-pub struct After {
-    pub others: Others,
-    /// Where its own thread has come to.
-    pub standing: Standing,
 }

@@ -1,10 +1,9 @@
-//! What a program of the guest language does: its states, their steps, and how schedules end.
+//! What a program of the guest language does: its states, their steps, and how they end.
 //!
-//! A schedule is a list of thread numbers, one for each step. `State::start` is where all begin:
-//! each thread has run its own instructions up to its first visible statement. `State::enabled`
-//! says who may take a step, `State::step` takes one, and `State::kind` says how a schedule ends
-//! after which nobody may step. `Execution` carries a schedule out: beside the state it has the
-//! last thread and the preemptions so far, and its contract says which schedule has led to it.
+//! `State::start` is where all begin: each thread has run its own instructions up to its first
+//! visible statement. `State::enabled` says who may take a step, `State::step` takes one,
+//! `State::undo` takes it back, and `State::kind` says how it ended where nobody may step. What
+//! schedules there are, lists of such steps, is for the crate `schedules`.
 //!
 //! The contracts speak of a `State` as a snapshot: the lists of the variables' values, the owners
 //! of the mutexes, the queues of the conditions, the counts of the semaphores, and the threads.
@@ -16,28 +15,23 @@
 //! - a thread is in the mask of the enabled ones where it is enabled by definition, and a number
 //!   that no thread has never is;
 //! - a kind and an end view come exactly where nobody is enabled;
-//! - each state that a schedule leads to is again a state of the program: its places are in the
-//!   code, its counts within the limit, and in each queue threads that wait, each once.
+//! - each state that a step leads to is again a state of the program: its places are in the code,
+//!   its counts within the limit, and in each queue threads that wait, each once.
 //!
-//! `laws` says of the definitions themselves what a search for bugs rests on: which schedules
-//! there are, that they are short, which steps commute, and what sleep sets leave.
+//! `laws` says of the definitions themselves what each step does with objects and threads, that it
+//! leaves less work, what the operators are, and what a kind says of the threads.
 #![tactic(auto)]
 
 mod action;
-pub mod contenders;
-pub mod execution;
-pub mod independence;
 pub mod laws;
-pub mod limits;
 mod local;
 pub mod mask;
 mod opening;
-mod queue;
+pub mod queue;
 mod signals;
 pub mod state;
-#[cfg(test)]
-mod tests;
 pub mod undo;
 pub mod view;
 
-pub use crate::local::expression_at;
+pub use crate::action::{action_at, owns};
+pub use crate::local::{expression_at, of_both};

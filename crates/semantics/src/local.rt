@@ -1,19 +1,12 @@
 //! Expressions, and the instructions that a thread runs by itself.
 
-ghost use Rattle.std.specs.Prelude.{◌≡◌, ◌<◌, ◌≤◌, ◌+◌, ℕ, length, IsTrue};
+ghost use Rattle.std.specs.Prelude.{◌≡◌, ◌<◌, ◌≤◌, length, IsTrue, IsFalse};
 ghost use Rattle.guest_code.specs.Program.{Program, IsValidCode, IsValidValue, IsValidExpression};
 ghost use Rattle.semantics.specs.Machine.{value_of_operand, of_both, value_of_expression, is_zero, run_from, run_past, resumed, var_after, reader_after, is_expected};
 ghost use Rattle.semantics.specs.Reachable.{IsValidAccess};
-ghost use Rattle.semantics.specs.Undoing.{restored};
-ghost use Rattle.semantics.specs.inner.Recording.{Stands, HasRun};
-ghost use Rattle.semantics.specs.declared.local.Turn.TheVariants.{On};
-ghost use Rattle.semantics.specs.declared.state.Status.TheVariants.{Running};
-ghost use Rattle.semantics.specs.declared.state.Thread.{Thread};
 ghost use Rattle.semantics.specs.declared.state.VariableAction.TheVariants.{Add as Adds, Cas as Swaps};
 
-use crate::action::Standing;
 use crate::state::{Status, Stop, Thread, VariableAction};
-use crate::undo::{Saved, keep, put};
 use guest_code::limits::LOCALS;
 use guest_code::program::{Expression, Instruction, Value};
 use guest_syntax::tree::Op;
@@ -71,33 +64,24 @@ pub fn compare_and_swap(
     thread.locals[local] = i64::from(hit);
 }
 
-/// What a thread does with a variable, whose value is in the cell. The locals that it writes are
-/// kept first.
-#[inline(always)]
-pub fn access(cell: &mut i64, thread: &mut Thread, saved: &mut Saved, action: VariableAction)
-    requires action { IsValidAccess action }
-    requires few { saved.old.count ≤ LOCALS }
+/// What a thread does with a variable, whose value is in the cell.
+pub fn access(cell: &mut i64, thread: &mut Thread, action: VariableAction)
+    requires { IsValidAccess action }
     ensures cell { cell.new ≡ var_after action thread.old.locals cell.old }
     ensures thread { thread.new ≡ reader_after action thread.old cell.old }
-    ensures few { saved.new.count ≤ LOCALS }
-    ensures kept { restored saved.new thread.new.locals ≡ restored saved.old thread.old.locals }
 {
     match action {
-        VariableAction::Load(local) => put(thread, saved, local, *cell),
+        VariableAction::Load(local) => thread.locals[local] = *cell,
         VariableAction::Store(value) => *cell = operand_at(&thread.locals, value),
-        VariableAction::Add(local, value) => {
-            keep(&thread.locals, saved, local);
-            add(cell, thread, local, value);
-        }
+        VariableAction::Add(local, value) => add(cell, thread, local, value),
         VariableAction::Cas(local, expected, new) => {
-            keep(&thread.locals, saved, local);
-            compare_and_swap(cell, thread, local, expected, new);
+            compare_and_swap(cell, thread, local, expected, new)
         }
     }
 }
 
-// What an operator makes of two values. Sums, differences and products wrap.
-fn of_both(op: Op, a: i64, b: i64) -> i64
+/// What an operator makes of two values. Sums, differences and products wrap.
+pub fn of_both(op: Op, a: i64, b: i64) -> i64
     ensures { result ≡ of_both op a b }
 {
     match op {
@@ -132,140 +116,87 @@ fn is_zero_at(locals: &[i64; LOCALS], expression: &Expression) -> bool
     expression_at(locals, expression) == 0
 }
 
-// The instruction after this one and so many more, or the end of the code where fewer are left.
-#[inline(always)]
-fn passed(code: &[Instruction], pc: usize, skip: usize) -> usize
-    requires { pc < length code.now }
-    ensures pc { result ≤ length code.now }
-    ensures further { pc < result }
-    ensures run { (th : Thread) → run_from code.now (record th { pc = result })
-        ≡ run_past code.now (record th { pc = pc }) skip }
+// Passes the instruction where the thread is, and so many after it, if so many are left.
+fn pass(code: &[Instruction], thread: &mut Thread, skip: usize)
+    requires pc { thread.old.pc < length code.now }
+    ensures pc { thread.new.pc ≤ length code.now }
+    ensures further { thread.old.pc < thread.new.pc }
+    ensures locals { thread.new.locals ≡ thread.old.locals }
+    ensures run { run_from code.now thread.new ≡ run_past code.now thread.old skip }
 {
-    let next = pc + 1;
-    next + skip.min(code.len() - next)
+    let next = thread.pc + 1;
+    thread.pc = next + skip.min(code.len() - next);
 }
 
-/// How an instruction leaves a local run.
-#[derive(Clone, Copy, Debug, PartialEq, Eq)]
-pub enum Turn {
-    /// The run goes on at the instruction of this number.
-    On(usize),
-    /// The run is over, and the thread stands so.
-    At(Standing),
-}
-
-// A local run comes to this instruction, and carries it out where it is the thread's own.
-#[inline(always)]
-fn take_turn(code: &[Instruction], pc: usize, thread: &mut Thread, saved: &mut Saved) -> Turn
+// One instruction of a local run. False where the run is over.
+fn turn(code: &[Instruction], thread: &mut Thread) -> bool
     requires fine { (p : Program) × IsValidCode p code.now }
-    requires pc { pc ≤ length code.now }
-    requires running { thread.old.status ≡ Running }
-    requires few { saved.old.count ≤ LOCALS }
-    ensures run { HasRun result code.now (run_from code.now (record thread.old { pc = pc }))
-        thread.new }
-    ensures further { (n : ℕ) → result ≡ On n → pc < n }
-    ensures few { saved.new.count ≤ LOCALS }
-    ensures kept { restored saved.new thread.new.locals ≡ restored saved.old thread.old.locals }
+    requires pc { thread.old.pc ≤ length code.now }
+    ensures pc { thread.new.pc ≤ length code.now }
+    ensures further { IsTrue result → thread.old.pc < thread.new.pc }
+    ensures same { IsTrue result → run_from code.now thread.new ≡ run_from code.now thread.old }
+    ensures over { IsFalse result → thread.new ≡ run_from code.now thread.old }
 {
-    if pc >= code.len() {
-        thread.pc = pc;
+    if thread.pc >= code.len() {
         thread.status = Status::Ended;
-        return Turn::At(Standing::Over);
+        return false;
     }
-    match &code[pc] {
+    match &code[thread.pc] {
         Instruction::Set { local, value } => {
-            let value = expression_at(&thread.locals, value);
-            put(thread, saved, *local, value);
-            Turn::On(pc + 1)
+            thread.locals[*local] = expression_at(&thread.locals, value);
+            thread.pc += 1;
+            true
         }
         Instruction::Assert(e) => {
             if is_zero_at(&thread.locals, e) {
-                thread.pc = pc;
                 thread.status = Status::Stopped(Stop::Assert);
-                return Turn::At(Standing::Over);
+                return false;
             }
-            Turn::On(pc + 1)
+            thread.pc += 1;
+            true
         }
         Instruction::SkipIfZero(e, n) => {
-            if is_zero_at(&thread.locals, e) {
-                return Turn::On(passed(code, pc, *n));
-            }
-            Turn::On(pc + 1)
+            let skip = if is_zero_at(&thread.locals, e) { *n } else { 0 };
+            pass(code, thread, skip);
+            true
         }
-        Instruction::Skip(n) => Turn::On(passed(code, pc, *n)),
-        Instruction::Lock(_) | Instruction::Acquire(_) => {
-            thread.pc = pc;
-            Turn::At(Standing::Bound)
+        Instruction::Skip(n) => {
+            pass(code, thread, *n);
+            true
         }
         Instruction::Load { .. }
         | Instruction::Store { .. }
         | Instruction::Add { .. }
         | Instruction::Cas { .. }
+        | Instruction::Lock(_)
         | Instruction::Unlock(_)
         | Instruction::Wait { .. }
         | Instruction::Signal(_)
         | Instruction::Broadcast(_)
-        | Instruction::Release(_) => {
-            thread.pc = pc;
-            Turn::At(Standing::Free)
-        }
+        | Instruction::Acquire(_)
+        | Instruction::Release(_) => false,
     }
 }
 
-/// Runs a thread's own instructions, up to a visible statement, the end or a failed assertion, and
-/// answers where the thread stands then.
-#[inline(never)]
-pub fn run_on(code: &[Instruction], thread: &mut Thread, saved: &mut Saved) -> Standing
+/// Runs a thread's own instructions, up to a visible statement, the end or a failed assertion.
+pub fn run_on(code: &[Instruction], thread: &mut Thread)
     requires fine { (p : Program) × IsValidCode p code.now }
     requires pc { thread.old.pc ≤ length code.now }
-    requires running { thread.old.status ≡ Running }
-    requires few { saved.old.count ≤ LOCALS }
-    ensures value { thread.new ≡ run_from code.now thread.old }
-    ensures few { saved.new.count ≤ LOCALS }
-    ensures kept { restored saved.new thread.new.locals ≡ restored saved.old thread.old.locals }
-    ensures standing { Stands result code.now thread.new }
+    ensures { thread.new ≡ run_from code.now thread.old }
 {
-    let mut turned = Turn::On(thread.pc);
-    while let Turn::On(pc) = turned {
-        turned = take_turn(code, pc, thread, saved);
-    }
-    match turned {
-        Turn::At(standing) => standing,
-        Turn::On(_) => Standing::Bound,
+    let mut running = true;
+    while running {
+        running = turn(code, thread);
     }
 }
 
-/// After its visible statement a thread runs on. The answer is where it stands then.
-#[inline(always)]
-pub fn resume(code: &[Instruction], thread: &mut Thread, saved: &mut Saved) -> Standing
+/// After its visible statement a thread runs on.
+pub fn resume(code: &[Instruction], thread: &mut Thread)
     requires fine { (p : Program) × IsValidCode p code.now }
     requires pc { thread.old.pc < length code.now }
-    requires few { saved.old.count ≤ LOCALS }
-    ensures value { thread.new ≡ resumed code.now thread.old }
-    ensures few { saved.new.count ≤ LOCALS }
-    ensures kept { restored saved.new thread.new.locals ≡ restored saved.old thread.old.locals }
-    ensures standing { Stands result code.now thread.new }
+    ensures { thread.new ≡ resumed code.now thread.old }
 {
     thread.pc += 1;
-    if thread.pc == code.len() {
-        thread.status = Status::Ended;
-        return Standing::Over;
-    }
     thread.status = Status::Running;
-    match &code[thread.pc] {
-        Instruction::Load { .. }
-        | Instruction::Store { .. }
-        | Instruction::Add { .. }
-        | Instruction::Cas { .. }
-        | Instruction::Unlock(_)
-        | Instruction::Wait { .. }
-        | Instruction::Signal(_)
-        | Instruction::Broadcast(_)
-        | Instruction::Release(_) => Standing::Free,
-        Instruction::Lock(_) | Instruction::Acquire(_) => Standing::Bound,
-        Instruction::Set { .. }
-        | Instruction::Assert(_)
-        | Instruction::SkipIfZero(_, _)
-        | Instruction::Skip(_) => run_on(code, thread, saved),
-    }
+    run_on(code, thread);
 }

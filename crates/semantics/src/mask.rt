@@ -61,13 +61,6 @@ impl Mask {
         }
     }
 
-    /// The threads below `THREADS` that aren't in the set.
-    pub fn complement(self) -> Mask
-        ensures { (u : ℕ) → u < THREADS → has result u ≡ not (has self u) }
-    {
-        Mask { bits: !self.bits }
-    }
-
     /// The least member from a number on.
     pub fn first_from(self, least: u8) -> Option<u8>
         ensures list { MatchOption result (members_from self least ≡ [])

@@ -5,7 +5,6 @@ ghost use Rattle.semantics.specs.Machine.{start};
 
 use crate::local::run_on;
 use crate::state::{Status, Thread};
-use crate::undo::Saved;
 use guest_code::limits::{COUNT, LOCALS, THREADS};
 use guest_code::program::Program;
 use std::alloc::{AllocError, Global};
@@ -45,7 +44,7 @@ pub fn opening_threads(alloc: Global, program: &Program) -> Result<Vec<Thread>, 
             locals: [0; LOCALS],
             status: Status::Running,
         };
-        run_on(program.code(t), &mut thread, &mut Saved::new());
+        run_on(program.code(t), &mut thread);
         threads.push(thread)?;
     }
     Ok(threads)

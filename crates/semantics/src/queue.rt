@@ -31,10 +31,7 @@ impl Clone for Queue {
     ghost is_clone = { λ q copy. copy ≡ q };
 
     fn clone(&self) -> Result<Queue, AllocError> {
-        Ok(Queue {
-            threads: self.threads,
-            length: self.length,
-        })
+        Ok(self.copy())
     }
 }
 
@@ -56,21 +53,14 @@ impl Queue {
         &self.threads[..self.length]
     }
 
-    /// The array of the queue, and how many of its first places are in use.
-    pub fn parts(&self) -> (&[u8; THREADS], usize)
-        ensures threads { take result.1 result.0.now ≡ self.now }
-        ensures few { result.1 ≤ THREADS }
+    /// An equal queue.
+    pub fn copy(&self) -> Queue
+        ensures { result ≡ self.now }
     {
-        (&self.threads, self.length)
-    }
-
-    /// The queue becomes so many of these threads.
-    pub fn refill(&mut self, threads: &[u8; THREADS], length: usize)
-        requires { length ≤ THREADS }
-        ensures { self.new ≡ take length threads.now }
-    {
-        self.threads = *threads;
-        self.length = length;
+        Queue {
+            threads: self.threads,
+            length: self.length,
+        }
     }
 
     /// A thread joins at the end.

@@ -2,26 +2,23 @@
 
 ghost use Rattle.std.specs.Prelude.{◌≡◌, ◌<◌, Some, length, slice_get, IfOk, IfSome};
 ghost use Rattle.std.specs.List.{list_any, list_all};
-ghost use Rattle.guest_code.specs.Program.{Program, IsValid, IsValidValue};
-ghost use Rattle.semantics.specs.Machine.{start, action_of, retake_of, action_at, can_do, is_enabled, next_of, thread_at, owner_of, queue_of, count_of, value_of_operand};
+ghost use Rattle.guest_code.specs.Program.{Program, IsValidValue};
+ghost use Rattle.semantics.specs.Machine.{start, can_do, is_enabled, next_of, thread_at, owner_of, queue_of, count_of, value_of_operand};
 ghost use Rattle.semantics.specs.Reachable.{IsOf, IsValidAction, StandsInCode};
 ghost use Rattle.semantics.specs.Ends.{is_terminal, kind_of, view_of, final_kind, is_stopped, is_ended, stop_of};
-ghost use Rattle.semantics.specs.Contenders.{HasContenders};
 ghost use Rattle.semantics.specs.Mask.{HasEnabled};
 
-mod further;
-mod renewal;
+pub(crate) mod objects;
 mod steps;
 
 use crate::action::action_at;
-use crate::contenders::Contenders;
 use crate::local::operand_at;
 use crate::mask::Mask;
 use crate::opening::{opening_counts, opening_threads, opening_values};
 use crate::queue::Queue;
 use crate::view::{EndView, Kind};
 use guest_code::limits::LOCALS;
-use guest_code::program::{Instruction, Program, Value};
+use guest_code::program::{Program, Value};
 use std::alloc::{AllocError, Global};
 use std::marker::Model;
 
@@ -261,7 +258,6 @@ impl State {
     }
 
     /// What a thread is about to do, if it doesn't wait and is not over.
-    #[inline(always)]
     pub fn next(&self, program: &Program, thread: u8) -> Option<Action>
         requires of { IsOf program.now self.now }
         requires thread { thread < length program.now.threads }
@@ -277,69 +273,31 @@ impl State {
     }
 
     /// Whether a thread can take a step.
-    #[inline(always)]
     pub fn is_enabled(&self, program: &Program, thread: u8) -> bool
         requires of { IsOf program.now self.now }
         requires thread { thread < length program.now.threads }
         ensures { result ≡ is_enabled program.now self.now thread }
     {
-        let runner = &self.threads[thread as usize];
-        if matches!(
-            runner.status,
-            Status::Ended | Status::Waiting(_) | Status::Stopped(_)
-        ) {
-            return false;
-        }
-        match program.code(thread).get(runner.pc) {
-            Some(instruction) => self.allows(runner.status, instruction),
+        match self.next(program, thread) {
+            Some(action) => self.allows(action),
             None => false,
         }
     }
 
-    // Whether the objects allow what a thread of this status does next at this instruction.
-    #[inline(always)]
-    fn allows(&self, status: Status, instruction: &Instruction) -> bool
-        requires { (p : Program) × IsOf p self.now × IsValid p instruction.now }
-        ensures { result ≡ can_do self.now (action_at status (Some instruction.now)) }
+    // Whether the objects allow this step.
+    fn allows(&self, action: Action) -> bool
+        requires { (p : Program) × IsOf p self.now × IsValidAction p action }
+        ensures { result ≡ can_do self.now (Some action) }
     {
-        match status {
-            Status::Running => self.allows_visible(instruction),
-            Status::Woken => self.allows_retaking(instruction),
-            Status::Waiting(_) | Status::Ended | Status::Stopped(_) => false,
+        match action {
+            Action::OnMutex(m, MutexAction::Lock | MutexAction::Retake) => self.owners[m].is_none(),
+            Action::OnSemaphore(k, SemaphoreAction::Acquire) => self.counts[k] > 0,
+            Action::OnVariable(_, _)
+            | Action::OnMutex(_, MutexAction::Unlock)
+            | Action::Wait(_, _)
+            | Action::OnCondition(_, _)
+            | Action::OnSemaphore(_, SemaphoreAction::Release) => true,
         }
-    }
-
-    // Whether the instruction is a `wait` whose mutex is free.
-    #[inline(always)]
-    fn allows_retaking(&self, instruction: &Instruction) -> bool
-        requires { (p : Program) × IsOf p self.now × IsValid p instruction.now }
-        ensures { result ≡ can_do self.now (retake_of instruction.now) }
-    {
-        match instruction {
-            Instruction::Wait { mutex, .. } => self.owners[*mutex].is_none(),
-            _ => false,
-        }
-    }
-
-    // Whether the instruction is visible, and the objects allow its step.
-    #[inline(always)]
-    fn allows_visible(&self, instruction: &Instruction) -> bool
-        requires { (p : Program) × IsOf p self.now × IsValid p instruction.now }
-        ensures { result ≡ can_do self.now (action_of instruction.now) }
-    {
-        if let Instruction::Lock(m) = instruction {
-            return self.owners[*m].is_none();
-        }
-        if let Instruction::Acquire(k) = instruction {
-            return self.counts[*k] > 0;
-        }
-        !matches!(
-            instruction,
-            Instruction::Set { .. }
-                | Instruction::Assert(_)
-                | Instruction::SkipIfZero(_, _)
-                | Instruction::Skip(_)
-        )
     }
 
     /// Which threads can take a step.
@@ -354,27 +312,8 @@ impl State {
         mask
     }
 
-    /// Who is about to take each mutex and each semaphore.
-    pub fn contenders(&self, program: &Program) -> Contenders
-        requires { IsOf program.now self.now }
-        ensures { HasContenders result program.now self.now }
-    {
-        let mut contenders = Contenders::none();
-        for t in 0..program.threads() {
-            self.arrive(program, t, &mut contenders);
-        }
-        contenders
-    }
-
-    /// How a complete schedule to this state ends.
-    pub fn final_kind(&self) -> Kind
-        ensures { result ≡ final_kind self.now.threads }
-    {
-        final_kind(self.threads.as_slice())
-    }
-
-    /// Whether no thread is enabled.
-    pub fn is_terminal(&self, program: &Program) -> bool
+    // Whether no thread is enabled.
+    fn is_terminal(&self, program: &Program) -> bool
         requires { IsOf program.now self.now }
         ensures { result ≡ is_terminal program.now self.now }
     {
@@ -392,7 +331,7 @@ impl State {
         ensures { result ≡ kind_of program.now self.now }
     {
         if self.is_terminal(program) {
-            Some(self.final_kind())
+            Some(final_kind(self.threads.as_slice()))
         } else {
             None
         }
@@ -433,32 +372,11 @@ fn has_ended(thread: &Thread) -> bool
     matches!(thread.status, Status::Ended)
 }
 
-// Whether each of some threads ended.
-fn each_ended(threads: &[Thread]) -> bool
-    ensures { result ≡ list_all (λ th. is_ended th.status) threads.now }
-{
-    threads.iter().all(|th| has_ended(th))
-}
-
-// The same for all threads. Each complete schedule asks, so four are looked at in a turn, and then
-// two.
+// Whether all threads ended.
 fn all_ended(threads: &[Thread]) -> bool
     ensures { result ≡ list_all (λ th. is_ended th.status) threads.now }
 {
-    let mut left = threads;
-    while let [first, second, third, fourth, rest @ ..] = left {
-        if !has_ended(first) || !has_ended(second) || !has_ended(third) || !has_ended(fourth) {
-            return false;
-        }
-        left = rest;
-    }
-    if let [first, second, rest @ ..] = left {
-        if !has_ended(first) || !has_ended(second) {
-            return false;
-        }
-        left = rest;
-    }
-    each_ended(left)
+    threads.iter().all(|th| has_ended(th))
 }
 
 // How a complete schedule ends that leaves the threads so.

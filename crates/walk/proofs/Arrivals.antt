@@ -1,103 +1,142 @@
 -- What arriving at a node does to a walk: the node gives way to its children, or is tried.
-use Rattle.std.proofs.Common.{◌≡◌, ℕ, ◌+◌, ◌-◌, ◌≤◌, true, false, ◌&&◌, ◌||◌, not, List, [], ◌∷◌, ◌++◌, length, map, ap, ◌∙◌, sym, arith, subst, min}
+use Rattle.std.proofs.Common.{◌≡◌, ℕ, ◌+◌, ◌-◌, ◌<◌, ◌≤◌, Bool, true, false, ◌&&◌, ◌||◌, not, nat_eq, List, [], ◌∷◌, ◌++◌, length, take, map, ap, refl, ◌∙◌, sym, arith, subst, min, Some}
 use Rattle.std.specs.List.{filter}
-use Rattle.std.proofs.lemmas.List.{length_push}
 use Rattle.guest_code.specs.Program.{Program}
 use Rattle.semantics.specs.Reachable.{IsOf}
 use Rattle.semantics.specs.Machine.{Snapshot, is_enabled}
-use Rattle.semantics.specs.Ends.{is_terminal, is_empty, end_of, view_at}
+use Rattle.semantics.specs.Ends.{is_terminal, is_empty, view_at}
+use Rattle.schedules.specs.Order.{end_of}
 use Rattle.semantics.specs.View.{View}
-use Rattle.semantics.specs.Mask.{has, members_from}
+use Rattle.semantics.specs.Mask.{has, members_from, no_threads, HasEnabled}
 use Rattle.semantics.specs.declared.mask.Mask.{Mask}
 use Rattle.walk.specs.declared.mode.Mode.{Mode}
 use Rattle.walk.specs.declared.mode.Mode.TheVariants.{Bounded, Reduced}
-use Rattle.walk.specs.declared.trail.Node.{Node}
-use Rattle.walk.specs.declared.trail.Trail.{Trail}
+use Rattle.walk.specs.declared.path.Node.{Node}
+use Rattle.walk.specs.declared.path.Path.{Path}
 use Rattle.walk.specs.declared.found.Found.{Found}
-use Rattle.walk.specs.Summaries.{SummaryView, with_beyond, greatest_count}
+use Rattle.summary.specs.Summaries.{SummaryView, with_beyond, greatest_count, added}
 use Rattle.walk.specs.Items.{ItemView, IsItem, item_at}
 use Rattle.walk.specs.Walks.{IsWalked}
-use Rattle.walk.specs.inner.SubtreeInvariant.{added}
 use Rattle.walk.specs.inner.Children.{state_of, IsWithin, is_kept_step, kept_steps, past_steps, passes_bound, child_of, children_of, children, past_children, mask_after, cost_of, costs}
-use Rattle.walk.specs.inner.Paths.{IsNode, IsTrail, IsOpened}
-use Rattle.walk.specs.inner.WalkerInvariant.{item_of, here, open_above, left_above, still_open, turns_left, turns_from, is_kept_at, is_past_at, IsWithinAt, IsPlace, IsSearch, IsShared}
-use Rattle.walk.proofs.SharedSteps.{shared_same, shared_kept, shared_entered}
-use Rattle.walk.proofs.WalkTurns.{step_enabled, IsFurther, kept_members, past_members, node_enabled, deferred_are}
-use Rattle.walk.proofs.WalkSteps.{walk_of, walked_leaf, walked_node, over_none, over_some}
-use Rattle.walk.proofs.Turns.{costs-append, cost_two, children_cost}
+use Rattle.walk.specs.inner.Paths.{used_frames, IsNode, IsPath, state_at}
+use Rattle.walk.specs.inner.WalkerInvariant.{item_of, here, left_above, still_open, turns_left, turns_from, turns_into, is_kept_at, is_past_at, IsWithinAt, IsSpent, IsAwake, open_from, IsPlace, IsSearch, IsShared, IsGone, IsKept, IsOpened}
+use Rattle.std.proofs.lemmas.List.{append-nil}
+use Rattle.std.proofs.Math.Bool.{or-false}
+use Rattle.semantics.proofs.Masks.{empty_has, members_over}
+use Rattle.walk.proofs.SharedSteps.{shared_same, shared_kept, shared_entered, shared_back}
+use Rattle.walk.proofs.PathSteps.{path_same}
+use Rattle.walk.proofs.WalkTurns.{step_enabled, kept_members, past_members, node_enabled, deferred_are}
+use Rattle.walk.proofs.WalkSteps.{walk_of, first_open, walked_leaf, walked_node, over_none, over_some}
+use Rattle.walk.proofs.Turns.{costs-append, cost_two, children_cost, child_less}
 
--- the node's preemptions are within the bound
-pub within_at : (mode : Mode) (p : Program) (w : List ℕ) (s : Snapshot) (n : Node) → IsNode p w s n
-    →
-    IsWithin mode (item_of p w n) → IsWithinAt mode n
-within_at (Bounded bound) p w s n h fits =
-    subst (λ (k : ℕ). k ≤ bound) (sym h.reaches.preemptions) fits
-within_at Reduced p w s n h fits = tt
+-- these are enabled where it stands
+abbrev pub AreOn : Program → Path → Mask → Type 0
+AreOn p t e = HasEnabled e p (state_at p t.steps.items)
 
-pub place_opened : (p : Program) (old new : Trail) → IsPlace p old → IsOpened p old new
-    → IsPlace p new
-place_opened p old new h o = record {
-  trail = o.trail;
-  base = let b = h.base in let e = o.base in let k = o.depth in omega (arith, b, e, k);
+pub of_here : (p : Program) (t : Path) → IsPath p t → IsOf p (state_at p t.steps.items)
+of_here p t h = h.shows.of
+
+pub node_of : (p : Program) (t : Path) (e : Mask) → IsPath p t → AreOn p t e → IsNode p t.steps.items e t.node
+node_of p t e h on = record { reaches = h.reaches; enabled = on }
+
+-- the same place, where other threads may be still to be tried
+pub record IsTurned (old new : Path) : Type 0 where
+  pub steps : new.steps.items ≡ old.steps.items
+  pub last : new.node.last ≡ old.node.last
+  pub used : new.node.used ≡ old.node.used
+  pub asleep : new.node.asleep ≡ old.node.asleep
+  pub machine : new.machine ≡ old.machine
+  pub size : new.size ≡ old.size
+  pub frames : (used_frames new) ≡ (used_frames old)
+  pub words : new.words.items ≡ old.words.items
+  pub base : new.base ≡ old.base
+
+pub turned_here : (old new : Path) → new.steps.items ≡ old.steps.items
+    → new.node ≡ record old.node { todo = new.node.todo } → new.machine ≡ old.machine → new.size ≡ old.size
+    → (used_frames new) ≡ (used_frames old) → new.words.items ≡ old.words.items → new.base ≡ old.base
+    → IsTurned old new
+turned_here old new steps node machine size frames words base = record {
+  steps = steps;
+  last = ap (λ (n : Node). n.last) node;
+  used = ap (λ (n : Node). n.used) node;
+  asleep = ap (λ (n : Node). n.asleep) node;
+  machine = machine;
+  size = size;
+  frames = frames;
+  words = words;
+  base = base;
 }
 
+pub place_turned : (p : Program) (old new : Path) → IsPlace p old → IsTurned old new
+    → new.depth ≤ length new.frames.items → IsPlace p new
+place_turned p old new h o room = record {
+  path = path_same p old new h.path o.steps o.last o.used o.machine o.size o.frames o.words room;
+  some = let s = h.some in let e = o.base in omega (arith, s, e);
+  base = let b = h.base in let e = o.base in let k = ap (λ fs. length fs) o.frames in omega (arith, b, e, k);
+}
+
+pub left_turned : (mode : Mode) (p : Program) (old new : Path) → IsTurned old new
+    → left_above mode p new ≡ left_above mode p old
+left_turned mode p old new o = λ i. open_from mode p (o.steps i) (o.frames i) (o.base i) (length (o.frames i) - o.base i)
+
+pub here_turned : (p : Program) (old new : Path) → IsTurned old new → here p new ≡ here p old
+here_turned p old new o = λ i. record { program = p; prefix = o.steps i; mask = o.asleep i }
+
+-- the node's preemptions are within the bound
+pub within_at : (mode : Mode) (p : Program) (t : Path) → IsPath p t → IsWithin mode (here p t)
+    → IsWithinAt mode t.node
+within_at (Bounded bound) p t h fits =
+    subst (λ (k : ℕ). k ≤ bound) (sym h.reaches.preemptions) fits
+within_at Reduced p t h fits = tt
+
 -- its children are open
-open_opened : (mode : Mode) (p : Program) (old new : Trail) → IsPlace p old → IsOpened p old new →
-    ((t : ℕ) → has new.node.todo t ≡ (has old.node.enabled t && is_kept_at mode old.node t)) →
+open_opened : (mode : Mode) (p : Program) (old new : Path) (e : Mask) → IsPlace p old → AreOn p old e →
+    IsTurned old new →
+    ((t : ℕ) → has new.node.todo t ≡ (has e t && is_kept_at mode e old.node t)) →
     still_open mode p new ≡ children mode (here p old) ++ left_above mode p old
-open_opened mode p old new h o kept =
-    let mask : new.node.asleep ≡ old.node.asleep = ap (λ (n : Node). n.asleep) o.node in
+open_opened mode p old new e h on o kept =
     let members : members_from new.node.todo 0 ≡ kept_steps mode (here p old) =
-    kept_members mode p old.steps.items old.state old.node new.node.todo h.trail.node h.trail.state
-    kept in
-    (λ i. children_of mode (record { program = p; prefix = o.steps i; mask = mask i })
-    (members_from new.node.todo 0)
-    ++ open_above mode p (o.depth i - o.base i) (o.above i))
-    ∙ ap (λ (ts : List ℕ). children_of mode (here p old) ts ++ left_above mode p old) members
-
-state_here : (p : Program) (t : Trail) → IsTrail p t → t.state ≡ state_of (here p t)
-state_here p t h = h.node.reaches.state
-
-pub here_of : (p : Program) (t : Trail) → IsTrail p t → IsOf p (state_of (here p t))
-here_of p t h = subst (IsOf p) (state_here p t h) h.state
+    kept_members mode p old.steps.items e old.node new.node.todo (node_of p old e h.path on)
+    (of_here p old h.path) kept in
+    λ i. children_of mode (here_turned p old new o i) (members i) ++ left_turned mode p old new o i
 
 -- something is enabled, or nothing is
-here_goes_on : (p : Program) (t : Trail) (u : ℕ) (us : List ℕ) → IsTrail p t
-    → members_from t.node.enabled 0 ≡ u ∷ us →
+pub here_goes_on : (p : Program) (t : Path) (e : Mask) (u : ℕ) (us : List ℕ) → IsPath p t → AreOn p t e
+    → members_from e 0 ≡ u ∷ us →
     is_terminal p (state_of (here p t)) ≡ false
-here_goes_on p t u us h e = over_some p (state_of (here p t)) u us
-    (sym (node_enabled p t.steps.items t.state t.node h.node h.state) ∙ e)
+here_goes_on p t e u us h on some = over_some p (state_of (here p t)) u us
+    (sym (node_enabled p t.steps.items e on (of_here p t h)) ∙ some)
 
-here_is_over : (p : Program) (t : Trail) → IsTrail p t → members_from t.node.enabled 0 ≡ [] →
+here_is_over : (p : Program) (t : Path) (e : Mask) → IsPath p t → AreOn p t e → members_from e 0 ≡ [] →
     is_terminal p (state_of (here p t)) ≡ true
-here_is_over p t h e = over_none p (state_of (here p t))
-    (sym (node_enabled p t.steps.items t.state t.node h.node h.state) ∙ e)
+here_is_over p t e h on none = over_none p (state_of (here p t))
+    (sym (node_enabled p t.steps.items e on (of_here p t h)) ∙ none)
 
-none_kept : (mode : Mode) (p : Program) (t : Trail) → IsTrail p t
-    → members_from t.node.enabled 0 ≡ [] →
+none_kept : (mode : Mode) (p : Program) (t : Path) (e : Mask) → IsPath p t → AreOn p t e
+    → members_from e 0 ≡ [] →
     children mode (here p t) ≡ []
-none_kept mode p t h e =
+none_kept mode p t e h on none =
     ap (λ (ts : List ℕ). children_of mode (here p t) (filter (is_kept_step mode (here p t)) ts))
-    (sym (node_enabled p t.steps.items t.state t.node h.node h.state) ∙ e)
+    (sym (node_enabled p t.steps.items e on (of_here p t h)) ∙ none)
 
 -- a node where something is enabled gives way to its children
-pub put_off : (mode : Mode) (i : ItemView) (t : Trail) (f g : Found) (past : Mask) →
-    IsSearch mode i t f (here i.program t ∷ left_above mode i.program t) →
+pub put_off : (mode : Mode) (i : ItemView) (t : Path) (f g : Found) (e past : Mask) →
+    IsSearch mode i t f (here i.program t ∷ left_above mode i.program t) → AreOn i.program t e →
     is_terminal i.program (state_of (here i.program t)) ≡ false →
-    ((u : ℕ) → has past u ≡ (has t.node.enabled u && is_past_at mode t.node u)) →
+    ((u : ℕ) → has past u ≡ (has e u && is_past_at mode e t.node u)) →
     g.part ≡ with_beyond f.part (f.part.beyond || not (is_empty (members_from past 0))) →
     g.deferred ≡ f.deferred ++ map (λ u. t.steps.items ++ u ∷ []) (members_from past 0) →
     IsWalked (walk_of mode i g.part
     (children mode (here i.program t) ++ left_above mode i.program t)
     (map (item_at i.program) g.deferred))
-put_off mode i t f g past h more passed part deferred =
+put_off mode i t f g e past h on more passed part deferred =
     let p : Program = i.program in
     let c : ItemView = here p t in
     let members : members_from past 0 ≡ past_steps mode c =
-    past_members mode p t.steps.items t.state t.node past h.place.trail.node
-    h.place.trail.state passed in
+    past_members mode p t.steps.items e t.node past (node_of p t e h.place.path on)
+    (of_here p t h.place.path) passed in
     let walked = walked_node mode i c f.part (left_above mode p t) (map (item_at p) f.deferred)
-    (here_of p t h.place.trail) more h.walked in
+    (of_here p t h.place.path) more h.walked in
     let part_is : g.part ≡ with_beyond f.part (f.part.beyond || passes_bound mode c) =
     part ∙ ap (λ (ts : List ℕ). with_beyond f.part (f.part.beyond || not (is_empty ts))) members in
     let deferred_is : map (item_at p) g.deferred
@@ -113,51 +152,72 @@ put_off mode i t f g past h more passed part deferred =
     (children mode c ++ left_above mode p t) ds))
     (sym deferred_is) walked)
 
-pub arrived_node : (mode : Mode) (i : ItemView) (old new : Trail) (f g : Found) (past : Mask)
+pub arrived_node : (mode : Mode) (i : ItemView) (old new : Path) (f g : Found) (e past : Mask)
     (u : ℕ) (us : List ℕ) →
     IsSearch mode i old f (here i.program old ∷ left_above mode i.program old)
-    → IsOpened i.program old new →
-    ((t : ℕ) → has new.node.todo t ≡ (has old.node.enabled t && is_kept_at mode old.node t)) →
-    ((t : ℕ) → has past t ≡ (has old.node.enabled t && is_past_at mode old.node t)) →
-    members_from old.node.enabled 0 ≡ u ∷ us →
+    → AreOn i.program old e → IsTurned old new →
+    ((t : ℕ) → has new.node.todo t ≡ (has e t && is_kept_at mode e old.node t)) →
+    ((t : ℕ) → has past t ≡ (has e t && is_past_at mode e old.node t)) →
+    members_from e 0 ≡ u ∷ us →
     g.part ≡ with_beyond f.part (f.part.beyond || not (is_empty (members_from past 0))) →
     g.deferred ≡ f.deferred ++ map (λ t. old.steps.items ++ t ∷ []) (members_from past 0) →
-    IsShared old.steps.items g → IsSearch mode i new g (still_open mode i.program new)
-arrived_node mode i old new f g past u us h o kept passed e part deferred shared =
+    IsShared old.steps.items g → new.depth ≤ length new.frames.items → IsSearch mode i new g (still_open mode i.program new)
+arrived_node mode i old new f g e past u us h on o kept passed some part deferred shared room =
     let p : Program = i.program in
     record {
-      place = place_opened p old new h.place o;
+      place = place_turned p old new h.place o room;
       walked = subst (λ (rs : List ItemView). IsWalked
           (walk_of mode i g.part rs (map (item_at p) g.deferred)))
-          (sym (open_opened mode p old new h.place o kept))
-          (put_off mode i old f g past h (here_goes_on p old u us h.place.trail e) passed part
+          (sym (open_opened mode p old new e h.place on o kept))
+          (put_off mode i old f g e past h on (here_goes_on p old e u us h.place.path on some) passed part
           deferred);
       shared = shared_same old.steps.items new.steps.items g shared o.steps;
     }
 
+-- where no step of it passes the bound
+pub arrived_free : (mode : Mode) (i : ItemView) (old new : Path) (f : Found) (e : Mask)
+    (u : ℕ) (us : List ℕ) →
+    IsSearch mode i old f (here i.program old ∷ left_above mode i.program old)
+    → AreOn i.program old e → IsTurned old new →
+    ((t : ℕ) → has new.node.todo t ≡ (has e t && is_kept_at mode e old.node t)) →
+    ((t : ℕ) → (has e t && is_past_at mode e old.node t) ≡ false) →
+    members_from e 0 ≡ u ∷ us → new.depth ≤ length new.frames.items
+    → IsSearch mode i new f (still_open mode i.program new)
+unfolding members_from
+arrived_free mode i old new f e u us h on o kept free some room =
+    arrived_node mode i old new f f e no_threads u us h on o kept
+    (λ t. empty_has t ∙ sym (free t)) some
+    (ap (with_beyond f.part) (sym (ap (λ (ts : List ℕ). f.part.beyond || not (is_empty ts)) none
+    ∙ or-false f.part.beyond)))
+    (sym (ap (λ (ts : List ℕ). f.deferred ++ map (λ t. old.steps.items ++ t ∷ []) ts) none
+    ∙ append-nil f.deferred)) h.shared room
+  where
+    none : members_from no_threads 0 ≡ []
+    none = members_over no_threads 0 16 (omega arith) (λ k l. empty_has (0 + k))
+
 -- a complete schedule
-pub arrived_leaf : (mode : Mode) (i : ItemView) (old new : Trail) (f g : Found) (w : List ℕ)
+pub arrived_leaf : (mode : Mode) (i : ItemView) (old new : Path) (f g : Found) (e : Mask) (w : List ℕ)
     (v : View) →
     IsSearch mode i old f (here i.program old ∷ left_above mode i.program old)
-    → IsOpened i.program old new →
-    ((t : ℕ) → has new.node.todo t ≡ (has old.node.enabled t && is_kept_at mode old.node t)) →
-    members_from old.node.enabled 0 ≡ [] → w ≡ old.steps.items → v ≡ view_at old.state →
+    → AreOn i.program old e → IsTurned old new →
+    ((t : ℕ) → has new.node.todo t ≡ (has e t && is_kept_at mode e old.node t)) →
+    members_from e 0 ≡ [] → w ≡ old.steps.items
+    → v ≡ view_at (state_at i.program old.steps.items) →
     g.part ≡ added f.part w v → g.deferred ≡ f.deferred → g.shared ≡ f.shared →
-    IsSearch mode i new g (still_open mode i.program new)
-arrived_leaf mode i old new f g w v h o kept e schedule view part deferred shared =
+    new.depth ≤ length new.frames.items → IsSearch mode i new g (still_open mode i.program new)
+arrived_leaf mode i old new f g e w v h on o kept none schedule view part deferred shared room =
     let p : Program = i.program in
     let c : ItemView = here p old in
     let walked = walked_leaf mode i c f.part (left_above mode p old) (map (item_at p) f.deferred)
-    (here_is_over p old h.place.trail e) h.walked in
+    (here_is_over p old e h.place.path on none) h.walked in
     let part_is : g.part ≡ added f.part old.steps.items (end_of p old.steps.items) =
-    part ∙ (λ k. added f.part (schedule k) ((view ∙ ap view_at (state_here p old h.place.trail))
-    k)) in
+    part ∙ (λ k. added f.part (schedule k) (view k)) in
     let open_is : still_open mode p new ≡ left_above mode p old =
-    open_opened mode p old new h.place o kept ∙
+    open_opened mode p old new e h.place on o kept ∙
     ap (λ (cs : List ItemView). cs ++ left_above mode p old)
-    (none_kept mode p old h.place.trail e) in
+    (none_kept mode p old e h.place.path on none) in
     record {
-      place = place_opened p old new h.place o;
+      place = place_turned p old new h.place o room;
       walked = subst (λ (s : SummaryView). IsWalked
           (walk_of mode i s (still_open mode p new) (map (item_at p) g.deferred))) (sym part_is)
           (subst (λ (rs : List ItemView). IsWalked
@@ -170,32 +230,31 @@ arrived_leaf mode i old new f g w v h o kept e schedule view part deferred share
     }
 
 -- how far there is to go then
-pub falls_node : (mode : Mode) (p : Program) (old new : Trail) (u : ℕ) (us : List ℕ)
-    → IsPlace p old → IsOpened p old new →
-    ((t : ℕ) → has new.node.todo t ≡ (has old.node.enabled t && is_kept_at mode old.node t)) →
-    members_from old.node.enabled 0 ≡ u ∷ us →
+pub falls_node : (mode : Mode) (p : Program) (old new : Path) (e : Mask) (u : ℕ) (us : List ℕ)
+    → IsPlace p old → AreOn p old e → IsTurned old new →
+    ((t : ℕ) → has new.node.todo t ≡ (has e t && is_kept_at mode e old.node t)) →
+    members_from e 0 ≡ u ∷ us →
     turns_left mode p new + 2 ≤ turns_from mode p old
 unfolding turns_left turns_from
-falls_node mode p old new u us h o kept e =
-    let a = ap costs (open_opened mode p old new h o kept) ∙ costs-append
+falls_node mode p old new e u us h on o kept some =
+    let a = ap costs (open_opened mode p old new e h on o kept) ∙ costs-append
     (children mode (here p old)) (left_above mode p old) in
-    let b = children_cost mode (here p old) (here_of p old h.trail)
-    (here_goes_on p old u us h.trail e) in
-    let k = ap length o.steps in
+    let b = children_cost mode (here p old) (of_here p old h.path) (here_goes_on p old e u us h.path on some) in
+    let k = ap (λ fs. length fs) o.frames in
     omega (arith, a, b, k)
 
-pub falls_leaf : (mode : Mode) (p : Program) (old new : Trail) → IsPlace p old
-    → IsOpened p old new →
-    ((t : ℕ) → has new.node.todo t ≡ (has old.node.enabled t && is_kept_at mode old.node t)) →
-    members_from old.node.enabled 0 ≡ [] →
+pub falls_leaf : (mode : Mode) (p : Program) (old new : Path) (e : Mask) → IsPlace p old
+    → AreOn p old e → IsTurned old new →
+    ((t : ℕ) → has new.node.todo t ≡ (has e t && is_kept_at mode e old.node t)) →
+    members_from e 0 ≡ [] →
     turns_left mode p new + 2 ≤ turns_from mode p old
 unfolding turns_left turns_from
-falls_leaf mode p old new h o kept e =
-    let a = ap costs (open_opened mode p old new h o kept ∙
-    ap (λ (cs : List ItemView). cs ++ left_above mode p old) (none_kept mode p old h.trail e))
+falls_leaf mode p old new e h on o kept none =
+    let a = ap costs (open_opened mode p old new e h on o kept ∙
+    ap (λ (cs : List ItemView). cs ++ left_above mode p old) (none_kept mode p old e h.path on none))
     in
     let b = cost_two (here p old) in
-    let k = ap length o.steps in
+    let k = ap (λ fs. length fs) o.frames in
     omega (arith, a, b, k)
 
 pub tried_added : (a : SummaryView) (w : List ℕ) (v : View) → (added a w v).tried ≤ a.tried + 1
@@ -206,42 +265,174 @@ tried_added a w v = least (a.tried + 1) greatest_count
     least m n = grind arith
 
 -- the first child that is open is entered
-pub child_enabled : (mode : Mode) (p : Program) (t : Trail) (u : ℕ) → IsTrail p t
-    → IsItem (child_of mode (here p t) u) →
-    is_enabled p t.state u ≡ true
-child_enabled mode p t u h i = step_enabled p t.steps.items t.state u i h.node.reaches.state
+pub child_enabled : (mode : Mode) (p : Program) (t : Path) (u : ℕ) → IsItem (child_of mode (here p t) u)
+    → is_enabled p (state_at p t.steps.items) u ≡ true
+child_enabled mode p t u i = step_enabled p t.steps.items u i
 
-pub entered_search : (mode : Mode) (i : ItemView) (old new : Trail) (f : Found) (u : ℕ)
-    (asleep : Mask) →
-    IsSearch mode i old f (child_of mode (here i.program old) u ∷ still_open mode i.program old) →
-    IsTrail i.program new → IsFurther mode i.program old new u asleep
+pub search_enabled : (mode : Mode) (i : ItemView) (t : Path) (f : Found) (u : ℕ) (rs : List ItemView) →
+    IsSearch mode i t f (child_of mode (here i.program t) u ∷ rs) →
+    is_enabled i.program (state_at i.program t.steps.items) u ≡ true
+search_enabled mode i t f u rs h = child_enabled mode i.program t u
+    (first_open mode i (child_of mode (here i.program t) u) f.part rs _ h.walked).item
+
+-- the walk stands at it then
+here_gone : (mode : Mode) (p : Program) (old new : Path) (u : ℕ) (asleep : Mask) → IsGone p old new u asleep
+    → asleep ≡ mask_after mode (here p old) u → here p new ≡ child_of mode (here p old) u
+here_gone mode p old new u asleep e mask =
+    λ k. record { program = p; prefix = e.steps k; mask = (e.asleep ∙ mask) k }
+
+pub gone_search : (mode : Mode) (i : ItemView) (old new : Path) (f : Found) (u : ℕ) (asleep : Mask) →
+    IsSearch mode i old f (child_of mode (here i.program old) u ∷ left_above mode i.program old) →
+    IsPath i.program new → IsGone i.program old new u asleep
     → asleep ≡ mask_after mode (here i.program old) u →
     IsSearch mode i new f (here i.program new ∷ left_above mode i.program new)
-entered_search mode i old new f u asleep h trail e mask =
+gone_search mode i old new f u asleep h path e mask =
     let p : Program = i.program in
-    let same : here p new ≡ child_of mode (here p old) u =
-    λ k. record { program = p; prefix = e.steps k; mask = (e.sleepers ∙ mask) k } in
     record {
-      place = record { trail = trail; base = e.base };
+      place = record {
+        path = path;
+        some = let s = h.place.some in let k = e.base in omega (arith, s, k);
+        base = let b = h.place.base in let k = e.base in let d = ap (λ fs. length fs) e.frames in omega (arith, b, k, d);
+      };
       walked = subst (λ (c : ItemView). IsWalked
           (walk_of mode i f.part (c ∷ left_above mode p new) (map (item_at p) f.deferred)))
-          (sym same)
+          (sym (here_gone mode p old new u asleep e mask))
           (subst (λ (rs : List ItemView). IsWalked
           (walk_of mode i f.part (child_of mode (here p old) u ∷ rs)
           (map (item_at p) f.deferred)))
-          (sym e.left) h.walked);
+          (sym (e.left mode h.place.base)) h.walked);
       shared = shared_entered old.steps.items new.steps.items u f h.shared e.steps;
     }
 
 -- how far there is to go from there
-pub entered_turns : (mode : Mode) (p : Program) (old new : Trail) (u : ℕ) (asleep : Mask) →
-    IsFurther mode p old new u asleep → asleep ≡ mask_after mode (here p old) u →
-    turns_from mode p new ≡ cost_of (child_of mode (here p old) u) + turns_left mode p old + 1
-unfolding turns_left turns_from
-entered_turns mode p old new u asleep e mask =
-    let same : here p new ≡ child_of mode (here p old) u =
-    λ k. record { program = p; prefix = e.steps k; mask = (e.sleepers ∙ mask) k } in
-    let a = ap cost_of same in
-    let b = ap costs e.left in
-    let k = ap length e.steps ∙ length_push old.steps.items u in
-    omega (arith, a, b, k)
+pub gone_turns : (mode : Mode) (p : Program) (old new : Path) (u : ℕ) (asleep : Mask) →
+    IsGone p old new u asleep → asleep ≡ mask_after mode (here p old) u →
+    old.base ≤ length (used_frames old) → turns_from mode p new ≡ turns_into mode p old u
+unfolding turns_from turns_into
+gone_turns mode p old new u asleep e mask within =
+    λ k. cost_of (here_gone mode p old new u asleep e mask k) + costs (e.left mode within k) + length (e.frames k)
+
+-- a frame for the node, or none
+pub opened_place : (p : Program) (old new : Path) → IsPlace p old → IsPath p new → IsOpened p old new
+    → IsPlace p new
+opened_place p old new h path o = record {
+  path = path;
+  some = let s = h.some in let e = o.base in omega (arith, s, e);
+  base = let b = h.base in let e = o.base in let d = o.depth in omega (arith, b, e, d);
+}
+
+pub opened_kept : (p : Program) (old new : Path) → IsPlace p old → IsOpened p old new → IsKept p old new
+opened_kept p old new h o = record {
+  steps = o.steps;
+  node = o.node;
+  depth = let d = o.depth in omega (arith, d);
+  left = λ mode. o.left mode h.base;
+}
+
+pub kept_search : (mode : Mode) (i : ItemView) (old new : Path) (f : Found) (u : ℕ) →
+    IsSearch mode i old f (child_of mode (here i.program old) u ∷ still_open mode i.program old) →
+    IsPlace i.program new → IsKept i.program old new
+    → IsSearch mode i new f (child_of mode (here i.program new) u ∷ left_above mode i.program new)
+kept_search mode i old new f u h place e =
+    let p : Program = i.program in
+    record {
+      place = place;
+      walked = subst (λ (w : List ℕ). IsWalked (walk_of mode i f.part
+          (child_of mode (item_of p w new.node) u ∷ left_above mode p new) (map (item_at p) f.deferred))) (sym e.steps)
+          (subst (λ (n : Node). IsWalked (walk_of mode i f.part
+          (child_of mode (item_of p old.steps.items n) u ∷ left_above mode p new) (map (item_at p) f.deferred))) (sym e.node)
+          (subst (λ (rs : List ItemView). IsWalked
+          (walk_of mode i f.part (child_of mode (here p old) u ∷ rs) (map (item_at p) f.deferred)))
+          (sym (e.left mode)) h.walked));
+      shared = shared_same old.steps.items new.steps.items f h.shared e.steps;
+    }
+
+pub kept_turns : (mode : Mode) (p : Program) (old new : Path) (u : ℕ) → IsKept p old new →
+    turns_into mode p new u ≤ cost_of (child_of mode (here p old) u) + turns_left mode p old + 1
+unfolding turns_left turns_into
+kept_turns mode p old new u e =
+    let same : cost_of (child_of mode (here p new) u) ≡ cost_of (child_of mode (here p old) u) =
+    λ k. cost_of (child_of mode (item_of p (e.steps k) (e.node k)) u) in
+    let b = ap costs (e.left mode) in
+    let k = e.depth in
+    omega (arith, same, b, k)
+
+-- a thread goes on alone
+pub alone_turns : (mode : Mode) (p : Program) (old new : Path) (u : ℕ) → IsTurned old new →
+    is_enabled p (state_at p old.steps.items) u ≡ true →
+    turns_into mode p new u ≤ turns_from mode p old
+unfolding turns_from turns_into
+alone_turns mode p old new u o on =
+    let a : cost_of (child_of mode (here p new) u) ≡ cost_of (child_of mode (here p old) u) =
+    ap (λ c. cost_of (child_of mode c u)) (here_turned p old new o) in
+    let b = ap costs (left_turned mode p old new o) in
+    let k = ap (λ fs. length fs) o.frames in
+    let less = child_less mode (here p old) u on in
+    omega (arith, a, b, k, less)
+
+-- it goes back to a node above
+pub retreated_search : (mode : Mode) (i : ItemView) (old new : Path) (f g : Found) (n : ℕ) →
+    IsSearch mode i old f (still_open mode i.program old) → IsPlace i.program new
+    → still_open mode i.program new ≡ still_open mode i.program old
+    → new.steps.items ≡ take (length new.steps.items) old.steps.items → n ≡ length new.steps.items
+    → g ≡ record f { shared = min f.shared n } → IsSearch mode i new g (still_open mode i.program new)
+retreated_search mode i old new f g n h place same steps long found =
+    subst (λ (x : Found). IsSearch mode i new x (still_open mode i.program new)) (sym found) (record {
+      place = place;
+      walked = subst (λ (rs : List ItemView). IsWalked (walk_of mode i f.part rs (map (item_at i.program) f.deferred)))
+          (sym same) h.walked;
+      shared = record {
+        fits = let m : min f.shared n ≤ n = right f.shared n in omega (arith, m, long);
+        same = shared_back old.steps.items new.steps.items f (min f.shared n) h.shared steps
+            (left f.shared n) (let m : min f.shared n ≤ n = right f.shared n in omega (arith, m, long));
+      };
+    })
+  where
+    left : (a b : ℕ) → min a b ≤ a
+    left a b = grind arith
+
+    right : (a b : ℕ) → min a b ≤ b
+    right a b = grind arith
+
+-- the steps stand in other memory
+steps_turned : (old new : Path) → new ≡ record old { steps = new.steps } → new.steps.items ≡ old.steps.items
+    → IsTurned old new
+steps_turned old new same steps = record {
+  steps = steps;
+  last = ap (λ (t : Path). t.node.last) same;
+  used = ap (λ (t : Path). t.node.used) same;
+  asleep = ap (λ (t : Path). t.node.asleep) same;
+  machine = ap (λ (t : Path). t.machine) same;
+  size = ap (λ (t : Path). t.size) same;
+  frames = ap (λ (t : Path). used_frames t) same;
+  words = ap (λ (t : Path). t.words.items) same;
+  base = ap (λ (t : Path). t.base) same;
+}
+
+pub run_turns : (mode : Mode) (p : Program) (old new : Path) → new ≡ record old { steps = new.steps }
+    → new.steps.items ≡ old.steps.items → turns_from mode p new ≡ turns_from mode p old
+unfolding turns_from
+run_turns mode p old new same steps = let o = steps_turned old new same steps in
+    λ i. cost_of (here_turned p old new o i) + costs (left_turned mode p old new o i) + length (o.frames i)
+
+pub followed_turns : (mode : Mode) (p : Program) (old new : Path) (u : ℕ) → new ≡ record old { steps = new.steps }
+    → new.steps.items ≡ old.steps.items → is_enabled p (state_at p new.steps.items) u ≡ true
+    → turns_into mode p new u ≤ turns_from mode p old
+followed_turns mode p old new u same steps on =
+    alone_turns mode p old new u (steps_turned old new same steps)
+    (subst (λ (w : List ℕ). is_enabled p (state_at p w) u ≡ true) steps on)
+
+-- where there is a bound nobody sleeps after a step, or before
+
+pub awake_after : (mode : Mode) (i : ItemView) (n : Node) (t : ℕ) → n.asleep ≡ mask_after mode i t → IsAwake mode n
+awake_after (Bounded bound) i n t e = e
+awake_after Reduced i n t e = tt
+
+pub awake_kept : (mode : Mode) (m n : Node) → IsAwake mode m → n.asleep ≡ m.asleep → IsAwake mode n
+awake_kept (Bounded bound) m n h e = e ∙ h
+awake_kept Reduced m n h e = tt
+
+pub spent_mask : (mode : Mode) (i : ItemView) (n : Node) (t : ℕ) → IsSpent mode n → IsAwake mode n
+    → n.asleep ≡ mask_after mode i t
+spent_mask (Bounded bound) i n t spent awake = awake
+spent_mask Reduced i n t spent awake = absurd spent

@@ -1,6 +1,7 @@
 -- How many items of a list a schedule lies under.
 use Rattle.std.proofs.Common.{◌≡◌, ℕ, ◌+◌, ◌<◌, ◌≤◌, Bool, true, false, ◌||◌, List, [], ◌∷◌, ◌++◌, refl, arith}
-use Rattle.semantics.specs.Schedules.{begins_with, one_if}
+use Rattle.schedules.specs.Schedules.{begins_with}
+use Rattle.semantics.specs.Mask.{one_if}
 use Rattle.walk.specs.Items.{ItemView, covers, is_under}
 use Rattle.std.proofs.lemmas.List.Folds.{list_any-append}
 

@@ -2,12 +2,13 @@
 use Rattle.std.proofs.Common.{◌≡◌, ℕ, ◌≤◌, Bool, true, false, cond, ◌&&◌, ◌||◌, not, List, [], ◌∷◌, refl, ap, ◌∙◌, sym, subst, arith, inl, inr}
 use Rattle.std.specs.List.{filter}
 use Rattle.guest_code.specs.Program.{Program}
-use Rattle.semantics.specs.Schedules.{begins_with, one_if}
+use Rattle.schedules.specs.Schedules.{begins_with}
+use Rattle.semantics.specs.Mask.{one_if}
 use Rattle.semantics.specs.Waiters.{In}
-use Rattle.walk.specs.Summaries.{SummaryView, IsSummary, nothing, sum_of, join}
+use Rattle.summary.specs.Summaries.{SummaryView, IsSummary, nothing, sum_of, join}
 use Rattle.walk.specs.Items.{ItemView, covers, is_under}
 use Rattle.walk.specs.Walks.{clear_of}
-use Rattle.walk.proofs.SumsJoin.{sum_of-append, sum_of_none, sum_of-beyond, sum_kept, join_comm, join_assoc, join_nothing}
+use Rattle.summary.proofs.SumsJoin.{sum_of-append, sum_of_none, sum_of-beyond, sum_kept, join_comm, join_assoc, join_nothing}
 use Rattle.walk.proofs.Covers.{under_counts}
 
 pub filter_same : {A : Type 0} (f g : A → Bool) (L : List A) → ((x : A) → In L x → f x ≡ g x) →

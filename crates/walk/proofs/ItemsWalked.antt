@@ -7,16 +7,16 @@ use Rattle.std.proofs.lemmas.List.Elements.{All-nil, All-cons}
 use Rattle.std.proofs.Math.Bool.{or-false}
 use Rattle.semantics.specs.Mask.{has}
 use Rattle.semantics.specs.Reachable.{IsOf}
-use Rattle.semantics.specs.Schedules.{preemptions, begins_with, schedules_under}
+use Rattle.schedules.specs.Schedules.{preemptions, begins_with, schedules_under}
 use Rattle.semantics.specs.Ends.{is_terminal}
 use Rattle.semantics.specs.Waiters.{In}
 use Rattle.semantics.proofs.ListMembers.{contains_in}
-use Rattle.semantics.proofs.SleepSets.{reduced_schedules-terminal}
-use Rattle.semantics.proofs.UnfoldingUnderPrefix.{schedules_under-terminal, schedules_within-terminal, exceeds_bound-terminal}
-use Rattle.semantics.proofs.SchedulesUnderPrefix.{begins_itself, in_under}
+use Rattle.schedules.proofs.SleepSets.{reduced_schedules-terminal}
+use Rattle.schedules.proofs.UnfoldingUnderPrefix.{schedules_under-terminal, schedules_within-terminal, exceeds_bound-terminal}
+use Rattle.schedules.proofs.SchedulesUnderPrefix.{begins_itself, in_under}
 use Rattle.walk.specs.declared.mode.Mode.{Mode}
 use Rattle.walk.specs.declared.mode.Mode.TheVariants.{Bounded, Reduced}
-use Rattle.walk.specs.Summaries.{nothing, sum_of, with_beyond}
+use Rattle.summary.specs.Summaries.{nothing, sum_of, with_beyond}
 use Rattle.walk.specs.Items.{ItemView, IsItem, schedules_of, goes_beyond, is_under}
 use Rattle.walk.specs.Walks.{IsWalked, IsBelow, IsDeferred, IsCut, IsPastBound, walk_past_bound, clear_of}
 use Rattle.walk.specs.inner.Children.{state_of, IsWithin, passes_bound, children_of, children, past_children}

@@ -1,34 +1,32 @@
 -- A thread that goes on alone: the bound is used up, so that a step of another passes it.
-use Rattle.std.proofs.Common.{◌≡◌, ℕ, zero, suc, ◌+◌, ◌-◌, ◌<◌, ◌≤◌, Bool, true, false, ◌&&◌, ◌||◌, nat_eq, nat_le, nat_lt, not, List, [], ◌∷◌, ◌++◌, length, map, refl, ap, ◌∙◌, sym, arith, subst, inl, inr, Some, Option}
+use Rattle.std.proofs.Common.{◌≡◌, ◌≢◌, ℕ, zero, suc, ◌+◌, ◌-◌, ◌<◌, ◌≤◌, Bool, true, false, ◌&&◌, ◌||◌, ◌⊎◌, nat_eq, nat_le, nat_lt, not, List, [], ◌∷◌, ◌++◌, length, map, refl, ap, ◌∙◌, sym, arith, subst, inl, inr, Some, None, Option}
 use Rattle.std.specs.List.{filter}
-use Rattle.std.proofs.lemmas.Bool.{cases_lt}
+use Rattle.std.proofs.lemmas.Bool.{cases_lt, cases_order, false≢true}
 use Rattle.std.proofs.lemmas.Bool.Decides.{nat_tests}
-use Rattle.guest_code.specs.declared.limits.TheConstants.{THREADS}
 use Rattle.guest_code.specs.Program.{Program}
-use Rattle.semantics.specs.Ends.{is_terminal, is_empty}
+use Rattle.semantics.specs.declared.mask.Mask.{Mask}
+use Rattle.semantics.specs.Ends.{is_empty, is_terminal, enabled}
 use Rattle.semantics.specs.Machine.{Snapshot, is_enabled}
-use Rattle.semantics.specs.Mask.{has, no_threads, members_from}
-use Rattle.semantics.specs.Schedules.{up_from, enabled, one_if}
-use Rattle.semantics.proofs.Masks.{empty_has}
+use Rattle.semantics.specs.Mask.{has, members_from, one_if}
+use Rattle.semantics.specs.Work.{up_from}
 use Rattle.semantics.proofs.TerminalStates.{is_terminal-some}
 use Rattle.semantics.proofs.WorkFalls.{enabled_below}
 use Rattle.walk.specs.declared.mode.Mode.{Mode}
-use Rattle.walk.specs.declared.mode.Mode.TheVariants.{Bounded}
-use Rattle.walk.specs.declared.trail.Node.{Node}
-use Rattle.walk.specs.declared.trail.Trail.{Trail}
+use Rattle.walk.specs.declared.mode.Mode.TheVariants.{Bounded, Reduced}
+use Rattle.walk.specs.declared.path.Node.{Node}
+use Rattle.walk.specs.declared.path.Path.{Path}
 use Rattle.walk.specs.declared.found.Found.{Found}
-use Rattle.walk.specs.Summaries.{with_beyond}
+use Rattle.summary.specs.Summaries.{with_beyond}
 use Rattle.walk.specs.Items.{ItemView, item_at}
 use Rattle.walk.specs.Walks.{IsWalked}
-use Rattle.walk.specs.inner.Children.{state_of, is_kept_step, kept_steps, child_of, children_of, children, cost_of, costs}
-use Rattle.walk.specs.inner.Paths.{leaves, leaves_last, state_at, IsNode, IsOpened, IsTrail, HasSwitches}
-use Rattle.walk.specs.inner.WalkerInvariant.{item_of, here, open_above, left_above, still_open, turns_left, turns_from, is_kept_at, is_past_at, IsSearch, IsShared, IsSpent}
-use Rattle.walk.proofs.Arrivals.{place_opened, put_off, here_of}
-use Rattle.walk.proofs.Filters.{filter_none, filter_twice}
+use Rattle.walk.specs.inner.Children.{is_kept_step, kept_steps, child_of, children_of, children}
+use Rattle.walk.specs.inner.Paths.{leaves, leaves_last, state_at, IsNode, IsPath}
+use Rattle.walk.specs.inner.WalkerInvariant.{item_of, here, left_above, is_kept_at, is_past_at, IsWithinAt, IsFree, is_spent_at, IsSpent, IsSearch, IsShared}
+use Rattle.walk.proofs.Filters.{filter_twice}
 use Rattle.walk.proofs.SharedSteps.{shared_same}
-use Rattle.walk.proofs.Turns.{costs-append, children_cost}
 use Rattle.walk.proofs.WalkSteps.{walk_of}
-use Rattle.walk.proofs.WalkTurns.{filter_alike, kept_alike, open_done}
+use Rattle.walk.proofs.WalkTurns.{filter_alike, kept_alike}
+use Rattle.walk.proofs.Arrivals.{AreOn, node_of, put_off, IsTurned, place_turned, left_turned, here_turned}
 
 -- a number stands once among those from a first one on
 
@@ -50,41 +48,61 @@ only_here t first (suc n) from to = elim (cases_lt first t) [
 ]
 
 -- where the thread of the last step can go on, a step of any other is a preempting switch
-lone_leaves : (n : Node) (t : ℕ) → n.last ≡ Some t → has n.enabled t ≡ true → (u : ℕ) →
-    leaves n u ≡ not (nat_eq t u)
-lone_leaves n t last on u =
-    ap (λ (l : Option ℕ). leaves_last l n.enabled u) last ∙ ap (λ b. b && not (nat_eq t u)) on
+lone_leaves : (e : Mask) (n : Node) (t : ℕ) → n.last ≡ Some t → has e t ≡ true → (u : ℕ) →
+    leaves e n u ≡ not (nat_eq t u)
+lone_leaves e n t last on u =
+    ap (λ (l : Option ℕ). leaves_last l e u) last ∙ ap (λ b. b && not (nat_eq t u)) on
 
 -- so its own step is kept, and no other
-lone_kept : (bound : ℕ) (n : Node) (t : ℕ) → IsSpent bound n t → has n.enabled t ≡ true →
-    (u : ℕ) → is_kept_at (Bounded bound) n u ≡ nat_eq t u
-lone_kept bound n t h on u =
-    (λ k. nat_le (h.used k + one_if (lone_leaves n t h.last on u k)) bound) ∙ test (nat_eq t u)
+lone_kept : (bound : ℕ) (e : Mask) (n : Node) (t : ℕ) → n.last ≡ Some t → n.used ≡ bound → has e t ≡ true →
+    (u : ℕ) → is_kept_at (Bounded bound) e n u ≡ nat_eq t u
+lone_kept bound e n t last used on u =
+    (λ k. nat_le (used k + one_if (lone_leaves e n t last on u k)) bound) ∙ test (nat_eq t u)
   where
     test : (b : Bool) → nat_le (bound + one_if (not b)) bound ≡ b
     test true = grind (arith, nat_tests)
     test false = grind (arith, nat_tests)
 
--- and the preempting switches pass the bound
-lone_past : (bound : ℕ) (n : Node) (t : ℕ) → IsSpent bound n t →
-    HasSwitches n.switches n.last n.enabled → (u : ℕ) →
-    has n.switches u ≡ (has n.enabled u && is_past_at (Bounded bound) n u)
-lone_past bound n t h switches u =
-    switches u ∙ ap (λ b. has n.enabled u && b)
-    (sym ((λ k. nat_lt bound (h.used k + one_if (leaves n u))) ∙ test (leaves n u)))
+-- and those of the others pass the bound
+lone_past : (bound : ℕ) (e past : Mask) (n : Node) (t : ℕ) → n.last ≡ Some t → n.used ≡ bound → has e t ≡ true →
+    has past t ≡ false → ((u : ℕ) → u ≢ t → has past u ≡ has e u) → (u : ℕ) →
+    has past u ≡ (has e u && is_past_at (Bounded bound) e n u)
+lone_past bound e past n t last used on out same u =
+    member u ∙ ap (λ b. has e u && b)
+    (sym ((λ k. nat_lt bound (used k + one_if (lone_leaves e n t last on u k))) ∙ test (nat_eq t u)))
   where
-    test : (b : Bool) → nat_lt bound (bound + one_if b) ≡ b
+    test : (b : Bool) → nat_lt bound (bound + one_if (not b)) ≡ not b
     test true = grind (arith, nat_tests)
     test false = grind (arith, nat_tests)
 
+    none : (b : Bool) → (b && false) ≡ false
+    none true = refl
+    none false = refl
+
+    all : (b : Bool) → (b && true) ≡ b
+    all true = refl
+    all false = refl
+
+    member : (v : ℕ) → has past v ≡ (has e v && not (nat_eq t v))
+    member v = elim (cases_order v t) [
+      | inl q ↦ rw q (out ∙ sym (ap (λ b. has e t && not b) (let z : nat_eq t t ≡ true = grind (arith, nat_tests) in z)
+          ∙ none (has e t)))
+      | inr (inl l) ↦ same v (omega arith) ∙ sym (other v (omega arith))
+      | inr (inr l) ↦ same v (omega arith) ∙ sym (other v (omega arith))
+    ]
+      where
+        other : (v : ℕ) → v ≢ t → (has e v && not (nat_eq t v)) ≡ has e v
+        other v ne = let z : nat_eq t v ≡ false = grind (arith, nat_tests, ne) in
+            ap (λ b. has e v && not b) z ∙ all (has e v)
+
 -- the node has one child
-module _ (bound : ℕ) (p : Program) (w : List ℕ) (s : Snapshot) (n : Node) (t : ℕ)
-    (h : IsNode p w s n) (spent : IsSpent bound n t) (on : has n.enabled t ≡ true) where
+module _ (bound : ℕ) (p : Program) (w : List ℕ) (e : Mask) (n : Node) (t : ℕ)
+    (h : IsNode p w e n) (last : n.last ≡ Some t) (used : n.used ≡ bound) (on : has e t ≡ true) where
   lone_on : is_enabled p (state_at p w) t ≡ true
-  lone_on = sym (h.enabled t ∙ ap (λ (z : Snapshot). is_enabled p z t) h.reaches.state) ∙ on
+  lone_on = sym (h.enabled t) ∙ on
 
   kept_is : (u : ℕ) → is_kept_step (Bounded bound) (item_of p w n) u ≡ nat_eq t u
-  kept_is u = sym (kept_alike (Bounded bound) p w s n h u) ∙ lone_kept bound n t spent on u
+  kept_is u = sym (kept_alike (Bounded bound) p w e n h u) ∙ lone_kept bound e n t last used on u
 
   both : (a b : Bool) → (b ≡ true → a ≡ true) → (a && b) ≡ b
   both true b f = refl
@@ -112,73 +130,91 @@ module _ (bound : ℕ) (p : Program) (w : List ℕ) (s : Snapshot) (n : Node) (t
       (nat_eq t) all each
       ∙ only_here t 0 (length z.threads) (omega arith) (omega (arith, below)))
 
-pub none_open : members_from no_threads 0 ≡ []
-unfolding members_from
-none_open =
-    filter_alike (has no_threads) (λ u. false) (up_from 0 (THREADS - 0)) empty_has
-    ∙ filter_none (up_from 0 (THREADS - 0))
+-- it gives way to it, and the steps of the others are put off
+pub lone_search : (mode : Mode) (i : ItemView) (old new : Path) (f g : Found) (e past : Mask) (t : ℕ) →
+    IsSearch mode i old f (here i.program old ∷ left_above mode i.program old) → AreOn i.program old e →
+    IsTurned old new → old.node.last ≡ Some t → IsSpent mode old.node → has e t ≡ true → has past t ≡ false →
+    ((u : ℕ) → u ≢ t → has past u ≡ has e u) →
+    g.part ≡ with_beyond f.part (f.part.beyond || not (is_empty (members_from past 0))) →
+    g.deferred ≡ f.deferred ++ map (λ u. old.steps.items ++ u ∷ []) (members_from past 0) →
+    IsShared old.steps.items g → new.depth ≤ length new.frames.items →
+    IsSearch mode i new g (child_of mode (here i.program new) t ∷ left_above mode i.program new)
+lone_search Reduced i old new f g e past t h are o last spent on out same part deferred shared room = absurd spent
+lone_search (Bounded bound) i old new f g e past t h are o last spent on out same part deferred shared room = record {
+  place = place_turned p old new h.place o room;
+  walked = subst (λ (c : ItemView). IsWalked (walk_of mode i g.part
+      (child_of mode c t ∷ left_above mode p new) (map (item_at p) g.deferred))) (sym (here_turned p old new o))
+      (subst (λ (ls : List ItemView). IsWalked (walk_of mode i g.part
+      (child_of mode (here p old) t ∷ ls) (map (item_at p) g.deferred))) (sym (left_turned mode p old new o))
+      (subst (λ (cs : List ItemView). IsWalked (walk_of mode i g.part
+      (cs ++ left_above mode p old) (map (item_at p) g.deferred))) kids
+      (put_off mode i old f g e past h are more
+      (lone_past bound e past old.node t last spent on out same) part deferred)));
+  shared = shared_same old.steps.items new.steps.items g shared o.steps;
+}
+  where
+    p : Program
+    p = i.program
 
--- that child takes its place
-lone_open : (bound : ℕ) (p : Program) (old new : Trail) (t : ℕ) → IsTrail p old →
-    IsOpened p old new → new.node.todo ≡ no_threads → IsSpent bound old.node t →
-    has old.node.enabled t ≡ true →
-    child_of (Bounded bound) (here p new) t ∷ still_open (Bounded bound) p new
-    ≡ children (Bounded bound) (here p old) ++ left_above (Bounded bound) p old
-lone_open bound p old new t h o todo spent on =
-    let mode : Mode = Bounded bound in
-    let asleep : new.node.asleep ≡ old.node.asleep = ap (λ (n : Node). n.asleep) o.node in
-    let same : here p new ≡ here p old =
-    λ k. record { program = p; prefix = o.steps k; mask = asleep k } in
-    let left : left_above mode p new ≡ left_above mode p old =
-    λ k. open_above mode p (o.depth k - o.base k) (o.above k) in
-    let open_is = open_done mode p new (ap (λ m. members_from m 0) todo ∙ none_open) ∙ left in
-    let steps = lone_steps bound p old.steps.items old.state old.node t h.node spent on in
-    (λ k. child_of mode (same k) t ∷ open_is k)
-    ∙ ap (λ (ts : List ℕ). children_of mode (here p old) ts ++ left_above mode p old) (sym steps)
+    mode : Mode
+    mode = Bounded bound
 
-lone_more : (p : Program) (t : Trail) (u : ℕ) → IsTrail p t → has t.node.enabled u ≡ true →
-    is_terminal p (state_of (here p t)) ≡ false
-lone_more p t u h on = is_terminal-some p (state_of (here p t)) u
-    (sym (h.node.enabled u ∙ ap (λ (z : Snapshot). is_enabled p z u) h.node.reaches.state) ∙ on)
+    node : IsNode p old.steps.items e old.node
+    node = node_of p old e h.place.path are
 
--- the thread goes on, and the steps of the others are put off
-pub lone_search : (bound : ℕ) (i : ItemView) (old new : Trail) (f g : Found) (t : ℕ) →
-    IsSearch (Bounded bound) i old f
-    (here i.program old ∷ left_above (Bounded bound) i.program old) →
-    IsOpened i.program old new → new.node.todo ≡ no_threads → IsSpent bound old.node t →
-    has old.node.enabled t ≡ true →
-    g.part ≡ with_beyond f.part
-    (f.part.beyond || not (is_empty (members_from old.node.switches 0))) →
-    g.deferred ≡ f.deferred
-    ++ map (λ u. old.steps.items ++ u ∷ []) (members_from old.node.switches 0) →
-    IsShared old.steps.items g →
-    IsSearch (Bounded bound) i new g
-    (child_of (Bounded bound) (here i.program new) t ∷ still_open (Bounded bound) i.program new)
-lone_search bound i old new f g t h o todo spent on part deferred shared =
-    let p : Program = i.program in
-    let mode : Mode = Bounded bound in
-    let trail : IsTrail p old = h.place.trail in
-    record {
-      place = place_opened p old new h.place o;
-      walked = subst (λ (rs : List ItemView). IsWalked
-          (walk_of mode i g.part rs (map (item_at p) g.deferred)))
-          (sym (lone_open bound p old new t trail o todo spent on))
-          (put_off mode i old f g old.node.switches h (lone_more p old t trail on)
-          (lone_past bound old.node t spent trail.node.switches) part deferred);
-      shared = shared_same old.steps.items new.steps.items g shared o.steps;
-    }
+    kids : children mode (here p old) ≡ child_of mode (here p old) t ∷ []
+    kids = ap (children_of mode (here p old)) (lone_steps bound p old.steps.items e old.node t node last spent on)
 
--- and there is less to go
-pub lone_turns : (bound : ℕ) (p : Program) (old new : Trail) (t : ℕ) → IsTrail p old →
-    IsOpened p old new → new.node.todo ≡ no_threads → IsSpent bound old.node t →
-    has old.node.enabled t ≡ true →
-    cost_of (child_of (Bounded bound) (here p new) t) + turns_left (Bounded bound) p new + 2
-    ≤ turns_from (Bounded bound) p old
-unfolding turns_left turns_from
-lone_turns bound p old new t h o todo spent on =
-    let mode : Mode = Bounded bound in
-    let a = ap costs (lone_open bound p old new t h o todo spent on) ∙ costs-append
-    (children mode (here p old)) (left_above mode p old) in
-    let b = children_cost mode (here p old) (here_of p old h) (lone_more p old t h on) in
-    let k = ap length o.steps in
-    omega (arith, a, b, k)
+    more : is_terminal p (state_at p old.steps.items) ≡ false
+    more = is_terminal-some p (state_at p old.steps.items) t (sym (node.enabled t) ∙ on)
+
+-- both are so
+
+pub and_left : (a b : Bool) → (a && b) ≡ true → a ≡ true
+and_left true b h = refl
+and_left false b h = h
+
+pub and_right : (a b : Bool) → (a && b) ≡ true → b ≡ true
+and_right true b h = h
+and_right false b h = absurd (false≢true h)
+
+pub spent_is : (mode : Mode) (n : Node) → is_spent_at mode n ≡ true → IsSpent mode n
+spent_is (Bounded bound) n h = grind (arith, nat_tests, h)
+spent_is Reduced n h = absurd (false≢true h)
+
+-- where the bound is not used up, or the thread of the last step cannot go on, no step passes it
+
+never_past : (bound used : ℕ) (b c : Bool) → used ≤ bound → (nat_eq used bound && b) ≡ false
+    → nat_lt bound (used + one_if (b && c)) ≡ false
+never_past bound used false c le h = grind (arith, nat_tests, le)
+never_past bound used true c le h = fewer c
+  where
+    all : (b : Bool) → (b && true) ≡ b
+    all true = refl
+    all false = refl
+
+    ne : nat_eq used bound ≡ false
+    ne = sym (all (nat_eq used bound)) ∙ h
+
+    fewer : (c : Bool) → nat_lt bound (used + one_if c) ≡ false
+    fewer true = grind (arith, nat_tests, le, ne)
+    fewer false = grind (arith, nat_tests, le)
+
+none_in : (b x : Bool) → x ≡ false → (b && x) ≡ false
+none_in true x h = h
+none_in false x h = refl
+
+pub free_alone : (mode : Mode) (p : Program) (t : Path) (u : ℕ) → IsWithinAt mode t.node → t.node.last ≡ Some u
+    → (is_spent_at mode t.node && is_enabled p (state_at p t.steps.items) u) ≡ false → IsFree mode p t
+free_alone (Bounded bound) p t u within last h = λ e on v.
+    none_in (has e v) _ ((λ k. nat_lt bound (t.node.used + one_if
+    ((ap (λ (l : Option ℕ). leaves_last l e v) last ∙ ap (λ b. b && not (nat_eq u v)) (on u)) k)))
+    ∙ never_past bound t.node.used (is_enabled p (state_at p t.steps.items) u) (not (nat_eq u v)) within h)
+free_alone Reduced p t u within last h = λ e on v. none_in (has e v) false refl
+
+pub free_first : (mode : Mode) (p : Program) (t : Path) → IsWithinAt mode t.node → t.node.last ≡ None
+    → IsFree mode p t
+free_first (Bounded bound) p t within last = λ e on v.
+    none_in (has e v) _ ((λ k. nat_lt bound (t.node.used + one_if (leaves_last (last k) e v)))
+    ∙ (let z : nat_lt bound (t.node.used + 0) ≡ false = grind (arith, nat_tests, within) in z))
+free_first Reduced p t within last = λ e on v. none_in (has e v) false refl

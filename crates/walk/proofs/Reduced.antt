@@ -5,18 +5,18 @@ use Rattle.guest_code.specs.Program.{Program}
 use Rattle.semantics.specs.Mask.{has}
 use Rattle.semantics.specs.Machine.{Snapshot, start, step, is_enabled}
 use Rattle.semantics.specs.Reachable.{IsOf}
-use Rattle.semantics.specs.Schedules.{complete_schedules, schedules_under, state_after, runs, before, enabled, begins_with}
-use Rattle.semantics.specs.Ends.{is_terminal}
-use Rattle.semantics.specs.Sleep.{reduced_schedules, is_kept, next_sleep_set, independent}
+use Rattle.schedules.specs.Schedules.{complete_schedules, schedules_under, state_after, runs, before, begins_with}
+use Rattle.semantics.specs.Ends.{enabled, is_terminal}
+use Rattle.schedules.specs.Sleep.{reduced_schedules, is_kept, next_sleep_set, independent}
 use Rattle.semantics.specs.Waiters.{In}
 use Rattle.semantics.proofs.Masks.{has-mask_of}
 use Rattle.semantics.proofs.ListMembers.{from_map, from_filter}
 use Rattle.semantics.proofs.WorkFalls.{enabled_below}
 use Rattle.semantics.proofs.StepsKeepStates.{step_is_of}
-use Rattle.semantics.proofs.UnfoldingUnderPrefix.{schedules_under_is, runs-push, state_after-push}
-use Rattle.semantics.proofs.SleepSets.{reduced_schedules-more}
-use Rattle.semantics.proofs.ReducedSchedules.{from_enabled}
-use Rattle.semantics.proofs.SchedulesUnderPrefix.{schedules_under-longer, begins_longer}
+use Rattle.schedules.proofs.UnfoldingUnderPrefix.{schedules_under_is, runs-push, state_after-push}
+use Rattle.schedules.proofs.SleepSets.{reduced_schedules-more}
+use Rattle.schedules.proofs.ReducedSchedules.{from_enabled}
+use Rattle.schedules.proofs.SchedulesUnderPrefix.{schedules_under-longer, begins_longer}
 use Rattle.walk.specs.declared.mode.Mode.TheVariants.{Reduced}
 use Rattle.walk.specs.Items.{ItemView, IsItem, kept_schedules}
 use Rattle.walk.specs.inner.Children.{state_of, child_of}

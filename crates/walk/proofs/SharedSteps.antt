@@ -1,8 +1,8 @@
 -- What the steps of a walk share with the prefix that was put off last.
-use Rattle.std.proofs.Common.{◌≡◌, ℕ, List, [], ◌∷◌, ◌++◌, length, take, ap, ◌∙◌, sym, arith, subst}
-use Rattle.std.proofs.lemmas.List.{length_push, take-append-le}
+use Rattle.std.proofs.Common.{◌≡◌, ℕ, List, [], ◌∷◌, ◌++◌, ◌≤◌, length, take, ap, ◌∙◌, sym, arith, subst}
+use Rattle.std.proofs.lemmas.List.{length_push, take-append-le, take-take}
 use Rattle.walk.specs.declared.found.Found.{Found}
-use Rattle.walk.specs.PrefixLists.{last_of}
+use Rattle.prefix_list.specs.PrefixLists.{last_of}
 use Rattle.walk.specs.inner.WalkerInvariant.{IsShared}
 
 -- nothing is put off yet
@@ -24,6 +24,14 @@ shared_kept w v f g h e deferred shared = record {
   same = (λ i. take (shared i) (last_of (deferred i))) ∙
       (h.same ∙ sym (λ i. take (shared i) (e i)));
 }
+
+-- where it goes back to what the steps begin with
+pub shared_back : (w v : List ℕ) (f : Found) (m : ℕ) → IsShared w f → v ≡ take (length v) w → m ≤ f.shared
+    → m ≤ length v → take m (last_of f.deferred) ≡ take m v
+shared_back w v f m h e few fits =
+    sym (take-take m f.shared (last_of f.deferred) few)
+    ∙ (ap (take m) h.same ∙ (take-take m f.shared w few
+    ∙ (sym (take-take m (length v) w fits) ∙ sym (ap (take m) e))))
 
 -- after one more step
 pub shared_entered : (w v : List ℕ) (t : ℕ) (f : Found) → IsShared w f → v ≡ w ++ t ∷ []

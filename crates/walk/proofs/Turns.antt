@@ -3,18 +3,19 @@ use Rattle.std.proofs.Common.{◌≡◌, ℕ, zero, suc, ◌+◌, ◌*◌, ◌�
 use Rattle.std.specs.List.{filter}
 use Rattle.guest_code.specs.declared.limits.TheConstants.{THREADS}
 use Rattle.guest_code.specs.Program.{Program, IsWellFormed}
-use Rattle.semantics.specs.declared.limits.TheConstants.{STEPS}
+use Rattle.schedules.specs.declared.limits.TheConstants.{STEPS}
 use Rattle.semantics.specs.Machine.{Snapshot, start, step, is_enabled}
 use Rattle.semantics.specs.Reachable.{IsOf}
-use Rattle.semantics.specs.Schedules.{up_from, enabled, state_after, runs, preemptions, last_of, work}
-use Rattle.semantics.specs.Ends.{is_terminal}
+use Rattle.semantics.specs.Work.{up_from, work}
+use Rattle.semantics.specs.Ends.{enabled, is_terminal}
+use Rattle.schedules.specs.Schedules.{state_after, runs, preemptions, last_of}
 use Rattle.semantics.specs.Waiters.{In}
-use Rattle.semantics.proofs.Executions.{reaches_few}
+use Rattle.schedules.proofs.Executions.{reaches_few}
 use Rattle.semantics.proofs.ListMembers.{from_filter}
-use Rattle.semantics.proofs.ReducedSchedules.{from_enabled}
-use Rattle.semantics.proofs.ScheduleLengths.{schedule_within}
+use Rattle.schedules.proofs.ReducedSchedules.{from_enabled}
+use Rattle.schedules.proofs.ScheduleLengths.{schedule_within}
 use Rattle.semantics.proofs.TerminalStates.{is_terminal-none}
-use Rattle.semantics.proofs.UnfoldingUnderPrefix.{state_after-push}
+use Rattle.schedules.proofs.UnfoldingUnderPrefix.{state_after-push}
 use Rattle.semantics.proofs.WorkFalls.{work-step}
 use Rattle.walk.specs.declared.mode.Mode.{Mode}
 use Rattle.walk.specs.Items.{ItemView}
@@ -95,6 +96,15 @@ child_cost mode i t n e left =
     ≡ work i.program (step i.program (state_of i) t) =
     ap (work i.program) (state_after-push i.program (start i.program) i.prefix t) in
     turns_more (work i.program (state_of (child_of mode i t))) n (omega (arith, falls, same, left))
+
+-- a child costs less
+pub child_less : (mode : Mode) (i : ItemView) (t : ℕ) → is_enabled i.program (state_of i) t ≡ true →
+    cost_of (child_of mode i t) ≤ cost_of i
+child_less mode i t e = go (work i.program (state_of i)) refl
+  where
+    go : (n : ℕ) → work i.program (state_of i) ≡ n → cost_of (child_of mode i t) ≤ turns n
+    go zero none = (let falls = work-step i.program (state_of i) t e in absurd (omega (arith, falls, none)))
+    go (suc n) left = let c = child_cost mode i t n e left in omega (arith, c)
 
 -- a turn that puts an item's children in its place costs two at least
 pub children_cost : (mode : Mode) (i : ItemView) → IsOf i.program (state_of i) →

@@ -6,19 +6,19 @@ use Rattle.std.proofs.lemmas.List.Elements.{All-head}
 use Rattle.guest_code.specs.Program.{Program}
 use Rattle.semantics.specs.Reachable.{IsOf}
 use Rattle.semantics.specs.Machine.{Snapshot}
-use Rattle.semantics.specs.Ends.{is_terminal, is_empty, end_of}
-use Rattle.semantics.specs.Schedules.{enabled, preemptions}
+use Rattle.semantics.specs.Ends.{is_terminal, is_empty, enabled}
+use Rattle.schedules.specs.Order.{end_of}
+use Rattle.schedules.specs.Schedules.{preemptions}
 use Rattle.walk.specs.declared.mode.Mode.{Mode}
 use Rattle.walk.specs.declared.mode.Mode.TheVariants.{Bounded, Reduced}
-use Rattle.walk.specs.Summaries.{SummaryView, IsSummary, nothing, sum_of, join, with_beyond}
+use Rattle.summary.specs.Summaries.{SummaryView, IsSummary, nothing, sum_of, join, with_beyond, added}
 use Rattle.walk.specs.Items.{ItemView, IsItem}
 use Rattle.walk.specs.Walks.{WalkView, IsWalked, IsBelow, IsCut}
-use Rattle.walk.specs.inner.SubtreeInvariant.{added}
 use Rattle.walk.specs.inner.Children.{state_of, IsWithin, passes_bound, children, past_children}
 use Rattle.walk.proofs.Splits.{split_kept}
 use Rattle.walk.proofs.WalkedFurther.{walked_further}
 use Rattle.walk.proofs.ItemsWalked.{leaf_walked, node_walked}
-use Rattle.walk.proofs.PartsJoin.{join_past, join_leaf}
+use Rattle.summary.proofs.PartsJoin.{join_past, join_leaf}
 
 -- a walk of these parts
 abbrev pub walk_of : Mode → ItemView → SummaryView → List ItemView → List ItemView → WalkView

@@ -6,12 +6,13 @@ use Rattle.std.proofs.lemmas.List.{append-nil}
 use Rattle.std.proofs.lemmas.List.Elements.{All-append, All-head, All-tail, filter-append}
 use Rattle.std.proofs.lemmas.List.Folds.{list_any-append}
 use Rattle.std.proofs.Math.Bool.{or-false}
-use Rattle.semantics.specs.Schedules.{begins_with, one_if, preemptions}
+use Rattle.schedules.specs.Schedules.{begins_with, preemptions}
+use Rattle.semantics.specs.Mask.{one_if}
 use Rattle.semantics.specs.Waiters.{In}
 use Rattle.semantics.proofs.ListMembers.{from_filter}
 use Rattle.walk.specs.declared.mode.Mode.{Mode}
 use Rattle.walk.specs.declared.mode.Mode.TheVariants.{Bounded, Reduced}
-use Rattle.walk.specs.Summaries.{SummaryView, sum_of, join, with_beyond}
+use Rattle.summary.specs.Summaries.{SummaryView, sum_of, join, with_beyond}
 use Rattle.walk.specs.Items.{ItemView, schedules_of, goes_beyond, covers, is_under}
 use Rattle.walk.specs.Walks.{HasItsOf, IsWalked, IsBelow, IsCut, IsSplit, clear_of}
 use Rattle.walk.proofs.Covers.{covers-append, under-append, under_counts, at_most_one}

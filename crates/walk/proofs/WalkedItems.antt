@@ -10,28 +10,28 @@ use Rattle.std.proofs.lemmas.List.Kept.{AllPairs-filter}
 use Rattle.guest_code.specs.Program.{Program}
 use Rattle.semantics.specs.Machine.{Snapshot, start}
 use Rattle.semantics.specs.Mask.{has, no_threads}
-use Rattle.semantics.specs.Schedules.{state_after, begins_with, preemptions, complete_schedules, schedules_under, schedules_within, exceeds_bound}
-use Rattle.semantics.specs.Order.{precedes}
-use Rattle.semantics.specs.Sleep.{reduced_schedules, is_kept, none_asleep}
+use Rattle.schedules.specs.Schedules.{state_after, begins_with, preemptions, complete_schedules, schedules_under, schedules_within, exceeds_bound}
+use Rattle.schedules.specs.Order.{precedes}
+use Rattle.schedules.specs.Sleep.{reduced_schedules, is_kept, none_asleep}
 use Rattle.semantics.specs.Waiters.{In}
-use Rattle.semantics.proofs.KeptSchedules.{reduced_members, kept_complete}
+use Rattle.schedules.proofs.KeptSchedules.{reduced_members, kept_complete}
 use Rattle.semantics.proofs.Masks.{empty_has}
 use Rattle.semantics.proofs.ListMembers.{in_contains, contains_in, from_map}
-use Rattle.semantics.proofs.StatedLaws.{complete}
-use Rattle.semantics.specs.Rising.{IsRising}
-use Rattle.semantics.proofs.CompleteSchedulesRise.{all_rise}
-use Rattle.semantics.proofs.SchedulesUnderPrefix.{schedules_within-longer, in_under, in_within, beyond_is}
-use Rattle.semantics.proofs.UnfoldingUnderPrefix.{schedules_within-past, exceeds_bound-past}
+use Rattle.schedules.proofs.StatedLaws.{complete}
+use Rattle.schedules.specs.Rising.{IsRising}
+use Rattle.schedules.proofs.CompleteSchedulesRise.{all_rise}
+use Rattle.schedules.proofs.SchedulesUnderPrefix.{schedules_within-longer, in_under, in_within, beyond_is}
+use Rattle.schedules.proofs.UnfoldingUnderPrefix.{schedules_within-past, exceeds_bound-past}
 use Rattle.walk.specs.declared.mode.Mode.{Mode}
 use Rattle.walk.specs.declared.mode.Mode.TheVariants.{Bounded, Reduced}
-use Rattle.walk.specs.Summaries.{SummaryView, cut, greatest_count, nothing, sum_of, join, with_beyond}
+use Rattle.summary.specs.Summaries.{SummaryView, cut, greatest_count, nothing, sum_of, join, with_beyond}
 use Rattle.walk.specs.Items.{ItemView, AreOf, IsItem, IsScheduleOf, state_of, root_of, schedules_of, goes_beyond, item_sum, item_sums, schedule_count, covers, is_under}
 use Rattle.walk.specs.Walks.{WalkView, IsWalked, IsBelow, IsCut, tried_by}
 pub use Rattle.walk.specs.Walks.{HasItsOf}
 use Rattle.walk.proofs.Covers.{at_most_one}
 use Rattle.walk.proofs.Filters.{filter_all}
 use Rattle.walk.proofs.ListParts.{all_left}
-use Rattle.walk.proofs.SumsJoin.{sum_of-append}
+use Rattle.summary.proofs.SumsJoin.{sum_of-append}
 
 -- the item of all schedules
 

@@ -1,7 +1,7 @@
 -- Sums of all complete schedules under a prefix, whatever their preemptions.
 use Rattle.std.specs.Prelude.{List, [], ◌∷◌}
-use Rattle.semantics.specs.Schedules.{schedules_under}
-use Rattle.walk.specs.Summaries.{SummaryView, nothing, sum_of, join}
+use Rattle.schedules.specs.Schedules.{schedules_under}
+use Rattle.summary.specs.Summaries.{SummaryView, nothing, sum_of, join}
 use Rattle.walk.specs.Items.{ItemView}
 
 -- the sum of all complete schedules that begin with an item's prefix, whatever their preemptions

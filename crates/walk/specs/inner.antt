@@ -1,8 +1,5 @@
 -- What the proofs put between the code and the definitions. Only contracts of private functions
 -- cite it, so nobody has to believe it.
-pub mod SubtreeInvariant
 pub mod Children
-pub mod Packed
 pub mod Paths
 pub mod WalkerInvariant
-pub mod EndPlaces

@@ -1,13 +1,12 @@
 //! What a walk finds.
 
 ghost use Rattle.std.specs.Prelude.{◌≡◌, []};
-ghost use Rattle.walk.specs.Summaries.{nothing};
+ghost use Rattle.summary.specs.Summaries.{nothing};
 
-use crate::hints::EndMemory;
 use crate::item::Item;
-use crate::prefixes::Prefixes;
-use crate::summary::Summary;
+use prefix_list::Prefixes;
 use std::alloc::Global;
+use summary::{EndMemory, Summary};
 
 /// What a walk of an item found. Its memory serves one walk after another.
 #[derive(Drop)]

@@ -6,18 +6,17 @@ ghost use Rattle.semantics.specs.Ends.{is_empty};
 ghost use Rattle.semantics.specs.Machine.{is_enabled};
 ghost use Rattle.semantics.specs.Mask.{has, members_from, no_threads};
 ghost use Rattle.walk.specs.Items.{IsItem};
-ghost use Rattle.walk.specs.Summaries.{with_beyond};
+ghost use Rattle.summary.specs.Summaries.{with_beyond};
 ghost use Rattle.walk.specs.inner.Children.{child_of, mask_after, cost_of};
-ghost use Rattle.walk.specs.inner.Paths.{HasSwitches, IsTrail};
+ghost use Rattle.walk.specs.inner.Paths.{IsPath, used_frames, state_at};
 ghost use Rattle.walk.specs.Walks.{IsWalked, IsPastBound, found_walk, walk_past_bound};
-ghost use Rattle.walk.specs.inner.WalkerInvariant.{IsPlace, IsSearch, IsSpent, IsUsedUp, here, left_above, still_open, turns_left, turns_from, is_kept_at, is_past_at, is_past_here, IsWithinAt, IsNew, IsShared};
+ghost use Rattle.walk.specs.inner.WalkerInvariant.{IsPlace, IsSearch, IsKept, here, left_above, still_open, turns_left, turns_from, turns_into, is_kept_at, is_past_at, is_past_here, IsFree, IsSpent, is_spent_at, IsNew, IsShared};
 
 use crate::found::Found;
 use crate::item::Item;
 use crate::mode::Mode;
-use crate::trail::{Node, Trail};
+use crate::path::{Node, Path};
 use guest_code::program::Program;
-use semantics::independence::sleepers_after;
 use semantics::mask::Mask;
 use std::alloc::{AllocError, Global};
 
@@ -96,30 +95,9 @@ impl Found {
         self.put_beside(steps, without_first(past, first))
     }
 
-    // The same, out of the way of a walk's turns.
-    #[inline(never)]
-    fn put_off_apart(
-        &mut self,
-        steps: &mut Vec<u8>,
-        past: Mask,
-        first: u8,
-    ) -> Result<(), AllocError>
-        requires shared { IsShared steps.old.items self.old }
-        requires first { members_from past 0 ≡ first ∷ members_from past (first + 1) }
-        requires least { (u : ℕ) → u < first → has past u ≡ false }
-        requires fits { first < THREADS }
-        ensures steps { steps.new.items ≡ steps.old.items }
-        ensures part { OnOk result (self.new.part ≡ with_beyond self.old.part true) }
-        ensures deferred { OnOk result (self.new.deferred ≡ self.old.deferred
-            ++ map (λ t. steps.old.items ++ t ∷ []) (members_from past 0)) }
-        ensures shared { OnOk result (IsShared steps.old.items self.new) }
-    {
-        self.put_off_all(steps, past, first)
-    }
-
     // Puts off the steps of these threads after the others. Often there is none.
     #[inline(always)]
-    fn defer(&mut self, steps: &mut Vec<u8>, past: Mask) -> Result<(), AllocError>
+    pub(crate) fn defer(&mut self, steps: &mut Vec<u8>, past: Mask) -> Result<(), AllocError>
         requires { IsShared steps.old.items self.old }
         ensures steps { steps.new.items ≡ steps.old.items }
         ensures part { OnOk result (self.new.part ≡ with_beyond self.old.part
@@ -131,23 +109,6 @@ impl Found {
         match past.first_from(0) {
             None => Ok(()),
             Some(first) => self.put_off_all(steps, past, first),
-        }
-    }
-
-    // The same where there seldom is one.
-    #[inline(always)]
-    fn defer_apart(&mut self, steps: &mut Vec<u8>, past: Mask) -> Result<(), AllocError>
-        requires { IsShared steps.old.items self.old }
-        ensures steps { steps.new.items ≡ steps.old.items }
-        ensures part { OnOk result (self.new.part ≡ with_beyond self.old.part
-            (self.old.part.beyond || not (is_empty (members_from past 0)))) }
-        ensures deferred { OnOk result (self.new.deferred ≡ self.old.deferred
-            ++ map (λ t. steps.old.items ++ t ∷ []) (members_from past 0)) }
-        ensures shared { OnOk result (IsShared steps.old.items self.new) }
-    {
-        match past.first_from(0) {
-            None => Ok(()),
-            Some(first) => self.put_off_apart(steps, past, first),
         }
     }
 
@@ -180,89 +141,50 @@ fn without_first(set: Mask, first: u8) -> Mask
     set.with(first, false)
 }
 
-// Whether a set is empty.
-#[inline(always)]
-fn has_none(set: Mask) -> bool
-    ensures { IsTrue result → members_from set 0 ≡ [] }
-{
-    match set.first_from(0) {
-        None => true,
-        Some(_) => false,
-    }
-}
-
 impl Node {
-    // The threads whose step from here passes the bound.
+    // The steps that are kept from here on are to be tried. None passes the bound.
     #[inline(always)]
-    fn past(self, bound: u32) -> Mask
-        requires within { self.used ≤ bound }
-        requires switches { HasSwitches self.switches self.last self.enabled }
-        ensures { (t : ℕ) → has result t
-            ≡ (has self.enabled t && is_past_at (Mode.Bounded bound) self t) }
-    {
-        if self.used < bound {
-            Mask::empty()
-        } else {
-            self.switches
-        }
-    }
-
-    // The steps that are kept from here on are to be tried; those that pass the bound.
-    fn open(&mut self, mode: Mode) -> Mask
-        requires within { IsWithinAt mode self.old }
-        requires switches { HasSwitches self.old.switches self.old.last self.old.enabled }
+    fn open(&mut self, enabled: Mask, mode: Mode)
+        requires { (t : ℕ) → (has enabled t && is_past_at mode enabled self.old t) ≡ false }
         ensures kept { (t : ℕ) → has self.new.todo t
-            ≡ (has self.old.enabled t && is_kept_at mode self.old t) }
-        ensures past { (t : ℕ) → has result t
-            ≡ (has self.old.enabled t && is_past_at mode self.old t) }
+            ≡ (has enabled t && is_kept_at mode enabled self.old t) }
         ensures same { self.new ≡ record self.old { todo = self.new.todo } }
     {
         match mode {
-            Mode::Bounded(bound) => {
-                let past = self.past(bound);
-                self.todo = self.enabled.minus(past);
-                past
-            }
-            Mode::Reduced => {
-                self.todo = self.enabled.minus(self.asleep);
-                Mask::empty()
-            }
+            Mode::Bounded(_) => self.todo = enabled,
+            Mode::Reduced => self.todo = enabled.minus(self.asleep),
+        }
+    }
+
+    // Whether the bound is used up, and this thread can go on, where these are enabled.
+    #[inline(always)]
+    fn is_alone(&self, enabled: Mask, mode: Mode, thread: u8) -> bool
+        ensures { result ≡ (is_spent_at mode self.now && has enabled thread) }
+    {
+        match mode {
+            Mode::Bounded(bound) => self.used == bound && enabled.has(thread),
+            Mode::Reduced => false,
         }
     }
 }
 
-impl Trail {
+impl Path {
     // The threads that sleep after a step.
     #[inline(always)]
     fn sleepers(&self, program: &Program, mode: Mode, thread: u8) -> Mask
-        requires place { IsPlace program.now self.now }
-        requires enabled { IsTrue (is_enabled program.now self.now.state thread) }
+        requires path { IsPath program.now self.now }
+        requires enabled { is_enabled program.now
+            (state_at program.now self.now.steps.items) thread ≡ true }
         ensures { result ≡ mask_after mode (here program.now self.now) thread }
     {
         match mode {
             Mode::Bounded(_) => Mask::empty(),
-            Mode::Reduced => sleepers_after(
-                program,
-                &self.state,
-                self.node.enabled,
-                self.node.asleep,
-                thread,
-            ),
+            Mode::Reduced => self.machine.sleepers(program, self.node.asleep, thread),
         }
     }
 
-    // Whether the bound is used up.
-    #[inline(always)]
-    fn is_used_up(&self, mode: Mode) -> bool
-        ensures { IsTrue result → IsUsedUp mode self.now.node }
-    {
-        match mode {
-            Mode::Bounded(bound) => self.node.used == bound,
-            Mode::Reduced => false,
-        }
-    }
-
-    // The node where it stands gives way to its children; where it has none it is tried.
+    // The node where it stands gives way to its children; where it has none it is tried. No step
+    // from it passes the bound.
     #[inline(always)]
     fn arrive(
         &mut self,
@@ -273,6 +195,7 @@ impl Trail {
     ) -> Result<(), AllocError>
         requires search { IsSearch mode item.now self.old found.old
             (here item.now.program self.old ∷ left_above mode item.now.program self.old) }
+        requires free { IsFree mode item.now.program self.old }
         ensures place { IsPlace item.now.program self.new }
         ensures search { OnOk result (IsSearch mode item.now self.new found.new
             (still_open mode item.now.program self.new)) }
@@ -282,114 +205,88 @@ impl Trail {
         ensures more { OnOk result (is_empty (members_from self.new.node.todo 0) ≡ false →
             found.new.part.tried ≡ found.old.part.tried) }
     {
-        let past = self.node.open(mode);
-        match self.node.enabled.first_from(0) {
-            Some(_) => found.defer_apart(&mut self.steps, past)?,
+        let enabled = self.machine.enabled();
+        self.node.open(enabled, mode);
+        match enabled.first_from(0) {
+            Some(_) => Ok(()),
             None => {
-                let kind = self.state.final_kind();
+                let kind = self.machine.kind();
                 found.part.add(
                     alloc,
                     &mut self.ends,
                     self.steps.as_slice(),
                     kind,
-                    self.state.variables(),
+                    self.machine.variables(),
                 )?;
+                Ok(())
             }
         }
-        Ok(())
     }
 
-    // One step further with the thread of the last step, where the bound is used up and so the
-    // steps of the others are put off.
+    // Where the bound is used up and the thread of the last step can go on, the steps of the others
+    // are put off. Whether it is so.
     #[inline(always)]
     fn follow(
         &mut self,
-        program: &Program,
         found: &mut Found,
         _item: &Item,
-        _bound: u32,
+        mode: Mode,
         thread: u8,
-    ) -> Result<(), AllocError>
-        requires program { program.now ≡ _item.now.program }
-        requires search { let mode = Mode.Bounded _bound in
-            IsSearch mode _item.now self.old found.old
+    ) -> Result<bool, AllocError>
+        requires search { IsSearch mode _item.now self.old found.old
             (here _item.now.program self.old ∷ left_above mode _item.now.program self.old) }
-        requires spent { IsSpent _bound self.old.node thread }
-        requires on { has self.old.node.enabled thread ≡ true }
-        requires base { self.old.base < self.old.depth }
-        ensures trail { IsTrail _item.now.program self.new }
-        ensures base { OnOk result (self.new.base < self.new.depth) }
-        ensures search { let mode = Mode.Bounded _bound in
-            OnOk result (IsSearch mode _item.now self.new found.new
+        requires last { self.old.node.last ≡ Some thread }
+        ensures place { IsPlace _item.now.program self.new }
+        ensures same { self.new ≡ record self.old { steps = self.new.steps } }
+        ensures steps { self.new.steps.items ≡ self.old.steps.items }
+        ensures tried { IfOk result (λ _. found.new.part.tried ≡ found.old.part.tried) }
+        ensures spent { IfOk result (λ alone. IsTrue alone → IsSpent mode self.new.node) }
+        ensures free { IfOk result (λ alone. IsFalse alone → IsFree mode _item.now.program self.new) }
+        ensures alone { IfOk result (λ alone. IsTrue alone → IsSearch mode _item.now self.new found.new
+            (child_of mode (here _item.now.program self.new) thread
+            ∷ left_above mode _item.now.program self.new)) }
+        ensures over { IfOk result (λ alone. IsFalse alone → IsSearch mode _item.now self.new found.new
             (here _item.now.program self.new ∷ left_above mode _item.now.program self.new)) }
-        ensures spent { OnOk result (IsSpent _bound self.new.node thread) }
-        ensures further { let mode = Mode.Bounded _bound in
-            OnOk result (turns_from mode _item.now.program self.new
-            < turns_from mode _item.now.program self.old) }
-        ensures tried { OnOk result (found.new.part.tried ≡ found.old.part.tried) }
     {
-        found.defer(&mut self.steps, self.node.switches)?;
-        if !self.extend(program, thread)? {
-            self.enter_apart(program, thread)?;
+        let enabled = self.machine.enabled();
+        if self.node.is_alone(enabled, mode, thread) {
+            found.defer(&mut self.steps, enabled.with(thread, false))?;
+            return Ok(true);
         }
-        Ok(())
+        Ok(false)
     }
 
-    // The same for the first of such steps, which has a frame of its own.
-    fn set_out(
+    // Takes a step into an open child, and goes on as long as only its thread may.
+    #[inline(always)]
+    fn run(
         &mut self,
         found: &mut Found,
         item: &Item,
-        _bound: u32,
+        mode: Mode,
         thread: u8,
     ) -> Result<(), AllocError>
-        requires search { let mode = Mode.Bounded _bound in
-            IsSearch mode item.now self.old found.old
-            (here item.now.program self.old ∷ left_above mode item.now.program self.old) }
-        requires spent { IsSpent _bound self.old.node thread }
-        requires on { has self.old.node.enabled thread ≡ true }
-        ensures trail { IsTrail item.now.program self.new }
-        ensures base { OnOk result (self.new.base < self.new.depth) }
-        ensures search { let mode = Mode.Bounded _bound in
-            OnOk result (IsSearch mode item.now self.new found.new
+        requires search { IsSearch mode item.now self.old found.old
+            (child_of mode (here item.now.program self.old) thread
+            ∷ left_above mode item.now.program self.old) }
+        ensures path { IsPath item.now.program self.new }
+        ensures search { OnOk result (IsSearch mode item.now self.new found.new
             (here item.now.program self.new ∷ left_above mode item.now.program self.new)) }
-        ensures spent { OnOk result (IsSpent _bound self.new.node thread) }
-        ensures tried { OnOk result (found.new.part.tried ≡ found.old.part.tried) }
-    {
-        let beside = self.node.switches;
-        found.defer(&mut self.steps, beside)?;
-        self.enter_apart(item.program(), thread)?;
-        Ok(())
-    }
-
-    // Goes on with the thread of the last step as long as it can go on, where the bound is used up.
-    #[inline(never)]
-    fn run_alone(&mut self, found: &mut Found, item: &Item, thread: u8) -> Result<(), AllocError>
-        requires search { let mode = Mode.Bounded self.old.node.used in
-            IsSearch mode item.now self.old found.old
-            (here item.now.program self.old ∷ left_above mode item.now.program self.old) }
-        requires spent { IsSpent self.old.node.used self.old.node thread }
-        requires base { self.old.base < self.old.depth }
-        ensures trail { IsTrail item.now.program self.new }
-        ensures search { let mode = Mode.Bounded self.old.node.used in
-            OnOk result (IsSearch mode item.now self.new found.new
-            (here item.now.program self.new ∷ left_above mode item.now.program self.new)) }
-        ensures further { let mode = Mode.Bounded self.old.node.used in
-            OnOk result (turns_from mode item.now.program self.new
-            ≤ turns_from mode item.now.program self.old) }
+        ensures free { OnOk result (IsFree mode item.now.program self.new) }
+        ensures falls { OnOk result (turns_from mode item.now.program self.new
+            ≤ turns_into mode item.now.program self.old thread) }
         ensures tried { OnOk result (found.new.part.tried ≡ found.old.part.tried) }
     {
         let program = item.program();
-        let bound = self.node.used;
-        while self.node.enabled.has(thread) {
-            self.follow(program, found, item, bound, thread)?;
+        let asleep = self.sleepers(program, mode, thread);
+        self.go(program, thread, asleep)?;
+        while self.follow(found, item, mode, thread)? {
+            self.go_on(program, thread)?;
         }
         Ok(())
     }
 
-    // Goes on with the thread of the last step where the bound is used up and it can go on.
-    #[inline(always)]
-    fn run_on(
+    // Where only this thread, which took the last step, may go on, it does.
+    fn run_from(
         &mut self,
         found: &mut Found,
         item: &Item,
@@ -398,39 +295,47 @@ impl Trail {
     ) -> Result<(), AllocError>
         requires search { IsSearch mode item.now self.old found.old
             (here item.now.program self.old ∷ left_above mode item.now.program self.old) }
-        requires todo { self.old.node.todo ≡ no_threads }
         requires last { self.old.node.last ≡ Some thread }
-        requires base { self.old.base < self.old.depth }
-        ensures trail { IsTrail item.now.program self.new }
+        ensures path { IsPath item.now.program self.new }
         ensures search { OnOk result (IsSearch mode item.now self.new found.new
             (here item.now.program self.new ∷ left_above mode item.now.program self.new)) }
-        ensures further { OnOk result (turns_from mode item.now.program self.new
-            ≤ turns_from mode item.now.program self.old) }
+        ensures free { OnOk result (IsFree mode item.now.program self.new) }
         ensures tried { OnOk result (found.new.part.tried ≡ found.old.part.tried) }
     {
-        if self.node.enabled.has(thread) && self.is_used_up(mode) {
-            self.run_alone(found, item, thread)
+        if self.follow(found, item, mode, thread)? {
+            self.run(found, item, mode, thread)
         } else {
             Ok(())
         }
     }
 
-    // Goes on with the thread of an item's last step, where there is one.
-    fn begin(&mut self, found: &mut Found, item: &Item, mode: Mode) -> Result<(), AllocError>
+    // Sets out from an item's own node: where only the thread of the last step may go on, it does.
+    fn set_out(&mut self, found: &mut Found, item: &Item, mode: Mode) -> Result<(), AllocError>
         requires search { IsSearch mode item.now self.old found.old
             (here item.now.program self.old ∷ left_above mode item.now.program self.old) }
-        requires todo { self.old.node.todo ≡ no_threads }
-        ensures trail { IsTrail item.now.program self.new }
+        ensures path { IsPath item.now.program self.new }
         ensures search { OnOk result (IsSearch mode item.now self.new found.new
             (here item.now.program self.new ∷ left_above mode item.now.program self.new)) }
+        ensures free { OnOk result (IsFree mode item.now.program self.new) }
         ensures tried { OnOk result (found.new.part.tried ≡ found.old.part.tried) }
     {
         match self.node.last {
-            Some(thread) if self.node.enabled.has(thread) && self.is_used_up(mode) => {
-                self.set_out(found, item, self.node.used, thread)?;
-                self.run_alone(found, item, thread)
-            }
-            _ => Ok(()),
+            Some(last) => self.run_from(found, item, mode, last),
+            None => Ok(()),
+        }
+    }
+
+    // The node gets a frame, unless nothing is to be tried there.
+    #[inline(always)]
+    fn keep(&mut self, program: &Program) -> Result<(), AllocError>
+        requires { IsPlace program.now self.old }
+        ensures path { IsPath program.now self.new }
+        ensures place { OnOk result (IsPlace program.now self.new) }
+        ensures kept { OnOk result (IsKept program.now self.old self.new) }
+    {
+        match self.node.todo.first_from(0) {
+            Some(_) => self.open(program),
+            None => Ok(()),
         }
     }
 
@@ -447,7 +352,7 @@ impl Trail {
         requires search { IsSearch mode item.now self.old found.old
             (child_of mode (here item.now.program self.old) thread
             ∷ still_open mode item.now.program self.old) }
-        ensures trail { IsTrail item.now.program self.new }
+        ensures path { IsPath item.now.program self.new }
         ensures search { OnOk result (IsSearch mode item.now self.new found.new
             (still_open mode item.now.program self.new)) }
         ensures further { OnOk result (turns_left mode item.now.program self.new
@@ -457,15 +362,12 @@ impl Trail {
         ensures more { OnOk result (is_empty (members_from self.new.node.todo 0) ≡ false →
             found.new.part.tried ≡ found.old.part.tried) }
     {
-        let program = item.program();
-        let asleep = self.sleepers(program, mode, thread);
-        self.enter(program, thread, asleep)?;
-        self.run_on(found, item, mode, thread)?;
+        self.keep(item.program())?;
+        self.run(found, item, mode, thread)?;
         self.arrive(alloc, found, item, mode)
     }
 
-    // Goes back over the nodes where no child is open, one at least. False where it can't. It
-    // stands only at the last of them.
+    // Goes back to the node of the last frame below the item's own node. False where there is none.
     #[inline(always)]
     fn retreat(&mut self, program: &Program, _mode: Mode) -> bool
         requires place { IsPlace program.now self.old }
@@ -481,45 +383,15 @@ impl Trail {
         ensures there { IsFalse result →
             turns_left _mode program.now self.new ≡ turns_left _mode program.now self.old }
     {
-        if self.depth == self.base {
+        let depth = self.depth;
+        if depth == self.base {
             return false;
         }
-        let mut going = true;
-        while going {
-            self.take_back(program);
-            going = self.depth > self.base && has_none(self.frames[self.depth].node.todo);
-        }
-        self.stand();
+        self.leave(program, depth - 1);
         true
     }
 
-    // Goes into open children down to a node that has none.
-    #[inline(always)]
-    fn dive(
-        &mut self,
-        alloc: Global,
-        found: &mut Found,
-        item: &Item,
-        mode: Mode,
-    ) -> Result<(), AllocError>
-        requires search { IsSearch mode item.now self.old found.old
-            (still_open mode item.now.program self.old) }
-        ensures trail { IsTrail item.now.program self.new }
-        ensures search { OnOk result (IsSearch mode item.now self.new found.new
-            (still_open mode item.now.program self.new)) }
-        ensures done { OnOk result (members_from self.new.node.todo 0 ≡ []) }
-        ensures further { OnOk result (turns_left mode item.now.program self.new
-            ≤ turns_left mode item.now.program self.old) }
-        ensures tried { OnOk result (found.new.part.tried ≤ found.old.part.tried + 1) }
-    {
-        while let Some(thread) = self.node.todo.first_from(0) {
-            self.node.todo = without_first(self.node.todo, thread);
-            self.descend(alloc, found, item, mode, thread)?;
-        }
-        Ok(())
-    }
-
-    // Goes back to a node with an open child. False where none is open.
+    // Goes back, and what was found with it.
     #[inline(always)]
     fn climb(&mut self, found: &mut Found, item: &Item, mode: Mode) -> bool
         requires search { IsSearch mode item.now self.old found.old
@@ -539,8 +411,42 @@ impl Trail {
         more
     }
 
-    // Goes down and back until so many are tried or nothing is open. Each mode has a loop of its
-    // own, in which it is known.
+    // Goes into open children, and back where there is none, until so many are tried or nothing is
+    // open.
+    #[inline(always)]
+    fn search_in(
+        &mut self,
+        alloc: Global,
+        found: &mut Found,
+        item: &Item,
+        mode: Mode,
+        quota: u32,
+    ) -> Result<(), AllocError>
+        requires search { IsSearch mode item.now self.old found.old
+            (still_open mode item.now.program self.old) }
+        requires few { found.old.part.tried ≤ quota }
+        ensures path { IsPath item.now.program self.new }
+        ensures search { OnOk result (IsSearch mode item.now self.new found.new
+            (still_open mode item.now.program self.new)) }
+        ensures few { OnOk result (found.new.part.tried ≤ quota) }
+        ensures all { OnOk result (found.new.part.tried < quota
+            → still_open mode item.now.program self.new ≡ []) }
+    {
+        let mut going = true;
+        while going && found.is_below(quota) {
+            match self.node.todo.first_from(0) {
+                Some(thread) => {
+                    self.node.todo = without_first(self.node.todo, thread);
+                    self.descend(alloc, found, item, mode, thread)?;
+                }
+                None => going = self.climb(found, item, mode),
+            }
+        }
+        Ok(())
+    }
+
+    // The same, where each mode has a loop of its own, in which it is known.
+    #[inline(never)]
     fn search(
         &mut self,
         alloc: Global,
@@ -552,7 +458,7 @@ impl Trail {
         requires search { IsSearch mode item.now self.old found.old
             (still_open mode item.now.program self.old) }
         requires few { found.old.part.tried ≤ quota }
-        ensures trail { IsTrail item.now.program self.new }
+        ensures path { IsPath item.now.program self.new }
         ensures search { OnOk result (IsSearch mode item.now self.new found.new
             (still_open mode item.now.program self.new)) }
         ensures few { OnOk result (found.new.part.tried ≤ quota) }
@@ -560,64 +466,11 @@ impl Trail {
             → still_open mode item.now.program self.new ≡ []) }
     {
         match mode {
-            Mode::Bounded(bound) => self.search_within(alloc, found, item, bound, quota),
-            Mode::Reduced => self.search_reduced(alloc, found, item, quota),
+            Mode::Bounded(bound) => {
+                self.search_in(alloc, found, item, Mode::Bounded(bound), quota)
+            }
+            Mode::Reduced => self.search_in(alloc, found, item, Mode::Reduced, quota),
         }
-    }
-
-    // The same within a bound.
-    #[inline(never)]
-    fn search_within(
-        &mut self,
-        alloc: Global,
-        found: &mut Found,
-        item: &Item,
-        bound: u32,
-        quota: u32,
-    ) -> Result<(), AllocError>
-        requires search { IsSearch (Mode.Bounded bound) item.now self.old found.old
-            (still_open (Mode.Bounded bound) item.now.program self.old) }
-        requires few { found.old.part.tried ≤ quota }
-        ensures trail { IsTrail item.now.program self.new }
-        ensures search { OnOk result (IsSearch (Mode.Bounded bound) item.now self.new found.new
-            (still_open (Mode.Bounded bound) item.now.program self.new)) }
-        ensures few { OnOk result (found.new.part.tried ≤ quota) }
-        ensures all { OnOk result (found.new.part.tried < quota
-            → still_open (Mode.Bounded bound) item.now.program self.new ≡ []) }
-    {
-        let mut going = true;
-        while going && found.is_below(quota) {
-            self.dive(alloc, found, item, Mode::Bounded(bound))?;
-            going = self.climb(found, item, Mode::Bounded(bound));
-        }
-        Ok(())
-    }
-
-    // The same with sleep sets.
-    #[inline(never)]
-    fn search_reduced(
-        &mut self,
-        alloc: Global,
-        found: &mut Found,
-        item: &Item,
-        quota: u32,
-    ) -> Result<(), AllocError>
-        requires search { IsSearch Mode.Reduced item.now self.old found.old
-            (still_open Mode.Reduced item.now.program self.old) }
-        requires few { found.old.part.tried ≤ quota }
-        ensures trail { IsTrail item.now.program self.new }
-        ensures search { OnOk result (IsSearch Mode.Reduced item.now self.new found.new
-            (still_open Mode.Reduced item.now.program self.new)) }
-        ensures few { OnOk result (found.new.part.tried ≤ quota) }
-        ensures all { OnOk result (found.new.part.tried < quota
-            → still_open Mode.Reduced item.now.program self.new ≡ []) }
-    {
-        let mut going = true;
-        while going && found.is_below(quota) {
-            self.dive(alloc, found, item, Mode::Reduced)?;
-            going = self.climb(found, item, Mode::Reduced);
-        }
-        Ok(())
     }
 
     // Makes an item of the next open child, or goes back. False where nothing is open.
@@ -676,14 +529,17 @@ impl Trail {
 
     // Goes to an item's prefix.
     fn stand_at(&mut self, item: &Item) -> Result<(), AllocError>
-        requires { IsTrail item.now.program self.old }
-        ensures trail { IsTrail item.now.program self.new }
+        requires { IsPath item.now.program self.old }
+        ensures path { IsPath item.now.program self.new }
         ensures place { OnOk result (IsPlace item.now.program self.new) }
         ensures item { OnOk result (here item.now.program self.new ≡ item.now) }
-        ensures base { OnOk result (self.new.base ≡ self.new.depth) }
+        ensures base { OnOk result (self.new.base ≡ length (used_frames self.new)) }
         ensures todo { OnOk result (self.new.node.todo ≡ no_threads) }
     {
         self.go_to(item.program(), item.prefix())?;
+        if self.depth == 0 {
+            self.open(item.program())?;
+        }
         self.node.asleep = item.mask();
         self.node.todo = Mask::empty();
         self.base = self.depth;
@@ -709,10 +565,10 @@ impl Trail {
         mode: Mode,
         quota: u32,
     ) -> Result<(), AllocError>
-        requires trail { IsTrail item.now.program self.old }
+        requires path { IsPath item.now.program self.old }
         requires found { IsNew found.old }
         requires quota { 1 ≤ quota }
-        ensures trail { IsTrail item.now.program self.new }
+        ensures path { IsPath item.now.program self.new }
         ensures tried { OnOk result (found.new.part.tried ≤ quota) }
         ensures rest { OnOk result (found.new.part.tried < quota → found.new.rest.items ≡ []) }
         ensures past { OnOk result (IsPastBound mode item.now →
@@ -724,7 +580,7 @@ impl Trail {
             found.part.set_beyond();
             return Ok(());
         }
-        self.begin(found, item, mode)?;
+        self.set_out(found, item, mode)?;
         self.arrive(alloc, found, item, mode)?;
         self.search(alloc, found, item, mode, quota)?;
         found.rest = self.give_all_back(alloc, item, mode)?;

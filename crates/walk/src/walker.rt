@@ -7,7 +7,7 @@ ghost use Rattle.walk.specs.Walks.{IsWalked, IsPastBound, found_walk, walk_past_
 use crate::found::Found;
 use crate::item::Item;
 use crate::mode::Mode;
-use crate::trail::Trail;
+use crate::path::Path;
 use crate::walked::Walked;
 use guest_code::program::Program;
 use std::alloc::{AllocError, Global};
@@ -19,7 +19,7 @@ use std::sync::Arc;
 #[derive(Drop)]
 pub struct Walker {
     program: Arc<Program>,
-    trail: Trail,
+    path: Path,
     // The memory of walks that were settled, for the next ones.
     spares: Vec<Found>,
 }
@@ -27,13 +27,13 @@ pub struct Walker {
 impl Model for Walker {
     ghost use Rattle.guest_code.specs.Program.{Program};
     ghost use Rattle.std.specs.Arc.{arc_value};
-    ghost use Rattle.walk.specs.inner.Paths.{IsTrail};
+    ghost use Rattle.walk.specs.inner.Paths.{IsPath};
 
     ghost Value = { Program };
 
     ghost view = { λ w. arc_value w.program };
 
-    ghost invariant = { λ w. IsTrail (arc_value w.program) w.trail };
+    ghost invariant = { λ w. IsPath (arc_value w.program) w.path };
 }
 
 impl Walker {
@@ -45,10 +45,10 @@ impl Walker {
     pub fn new(alloc: Global, program: Arc<Program>) -> Result<Walker, AllocError>
         ensures { IfOk result (λ w. w ≡ arc_value program) }
     {
-        let trail = Trail::start(alloc, &program)?;
+        let path = Path::start(alloc, &program)?;
         Ok(Walker {
             program,
-            trail,
+            path,
             spares: Vec::new(alloc),
         })
     }
@@ -116,8 +116,8 @@ impl Walker {
             found_walk mode item.now found.new ≡ walk_past_bound mode item.now) }
         ensures walked { OnOk result (IsWalked (found_walk mode item.now found.new)) }
     {
-        found.clear(&mut self.trail.ends);
-        self.trail.walk(alloc, found, item, mode, quota)
+        found.clear(&mut self.path.ends);
+        self.path.walk(alloc, found, item, mode, quota)
     }
 }
 
@@ -142,8 +142,8 @@ pub fn walk(alloc: Global, item: &Item, mode: Mode, quota: u32) -> Result<Walked
         IsPastBound mode item.now → w ≡ walk_past_bound mode item.now) }
     ensures walked { IfOk result IsWalked }
 {
-    let mut trail = Trail::start(alloc, item.program())?;
+    let mut path = Path::start(alloc, item.program())?;
     let mut found = Found::new(alloc);
-    trail.walk(alloc, &mut found, item, mode, quota)?;
+    path.walk(alloc, &mut found, item, mode, quota)?;
     Ok(Walked::new(mode, item.try_clone(alloc)?, found))
 }

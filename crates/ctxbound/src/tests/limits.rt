@@ -46,7 +46,7 @@ fn keeps_its_limits(rt: HostRuntime) -> Result<(), Fail> {
     refuses_spaces(&rt, 200_000, "x", "ctxbound: syntax S5 TooLong at 1:1\n")
 }
 
-/// The schedule in which thread 0 takes so many steps and one more.
+/// The schedule in which thread 0 takes this many steps and one more.
 fn zeros(alloc: Global, more: usize) -> Result<String, Fail> {
     let mut schedule = String::from_str(alloc, "0")?;
     for _ in 0..more {
@@ -65,7 +65,7 @@ fn longest_trace(alloc: Global) -> Result<Vec<u8>, Fail> {
     Ok(trace)
 }
 
-/// Compares what the longest thread writes where it takes so many steps and one more.
+/// Compares what the longest thread writes where it takes this many steps and one more.
 fn runs_longest(
     rt: &(impl Abort + Threads + Wait + Sync + Eprint + Alloc<A = Global>),
     more: usize,

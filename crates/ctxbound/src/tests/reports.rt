@@ -129,7 +129,7 @@ pub static BOUNDED: [(&str, &str, &str, u8); 19] = [
     ),
 ];
 
-/// The same of searches without a bound.
+/// Searches without a bound: texts, words, reports and statuses.
 pub static UNBOUNDED: [(&str, &str, &str, u8); 6] = [
     (
         LATE_STORE,
@@ -169,7 +169,7 @@ pub static UNBOUNDED: [(&str, &str, &str, u8); 6] = [
     ),
 ];
 
-/// The same with a limit, with more workers, of long schedules, and of quick searches.
+/// Searches with a limit, with more workers, of long schedules, and quick ones.
 pub static ASKED_FOR_MORE: [(&str, &str, &str, u8); 13] = [
     (
         LOST_UPDATE,

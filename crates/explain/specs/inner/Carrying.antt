@@ -2,7 +2,7 @@
 use Rattle.std.specs.Prelude.{◌≡◌, ℕ, ◌<◌, List, length, take, nat_eq, Option, Some, None, All, slice_index_or, if◌then◌else◌}
 use Rattle.guest_code.specs.Program.{Program}
 use Rattle.semantics.specs.Machine.{Snapshot, owner_of}
-use Rattle.semantics.specs.Execution.{IsExecutionOf, Reaches}
+use Rattle.schedules.specs.Execution.{IsExecutionOf, Reaches}
 use Rattle.explain.specs.declared.explanation.Holder.{Holder}
 use Rattle.explain.specs.declared.explanation.Carried.{Carried}
 use Rattle.explain.specs.Lost.{IsWithin}

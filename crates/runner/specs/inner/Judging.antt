@@ -4,8 +4,8 @@ use Rattle.std.specs.Prelude.{Option, Some, None}
 use Rattle.guest_code.specs.Program.{Program}
 use Rattle.walk.specs.declared.mode.Mode.{Mode}
 use Rattle.walk.specs.declared.mode.Mode.TheVariants.{Bounded, Reduced}
-use Rattle.semantics.specs.Schedules.{preemptions}
-use Rattle.walk.specs.Summaries.{SummaryView, end_kind}
+use Rattle.schedules.specs.Schedules.{preemptions}
+use Rattle.summary.specs.Summaries.{SummaryView, end_kind}
 use Rattle.walk.specs.Items.{whole}
 use Rattle.book.specs.Books.{BookView}
 use Rattle.runner.specs.declared.options.Options.{Options}

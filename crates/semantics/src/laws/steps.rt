@@ -14,12 +14,12 @@ ghost use Rattle.semantics.specs.declared.state.MutexAction.TheVariants.{Unlock}
 ghost use Rattle.semantics.specs.declared.state.SemaphoreAction.TheVariants.{Acquire, Release};
 ghost use Rattle.semantics.specs.declared.state.Status.TheVariants.{Waiting, Woken};
 ghost use Rattle.semantics.specs.declared.state.VariableAction.TheVariants.{Load, Store, Add, Cas};
-ghost use Rattle.semantics.specs.Dependence.{Writes};
-ghost use Rattle.semantics.specs.Dependence.Object.{variable, mutex, condition, semaphore};
-ghost use Rattle.semantics.specs.Effects.{IsAboutTo, RunsOn, PutsInto, StopsNotHeld, StopsFull, IsOver, IsLeft, operand_of};
-ghost use Rattle.semantics.specs.Machine.{Snapshot, step, start, is_enabled, next_of, threads_to_wake, value_of, owner_of, queue_of, count_of, thread_at, of_both};
-ghost use Rattle.semantics.specs.Schedules.{runs, state_after};
+ghost use Rattle.semantics.specs.Accesses.{Writes};
+ghost use Rattle.semantics.specs.Accesses.Object.{variable, mutex, condition, semaphore};
+ghost use Rattle.semantics.specs.Effects.{IsAboutTo, RunsOn, PutsInto, StopsNotHeld, StopsFull, IsLeft, operand_of};
+ghost use Rattle.semantics.specs.Machine.{Snapshot, step, is_enabled, next_of, threads_to_wake, value_of, owner_of, queue_of, count_of, thread_at, of_both};
 ghost use Rattle.semantics.specs.Waiters.{In, HasWaiters};
+ghost use Rattle.semantics.specs.Work.{work};
 
 // What a step leaves.
 
@@ -43,6 +43,12 @@ pub fn steps_change_only_what_they_write()
 pub fn steps_leave_other_threads()
     ensures { (p : Program) (s : Snapshot) (t u : ℕ) →
         is_enabled p s t ≡ true → u ≢ t → IsLeft (thread_at s u) (thread_at (step p s t) u) }
+{}
+
+/// After a step there are fewer steps that the threads may still take.
+pub fn work_falls()
+    ensures { (p : Program) (s : Snapshot) (t : ℕ) →
+        is_enabled p s t ≡ true → work p (step p s t) < work p s }
 {}
 
 // Variables. In each of these x is the variable, and r the local that the step writes.
@@ -149,25 +155,9 @@ pub fn others_leave_an_owned_mutex()
         owner_of (step p s t) m ≡ Some u }
 {}
 
-/// So a thread that stopped or ended keeps its mutexes, whatever steps follow, and stays as it is.
-pub fn threads_that_are_over_keep_their_mutexes()
-    ensures mutexes { (p : Program) (s : Snapshot) (u m : ℕ) (w : List ℕ) →
-        IsOver (thread_at s u) → owner_of s m ≡ Some u → runs p s w ≡ true →
-        owner_of (state_after p s w) m ≡ Some u }
-    ensures thread { (p : Program) (s : Snapshot) (u : ℕ) (w : List ℕ) →
-        IsOver (thread_at s u) → runs p s w ≡ true →
-        thread_at (state_after p s w) u ≡ thread_at s u }
-{}
-
 // Conditions.
 
-/// After each schedule, who is in a condition's queue waits for it, and is there once.
-pub fn queues_hold_waiters()
-    ensures { (p : Program) (w : List ℕ) →
-        runs p (start p) w ≡ true → HasWaiters (state_after p (start p) w) }
-{}
-
-/// So whoever a signal or a broadcast calls is woken.
+/// Where queues hold who waits, whoever a signal or a broadcast calls is woken.
 pub fn threads_to_wake_are_woken()
     ensures { (p : Program) (s : Snapshot) (t u c : ℕ) (d : ConditionAction) →
         HasWaiters s → next_of p s t ≡ Some (OnCondition c d) →

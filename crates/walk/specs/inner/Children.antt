@@ -4,9 +4,10 @@ use Rattle.std.specs.Prelude.{ℕ, zero, suc, ◌+◌, ◌*◌, ◌≤◌, Bool,
 use Rattle.guest_code.specs.declared.limits.TheConstants.{THREADS}
 use Rattle.semantics.specs.declared.mask.Mask.{Mask}
 use Rattle.semantics.specs.Mask.{no_threads, has, mask_of}
-use Rattle.semantics.specs.Schedules.{enabled, preemptions, work}
-use Rattle.semantics.specs.Sleep.{next_sleep_set}
-use Rattle.semantics.specs.Ends.{is_empty}
+use Rattle.semantics.specs.Ends.{enabled, is_empty}
+use Rattle.schedules.specs.Schedules.{preemptions}
+use Rattle.semantics.specs.Work.{work}
+use Rattle.schedules.specs.Sleep.{next_sleep_set}
 use Rattle.walk.specs.declared.mode.Mode.{Mode}
 use Rattle.walk.specs.declared.mode.Mode.TheVariants.{Bounded, Reduced}
 use Rattle.walk.specs.Items.{ItemView}

@@ -1,45 +1,48 @@
 -- What holds while a walk goes over the schedules of an item.
-use Rattle.std.specs.Prelude.{◌≡◌, ℕ, zero, suc, ◌+◌, ◌-◌, ◌≤◌, Bool, false, not, nat_le, nat_lt, List, [], ◌∷◌, ◌++◌, length, take, map, Some}
+use Rattle.std.specs.Prelude.{◌≡◌, ℕ, zero, suc, ◌+◌, ◌-◌, ◌<◌, ◌≤◌, Bool, false, not, ◌&&◌, nat_eq, nat_le, nat_lt, List, [], ◌∷◌, ◌++◌, length, take, map, Some}
 use Rattle.guest_code.specs.Program.{Program}
-use Rattle.semantics.specs.Mask.{has, no_threads, members_from}
-use Rattle.semantics.specs.Schedules.{one_if}
+use Rattle.semantics.specs.Mask.{has, no_threads, HasEnabled, members_from, one_if}
+use Rattle.semantics.specs.declared.mask.Mask.{Mask}
 use Rattle.walk.specs.declared.mode.Mode.{Mode}
 use Rattle.walk.specs.declared.mode.Mode.TheVariants.{Bounded, Reduced}
-use Rattle.walk.specs.declared.trail.Node.{Node}
-use Rattle.walk.specs.declared.trail.Frame.{Frame}
-use Rattle.walk.specs.declared.trail.Trail.{Trail}
+use Rattle.walk.specs.declared.path.Node.{Node}
+use Rattle.walk.specs.declared.path.Frame.{Frame}
+use Rattle.walk.specs.declared.path.Path.{Path}
 use Rattle.walk.specs.declared.found.Found.{Found}
 use Rattle.walk.specs.Items.{ItemView, item_at}
-use Rattle.walk.specs.PrefixLists.{last_of}
-use Rattle.walk.specs.Summaries.{nothing}
+use Rattle.prefix_list.specs.PrefixLists.{last_of}
+use Rattle.summary.specs.Summaries.{nothing}
 use Rattle.walk.specs.Walks.{IsWalked}
-use Rattle.walk.specs.inner.Children.{children_of, cost_of, costs}
-use Rattle.walk.specs.inner.Paths.{leaves, path, above, IsTrail}
+use Rattle.walk.specs.inner.Children.{child_of, children_of, cost_of, costs}
+use Rattle.walk.specs.inner.Paths.{used_frames, leaves, frame_at, state_at, IsPath}
 
 -- the item of a node, to which these steps lead
 abbrev pub item_of : Program → List ℕ → Node → ItemView
 item_of p w n = record { program = p; prefix = w; mask = n.asleep }
 
 -- the item of the node where a walk stands
-abbrev pub here : Program → Trail → ItemView
+abbrev pub here : Program → Path → ItemView
 here p t = item_of p t.steps.items t.node
 
 -- the children of a node that are still to be tried
 abbrev pub open_at : Mode → Program → List ℕ → Node → List ItemView
 open_at mode p w n = children_of mode (item_of p w n) (members_from n.todo 0)
 
--- what is open at so many nodes above, the lowest first
-abbrev pub open_above : Mode → Program → ℕ → List Frame → List ItemView
-open_above mode p zero fs = []
-open_above mode p (suc n) [] = []
-open_above mode p (suc n) (f ∷ fs) = open_at mode p (path fs) f.node ++ open_above mode p n fs
+-- what is open at the nodes of so many frames after the first ones, the last first, on the way of
+-- these steps
+abbrev pub open_from : Mode → Program → List ℕ → List Frame → ℕ → ℕ → List ItemView
+open_from mode p w fs base zero = []
+open_from mode p w fs base (suc n) =
+    open_at mode p (take (frame_at fs (base + n)).steps w) (frame_at fs (base + n)).node
+    ++ open_from mode p w fs base n
 
 -- what is open above the node where a walk stands, down from the item's own node
-abbrev pub left_above : Mode → Program → Trail → List ItemView
-left_above mode p t = open_above mode p (t.depth - t.base) (above t)
+abbrev pub left_above : Mode → Program → Path → List ItemView
+left_above mode p t =
+    open_from mode p t.steps.items (used_frames t) t.base (length (used_frames t) - t.base)
 
 -- what is still open, in order
-abbrev pub still_open : Mode → Program → Trail → List ItemView
+abbrev pub still_open : Mode → Program → Path → List ItemView
 still_open mode p t = open_at mode p t.steps.items t.node ++ left_above mode p t
 
 -- nothing was found yet
@@ -50,9 +53,10 @@ pub record IsNew (f : Found) : Type 0 where
   pub shared : f.shared ≡ 0
 
 -- the steps lead from the start to a node that is under the item's
-pub record IsPlace (p : Program) (t : Trail) : Type 0 where
-  pub trail : IsTrail p t
-  pub base : t.base ≤ t.depth
+pub record IsPlace (p : Program) (t : Path) : Type 0 where
+  pub path : IsPath p t
+  pub some : 0 < t.base
+  pub base : t.base ≤ length (used_frames t)
 
 -- so many of the walk's steps begin the prefix that was put off last, too
 pub record IsShared (steps : List ℕ) (f : Found) : Type 0 where
@@ -60,7 +64,7 @@ pub record IsShared (steps : List ℕ) (f : Found) : Type 0 where
   pub same : take f.shared (last_of f.deferred) ≡ take f.shared steps
 
 -- what was found, what these items have, and what was put off make a walk of the item
-pub record IsSearch (mode : Mode) (i : ItemView) (t : Trail) (f : Found)
+pub record IsSearch (mode : Mode) (i : ItemView) (t : Path) (f : Found)
     (open_items : List ItemView) :
     Type 0 where
   pub place : IsPlace i.program t
@@ -74,34 +78,28 @@ pub record IsSearch (mode : Mode) (i : ItemView) (t : Trail) (f : Found)
   pub shared : IsShared t.steps.items f
 
 -- more turns than are still to be taken
-unfoldable pub turns_left : Mode → Program → Trail → ℕ
-turns_left mode p t = costs (still_open mode p t) + length t.steps.items
+unfoldable pub turns_left : Mode → Program → Path → ℕ
+turns_left mode p t = costs (still_open mode p t) + length (used_frames t)
 
 -- more turns than are to be taken from where it stands on, and for what is open above
-unfoldable pub turns_from : Mode → Program → Trail → ℕ
-turns_from mode p t = cost_of (here p t) + costs (left_above mode p t) + length t.steps.items
+unfoldable pub turns_from : Mode → Program → Path → ℕ
+turns_from mode p t = cost_of (here p t) + costs (left_above mode p t) + length (used_frames t)
 
--- the thread of the last step has used up the bound, so that its step alone is kept where it can
--- go on; no step is to be tried yet
-pub record IsSpent (bound : ℕ) (n : Node) (t : ℕ) : Type 0 where
-  pub todo : n.todo ≡ no_threads
-  pub last : n.last ≡ Some t
-  pub used : n.used ≡ bound
+-- and where it goes into this child
+unfoldable pub turns_into : Mode → Program → Path → ℕ → ℕ
+turns_into mode p t u =
+    cost_of (child_of mode (here p t) u) + costs (left_above mode p t) + length (used_frames t)
 
--- the node's preemptions use up the bound
-abbrev pub IsUsedUp : Mode → Node → Type 0
-IsUsedUp (Bounded bound) n = n.used ≡ bound
-IsUsedUp Reduced n = ⊥
-
--- a step of the thread is kept, where the node's own preemptions are within the bound
-abbrev pub is_kept_at : Mode → Node → ℕ → Bool
-is_kept_at (Bounded bound) n t = nat_le (n.used + one_if (leaves n t)) bound
-is_kept_at Reduced n t = not (has n.asleep t)
+-- a step of the thread is kept, where these are enabled and the node's own preemptions are within
+-- the bound
+abbrev pub is_kept_at : Mode → Mask → Node → ℕ → Bool
+is_kept_at (Bounded bound) e n t = nat_le (n.used + one_if (leaves e n t)) bound
+is_kept_at Reduced e n t = not (has n.asleep t)
 
 -- it passes the bound
-abbrev pub is_past_at : Mode → Node → ℕ → Bool
-is_past_at (Bounded bound) n t = nat_lt bound (n.used + one_if (leaves n t))
-is_past_at Reduced n t = false
+abbrev pub is_past_at : Mode → Mask → Node → ℕ → Bool
+is_past_at (Bounded bound) e n t = nat_lt bound (n.used + one_if (leaves e n t))
+is_past_at Reduced e n t = false
 
 -- the node's preemptions are within the bound
 abbrev pub IsWithinAt : Mode → Node → Type 0
@@ -112,3 +110,49 @@ IsWithinAt Reduced n = Unit {0}
 abbrev pub is_past_here : Mode → Node → Bool
 is_past_here (Bounded bound) n = nat_lt bound n.used
 is_past_here Reduced n = false
+
+-- the bound is used up
+abbrev pub IsSpent : Mode → Node → Type 0
+IsSpent (Bounded bound) n = n.used ≡ bound
+IsSpent Reduced n = ⊥
+
+-- whether it is
+abbrev pub is_spent_at : Mode → Node → Bool
+is_spent_at (Bounded bound) n = nat_eq n.used bound
+is_spent_at Reduced n = false
+
+-- no step of an enabled thread passes the bound
+abbrev pub IsFree : Mode → Program → Path → Type 0
+IsFree mode p t = (e : Mask) → HasEnabled e p (state_at p t.steps.items) → (u : ℕ)
+    → (has e u && is_past_at mode e t.node u) ≡ false
+
+-- where there is a bound, nobody sleeps
+abbrev pub IsAwake : Mode → Node → Type 0
+IsAwake (Bounded bound) n = n.asleep ≡ no_threads
+IsAwake Reduced n = Unit {0}
+
+-- a frame more: what was open at the node is open above
+pub record IsOpened (p : Program) (old new : Path) : Type 0 where
+  pub steps : new.steps.items ≡ old.steps.items
+  pub node : new.node ≡ old.node
+  pub base : new.base ≡ old.base
+  pub depth : length (used_frames new) ≡ length (used_frames old) + 1
+  pub left : (mode : Mode) → old.base ≤ length (used_frames old)
+      → left_above mode p new ≡ still_open mode p old
+
+-- a frame more or none: what was open at the node is open above
+pub record IsKept (p : Program) (old new : Path) : Type 0 where
+  pub steps : new.steps.items ≡ old.steps.items
+  pub node : new.node ≡ old.node
+  pub depth : length (used_frames new) ≤ length (used_frames old) + 1
+  pub left : (mode : Mode) → left_above mode p new ≡ still_open mode p old
+
+-- a step of a thread further, after which these sleep: what was open above is so
+pub record IsGone (p : Program) (old new : Path) (t : ℕ) (sleepers : Mask) : Type 0 where
+  pub steps : new.steps.items ≡ old.steps.items ++ t ∷ []
+  pub last : new.node.last ≡ Some t
+  pub asleep : new.node.asleep ≡ sleepers
+  pub base : new.base ≡ old.base
+  pub frames : (used_frames new) ≡ (used_frames old)
+  pub left : (mode : Mode) → old.base ≤ length (used_frames old)
+      → left_above mode p new ≡ left_above mode p old

@@ -1,5 +1,5 @@
 use Rattle.std.proofs.Common.{◌++◌, [], arith}
-use Rattle.semantics.specs.Schedules.{begins_with}
+use Rattle.schedules.specs.Schedules.{begins_with}
 use Rattle.walk.specs.Items.{root_of}
 use Rattle.walk.specs.Walks.{IsBelow}
 use Rattle.walk.proofs.ListParts.{all_left, all_right}

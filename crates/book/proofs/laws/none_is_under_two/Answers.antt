@@ -1,5 +1,5 @@
 use Rattle.std.proofs.Common.{[], arith}
-use Rattle.semantics.specs.Schedules.{begins_with}
+use Rattle.schedules.specs.Schedules.{begins_with}
 use Rattle.walk.proofs.Covers.{at_most_one}
 use Rattle.walk.proofs.WalkedItems.{one_place}
 use Rattle.book.specs.Books.{items_left}

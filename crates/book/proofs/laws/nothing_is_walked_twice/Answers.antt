@@ -1,5 +1,5 @@
 use Rattle.std.proofs.Common.{subst, ◌≤◌, arith, []}
-use Rattle.semantics.specs.Schedules.{preemptions}
+use Rattle.schedules.specs.Schedules.{preemptions}
 use Rattle.walk.specs.declared.mode.Mode.{Mode}
 use Rattle.walk.specs.Items.{root_of}
 use Rattle.walk.specs.Walks.{IsSplit}

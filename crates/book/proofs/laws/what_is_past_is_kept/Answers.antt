@@ -1,8 +1,8 @@
 use Rattle.std.proofs.Common.{subst, ◌≤◌, arith, [], refl}
 use Rattle.semantics.specs.Machine.{start}
-use Rattle.semantics.specs.Schedules.{preemptions}
-use Rattle.semantics.proofs.SchedulesUnderPrefix.{in_under}
-use Rattle.semantics.proofs.StatedLaws.{complete}
+use Rattle.schedules.specs.Schedules.{preemptions}
+use Rattle.schedules.proofs.SchedulesUnderPrefix.{in_under}
+use Rattle.schedules.proofs.StatedLaws.{complete}
 use Rattle.walk.specs.declared.mode.Mode.{Mode}
 use Rattle.walk.specs.Items.{root_of}
 use Rattle.walk.specs.Walks.{IsBelow, IsCut}

@@ -2,7 +2,7 @@ use Rattle.std.proofs.Common.{rules, IfOk, ◌≡◌, ◌-◌, sym, subst, lengt
 use Rattle.std.specs.Arc.{arc_value}
 use Rattle.guest_code.specs.Program.{Program}
 use Rattle.walk.specs.Items.{ItemView, IsItem, item_at}
-use Rattle.walk.specs.PrefixLists.{last_of}
+use Rattle.prefix_list.specs.PrefixLists.{last_of}
 use Rattle.book.proofs.PackedItems.{got, last_runs}
 use Rattle.book.proofs.packed.last_packed.Goals as goal
 

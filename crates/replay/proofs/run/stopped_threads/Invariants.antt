@@ -1,7 +1,7 @@
 use Rattle.std.proofs.Common.{◌≡◌, ◌<◌, length, All}
 use Rattle.std.specs.List.{filter}
 use Rattle.semantics.specs.Machine.{thread_at}
-use Rattle.semantics.specs.Schedules.{up_from}
+use Rattle.semantics.specs.Work.{up_from}
 use Rattle.semantics.specs.Ends.{is_stopped}
 use Rattle.replay.proofs.run.stopped_threads.Given as goal
 

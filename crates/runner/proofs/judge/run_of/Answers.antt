@@ -1,6 +1,6 @@
 use Rattle.std.proofs.Common.{◌≡◌, true, false}
 use Rattle.semantics.specs.Machine.{start}
-use Rattle.semantics.specs.Schedules.{runs}
+use Rattle.schedules.specs.Schedules.{runs}
 use Rattle.runner.proofs.Promises.{runs_through}
 use Rattle.runner.proofs.judge.run_of.Goals as goal
 

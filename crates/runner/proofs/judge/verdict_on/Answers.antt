@@ -1,6 +1,6 @@
 use Rattle.std.proofs.Common.{◌≡◌, ◌∙◌, ap, arith, Some}
-use Rattle.semantics.specs.Schedules.{preemptions}
-use Rattle.walk.specs.Summaries.{end_kind}
+use Rattle.schedules.specs.Schedules.{preemptions}
+use Rattle.summary.specs.Summaries.{end_kind}
 use Rattle.replay.specs.Run.{Run}
 use Rattle.runner.proofs.Promises.{ends_somehow}
 use Rattle.runner.proofs.Preemptions.{preemptions_fit}

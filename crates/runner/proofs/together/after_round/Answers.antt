@@ -4,15 +4,15 @@ use Rattle.walk.specs.declared.mode.Mode.{Mode}
 use Rattle.book.specs.Books.{IsNotRaised, bound_of}
 use Rattle.book.specs.declared.errors.RaiseError.{RaiseError}
 use Rattle.runner.specs.declared.judge.Next.{Next}
-use Rattle.runner.specs.inner.Judging.{Comes, IsOf}
+use Rattle.runner.specs.inner.Judging.{Comes}
 use Rattle.runner.proofs.Judgments.{not_the_greatest}
-use Rattle.runner.proofs.AfterRounds.{thinned_of, raised_stage}
+use Rattle.runner.proofs.AfterRounds.{was_of, thinned_of, raised_stage}
 use Rattle.runner.proofs.together.after_round.Goals as goal
 
 pub unreachable-requires : goal.unreachable-requires
 unreachable-requires c =
     let b = c.drop_later-number.new.self in
-    let comes = subst (λ (n : Next). Comes true c.args.program.now c.args.options c.args.mode b n)
+    let comes = subst (λ (n : Next). Comes true c.args.program.now c.args.options c.mode-mode.result b n)
     c.in-Raise.is (c.in_ok-report.ensures.next true (λ e. refl)) in
     subst (λ (e : RaiseError). IsNotRaised b e) c.in-Err-StillOpen.field-0-is
     c.in-Err-StillOpen.ensures.err.1 comes.0
@@ -20,7 +20,7 @@ unreachable-requires c =
 pub unreachable-requires-in-Err-Dropped : goal.unreachable-requires-in-Err-Dropped
 unreachable-requires-in-Err-Dropped c =
     let b = c.drop_later-number.new.self in
-    let comes = subst (λ (n : Next). Comes true c.args.program.now c.args.options c.args.mode b n)
+    let comes = subst (λ (n : Next). Comes true c.args.program.now c.args.options c.mode-mode.result b n)
     c.in-Raise.is (c.in_ok-report.ensures.next true (λ e. refl)) in
     let some = subst (λ (e : RaiseError). IsNotRaised b e) c.in-Err-Dropped.field-0-is
     c.in-Err-Dropped.ensures.err.1 in
@@ -30,9 +30,9 @@ unreachable-requires-in-Err-Dropped c =
 pub unreachable-requires-in-Err-LastBound : goal.unreachable-requires-in-Err-LastBound
 unreachable-requires-in-Err-LastBound c =
     let o = c.args.options in
-    let mode = c.args.mode in
+    let mode = c.mode-mode.result in
     let b = c.drop_later-number.new.self in
-    let was : IsOf c.args.book.now c.args.program.now mode o.quick = c.requires.of in
+    let was = was_of c.args.book.now c.args.program.now mode o.quick c.mode-mode.ensures c.requires.of in
     let of =
     thinned_of c.args.book.now b c.args.program.now mode o c.drop_later-number.ensures.book was in
     let comes = subst (λ (n : Next). Comes true c.args.program.now o mode b n)
@@ -42,20 +42,20 @@ unreachable-requires-in-Err-LastBound c =
     not_the_greatest c.args.program.now o.search mode c.requires.search comes.3
     (subst (λ (m : Mode). BOUND ≤ bound_of m) of.mode last.2)
 
-pub returns-in-Answer-clause-turn : goal.returns-in-Answer-clause-turn
-returns-in-Answer-clause-turn c may h =
-    subst (λ (n : Next). Comes may c.args.program.now c.args.options c.args.mode
+pub returns-in-Answer-clause-report : goal.returns-in-Answer-clause-report
+returns-in-Answer-clause-report c may h =
+    subst (λ (n : Next). Comes may c.args.program.now c.args.options c.mode-mode.result
     c.drop_later-number.new.self n) c.in-Answer.is (c.in_ok-report.ensures.next may h)
 
-pub returns-in-Ok-clause-turn : goal.returns-in-Ok-clause-turn
-returns-in-Ok-clause-turn c may h =
+pub returns-in-Ok-clause-report : goal.returns-in-Ok-clause-report
+returns-in-Ok-clause-report c may h =
     let o = c.args.options in
-    let mode = c.args.mode in
+    let mode = c.mode-mode.result in
     let b = c.drop_later-number.new.self in
-    let was : IsOf c.args.book.now c.args.program.now mode o.quick = c.requires.of in
+    let was = was_of c.args.book.now c.args.program.now mode o.quick c.mode-mode.ensures c.requires.of in
     let of =
     thinned_of c.args.book.now b c.args.program.now mode o c.drop_later-number.ensures.book was in
     let comes = subst (λ (n : Next). Comes true c.args.program.now o mode b n)
     c.in-Raise.is (c.in_ok-report.ensures.next true (λ e. refl)) in
-    raised_stage b c.raise.new.self c.args.program.now mode c.mode.result o of comes.3
-    c.in-Ok.ensures.ok c.mode.ensures
+    raised_stage b c.raise.new.self c.args.program.now mode c.raise.new.self.mode o of comes.3
+    c.in-Ok.ensures.ok refl

@@ -1,35 +1,43 @@
-use Rattle.std.proofs.Common.{◌≡◌, subst, true}
+use Rattle.std.proofs.Common.{rules, ◌≡◌, subst, true, Option, None}
+use Rattle.std.specs.List.{All}
 use Rattle.guest_code.specs.Program.{Program}
-use Rattle.runner.specs.declared.together.Turn.{Turn}
+use Rattle.runner.specs.declared.report.Report.{Report}
+use Rattle.runner.specs.declared.hand.Hand.{Hand}
 use Rattle.runner.specs.Promises.{IsReport}
 use Rattle.runner.specs.inner.Judging.{IsStage, IsOf}
-use Rattle.runner.specs.inner.Rounds.{Follows, IsCrewOf}
+use Rattle.runner.specs.inner.Rounds.{Follows}
 use Rattle.runner.proofs.together.explore.Goals as goal
 
-pub returns-in-Ends-clause-report : goal.returns-in-Ends-clause-report
-returns-in-Ends-clause-report g c =
+pub returns-in-Some-2-clause-report : goal.returns-in-Some-2-clause-report
+returns-in-Some-2-clause-report g c =
     let o = c.args.options in
     let may = g.G.Gate.stops c.args.gate.now in
     let stopped : c.in_ok-stopped.stopped ≡ true → may ≡ true =
-    λ e. c.in_ok-left.ensures.stopped (c.in_ok-stopped.ensures.stopped e) in
-    let ends = subst (λ (t : Turn). Follows may c.deref.result.now o c.after_round.new.book t)
-    c.in-Ends.is (c.in_ok-report.ensures.turn may stopped) in
-    subst (λ (p : Program). IsReport may p o c.in-Ends.report) c.deref.ensures ends
+    λ e. c.in_ok-next.ensures.stopped (c.in_ok-stopped.ensures.stopped e) in
+    let ends = subst (λ (r : Option Report). Follows may c.deref.result.now o c.after_round.new.book r)
+    c.in-Some-2.is (c.in_ok-report.ensures.report may stopped) in
+    subst (λ (p : Program). IsReport may p o c.in-Some-2.report) c.deref.ensures ends
 
 pub loop-preserved : goal.loop-preserved
 loop-preserved g c =
     let o = c.args.options in
     let may = g.G.Gate.stops c.args.gate.now in
     let of = c.loop.invariant.3 in
+    let kept = c.in_ok-next.ensures.team in
     let stopped : c.in_ok-stopped.stopped ≡ true → may ≡ true =
-    λ e. c.in_ok-left.ensures.stopped (c.in_ok-stopped.ensures.stopped e) in
-    let goes = subst (λ (t : Turn). Follows may c.deref.result.now o c.after_round.new.book t)
-    c.in-Goes.is (c.in_ok-report.ensures.turn may stopped) in (
+    λ e. c.in_ok-next.ensures.stopped (c.in_ok-stopped.ensures.stopped e) in
+    let none : c.in_ok-report.field-0 ≡ None = search rules in
+    let goes = subst (λ (r : Option Report). Follows may c.deref.result.now o c.after_round.new.book r)
+    none (c.in_ok-report.ensures.report may stopped) in (
       tt,
       tt,
-      subst (λ (p : Program). IsStage p o.search c.in-Goes.next) c.deref.ensures goes.0,
-      subst (λ (p : Program). IsOf c.after_round.new.book p c.in-Goes.next o.quick)
+      subst (λ (p : Program). IsStage p o.search c.after_round.new.book.mode) c.deref.ensures goes.0,
+      subst (λ (p : Program). IsOf c.after_round.new.book p c.after_round.new.book.mode o.quick)
           c.deref.ensures goes.1,
-      subst (λ (p : Program). IsCrewOf p c.in_ok-left.left.crew) of.program
-          c.in_ok-left.ensures.crew,
+      record {
+        some = kept.some;
+        few = kept.few;
+        of = subst (λ (p : Program). All (λ (h : Hand). h.walker ≡ p) c.in_ok-next.next.hands.items)
+            of.program kept.of;
+      },
     )

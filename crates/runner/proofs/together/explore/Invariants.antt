@@ -1,11 +1,11 @@
 use Rattle.std.specs.Arc.{arc_value}
 use Rattle.runner.specs.inner.Judging.{IsStage, IsOf}
-use Rattle.runner.specs.inner.Rounds.{IsCrewOf}
+use Rattle.runner.specs.inner.Rounds.{IsTeam}
 use Rattle.runner.proofs.together.explore.Given as goal
 
 abbrev pub invariant-loop : goal.invariant-loop
 invariant-loop g l =
     (goal.iterator-loop g).can_next l.iterator' × (goal.iterator-loop g).is_finite l.iterator'
-    × IsStage (arc_value l.program) l.options.search l.mode
-    × IsOf l.book (arc_value l.program) l.mode l.options.quick
-    × IsCrewOf (arc_value l.program) l.crew
+    × IsStage (arc_value l.program) l.options.search l.team.book.mode
+    × IsOf l.team.book (arc_value l.program) l.team.book.mode l.options.quick
+    × IsTeam (arc_value l.program) l.team

@@ -1,23 +1,13 @@
-use Rattle.std.proofs.Common.{◌≡◌, ℕ, ◌≤◌, ◌+◌, ◌-◌, length}
-use Rattle.guest_code.specs.declared.limits.TheConstants.{LOCALS}
-use Rattle.semantics.specs.declared.local.Turn.{Turn}
-use Rattle.semantics.specs.declared.local.Turn.TheVariants.{On, At as Stood}
+use Rattle.std.proofs.Common.{◌≡◌, ◌≤◌, ◌+◌, ◌-◌, length, IsTrue, IsFalse, cond}
 use Rattle.semantics.specs.Machine.{run_from}
-use Rattle.semantics.specs.Undoing.{restored}
-use Rattle.semantics.specs.inner.Recording.{HasRun}
 use Rattle.semantics.proofs.local.run_on.Given as goal
 
-abbrev pub invariant-loop-turned : goal.invariant-loop-turned
-invariant-loop-turned l = record {
-  run : HasRun l.turned l.code (run_from l.code l.fn.thread) l.thread;
-  few : l.saved.count ≤ LOCALS;
-  kept : restored l.saved l.thread.locals ≡ restored l.fn.saved l.fn.thread.locals;
+abbrev pub invariant-loop-running : goal.invariant-loop-running
+invariant-loop-running l = record {
+  within : l.thread.pc ≤ length l.code;
+  same : IsTrue l.running → run_from l.code l.thread ≡ run_from l.code l.fn.thread;
+  over : IsFalse l.running → l.thread ≡ run_from l.code l.fn.thread;
 }
 
--- how many instructions are left, at most
-abbrev left : ℕ → Turn → ℕ
-left n (On pc) = n + 1 - pc
-left n (Stood standing) = 0
-
-abbrev pub decreases-loop-turned : goal.decreases-loop-turned
-decreases-loop-turned l = left (length l.code) l.turned
+abbrev pub decreases-loop-running : goal.decreases-loop-running
+decreases-loop-running l = cond l.running (length l.code + 1 - l.thread.pc) 0

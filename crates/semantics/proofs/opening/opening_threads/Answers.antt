@@ -7,7 +7,7 @@ use Rattle.semantics.proofs.opening.opening_threads.Goals as goal
 pub loop-t-preserved : goal.loop-t-preserved
 loop-t-preserved c = built_more (λ th. local_run th.code 0 initial_thread)
     c.args.program.now.threads c.loop-t.t no_thread c.loop-t.threads.items _ c.run_on.new.thread
-    (omega arith) c.loop-t.invariant (c.run_on.ensures.value ∙
+    (omega arith) c.loop-t.invariant (c.run_on.ensures ∙
     ap (λ code. local_run code 0 initial_thread) c.code.ensures.code) c.in_ok-push.ensures.items
 
 pub returns-clause-threads : goal.returns-clause-threads

@@ -5,8 +5,8 @@ use Rattle.guest_code.specs.Program.{Program}
 use Rattle.walk.specs.Items.{IsItem, ItemView}
 use Rattle.walk.specs.Walks.{WalkView, IsBelow, items_at, found_walk}
 use Rattle.walk.proofs.ListParts.{all_right}
-use Rattle.walk.specs.Summaries.{SummaryView}
-use Rattle.walk.proofs.SumsJoin.{join_first_bad}
+use Rattle.summary.specs.Summaries.{SummaryView}
+use Rattle.summary.proofs.SumsJoin.{join_first_bad}
 use Rattle.book.specs.ItemLists.{all_of}
 use Rattle.book.specs.Books.{BookView, book_view, Keeps, IsSwept, IsFoundAt, settled, settled_found}
 use Rattle.book.proofs.PackedItems.{below_run, length-all}

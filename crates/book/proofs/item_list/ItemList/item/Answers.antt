@@ -2,7 +2,7 @@ use Rattle.std.proofs.Common.{◌≡◌, ◌+◌, ◌∙◌, ◌<◌, ap, sym, s
 use Rattle.std.specs.Arc.{arc_value}
 use Rattle.std.specs.List.{All}
 use Rattle.walk.specs.Items.{IsItem, item_at}
-use Rattle.walk.specs.PrefixLists.{last_of}
+use Rattle.prefix_list.specs.PrefixLists.{last_of}
 use Rattle.walk.specs.Walks.{items_at}
 use Rattle.book.specs.ItemLists.{ListView, all_of}
 use Rattle.book.proofs.PackedItems.{first_run, got-last, got-packed, if_ok}

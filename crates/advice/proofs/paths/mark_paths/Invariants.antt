@@ -1,5 +1,0 @@
-use Rattle.advice.proofs.PathMarks.{Passed}
-use Rattle.advice.proofs.paths.mark_paths.Given as goal
-
-abbrev pub invariant-loop-at : goal.invariant-loop-at
-invariant-loop-at l = Passed l.marks l.code l.mutex l.start l.owned l.at

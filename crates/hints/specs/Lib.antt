@@ -1,0 +1,4 @@
+pub mod Lines
+pub mod Near
+pub mod Puts
+pub mod Refusals

@@ -1,0 +1,206 @@
+//! Advice as a value, and its lines.
+
+ghost use Rattle.std.specs.Prelude.{◌≡◌, ◌+◌, ◌-◌, ◌≤◌, ◌∷◌, [], ◌++◌, length, map, take, drop, replicate, codes, OnOk};
+ghost use Rattle.std.specs.List.{prefix_len};
+ghost use Rattle.hints.specs.Lines.{from_line, goes_on, line_of, first_line, shown, left_out, margin, said_line, source_line, marks_line};
+ghost use Rattle.hints.specs.Puts.{Puts};
+
+use crate::words::decimal;
+use guest_syntax::place::Pos;
+use std::alloc::{AllocError, Global};
+
+pub mod texts;
+
+/// How many bytes of a source line are shown at most.
+pub const SHOWN: usize = 92;
+
+/// Where some bytes of a text are.
+#[derive(Clone, Copy, Debug, PartialEq, Eq)]
+pub struct Span {
+    /// The place of the first.
+    pub at: Pos,
+    /// How many they are.
+    pub length: usize,
+}
+
+/// A remark: what is odd about another place of the text, or what to write instead.
+#[derive(Debug, Drop)]
+pub struct Note {
+    /// Where, if it is of a place.
+    pub span: Option<Span>,
+    /// What is told.
+    pub text: Vec<u8>,
+}
+
+/// How grave an advice is.
+#[derive(Clone, Copy, Debug, PartialEq, Eq)]
+pub enum Grade {
+    /// The text is refused.
+    Refusal,
+    /// Something is likely to be wrong.
+    Warning,
+    /// It may be of interest.
+    Remark,
+}
+
+/// What a person is told of a refusal or a warning.
+#[derive(Debug, Drop)]
+pub struct Advice {
+    /// How grave it is.
+    pub grade: Grade,
+    /// The short form: of a refusal, the line that other commands print after `ctxbound: `.
+    pub headline: String,
+    /// Where it is, if it has a place.
+    pub span: Option<Span>,
+    /// What was found there, or wanted.
+    pub message: Vec<u8>,
+    /// What is to be said beside.
+    pub notes: Vec<Note>,
+}
+
+/// What is left of a text from a line on; lines count from 1.
+fn from_line(text: &[u8], line: u32) -> &[u8]
+    ensures { result.now ≡ from_line text.now line }
+{
+    let mut left = line;
+    for (i, byte) in text.iter().enumerate() {
+        if left <= 1 {
+            return &text[i..];
+        }
+        if *byte == b'\n' {
+            left -= 1;
+        }
+    }
+    &[]
+}
+
+/// Whether a byte doesn't end a line.
+fn goes_on(byte: u8) -> bool
+    ensures { result ≡ goes_on byte }
+{
+    byte != b'\n'
+}
+
+/// How many bytes come before the first line feed.
+fn line_length(text: &[u8]) -> usize
+    ensures { result ≡ prefix_len goes_on text.now }
+{
+    text.iter().take_while(|byte| goes_on(**byte)).count()
+}
+
+/// A line up to its line feed.
+fn first_line(text: &[u8]) -> &[u8]
+    ensures { result.now ≡ first_line text.now }
+{
+    &text[..line_length(text)]
+}
+
+/// A line of the text, without its line feed; lines count from 1.
+fn line_of(text: &[u8], line: u32) -> &[u8]
+    ensures { result.now ≡ line_of text.now line }
+{
+    first_line(from_line(text, line))
+}
+
+/// How a byte of a source line is shown: each is one column.
+fn shown(byte: u8) -> u8
+    ensures { result ≡ shown byte }
+{
+    if byte == b'\t' || byte == b'\r' {
+        b' '
+    } else if b' ' <= byte && byte <= b'~' {
+        byte
+    } else {
+        b'?'
+    }
+}
+
+/// How many bytes at the start of a line are not shown, so that the one with so many before it is.
+fn left_out(length: usize, column: usize) -> usize
+    ensures value { result ≡ left_out length column }
+    ensures few { result ≤ length }
+{
+    if length <= SHOWN || column <= SHOWN / 2 {
+        return 0;
+    }
+    (column - SHOWN / 2).min(length - SHOWN)
+}
+
+/// Adds some copies of a byte.
+fn put_many(out: &mut Vec<u8>, byte: u8, count: usize) -> Result<(), AllocError>
+    ensures { Puts result out.old out.new (replicate count byte) }
+{
+    for done in 0..count {
+        out.push(byte)?;
+    }
+    Ok(())
+}
+
+/// Adds the margin of a source line, with its number to the right.
+fn put_margin(alloc: Global, out: &mut Vec<u8>, line: u32) -> Result<(), AllocError>
+    ensures { Puts result out.old out.new (margin line) }
+{
+    let number = decimal(alloc, line as u64)?;
+    put_many(out, b' ', 5_usize.saturating_sub(number.len()))?;
+    out.extend_from_slice(number.as_bytes())?;
+    out.extend_from_slice(b" | ")
+}
+
+/// Adds bytes, each as it is shown.
+fn put_shown(out: &mut Vec<u8>, bytes: &[u8]) -> Result<(), AllocError>
+    ensures { Puts result out.old out.new (map shown bytes.now) }
+{
+    for byte in bytes {
+        out.push(shown(*byte))?;
+    }
+    Ok(())
+}
+
+/// The first bytes, as many as are shown.
+#[tactic(auto, using(std::proofs::lemmas::List::take_min))]
+fn first_bytes(rest: &[u8]) -> &[u8]
+    ensures { result.now ≡ take SHOWN rest.now }
+{
+    let end = SHOWN.min(rest.len());
+    &rest[..end]
+}
+
+/// The part of a line that is shown, where so many bytes are left out.
+fn shown_part(line: &[u8], from: usize) -> &[u8]
+    requires { from ≤ length line.now }
+    ensures { result.now ≡ take SHOWN (drop from line.now) }
+{
+    let (_, rest) = line.split_at(from);
+    first_bytes(rest)
+}
+
+/// Adds part of a source line, of which so many bytes are left out.
+fn put_source(out: &mut Vec<u8>, line: &[u8], from: usize) -> Result<(), AllocError>
+    requires { from ≤ length line.now }
+    ensures { Puts result out.old out.new (source_line line.now from) }
+{
+    put_shown(out, shown_part(line, from))?;
+    out.push(b'\n')?;
+    Ok(())
+}
+
+/// Adds blanks under the bytes that come before those that are meant, and marks under these.
+fn put_marks(out: &mut Vec<u8>, column: usize, length: usize, mark: u8) -> Result<(), AllocError>
+    ensures { Puts result out.old out.new (marks_line column length mark) }
+{
+    out.extend_from_slice(b"      | ")?;
+    put_many(out, b' ', column)?;
+    put_many(out, mark, length.min(SHOWN.saturating_sub(column)).max(1))
+}
+
+/// Adds what is said, with these bytes before it, unless it is nothing.
+fn put_said(out: &mut Vec<u8>, first: &[u8], said: &[u8]) -> Result<(), AllocError>
+    ensures { Puts result out.old out.new (said_line first.now said.now) }
+{
+    if !said.is_empty() {
+        out.extend_from_slice(first)?;
+        out.extend_from_slice(said)?;
+    }
+    out.push(b'\n')?;
+    Ok(())
+}

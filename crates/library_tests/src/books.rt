@@ -1,0 +1,436 @@
+ghost use Rattle.std.specs.Prelude.{◌≤◌};
+
+use book::books::Book;
+use guest_code::lowering::lower;
+use guest_code::program::Program;
+use guest_syntax::parse;
+use std::alloc::{Alloc, AllocError, Global};
+use std::process::Abort;
+use std::sync::Arc;
+use std::test::*;
+use walk::found::Found;
+use walk::item::Item;
+use walk::mode::Mode;
+use walk::walked::Walked;
+use walk::walker::{Walker, walk};
+
+/// Two threads that each add one to a variable.
+const COUNTERS: &str =
+    "var x; thread A { load r x; set r r + 1; store x r; } thread B { load r x; set r r + 1; store x r; }";
+
+/// Three threads that each write a variable of their own.
+const WRITERS: &str =
+    "var x; var y; var z; thread A { store x 1; } thread B { store y 1; } thread C { store z 1; }";
+
+/// The same, where the first thread fails after its write.
+const FAILING: &str =
+    "var x; var y; var z; thread A { store x 1; assert 0; } thread B { store y 1; } thread C { store z 1; }";
+
+/// No preemption.
+const FIRST: Mode = Mode::Bounded(0);
+
+/// The program of a text that is well formed.
+fn program_of(alloc: Global, text: &str) -> Result<Arc<Program>, Fail> {
+    let tree = parse(alloc, text.as_bytes())?;
+    let program = lower(alloc, &tree)?;
+    Ok(Arc::new(alloc, program)?)
+}
+
+/// The book of a text's program at a bound, where all is open.
+fn book_of(alloc: Global, text: &str, mode: Mode) -> Result<Book, Fail> {
+    let program = program_of(alloc, text)?;
+    Ok(Book::open(alloc, program, mode)?)
+}
+
+/// More rounds than a program of these tests takes.
+const ROUNDS: u32 = 100;
+
+/// Walks an open item of a book, and settles the walk.
+fn walk_item(alloc: Global, book: &mut Book, item: &Item, quota: u32) -> Result<(), Fail>
+    requires { 1 ≤ quota }
+{
+    let walked = walk(alloc, item, book.mode(), quota)?;
+    book.settle(alloc, walked)?;
+    Ok(())
+}
+
+/// Walks the last open items of a book.
+fn walk_round(alloc: Global, book: &mut Book, quota: u32) -> Result<(), Fail>
+    requires { 1 ≤ quota }
+{
+    for item in &book.round(alloc)? {
+        walk_item(alloc, book, item, quota)?;
+    }
+    Ok(())
+}
+
+/// Walks the open items of a book until there are none.
+fn finish(alloc: Global, book: &mut Book, quota: u32) -> Result<(), Fail>
+    requires { 1 ≤ quota }
+{
+    for _ in 0..ROUNDS {
+        walk_round(alloc, book, quota)?;
+    }
+    Ok(())
+}
+
+/// Adds an item's prefix to a line, after a word.
+fn add_prefix(alloc: Global, line: &mut String, word: &str, item: &Item) -> Result<(), AllocError> {
+    let shown = format!(in alloc; " {word} {:?}", item.prefix())?;
+    line.push_str(shown.as_str())
+}
+
+/// Adds the prefixes of the open items to a line.
+fn add_open(alloc: Global, line: &mut String, book: &Book) -> Result<(), AllocError> {
+    for place in 0..book.open_length() {
+        let item = book.open_item(alloc, place)?;
+        add_prefix(alloc, line, "open", &item)?;
+    }
+    Ok(())
+}
+
+/// Adds the prefixes of the items that wait for the next bound to a line.
+fn add_deferred(alloc: Global, line: &mut String, book: &Book) -> Result<(), AllocError> {
+    for place in 0..book.deferred_length() {
+        let item = book.deferred_item(alloc, place)?;
+        add_prefix(alloc, line, "deferred", &item)?;
+    }
+    Ok(())
+}
+
+/// What a book has finished, and its prefixes, in one line.
+fn shown(alloc: Global, book: &Book) -> Result<String, AllocError> {
+    let mut line = format!(in alloc; "{} {}", book.finished().tried(), book.finished().beyond())?;
+    add_open(alloc, &mut line, book)?;
+    add_deferred(alloc, &mut line, book)?;
+    Ok(line)
+}
+
+/// Stops the test where a book doesn't show this line.
+fn shows(rt: &(impl Abort + Alloc<A = Global>), book: &Book, want: &str) -> Result<(), AllocError> {
+    let line = shown(rt.alloc(), book)?;
+    assert_eq!(rt; line.as_str(), want);
+    Ok(())
+}
+
+/// Settles a walk, and answers what the book tells then.
+fn settled(alloc: Global, book: &mut Book, walked: Walked) -> Result<String, AllocError> {
+    match book.settle(alloc, walked) {
+        Ok(()) => shown(alloc, book),
+        Err(error) => format!(in alloc; "{error}"),
+    }
+}
+
+/// A walk, and what a book tells where it is settled.
+struct Settlement {
+    text: &'static str,
+    prefix: &'static [u8],
+    mode: Mode,
+    // Whether the walk tries one schedule alone.
+    single: bool,
+    told: &'static str,
+}
+
+/// A walk of an item of a program of its own.
+fn walk_of(alloc: Global, step: &Settlement) -> Result<Walked, Fail> {
+    let program = program_of(alloc, step.text)?;
+    let item = Item::at(alloc, program, step.prefix)?;
+    let quota = if step.single { 1 } else { 256 };
+    Ok(walk(alloc, &item, step.mode, quota)?)
+}
+
+/// Settles a walk, and compares what the book tells.
+fn settle(
+    rt: &(impl Abort + Alloc<A = Global>),
+    book: &mut Book,
+    step: &Settlement,
+) -> Result<(), Fail> {
+    let walked = walk_of(rt.alloc(), step)?;
+    let line = settled(rt.alloc(), book, walked)?;
+    assert_eq!(rt;
+        line.as_str(),
+        step.told,
+        "after {:?} of {:?}",
+        step.prefix,
+        step.text
+    );
+    Ok(())
+}
+
+/// The book of a text at bound 0 after these settlements.
+fn played(
+    rt: &(impl Abort + Alloc<A = Global>),
+    text: &str,
+    script: &[Settlement],
+) -> Result<Book, Fail> {
+    let mut book = book_of(rt.alloc(), text, FIRST)?;
+    for step in script {
+        settle(rt, &mut book, step)?;
+    }
+    Ok(book)
+}
+
+/// The counters' root is cut short, and then walked again; then the item that it left.
+const ONE_BY_ONE: [Settlement; 3] = [
+    Settlement {
+        text: COUNTERS,
+        prefix: &[],
+        mode: FIRST,
+        single: true,
+        told: "1 true open [1] deferred [0, 1]",
+    },
+    Settlement {
+        text: COUNTERS,
+        prefix: &[],
+        mode: FIRST,
+        single: true,
+        told: "book B1 NotOpen",
+    },
+    Settlement {
+        text: COUNTERS,
+        prefix: &[1],
+        mode: FIRST,
+        single: false,
+        told: "2 true deferred [0, 1] deferred [1, 0]",
+    },
+];
+
+#[test]
+fn items_are_settled_one_by_one(rt: HostRuntime) -> Result<(), Fail> {
+    let _book = played(&rt, COUNTERS, &ONE_BY_ONE)?;
+    Ok(())
+}
+
+/// Walks the first open item of a book where it stands.
+fn walk_first(alloc: Global, book: &mut Book, quota: u32) -> Result<(), Fail>
+    requires { 1 ≤ quota }
+{
+    let mut walker = Walker::new(alloc, Arc::try_clone(book.program())?)?;
+    if book.open_length() > 0 {
+        book.walk_at(alloc, &mut walker, &mut Found::new(alloc), 0, quota)?;
+    }
+    Ok(())
+}
+
+#[test]
+fn items_are_walked_where_they_stand(rt: HostRuntime) -> Result<(), Fail> {
+    let mut book = book_of(rt.alloc(), COUNTERS, FIRST)?;
+    walk_first(rt.alloc(), &mut book, 1)?;
+    shows(&rt, &book, "1 true open [1] deferred [0, 1]")?;
+    walk_first(rt.alloc(), &mut book, 256)?;
+    shows(&rt, &book, "2 true deferred [0, 1] deferred [1, 0]")?;
+    Ok(())
+}
+
+#[test]
+fn a_round_is_written_over_another(rt: HostRuntime) -> Result<(), Fail> {
+    let mut book = book_of(rt.alloc(), COUNTERS, FIRST)?;
+    let mut items = Vec::new(rt.alloc());
+    book.next_round(rt.alloc(), &mut items)?;
+    book.next_round(rt.alloc(), &mut items)?;
+    let mut line = String::new(rt.alloc());
+    for item in &items {
+        add_prefix(rt.alloc(), &mut line, "item", item)?;
+    }
+    assert_eq!(rt; line.as_str(), " item []");
+    Ok(())
+}
+
+/// Walks of another program, of another mode, and of an item that isn't open.
+const STRANGERS: [Settlement; 3] = [
+    Settlement {
+        text: COUNTERS,
+        prefix: &[],
+        mode: FIRST,
+        single: false,
+        told: "book B2 Stranger",
+    },
+    Settlement {
+        text: WRITERS,
+        prefix: &[],
+        mode: Mode::Reduced,
+        single: false,
+        told: "book B2 Stranger",
+    },
+    Settlement {
+        text: WRITERS,
+        prefix: &[1],
+        mode: FIRST,
+        single: false,
+        told: "book B1 NotOpen",
+    },
+];
+
+#[test]
+fn strangers_are_refused(rt: HostRuntime) -> Result<(), Fail> {
+    let book = played(&rt, WRITERS, &STRANGERS)?;
+    shows(&rt, &book, "0 false open []")?;
+    Ok(())
+}
+
+/// An equal program's root, which is the book's own, twice.
+const EQUALS: [Settlement; 2] = [
+    Settlement {
+        text: WRITERS,
+        prefix: &[],
+        mode: FIRST,
+        single: false,
+        told: "6 false",
+    },
+    Settlement {
+        text: WRITERS,
+        prefix: &[],
+        mode: FIRST,
+        single: false,
+        told: "book B1 NotOpen",
+    },
+];
+
+#[test]
+fn programs_are_compared_by_value(rt: HostRuntime) -> Result<(), Fail> {
+    let _book = played(&rt, WRITERS, &EQUALS)?;
+    Ok(())
+}
+
+/// Whether a book answers what it finished to who asks for this program at bound 0, for the other
+/// one, for this one at bound 1, and for this one's quick search.
+fn answers(book: &Book, program: &Program, other: &Program) -> (bool, bool, bool, bool) {
+    (
+        book.closed(program, FIRST).is_some(),
+        book.closed(other, FIRST).is_some(),
+        book.closed(program, Mode::Bounded(1)).is_some(),
+        book.closed_quick(program, FIRST).is_some(),
+    )
+}
+
+/// What a book answers where the writers' program is asked for, and the counters' is the other.
+fn asked(alloc: Global, book: &Book) -> Result<(bool, bool, bool, bool), Fail> {
+    let writers = program_of(alloc, WRITERS)?;
+    let counters = program_of(alloc, COUNTERS)?;
+    Ok(answers(book, &writers, &counters))
+}
+
+#[test]
+fn a_closed_book_asks_who_wants_to_know(rt: HostRuntime) -> Result<(), Fail> {
+    let mut book = book_of(rt.alloc(), WRITERS, FIRST)?;
+    assert_eq!(rt; asked(rt.alloc(), &book)?, (false, false, false, false));
+    finish(rt.alloc(), &mut book, 256)?;
+    assert_eq!(rt; asked(rt.alloc(), &book)?, (true, false, false, false));
+    Ok(())
+}
+
+/// What a book of the counters has when the items of each bound are walked, bound after bound.
+const BOUNDS: [&str; 3] = [
+    "2 true deferred [0, 1] deferred [1, 0]",
+    "4 true deferred [0, 1, 0] deferred [1, 0, 1]",
+    "6 false",
+];
+
+/// Walks the items of a book's bound, compares what the book shows, and goes to the next bound.
+fn finish_bound(
+    rt: &(impl Abort + Alloc<A = Global>),
+    book: &mut Book,
+    want: &str,
+) -> Result<(), Fail> {
+    finish(rt.alloc(), book, 256)?;
+    shows(rt, book, want)?;
+    book.raise()?;
+    Ok(())
+}
+
+#[test]
+fn nothing_is_walked_twice_over_the_bounds(rt: HostRuntime) -> Result<(), Fail> {
+    let mut book = book_of(rt.alloc(), COUNTERS, FIRST)?;
+    for want in BOUNDS {
+        finish_bound(&rt, &mut book, want)?;
+    }
+    Ok(())
+}
+
+/// Why a book isn't raised, if it isn't.
+fn raised(alloc: Global, book: &mut Book) -> Result<String, AllocError> {
+    match book.raise() {
+        Ok(()) => format!(in alloc; "raised"),
+        Err(error) => format!(in alloc; "{error}"),
+    }
+}
+
+/// Stops the test where a book is raised, or isn't for another reason than this one.
+fn is_not_raised(
+    rt: &(impl Abort + Alloc<A = Global>),
+    book: &mut Book,
+    why: &str,
+) -> Result<(), AllocError> {
+    let line = raised(rt.alloc(), book)?;
+    assert_eq!(rt; line.as_str(), why);
+    Ok(())
+}
+
+#[test]
+fn books_are_raised_where_nothing_is_open(rt: HostRuntime) -> Result<(), Fail> {
+    let mut book = book_of(rt.alloc(), WRITERS, Mode::Bounded(64))?;
+    is_not_raised(&rt, &mut book, "book B4 StillOpen")?;
+    finish(rt.alloc(), &mut book, 1)?;
+    is_not_raised(&rt, &mut book, "book B5 LastBound")?;
+    Ok(())
+}
+
+/// Walks one schedule of a book's root, and settles the walk.
+fn start(alloc: Global, book: &mut Book) -> Result<(), Fail> {
+    let program = Arc::try_clone(book.program())?;
+    let root = Item::root(alloc, program)?;
+    walk_item(alloc, book, &root, 1)
+}
+
+/// Whether a quick book has items open, and drops all of them as later ones.
+fn drops_all(book: &mut Book) -> bool {
+    let open = book.open_length();
+    open > 0 && book.drop_later() == open as u64 && book.has_dropped()
+}
+
+/// Whether a book is closed for who asks for the failing program's quick search, and not for who
+/// asks for the other search.
+fn is_closed_as_quick(alloc: Global, book: &Book) -> Result<bool, Fail> {
+    let program = program_of(alloc, FAILING)?;
+    let whole = book.closed(&program, FIRST).is_some();
+    Ok(!whole && book.closed_quick(&program, FIRST).is_some())
+}
+
+#[test]
+fn a_quick_book_drops_what_comes_later(rt: HostRuntime) -> Result<(), Fail> {
+    let program = program_of(rt.alloc(), FAILING)?;
+    let mut book = Book::open_quick(rt.alloc(), program, FIRST)?;
+    assert!(&rt; book.drop_later() == 0 && !book.has_dropped() && book.is_quick());
+    start(rt.alloc(), &mut book)?;
+    assert!(&rt; drops_all(&mut book));
+    assert!(&rt; is_closed_as_quick(rt.alloc(), &book)?);
+    is_not_raised(&rt, &mut book, "book B6 Dropped")?;
+    Ok(())
+}
+
+/// Whether a book is of this text's program at bound 0.
+fn is_of(alloc: Global, book: &Book, text: &str) -> Result<bool, Fail> {
+    let program = program_of(alloc, text)?;
+    Ok(book.mode() == FIRST && book.program().is_same(&program))
+}
+
+/// Walks a book's root, which the book doesn't drop, and settles what the walk found.
+fn settle_root(rt: &(impl Abort + Alloc<A = Global>), book: &mut Book) -> Result<(), Fail> {
+    let program = Arc::try_clone(book.program())?;
+    let mut walker = Walker::new(rt.alloc(), Arc::try_clone(&program)?)?;
+    let root = Item::root(rt.alloc(), program)?;
+    assert!(rt; !book.drops(&root));
+    let mut found = Found::new(rt.alloc());
+    walker.walk_into(rt.alloc(), &mut found, &root, book.mode(), 256)?;
+    book.settle_found(rt.alloc(), &root, &mut found)?;
+    Ok(())
+}
+
+#[test]
+fn what_was_found_is_settled(rt: HostRuntime) -> Result<(), Fail> {
+    let mut book = book_of(rt.alloc(), COUNTERS, FIRST)?;
+    assert!(&rt; is_of(rt.alloc(), &book, COUNTERS)?);
+    settle_root(&rt, &mut book)?;
+    shows(&rt, &book, "2 true deferred [0, 1] deferred [1, 0]")?;
+    Ok(())
+}

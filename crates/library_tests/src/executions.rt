@@ -1,0 +1,232 @@
+//! Executions of schedules, and pairs of steps that are independent or not.
+
+ghost use Rattle.std.specs.Prelude.{◌≤◌, length, IfOk};
+ghost use Rattle.semantics.specs.Reachable.{IsOf};
+ghost use Rattle.schedules.specs.Execution.{IsExecutionOf};
+
+use guest_code::lowering::lower;
+use guest_code::program::Program;
+use guest_syntax::parse;
+use schedules::execution::Execution;
+use schedules::independence::{independent, sleepers_after};
+use semantics::mask::Mask;
+use semantics::state::State;
+use std::alloc::{AllocError, Global};
+use std::process::Abort;
+use std::test::*;
+
+/// Two threads that each add one to a variable.
+const COUNTERS: &[u8] =
+    b"var x; thread A { load r x; set r r + 1; store x r; } thread B { load r x; set r r + 1; store x r; }";
+
+fn program(alloc: Global, text: &[u8]) -> Result<Program, Fail> {
+    Ok(lower(alloc, &parse(alloc, text)?)?)
+}
+
+// The state after a schedule each of whose threads is enabled in its turn.
+fn state_after(
+    rt: &impl Abort,
+    alloc: Global,
+    p: &Program,
+    schedule: &[u8],
+) -> Result<State, AllocError>
+    ensures { IfOk result (IsOf p.now) }
+{
+    let mut state = State::start(alloc, p)?;
+    for t in schedule {
+        assert!(rt;
+            state.enabled(p).has(*t),
+            "{t} of {schedule:?} is not enabled"
+        );
+        state.step(p, *t);
+    }
+    Ok(state)
+}
+
+// The execution of a schedule each of whose threads is enabled in its turn.
+fn execution_of(
+    rt: &impl Abort,
+    alloc: Global,
+    p: &Program,
+    schedule: &[u8],
+) -> Result<Execution, AllocError>
+    ensures { IfOk result (IsExecutionOf p.now) }
+{
+    let mut execution = Execution::start(alloc, p)?;
+    for t in schedule {
+        assert!(rt;
+            execution.state().enabled(p).has(*t),
+            "{t} of {schedule:?} is not enabled"
+        );
+        assert!(rt; execution.preemptions() <= schedule.len());
+        execution.step(p, *t);
+    }
+    Ok(execution)
+}
+
+/// A schedule of `COUNTERS`, its last thread, and how many preemptions it has.
+struct Turns {
+    schedule: &'static [u8],
+    last: Option<u8>,
+    preemptions: usize,
+}
+
+const TURNS: [Turns; 5] = [
+    Turns {
+        schedule: &[],
+        last: None,
+        preemptions: 0,
+    },
+    Turns {
+        schedule: &[0, 0, 1, 1],
+        last: Some(1),
+        preemptions: 0,
+    },
+    Turns {
+        schedule: &[0, 1, 1],
+        last: Some(1),
+        preemptions: 1,
+    },
+    Turns {
+        schedule: &[0, 1, 1, 0],
+        last: Some(0),
+        preemptions: 1,
+    },
+    Turns {
+        schedule: &[0, 1, 0, 1],
+        last: Some(1),
+        preemptions: 2,
+    },
+];
+
+// An execution has the last thread and the preemptions of a row.
+fn check_execution(rt: &impl Abort, execution: &Execution, row: &Turns) {
+    assert_eq!(rt; execution.last(), row.last, "{:?}", row.schedule);
+    assert_eq!(rt;
+        execution.preemptions(),
+        row.preemptions,
+        "{:?}",
+        row.schedule
+    );
+}
+
+// So has the execution of a row's schedule, and its copy; its variables are those of the state.
+fn check_turns(rt: &impl Abort, alloc: Global, p: &Program, row: &Turns) -> Result<(), Fail> {
+    let execution = execution_of(rt, alloc, p, row.schedule)?;
+    check_execution(rt, &execution, row);
+    let copy = execution.try_clone(alloc)?;
+    check_execution(rt, &copy, row);
+    let state = state_after(rt, alloc, p, row.schedule)?;
+    assert_eq!(rt;
+        execution.state().variables(),
+        state.variables(),
+        "{:?}",
+        row.schedule
+    );
+    Ok(())
+}
+
+#[test]
+fn preemptions_of_executions(rt: HostRuntime) -> Result<(), Fail> {
+    let p = program(rt.alloc(), COUNTERS)?;
+    for row in &TURNS {
+        check_turns(&rt, rt.alloc(), &p, row)?;
+    }
+    Ok(())
+}
+
+#[test]
+fn what_would_preempt(rt: HostRuntime) -> Result<(), Fail> {
+    let p = program(rt.alloc(), COUNTERS)?;
+    let execution = execution_of(&rt, rt.alloc(), &p, &[0])?;
+    assert!(rt; execution.preempts(&p, 1));
+    assert!(rt; !execution.preempts(&p, 0));
+    Ok(())
+}
+
+/// Threads and whether the opening steps of the first two of them are independent.
+const PAIRS: [(&[u8], bool); 14] = [
+    (
+        b"var x; thread A { load r x; } thread B { load r x; }",
+        true,
+    ),
+    (
+        b"var x; thread A { load r x; } thread B { store x 1; }",
+        false,
+    ),
+    (
+        b"var x; thread A { store x 1; } thread B { store x 1; }",
+        false,
+    ),
+    (
+        b"var x; var y; thread A { store x 1; } thread B { store y 1; }",
+        true,
+    ),
+    (
+        b"var x; thread A { cas r x 1 2; } thread B { load r x; }",
+        false,
+    ),
+    (
+        b"var x; thread A { add r x 1; } thread B { load r x; }",
+        false,
+    ),
+    (b"mutex m; thread A { lock m; } thread B { lock m; }", false),
+    (
+        b"mutex m; mutex n; thread A { lock m; } thread B { lock n; }",
+        true,
+    ),
+    (
+        b"mutex m; cond c; thread A { wait c m; } thread B { lock m; }",
+        false,
+    ),
+    (
+        b"mutex m; cond c; thread A { wait c m; } thread B { signal c; }",
+        false,
+    ),
+    (
+        b"cond c; cond d; thread A { signal c; } thread B { broadcast d; }",
+        true,
+    ),
+    (
+        b"cond c; thread A { signal c; } thread B { broadcast c; }",
+        false,
+    ),
+    (
+        b"sem s = 2; thread A { acquire s; } thread B { release s; }",
+        false,
+    ),
+    (
+        b"var x; sem s = 2; thread A { acquire s; } thread B { load r x; }",
+        true,
+    ),
+];
+
+// Whether the opening steps of two threads are independent, in both orders; none where the two
+// orders differ, or who sleeps after the second one's step isn't that.
+fn is_pair_apart(alloc: Global, p: &Program) -> Result<Option<bool>, AllocError>
+    requires { 2 ≤ length p.now.threads }
+{
+    let state = State::start(alloc, p)?;
+    let apart = independent(p, &state, 0, 1);
+    let sleepers = sleepers_after(p, &state, state.enabled(p), Mask::empty(), 1);
+    if independent(p, &state, 1, 0) != apart || sleepers.has(0) != apart {
+        return Ok(None);
+    }
+    Ok(Some(apart))
+}
+
+// The opening steps of a text's two threads are independent, or not.
+fn check_pair(rt: &impl Abort, alloc: Global, text: &[u8], apart: bool) -> Result<(), Fail> {
+    let p = program(alloc, text)?;
+    assert!(rt; p.threads() == 2);
+    assert_eq!(rt; is_pair_apart(alloc, &p)?, Some(apart));
+    Ok(())
+}
+
+#[test]
+fn pairs_of_independent_steps(rt: HostRuntime) -> Result<(), Fail> {
+    for (text, apart) in &PAIRS {
+        check_pair(&rt, rt.alloc(), text, *apart)?;
+    }
+    Ok(())
+}

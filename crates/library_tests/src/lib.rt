@@ -1,0 +1,33 @@
+//! Tests of the libraries, which call what is public: texts, limits and values from outside, which no
+//! clause says. They stand in a crate of their own, since a crate with tests is proved twice, with
+//! them and without.
+#![tactic(auto)]
+
+#[cfg(test)]
+mod boards;
+#[cfg(test)]
+mod books;
+#[cfg(test)]
+mod executions;
+#[cfg(test)]
+mod explanations;
+#[cfg(test)]
+mod machines;
+#[cfg(test)]
+mod prefix_lists;
+#[cfg(test)]
+mod programs;
+#[cfg(test)]
+mod refusals;
+#[cfg(test)]
+mod replays;
+#[cfg(test)]
+mod searches;
+#[cfg(test)]
+mod states;
+#[cfg(test)]
+mod summaries;
+#[cfg(test)]
+mod texts;
+#[cfg(test)]
+mod walks;

@@ -1,0 +1,102 @@
+ghost use Rattle.std.specs.Prelude.{◌<◌, length, IfOk};
+
+use prefix_list::{Prefixes, shared_length};
+use std::alloc::{AllocError, Global};
+use std::io;
+use std::process::Abort;
+use std::test::*;
+
+/// The prefixes `0,0,1` and `0,2`.
+fn two(alloc: Global) -> Result<Prefixes, AllocError>
+    ensures { IfOk result (λ list. 0 < length list) }
+{
+    let mut list = Prefixes::new(alloc);
+    list.push(&[0, 0, 1])?;
+    list.push(&[0, 2])?;
+    Ok(list)
+}
+
+/// Compares how many prefixes there are, and the last one.
+fn ends_in(rt: &impl Abort, list: &Prefixes, length: usize, last: &[u8]) {
+    assert_eq!(rt; list.length(), length);
+    assert!(rt; list.last() == Some(last));
+}
+
+#[test]
+fn prefixes_go_on(rt: HostRuntime) -> io::Result<()> {
+    let list = two(rt.alloc())?;
+    ends_in(&rt, &list, 2, &[0, 2]);
+    Ok(())
+}
+
+#[test]
+fn prefixes_come_off(rt: HostRuntime) -> io::Result<()> {
+    let mut list = two(rt.alloc())?;
+    list.pop();
+    ends_in(&rt, &list, 1, &[0, 0, 1]);
+    Ok(())
+}
+
+/// Moves the prefix `0,3` from one list to another: the list that it came to, and whether the other
+/// is empty then.
+fn moved(alloc: Global) -> Result<(Prefixes, bool), AllocError> {
+    let mut list = Prefixes::new(alloc);
+    let mut other = Prefixes::new(alloc);
+    other.push(&[0, 3])?;
+    list.append(&mut other)?;
+    Ok((list, other.is_empty()))
+}
+
+#[test]
+fn prefixes_are_moved(rt: HostRuntime) -> io::Result<()> {
+    let (list, is_empty) = moved(rt.alloc())?;
+    ends_in(&rt, &list, 1, &[0, 3]);
+    assert!(rt; is_empty);
+    Ok(())
+}
+
+/// Whether a list ends in no prefix, and says so.
+fn has_none(list: &Prefixes) -> bool {
+    list.is_empty() && list.last().is_none()
+}
+
+#[test]
+fn prefixes_are_cleared(rt: HostRuntime) -> io::Result<()> {
+    let mut list = two(rt.alloc())?;
+    list.clear();
+    assert!(&rt; has_none(&list));
+    Ok(())
+}
+
+/// The last prefix and the one before it, as a reader comes to them.
+fn read(list: &Prefixes, alloc: Global) -> Result<String, AllocError>
+    requires { 0 < length list.now }
+{
+    let mut reading = list.last_first(alloc)?;
+    let mut line = format!(in alloc; "{:?}", reading.prefix())?;
+    reading.advance();
+    write!(line, " {:?}", reading.prefix())?;
+    Ok(line)
+}
+
+#[test]
+fn prefixes_are_read_from_the_last_on(rt: HostRuntime) -> io::Result<()> {
+    let list = two(rt.alloc())?;
+    let line = read(&list, rt.alloc())?;
+    assert_eq!(rt; line.as_str(), "Some([0, 2]) Some([0, 0, 1])");
+    Ok(())
+}
+
+#[test]
+fn prefixes_are_found(rt: HostRuntime) -> io::Result<()> {
+    let list = two(rt.alloc())?.try_clone(rt.alloc())?;
+    let places = (list.position(&[0, 0, 1]), list.position(&[0, 0]));
+    assert!(rt; places == (Some(0), None));
+    Ok(())
+}
+
+#[test]
+fn common_steps_are_counted(rt: HostRuntime) -> io::Result<()> {
+    assert_eq!(rt; shared_length(&[0, 0, 1], &[0, 0, 2, 1]), 2);
+    Ok(())
+}

@@ -1,0 +1,47 @@
+//! What is told of texts: the words, and what schedules show.
+
+use advice::{advice_text, check};
+use std::alloc::Global;
+use std::test::*;
+
+/// Texts, and what is told of them.
+const TOLD: [(&str, &str); 4] = [
+    ("var x; thread A { load r x; store x r; }", ""),
+    (
+        "var balance;\nthread A { load r balance; set r r + 1; store balnce r; }",
+        "ctxbound: check C2 Unknown at 2:47\n    2 | thread A { load r balance; set r r + 1; store balnce r; }\n      |                                               ^^^^^^ no variable has this name\n      = did you mean `balance` (declared at 1:5)?\n",
+    ),
+    (
+        "var x; thread A { while r == 0 { load r x; } }",
+        "ctxbound: syntax S3 Expected at 1:19\n    1 | var x; thread A { while r == 0 { load r x; } }\n      |                   ^^^^^ there is no `while`: every run of a guest ends\n      = write: repeat 3 { load r x; if r != 0 { leave; } }\n",
+    ),
+    (
+        "thread A { assert totl; }",
+        "ctxbound: warning W1 NeverSet at 1:19\n    1 | thread A { assert totl; }\n      |                   ^^^^ no statement of A gives `totl` a value: it is 0\n",
+    ),
+];
+
+/// What is told of a text.
+fn told(alloc: Global, text: &str) -> Result<Vec<u8>, Fail> {
+    let found = check(alloc, text.as_bytes(), None)?;
+    Ok(advice_text(alloc, text.as_bytes(), &found)?)
+}
+
+#[test]
+fn texts_are_told_of(rt: HostRuntime) -> Result<(), Fail> {
+    for (text, want) in &TOLD {
+        let lines = told(rt.alloc(), text)?;
+        assert_eq!(rt; lines.as_slice(), want.as_bytes(), "{text}");
+    }
+    Ok(())
+}
+
+#[test]
+fn schedules_show_a_loop_that_gives_up(rt: HostRuntime) -> Result<(), Fail> {
+    let text = "var x; thread A { repeat 2 { load r x; if r { leave; } } } thread B { store x 1; }";
+    let plain = check(rt.alloc(), text.as_bytes(), None)?;
+    let deep = check(rt.alloc(), text.as_bytes(), Some(100))?;
+    assert!(rt; !plain.is_warned());
+    assert!(rt; deep.is_warned());
+    Ok(())
+}

@@ -1,0 +1,45 @@
+//! What no clause says: that a search goes on to its answer, and honours its limit.
+
+mod gates;
+mod stops;
+mod workers;
+
+ghost use Rattle.std.specs.Prelude.{◌≤◌};
+ghost use Rattle.runner.specs.Promises.{IsSearch};
+
+use runner::{Options, Search, explore_text_alone, report_text};
+use std::alloc::Global;
+use std::test::*;
+
+/// Two threads that each add one to a variable, in two steps.
+const COUNTERS: &str =
+    "var x; thread A { load r x; set r r + 1; store x r; } thread B { load r x; set r r + 1; store x r; }";
+
+/// The text of the report of a search of a text.
+fn searched(alloc: Global, text: &str, options: Options) -> Result<Vec<u8>, Fail>
+    requires search { IsSearch options.search }
+    requires quota { 1 ≤ options.quota }
+{
+    match explore_text_alone(alloc, text.as_bytes(), options) {
+        Ok(report) => Ok(report_text(alloc, &report)?),
+        Err(_) => Err(Fail::new("the search has no report")),
+    }
+}
+
+#[test]
+fn searches_up_to_a_bound(rt: HostRuntime) -> Result<(), Fail> {
+    let found = searched(rt.alloc(), COUNTERS, Options::new(Search::UpTo(0)))?;
+    let want =
+        r#"{"all":false,"bound":0,"ends":[{"kind":"done","vars":[2]}],"failed":0,"stuck":0,"tried":2,"verdict":"clean"}"#;
+    assert_eq!(rt; found.as_slice(), want.as_bytes());
+    Ok(())
+}
+
+#[test]
+fn searches_without_a_bound(rt: HostRuntime) -> Result<(), Fail> {
+    let found = searched(rt.alloc(), COUNTERS, Options::new(Search::Unbounded))?;
+    let want =
+        r#"{"all":true,"bound":null,"ends":[{"kind":"done","vars":[1]},{"kind":"done","vars":[2]}],"failed":0,"stuck":0,"tried":4,"verdict":"clean"}"#;
+    assert_eq!(rt; found.as_slice(), want.as_bytes());
+    Ok(())
+}

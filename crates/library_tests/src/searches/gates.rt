@@ -1,0 +1,115 @@
+//! Gates of the tests.
+
+use runner::{Answer, Gate};
+use std::sync::atomic::{AtomicU64, Ordering};
+use std::thread;
+
+/// More turns than a held worker waits.
+const TURNS: u64 = 1_000_000;
+
+/// Lets so many items pass, and stops at each later one.
+#[derive(Drop)]
+pub struct Passing {
+    pub passes: u64,
+    pub asked: AtomicU64,
+}
+
+impl Passing {
+    /// A gate that lets so many items pass.
+    pub fn new(passes: u64) -> Passing {
+        Passing {
+            passes,
+            asked: AtomicU64::new(0),
+        }
+    }
+}
+
+impl Gate for Passing {
+    ghost use Rattle.std.specs.Prelude.{true};
+
+    ghost stops = { λ _. true };
+
+    fn may_stop(&self) -> bool {
+        true
+    }
+
+    fn before(&self, _worker: u32, _item: u64) -> Answer {
+        if self.asked.fetch_add(1, Ordering::SeqCst) < self.passes {
+            Answer::Go
+        } else {
+            Answer::Stop
+        }
+    }
+
+    fn walked(&self, _worker: u32, _item: u64) {}
+}
+
+/// Stops the second worker alone.
+#[derive(Drop)]
+pub struct StopsOne;
+
+impl Gate for StopsOne {
+    ghost use Rattle.std.specs.Prelude.{true};
+
+    ghost stops = { λ _. true };
+
+    fn may_stop(&self) -> bool {
+        true
+    }
+
+    fn before(&self, worker: u32, _item: u64) -> Answer {
+        match worker {
+            1 => Answer::Stop,
+            _ => Answer::Go,
+        }
+    }
+
+    fn walked(&self, _worker: u32, _item: u64) {}
+}
+
+/// Counts the walks, and keeps the worker of the second one waiting until so many have ended, or it
+/// has waited too long.
+#[derive(Drop)]
+pub struct Holding {
+    pub until: u64,
+    pub walks: AtomicU64,
+    pub late: AtomicU64,
+}
+
+impl Holding {
+    /// A gate that keeps the worker of the second walk waiting until so many walks have ended.
+    pub fn new(until: u64) -> Holding {
+        Holding {
+            until,
+            walks: AtomicU64::new(0),
+            late: AtomicU64::new(0),
+        }
+    }
+}
+
+impl Gate for Holding {
+    ghost use Rattle.std.specs.Prelude.{false};
+
+    ghost stops = { λ _. false };
+
+    fn may_stop(&self) -> bool {
+        false
+    }
+
+    fn before(&self, _worker: u32, _item: u64) -> Answer {
+        Answer::Go
+    }
+
+    fn walked(&self, _worker: u32, _item: u64) {
+        if self.walks.fetch_add(1, Ordering::SeqCst) != 1 {
+            return;
+        }
+        for _ in 0..TURNS {
+            if self.walks.load(Ordering::SeqCst) >= self.until {
+                return;
+            }
+            thread::yield_now();
+        }
+        self.late.store(1, Ordering::SeqCst);
+    }
+}

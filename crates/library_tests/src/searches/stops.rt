@@ -1,0 +1,192 @@
+//! Searches that a gate stops, or keeps waiting.
+
+ghost use Rattle.std.specs.Prelude.{◌≤◌};
+ghost use Rattle.runner.specs.Promises.{IsSearch};
+ghost use Rattle.runner.specs.declared.limits.TheConstants.{WORKERS};
+
+use crate::searches::gates::{Holding, Passing, StopsOne};
+use guest_code::lowering::lower;
+use guest_syntax::parse;
+use runner::{Gate, Options, Search, explore_text, report_text};
+use std::alloc::{Alloc, Global};
+use std::process::Abort;
+use std::sync::atomic::Ordering;
+use std::sync::{Arc, Wait};
+use std::test::*;
+use std::thread::Threads;
+use walk::item::Item;
+use walk::mode::Mode;
+use walk::walker::walk;
+
+/// Three threads that each store to a variable of their own: six schedules, without a preemption.
+const THREE: &str =
+    "var x; var y; var z; thread A { store x 1; } thread B { store y 1; } thread C { store z 1; }";
+
+/// Four of them.
+const FOUR: &str =
+    "var w; var x; var y; var z; thread A { store w 1; } thread B { store x 1; } thread C { store y 1; } thread D { store z 1; }";
+
+/// The report of the three threads where nothing stops its search.
+const CLEAN: &str =
+    r#"{"all":true,"bound":0,"ends":[{"kind":"done","vars":[1,1,1]}],"failed":0,"stuck":0,"tried":6,"verdict":"clean"}"#;
+
+const STOPPED_AT_ONCE: &str =
+    r#"{"bound":0,"cause":"stopped","ends":[],"failed":0,"finished":null,"schedule":null,"stuck":0,"tried":0,"verdict":"incomplete"}"#;
+
+const STOPPED_AFTER_ONE: &str =
+    r#"{"bound":0,"cause":"stopped","ends":[{"kind":"done","vars":[1,1,1]}],"failed":0,"finished":null,"schedule":null,"stuck":0,"tried":1,"verdict":"incomplete"}"#;
+
+const LIMITED_TO_ONE: &str =
+    r#"{"bound":0,"cause":"limit","ends":[{"kind":"done","vars":[1,1,1]}],"failed":0,"finished":null,"schedule":null,"stuck":0,"tried":1,"verdict":"incomplete"}"#;
+
+const STOPPED_AFTER_TWO: &str =
+    r#"{"bound":0,"cause":"stopped","ends":[{"kind":"done","vars":[1,1,1]}],"failed":0,"finished":null,"schedule":null,"stuck":0,"tried":2,"verdict":"incomplete"}"#;
+
+/// The text of the report of a search.
+pub fn searched<G: Gate>(
+    rt: &(impl Threads + Wait + Sync + Alloc<A = Global>),
+    text: &str,
+    options: Options,
+    workers: u32,
+    gate: &G,
+) -> Result<Vec<u8>, Fail>
+    requires search { IsSearch options.search }
+    requires quota { 1 ≤ options.quota }
+    requires workers { (1 ≤ workers) × (workers ≤ WORKERS) }
+{
+    let alloc = rt.alloc();
+    match explore_text(rt, alloc, text.as_bytes(), options, workers, gate) {
+        Ok(report) => Ok(report_text(alloc, &report)?),
+        Err(_) => Err(Fail::new("the search has no report")),
+    }
+}
+
+/// A search without preemptions that tries one schedule a walk.
+const ONE_BY_ONE: Options = Options {
+    search: Search::UpTo(0),
+    limit: None,
+    quota: 1,
+    quick: false,
+};
+
+/// Compares the report of a search of the three threads by two workers, with this limit, where a
+/// gate lets so many items pass.
+fn passing_reports(
+    rt: &(impl Abort + Threads + Wait + Sync + Alloc<A = Global>),
+    limit: Option<u64>,
+    passes: u64,
+    want: &str,
+) -> Result<(), Fail> {
+    let options = Options {
+        limit,
+        ..ONE_BY_ONE
+    };
+    let found = searched(rt, THREE, options, 2, &Passing::new(passes))?;
+    assert_eq!(rt;
+        found.as_slice(),
+        want.as_bytes(),
+        "limit {limit:?}, {passes} items pass"
+    );
+    Ok(())
+}
+
+#[test]
+fn a_gate_stops_all(rt: HostRuntime) -> Result<(), Fail> {
+    passing_reports(&rt, None, 0, STOPPED_AT_ONCE)?;
+    passing_reports(&rt, Some(1), 0, STOPPED_AT_ONCE)
+}
+
+#[test]
+fn one_worker_asks_no_gate(rt: HostRuntime) -> Result<(), Fail> {
+    let gate = Passing::new(0);
+    let found = searched(&rt, THREE, ONE_BY_ONE, 1, &gate)?;
+    assert_eq!(rt; found.as_slice(), CLEAN.as_bytes());
+    assert_eq!(rt; gate.asked.load(Ordering::SeqCst), 0);
+    Ok(())
+}
+
+#[test]
+fn a_gate_stops_after_one(rt: HostRuntime) -> Result<(), Fail> {
+    passing_reports(&rt, None, 1, STOPPED_AFTER_ONE)?;
+    passing_reports(&rt, Some(1), 1, LIMITED_TO_ONE)
+}
+
+#[test]
+fn a_stop_is_looked_at_before_the_limit(rt: HostRuntime) -> Result<(), Fail> {
+    passing_reports(&rt, Some(2), 2, STOPPED_AFTER_TWO)
+}
+
+#[test]
+fn a_gate_that_never_stops(rt: HostRuntime) -> Result<(), Fail> {
+    passing_reports(&rt, None, u64::MAX, CLEAN)
+}
+
+/// Stops the test where a search whose gate stops one worker is neither stopped nor clean.
+fn one_stop_reports(
+    rt: &(impl Abort + Threads + Wait + Sync + Alloc<A = Global>),
+) -> Result<(), Fail> {
+    let found = searched(rt, THREE, ONE_BY_ONE, 2, &StopsOne)?;
+    let stopped = found.starts_with(br#"{"bound":0,"cause":"stopped","#);
+    assert!(rt; stopped || found.as_slice() == CLEAN.as_bytes());
+    Ok(())
+}
+
+#[test]
+fn a_gate_stops_one_worker(rt: HostRuntime) -> Result<(), Fail> {
+    for _ in 0..200 {
+        one_stop_reports(&rt)?;
+    }
+    Ok(())
+}
+
+/// Compares the report of a search by two workers, of which a gate keeps one waiting, but not too
+/// long.
+fn holding_reports(
+    rt: &(impl Abort + Threads + Wait + Sync + Alloc<A = Global>),
+    text: &str,
+    gate: &Holding,
+    want: &str,
+) -> Result<(), Fail> {
+    let found = searched(rt, text, ONE_BY_ONE, 2, gate)?;
+    assert_eq!(rt; found.as_slice(), want.as_bytes());
+    assert_eq!(rt; gate.late.load(Ordering::SeqCst), 0);
+    Ok(())
+}
+
+#[test]
+fn two_walks_are_out_at_once(rt: HostRuntime) -> Result<(), Fail> {
+    let gate = Holding::new(3);
+    holding_reports(&rt, THREE, &gate, CLEAN)?;
+    assert!(&rt; gate.walks.load(Ordering::SeqCst) >= 4);
+    Ok(())
+}
+
+/// The item of all schedules of the four threads.
+fn root_of_four(alloc: Global) -> Result<Item, Fail> {
+    let tree = parse(alloc, FOUR.as_bytes())?;
+    let program = lower(alloc, &tree)?;
+    let program = Arc::new(alloc, program)?;
+    Ok(Item::root(alloc, program)?)
+}
+
+/// How many walks of the four threads are made in the first two rounds: one of all of them, which
+/// tries one schedule, and one of each item that it leaves.
+fn first_walks(alloc: Global) -> Result<u64, Fail> {
+    let root = root_of_four(alloc)?;
+    let walked = walk(alloc, &root, Mode::Bounded(0), 1)?;
+    Ok((walked.rest_length() as u64).saturating_add(1))
+}
+
+/// The report of the four threads where nothing stops its search.
+const FOUR_CLEAN: &str =
+    r#"{"all":true,"bound":0,"ends":[{"kind":"done","vars":[1,1,1,1]}],"failed":0,"stuck":0,"tried":24,"verdict":"clean"}"#;
+
+#[test]
+fn items_are_not_shared_out_beforehand(rt: HostRuntime) -> Result<(), Fail> {
+    let walks = first_walks(rt.alloc())?;
+    assert!(&rt; walks >= 7);
+    let gate = Holding::new(walks);
+    holding_reports(&rt, FOUR, &gate, FOUR_CLEAN)?;
+    assert!(&rt; gate.walks.load(Ordering::SeqCst) >= walks);
+    Ok(())
+}

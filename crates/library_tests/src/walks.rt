@@ -1,0 +1,120 @@
+mod items;
+mod kept;
+mod long;
+mod pruned;
+mod quotas;
+mod roots;
+
+ghost use Rattle.std.specs.Prelude.{◌≤◌};
+
+use guest_code::lowering::lower;
+use guest_code::program::Program;
+use guest_syntax::parse;
+use semantics::view::EndView;
+use std::alloc::{Alloc, Global};
+use std::process::Abort;
+use std::sync::Arc;
+use std::test::*;
+use summary::Summary;
+use walk::item::Item;
+use walk::mode::Mode;
+use walk::walker::walk;
+
+/// Two threads that each add one to a variable, in two steps.
+const COUNTERS: &str =
+    "var x; thread A { load r x; set r r + 1; store x r; } thread B { load r x; set r r + 1; store x r; }";
+
+/// Two threads that take two mutexes in opposite orders.
+const CROSSED: &str =
+    "mutex m; mutex n; thread A { lock m; lock n; unlock n; unlock m; } thread B { lock n; lock m; unlock m; unlock n; }";
+
+/// A thread that waits for a signal, which is lost where it is given first.
+const CALLED: &str =
+    "mutex m; cond c; thread A { lock m; wait c m; unlock m; } thread B { lock m; signal c; unlock m; }";
+
+/// A failure that a switch after the second thread's end reaches.
+const LATE: &str =
+    "var x; var y; thread A { store y 1; load r x; assert r == 0; } thread B { store x 1; }";
+
+/// Every kind of statement, in three threads. It has 30 complete schedules; a program that goes
+/// through all interleavings of the table of steps counts, by their preemptions: 4 with none, of
+/// which the lost call `1,1,1,1,1,2,2,0,0` is stuck; 7 with one, of which `1,1,1,1,1,0,2,2,0` is
+/// stuck; 12 with two, of which two are stuck.
+const ALL_KINDS: &str =
+    "var x; mutex m; cond c; sem s = 0; thread A { lock m; wait c m; load r x; unlock m; assert r; } thread B { lock m; store x 1; signal c; unlock m; release s; } thread C { repeat 2 { acquire s; set k k + 1; if k == 1 { leave; } else { assert 0; } } broadcast c; }";
+
+/// The program that a text spells.
+fn program_of(alloc: Global, text: &str) -> Result<Arc<Program>, Fail> {
+    let tree = parse(alloc, text.as_bytes())?;
+    Ok(Arc::new(alloc, lower(alloc, &tree)?)?)
+}
+
+/// The item of all schedules of the program that a text spells.
+fn root_of(alloc: Global, text: &str) -> Result<Item, Fail> {
+    Ok(Item::root(alloc, program_of(alloc, text)?)?)
+}
+
+/// A summary in one line: tried, failed, stuck, beyond, the first bad schedule, the end views.
+fn shown(alloc: Global, summary: &Summary) -> Result<String, Fail> {
+    let mut line = format!(in alloc;
+        "{} {} {} {} {:?}",
+        summary.tried(),
+        summary.failed(),
+        summary.stuck(),
+        summary.beyond(),
+        summary.first_bad()
+    )?;
+    add_ends(&mut line, summary.ends())?;
+    Ok(line)
+}
+
+/// Adds end views to a line: of each, how the schedules ended and with which variables.
+fn add_ends(line: &mut String, ends: &[EndView]) -> Result<(), Fail> {
+    for end in ends {
+        write!(line, " {:?} {:?}", end.kind(), end.vars())?;
+    }
+    Ok(())
+}
+
+/// What the walk of an item finds.
+fn found(alloc: Global, item: &Item, mode: Mode) -> Result<String, Fail> {
+    shown(alloc, walk(alloc, item, mode, u32::MAX)?.part())
+}
+
+/// What the walk of all schedules of a text's program finds.
+fn found_at(alloc: Global, text: &str, mode: Mode) -> Result<String, Fail> {
+    found(alloc, &root_of(alloc, text)?, mode)
+}
+
+/// What a walk of a text's program counts up to a quota: the schedules that it tried, those of them
+/// that are stuck, the items that it leaves and the prefixes that it puts off.
+fn counted(
+    alloc: Global,
+    text: &str,
+    mode: Mode,
+    quota: u32,
+) -> Result<(u64, u64, usize, usize), Fail>
+    requires { 1 ≤ quota }
+{
+    let root = root_of(alloc, text)?;
+    let walked = walk(alloc, &root, mode, quota)?;
+    let part = walked.part();
+    Ok((
+        part.tried(),
+        part.stuck(),
+        walked.rest_length(),
+        walked.deferred_length(),
+    ))
+}
+
+/// Compares what the walk of all schedules of a text's program finds.
+fn finds(
+    rt: &(impl Abort + Alloc<A = Global>),
+    text: &str,
+    mode: Mode,
+    want: &str,
+) -> Result<(), Fail> {
+    let line = found_at(rt.alloc(), text, mode)?;
+    assert_eq!(rt; line.as_str(), want);
+    Ok(())
+}

@@ -1,0 +1,144 @@
+//! Walks of items after a prefix, what a bound puts off, and prefixes that don't run.
+
+use crate::walks::{COUNTERS, found, program_of, shown};
+use prefix_list::Prefixes;
+use std::alloc::{Alloc, Global};
+use std::process::Abort;
+use std::sync::Arc;
+use std::test::*;
+use walk::found::Found;
+use walk::item::Item;
+use walk::mode::Mode;
+use walk::walker::walk;
+
+/// What the walk of the counters' schedules that begin with a prefix finds within a bound.
+fn found_after(alloc: Global, prefix: &[u8], bound: u32) -> Result<String, Fail> {
+    let item = Item::at(alloc, program_of(alloc, COUNTERS)?, prefix)?;
+    found(alloc, &item, Mode::Bounded(bound))
+}
+
+/// Adds prefixes to a line, from the last on, and takes them off their list.
+fn add_from_the_last(line: &mut String, prefixes: &mut Prefixes) -> Result<(), Fail> {
+    for _ in 0..prefixes.length() {
+        write!(line, "; {:?}", prefixes.last())?;
+        if !prefixes.is_empty() {
+            prefixes.pop();
+        }
+    }
+    Ok(())
+}
+
+/// The walk of the counters' schedules that begin with a prefix within a bound, in parts.
+fn parts_after(alloc: Global, prefix: &[u8], bound: u32) -> Result<Found, Fail> {
+    let item = Item::at(alloc, program_of(alloc, COUNTERS)?, prefix)?;
+    Ok(walk(alloc, &item, Mode::Bounded(bound), 256)?.into_found())
+}
+
+/// What it finds, and then the prefixes that the bound put off, from the last on.
+fn found_and_put_off(alloc: Global, prefix: &[u8], bound: u32) -> Result<String, Fail> {
+    let mut parts = parts_after(alloc, prefix, bound)?;
+    let mut line = shown(alloc, &parts.part)?;
+    add_from_the_last(&mut line, &mut parts.deferred)?;
+    Ok(line)
+}
+
+/// Compares what the walk of the schedules after a prefix finds within a bound.
+fn finds_after(
+    rt: &(impl Abort + Alloc<A = Global>),
+    prefix: &[u8],
+    bound: u32,
+    want: &str,
+) -> Result<(), Fail> {
+    let line = found_after(rt.alloc(), prefix, bound)?;
+    assert_eq!(rt; line.as_str(), want);
+    Ok(())
+}
+
+/// Compares the same, with the prefixes that the bound put off.
+fn puts_off(
+    rt: &(impl Abort + Alloc<A = Global>),
+    prefix: &[u8],
+    bound: u32,
+    want: &str,
+) -> Result<(), Fail> {
+    let line = found_and_put_off(rt.alloc(), prefix, bound)?;
+    assert_eq!(rt; line.as_str(), want);
+    Ok(())
+}
+
+#[test]
+fn after_one_step_without_preemption(rt: HostRuntime) -> Result<(), Fail> {
+    finds_after(&rt, &[0], 0, "1 0 0 true None Done [2]")
+}
+
+#[test]
+fn after_one_step_within_one(rt: HostRuntime) -> Result<(), Fail> {
+    finds_after(&rt, &[0], 1, "2 0 0 true None Done [1] Done [2]")
+}
+
+#[test]
+fn after_one_step_within_two(rt: HostRuntime) -> Result<(), Fail> {
+    finds_after(&rt, &[0], 2, "3 0 0 false None Done [1] Done [2]")
+}
+
+#[test]
+fn a_prefix_past_the_bound(rt: HostRuntime) -> Result<(), Fail> {
+    puts_off(&rt, &[0, 1], 0, "0 0 0 true None")
+}
+
+#[test]
+fn what_bound_0_puts_off(rt: HostRuntime) -> Result<(), Fail> {
+    puts_off(
+        &rt,
+        &[],
+        0,
+        "2 0 0 true None Done [2]; Some([1, 0]); Some([0, 1])",
+    )
+}
+
+#[test]
+fn what_bound_1_puts_off(rt: HostRuntime) -> Result<(), Fail> {
+    puts_off(&rt, &[0, 1], 1, "1 0 0 true None Done [1]; Some([0, 1, 0])")?;
+    puts_off(&rt, &[1, 0], 1, "1 0 0 true None Done [1]; Some([1, 0, 1])")
+}
+
+#[test]
+fn bound_2_puts_nothing_off(rt: HostRuntime) -> Result<(), Fail> {
+    puts_off(&rt, &[0, 1, 0], 2, "1 0 0 false None Done [1]")?;
+    puts_off(&rt, &[1, 0, 1], 2, "1 0 0 false None Done [1]")
+}
+
+/// A thread that takes a mutex twice.
+const TWICE: &str = "mutex m; thread A { lock m; lock m; }";
+
+/// Why a prefix doesn't run in `TWICE`, if it doesn't.
+fn refused(alloc: Global, prefix: &[u8]) -> Result<String, Fail> {
+    match Item::at(alloc, program_of(alloc, TWICE)?, prefix) {
+        Ok(_) => Ok(String::from_str(alloc, "an item")?),
+        Err(error) => Ok(format!(in alloc; "{error}")?),
+    }
+}
+
+/// Compares why a prefix doesn't run.
+fn refuses(rt: &(impl Abort + Alloc<A = Global>), prefix: &[u8], want: &str) -> Result<(), Fail> {
+    let line = refused(rt.alloc(), prefix)?;
+    assert_eq!(rt; line.as_str(), want);
+    Ok(())
+}
+
+#[test]
+fn prefixes_that_do_not_run(rt: HostRuntime) -> Result<(), Fail> {
+    refuses(&rt, &[1], "schedule P1 NoSuchThread at 0")?;
+    refuses(&rt, &[0, 0], "schedule P2 NotEnabled at 1")
+}
+
+#[test]
+fn an_item_becomes_another(rt: HostRuntime) -> Result<(), Fail> {
+    let program = program_of(rt.alloc(), COUNTERS)?;
+    let mut item = Item::root(rt.alloc(), Arc::try_clone(&program)?)?;
+    let other = Item::at(rt.alloc(), program, &[0, 1])?;
+    item.try_clone_from(&other)?;
+    let line = format!(in rt.alloc(); "{:?} {}", item.prefix(), item.is_same(&other))?;
+    assert_eq!(rt; line.as_str(), "[0, 1] true");
+    Ok(())
+}

@@ -1,0 +1,68 @@
+//! Walks of long schedules.
+
+use crate::walks::{counted, finds};
+use guest_code::limits::THREADS;
+use std::alloc::{Alloc, Global};
+use std::process::Abort;
+use std::test::*;
+use walk::mode::Mode;
+
+/// Two threads of 256 steps each.
+const LONG: &str =
+    "var x; thread A { repeat 64 { store x 1; store x 2; store x 3; store x 4; } } thread B { repeat 64 { store x 1; store x 2; store x 3; store x 4; } }";
+
+/// As many threads as a program has, each of as many stores as a thread has instructions.
+fn longest(alloc: Global) -> Result<String, Fail> {
+    let mut text = String::from_str(alloc, "var x;")?;
+    for thread in 0..THREADS {
+        let body = "{ repeat 64 { repeat 16 { store x 1; } } }";
+        write!(text, " thread T{thread} {body}")?;
+    }
+    Ok(text)
+}
+
+#[test]
+fn schedules_of_512_steps(rt: HostRuntime) -> Result<(), Fail> {
+    finds(&rt, LONG, Mode::Bounded(0), "2 0 0 true None Done [4]")
+}
+
+/// Compares what a walk of one schedule without preemption counts.
+fn counts(
+    rt: &(impl Abort + Alloc<A = Global>),
+    text: &str,
+    want: (u64, u64, usize, usize),
+) -> Result<(), Fail> {
+    assert_eq!(rt; counted(rt.alloc(), text, Mode::Bounded(0), 1)?, want);
+    Ok(())
+}
+
+#[test]
+fn a_schedule_of_16384_steps(rt: HostRuntime) -> Result<(), Fail> {
+    let text = longest(rt.alloc())?;
+    counts(&rt, text.as_str(), (1, 0, 120, 122760))
+}
+
+/// As many threads as a program has, each of as many instructions as a thread has. The first ones
+/// wait, and the last one signals; then each is woken in turn, signals the next and waits again, up
+/// to its last two steps. A wait takes two steps, so that is 1,535 steps each.
+fn waiting_in_turn(alloc: Global) -> Result<String, Fail> {
+    let turns = "repeat 63 { repeat 8 { signal c; wait c m; } } repeat 6 { signal c; wait c m; }";
+    let mut text = String::from_str(alloc, "mutex m; cond c;")?;
+    for thread in 0..THREADS - 1 {
+        write!(
+            text,
+            " thread T{thread} {{ lock m; wait c m; {turns} signal c; unlock m; }}"
+        )?;
+    }
+    write!(
+        text,
+        " thread LAST {{ lock m; signal c; wait c m; {turns} unlock m; }}"
+    )?;
+    Ok(text)
+}
+
+#[test]
+fn a_schedule_of_24560_steps(rt: HostRuntime) -> Result<(), Fail> {
+    let text = waiting_in_turn(rt.alloc())?;
+    counts(&rt, text.as_str(), (1, 0, 120, 0))
+}

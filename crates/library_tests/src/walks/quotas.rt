@@ -1,0 +1,152 @@
+//! Walks that stop at a quota: their parts and what they leave, walked on, make the whole.
+
+ghost use Rattle.std.specs.Prelude.{◌≤◌};
+
+use crate::walks::{ALL_KINDS, COUNTERS, counted, root_of, shown};
+use std::alloc::{Alloc, Global};
+use std::process::Abort;
+use std::test::*;
+use summary::{EndHints, Summary};
+use walk::found::Found;
+use walk::item::Item;
+use walk::mode::Mode;
+use walk::walked::Walked;
+use walk::walker::walk;
+
+/// More walks than any of these tests needs.
+const WALKS: usize = 1000;
+
+/// The schedules of `ALL_KINDS` with at most two preemptions.
+const WITHIN_TWO: &str = "23 0 4 true Some([1, 1, 1, 1, 0, 1, 2, 2, 0]) Done [1] Stuck [1]";
+
+/// Joins what a walk found into the whole, and adds what it leaves to the open items.
+fn take_over(walked: Walked, whole: &mut Summary, open: &mut Vec<Item>) -> Result<(), Fail> {
+    let Found {
+        mut part,
+        mut rest,
+        ..
+    } = walked.into_found();
+    whole.join_in_by(&mut EndHints::new(), &mut part)?;
+    open.append(&mut rest)?;
+    Ok(())
+}
+
+/// What walks find in all, each cut at a quota: of an item, and of all that they leave.
+fn found_in_parts(alloc: Global, text: &str, mode: Mode, quota: u32) -> Result<String, Fail>
+    requires { 1 ≤ quota }
+{
+    let mut open: Vec<Item> = Vec::new(alloc);
+    open.push(root_of(alloc, text)?)?;
+    let mut whole = Summary::empty(alloc);
+    for _ in 0..WALKS {
+        let Some(next) = open.pop() else {
+            break;
+        };
+        let walked = walk(alloc, &next, mode, quota)?;
+        take_over(walked, &mut whole, &mut open)?;
+    }
+    shown(alloc, &whole)
+}
+
+/// Compares what walks in parts find in all.
+fn adds_up(
+    rt: &(impl Abort + Alloc<A = Global>),
+    text: &str,
+    mode: Mode,
+    quota: u32,
+    want: &str,
+) -> Result<(), Fail>
+    requires { 1 ≤ quota }
+{
+    let line = found_in_parts(rt.alloc(), text, mode, quota)?;
+    assert_eq!(rt; line.as_str(), want);
+    Ok(())
+}
+
+#[test]
+fn a_quota_of_1(rt: HostRuntime) -> Result<(), Fail> {
+    let (tried, _, left, _) = counted(rt.alloc(), COUNTERS, Mode::Bounded(1), 1)?;
+    assert_eq!(rt; tried, 1);
+    assert!(rt; left > 0);
+    Ok(())
+}
+
+#[test]
+fn a_quota_of_5(rt: HostRuntime) -> Result<(), Fail> {
+    let (tried, _, left, _) = counted(rt.alloc(), COUNTERS, Mode::Bounded(1), 5)?;
+    assert_eq!(rt; tried, 4);
+    assert_eq!(rt; left, 0);
+    Ok(())
+}
+
+#[test]
+fn what_a_quota_of_1_leaves_is_walked_on(rt: HostRuntime) -> Result<(), Fail> {
+    adds_up(
+        &rt,
+        COUNTERS,
+        Mode::Bounded(1),
+        1,
+        "4 0 0 true None Done [1] Done [2]",
+    )
+}
+
+#[test]
+fn parts_of_one_make_the_whole(rt: HostRuntime) -> Result<(), Fail> {
+    adds_up(&rt, ALL_KINDS, Mode::Bounded(2), 1, WITHIN_TWO)
+}
+
+#[test]
+fn parts_of_three_make_the_whole(rt: HostRuntime) -> Result<(), Fail> {
+    adds_up(&rt, ALL_KINDS, Mode::Bounded(2), 3, WITHIN_TWO)
+}
+
+#[test]
+fn one_part_is_the_whole(rt: HostRuntime) -> Result<(), Fail> {
+    adds_up(&rt, ALL_KINDS, Mode::Bounded(2), 256, WITHIN_TWO)
+}
+
+#[test]
+fn pruned_parts_of_one_make_the_whole(rt: HostRuntime) -> Result<(), Fail> {
+    adds_up(
+        &rt,
+        COUNTERS,
+        Mode::Reduced,
+        1,
+        "4 0 0 false None Done [1] Done [2]",
+    )
+}
+
+#[test]
+fn pruned_parts_of_three_make_the_whole(rt: HostRuntime) -> Result<(), Fail> {
+    adds_up(
+        &rt,
+        COUNTERS,
+        Mode::Reduced,
+        3,
+        "4 0 0 false None Done [1] Done [2]",
+    )
+}
+
+/// How many items a walk leaves and how many prefixes it puts off.
+fn left_and_put_off(walked: &Walked) -> (usize, usize) {
+    (walked.rest_length(), walked.deferred_length())
+}
+
+/// The same of the parts of a walk, after how many schedules it tried.
+fn counts_of(parts: Found) -> (u64, usize, usize) {
+    (
+        parts.part.tried(),
+        parts.rest.len(),
+        parts.deferred.length(),
+    )
+}
+
+#[test]
+fn the_parts_of_a_walk_are_taken_over(rt: HostRuntime) -> Result<(), Fail> {
+    let alloc = rt.alloc();
+    let walked = walk(alloc, &root_of(alloc, COUNTERS)?, Mode::Bounded(0), 1)?;
+    let (left, off) = left_and_put_off(&walked);
+    let counts = counts_of(walked.into_found());
+    assert_eq!(rt; counts, (1, left, off));
+    Ok(())
+}

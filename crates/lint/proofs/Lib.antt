@@ -1,0 +1,3 @@
+mod KindsOfThreads
+mod PathMarks
+mod WarningLists

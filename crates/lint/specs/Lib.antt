@@ -1,0 +1,4 @@
+pub mod Uses
+pub mod Paths
+pub mod Warnings
+pub mod inner

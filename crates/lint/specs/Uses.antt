@@ -1,0 +1,95 @@
+-- What an instruction does with locals and with objects.
+use Rattle.std.specs.Prelude.{ℕ, Bool, true, false, ◌||◌, nat_eq}
+use Rattle.guest_code.specs.declared.program.Value.{Value}
+use Rattle.guest_code.specs.declared.program.Value.TheVariants.{Local, Literal}
+use Rattle.guest_code.specs.declared.program.Expression.{Expression}
+use Rattle.guest_code.specs.declared.program.Expression.TheVariants.{Single, Both}
+use Rattle.guest_code.specs.declared.program.Instruction.{Instruction}
+use Rattle.guest_code.specs.declared.program.Instruction.TheVariants.{Load, Store, Add, Cas, Lock, Unlock, Wait, Signal, Broadcast, Acquire, Release, Set, Assert, SkipIfZero}
+use Rattle.lint.specs.declared.uses.Use.{Use}
+use Rattle.lint.specs.declared.uses.Use.TheVariants as uses
+
+-- a value and an expression read a local
+abbrev pub value_reads : ℕ → Value → Bool
+value_reads r (Local q) = nat_eq q r
+value_reads r (Literal n) = false
+
+abbrev pub expression_reads : ℕ → Expression → Bool
+expression_reads r (Single a) = value_reads r a
+expression_reads r (Both a op b) = value_reads r a || value_reads r b
+
+-- an instruction reads a local
+abbrev pub reads : ℕ → Instruction → Bool
+reads r (Store x a) = value_reads r a
+reads r (Add q x a) = value_reads r a
+reads r (Cas q x a b) = value_reads r a || value_reads r b
+reads r (Set q e) = expression_reads r e
+reads r (Assert e) = expression_reads r e
+reads r (SkipIfZero e n) = expression_reads r e
+reads r _ = false
+
+-- it gives a local a value
+abbrev pub sets : ℕ → Instruction → Bool
+sets r (Load q x) = nat_eq q r
+sets r (Add q x a) = nat_eq q r
+sets r (Cas q x a b) = nat_eq q r
+sets r (Set q e) = nat_eq q r
+sets r _ = false
+
+-- it does so for that alone: an `add` or a `cas` has another effect, and must name a local
+abbrev pub fills : ℕ → Instruction → Bool
+fills r (Load q x) = nat_eq q r
+fills r (Set q e) = nat_eq q r
+fills r _ = false
+
+-- it reads a variable, or writes it
+abbrev pub loads : ℕ → Instruction → Bool
+loads x (Load q y) = nat_eq y x
+loads x (Add q y a) = nat_eq y x
+loads x (Cas q y a b) = nat_eq y x
+loads x _ = false
+
+abbrev pub stores : ℕ → Instruction → Bool
+stores x (Store y a) = nat_eq y x
+stores x (Add q y a) = nat_eq y x
+stores x (Cas q y a b) = nat_eq y x
+stores x _ = false
+
+-- it names a mutex, a condition or a semaphore
+abbrev pub names_mutex : ℕ → Instruction → Bool
+names_mutex m (Lock n) = nat_eq n m
+names_mutex m (Unlock n) = nat_eq n m
+names_mutex m (Wait c n) = nat_eq n m
+names_mutex m _ = false
+
+abbrev pub names_condition : ℕ → Instruction → Bool
+names_condition c (Wait d m) = nat_eq d c
+names_condition c (Signal d) = nat_eq d c
+names_condition c (Broadcast d) = nat_eq d c
+names_condition c _ = false
+
+abbrev pub names_semaphore : ℕ → Instruction → Bool
+names_semaphore s (Acquire k) = nat_eq k s
+names_semaphore s (Release k) = nat_eq k s
+names_semaphore s _ = false
+
+-- it makes this use of the local or the object of this number
+abbrev pub does : Use → ℕ → Instruction → Bool
+does uses.Reads n i = reads n i
+does uses.Sets n i = sets n i
+does uses.Fills n i = fills n i
+does uses.Loads n i = loads n i
+does uses.Stores n i = stores n i
+does uses.OfMutex n i = names_mutex n i
+does uses.OfCondition n i = names_condition n i
+does uses.OfSemaphore n i = names_semaphore n i
+
+-- an assertion of numbers alone
+abbrev pub value_is_constant : Value → Bool
+value_is_constant (Local q) = false
+value_is_constant (Literal n) = true
+
+abbrev pub is_constant : Instruction → Bool
+is_constant (Assert (Single (Literal n))) = true
+is_constant (Assert (Both (Literal n) op (Literal k))) = true
+is_constant _ = false

@@ -1,0 +1,120 @@
+-- What is warned of.
+use Rattle.std.specs.Prelude.{◌≡◌, ℕ, zero, suc, ◌<◌, true, false, IsTrue, List, [], ◌∷◌, ◌++◌, length, slice_index_or}
+use Rattle.std.specs.List.{list_any}
+use Rattle.guest_code.specs.Program.{Program, code_of, thread_at}
+use Rattle.guest_code.specs.declared.program.Instruction.{Instruction}
+use Rattle.guest_code.specs.declared.program.Instruction.TheVariants.{Lock, Unlock, Wait, Skip}
+use Rattle.lint.specs.declared.uses.Use.{Use}
+use Rattle.lint.specs.declared.uses.Use.TheVariants as uses
+use Rattle.lint.specs.declared.warning.Kind.{Kind}
+use Rattle.lint.specs.declared.warning.Kind.TheVariants as kinds
+use Rattle.lint.specs.declared.warning.Warning.{Warning}
+use Rattle.lint.specs.Uses.{does, is_constant}
+use Rattle.lint.specs.Paths.{Comes, IsReached}
+
+-- some instruction of thread t makes this use of the local or object of this number
+abbrev pub UsesIn : Program → ℕ → Use → ℕ → Type 0
+UsesIn p t u n = IsTrue (list_any (does u n) (code_of p t))
+
+-- some instruction of the program does
+abbrev pub UsesAnywhere : Program → Use → ℕ → Type 0
+UsesAnywhere p u n = (t : ℕ) × (t < length p.threads) × UsesIn p t u n
+
+-- instruction k of thread t
+abbrev pub instruction_at : Program → ℕ → ℕ → Instruction
+instruction_at p t k = slice_index_or (code_of p t) k (Skip 0)
+
+-- the mutex that an instruction takes, or gives back, is this one
+abbrev pub Locks : Instruction → ℕ → Type 0
+Locks (Lock n) m = n ≡ m
+Locks i m = ⊥
+
+abbrev pub Gives : Instruction → ℕ → Type 0
+Gives (Unlock n) m = n ≡ m
+Gives (Wait c n) m = n ≡ m
+Gives i m = ⊥
+
+-- Instruction k takes a mutex, some path leads to it, and after it some path leads to the end with
+-- the mutex still owned.
+abbrev pub MayKeep : List Instruction → ℕ → Type 0
+MayKeep code k = (m : ℕ) × Locks (slice_index_or code k (Skip 0)) m × IsReached code k
+    × Comes code m (suc k) true (length code) true
+
+-- Instruction k gives a mutex back, and some path leads to it with the mutex not owned.
+abbrev pub MayLack : List Instruction → ℕ → Type 0
+MayLack code k = (m : ℕ) × Gives (slice_index_or code k (Skip 0)) m × Comes code m 0 false k false
+
+-- what is warned of is so, by its number
+abbrev pub IsSo : Program → Kind → ℕ → Type 0
+IsSo p (kinds.NeverSet t) r = UsesIn p t uses.Reads r × ¬ UsesIn p t uses.Sets r
+IsSo p (kinds.NeverRead t) r = UsesIn p t uses.Fills r × ¬ UsesIn p t uses.Reads r
+IsSo p kinds.UnusedVariable x = (¬ UsesAnywhere p uses.Loads x) × ¬ UsesAnywhere p uses.Stores x
+IsSo p kinds.NeverStored x = UsesAnywhere p uses.Loads x × ¬ UsesAnywhere p uses.Stores x
+IsSo p kinds.NeverLoaded x = UsesAnywhere p uses.Stores x × ¬ UsesAnywhere p uses.Loads x
+IsSo p kinds.UnusedMutex m = ¬ UsesAnywhere p uses.OfMutex m
+IsSo p kinds.UnusedCondition c = ¬ UsesAnywhere p uses.OfCondition c
+IsSo p kinds.UnusedSemaphore s = ¬ UsesAnywhere p uses.OfSemaphore s
+IsSo p (kinds.Constant t) k = IsTrue (is_constant (instruction_at p t k))
+IsSo p (kinds.Unreached t) k = ¬ IsReached (code_of p t) k
+IsSo p (kinds.MayKeep t) k = MayKeep (code_of p t) k
+IsSo p (kinds.MayLack t) k = MayLack (code_of p t) k
+
+-- how many locals, objects or instructions there are to ask about
+abbrev pub count_of : Program → Kind → ℕ
+count_of p (kinds.NeverSet t) = (thread_at p t).locals
+count_of p (kinds.NeverRead t) = (thread_at p t).locals
+count_of p kinds.UnusedVariable = length p.variables
+count_of p kinds.NeverStored = length p.variables
+count_of p kinds.NeverLoaded = length p.variables
+count_of p kinds.UnusedMutex = length p.mutexes
+count_of p kinds.UnusedCondition = length p.conditions
+count_of p kinds.UnusedSemaphore = length p.semaphores
+count_of p (kinds.Constant t) = length (code_of p t)
+count_of p (kinds.Unreached t) = length (code_of p t)
+count_of p (kinds.MayKeep t) = length (code_of p t)
+count_of p (kinds.MayLack t) = length (code_of p t)
+
+-- its thread is one of the program's
+abbrev pub IsOfThread : Program → Kind → Type 0
+IsOfThread p (kinds.NeverSet t) = t < length p.threads
+IsOfThread p (kinds.NeverRead t) = t < length p.threads
+IsOfThread p kinds.UnusedVariable = Unit {0}
+IsOfThread p kinds.NeverStored = Unit {0}
+IsOfThread p kinds.NeverLoaded = Unit {0}
+IsOfThread p kinds.UnusedMutex = Unit {0}
+IsOfThread p kinds.UnusedCondition = Unit {0}
+IsOfThread p kinds.UnusedSemaphore = Unit {0}
+IsOfThread p (kinds.Constant t) = t < length p.threads
+IsOfThread p (kinds.Unreached t) = t < length p.threads
+IsOfThread p (kinds.MayKeep t) = t < length p.threads
+IsOfThread p (kinds.MayLack t) = t < length p.threads
+
+-- the warnings of a kind, of the numbers below n for which it is so, in order
+pub data Chosen (p : Program) (kind : Kind) : ℕ → List Warning → Type 0 where
+  none : Chosen p kind 0 []
+  taken : {n : ℕ} {ws : List Warning} → Chosen p kind n ws → IsSo p kind n
+      → Chosen p kind (suc n) (ws ++ record { kind = kind; number = n } ∷ [])
+  passed : {n : ℕ} {ws : List Warning} → Chosen p kind n ws → ¬ IsSo p kind n
+      → Chosen p kind (suc n) ws
+
+-- the warnings of these kinds, one kind after the other
+pub data Listed (p : Program) : List Kind → List Warning → Type 0 where
+  nothing : Listed p [] []
+  more : {ks : List Kind} {ws : List Warning} {kind : Kind} {vs : List Warning} → Listed p ks ws
+      → Chosen p kind (count_of p kind) vs → Listed p (ks ++ kind ∷ []) (ws ++ vs)
+
+-- the kinds of warnings of a thread, and of a program
+abbrev pub kinds_of_thread : ℕ → List Kind
+kinds_of_thread t = kinds.NeverSet t ∷ kinds.NeverRead t ∷ kinds.Constant t ∷ kinds.Unreached t
+    ∷ kinds.MayKeep t ∷ kinds.MayLack t ∷ []
+
+abbrev pub kinds_of_threads : ℕ → List Kind
+kinds_of_threads zero = []
+kinds_of_threads (suc n) = kinds_of_threads n ++ kinds_of_thread n
+
+abbrev pub kinds_of_objects : List Kind
+kinds_of_objects = kinds.UnusedVariable ∷ kinds.NeverStored ∷ kinds.NeverLoaded
+    ∷ kinds.UnusedMutex ∷ kinds.UnusedCondition ∷ kinds.UnusedSemaphore ∷ []
+
+abbrev pub kinds_of : Program → List Kind
+kinds_of p = kinds_of_objects ++ kinds_of_threads (length p.threads)

@@ -1,0 +1,181 @@
+//! What an instruction does with locals and with objects.
+
+ghost use Rattle.std.specs.Prelude.{◌≡◌};
+ghost use Rattle.std.specs.List.{list_any};
+ghost use Rattle.lint.specs.Uses.{value_reads, expression_reads, reads, sets, fills, loads, stores, names_mutex, names_condition, names_semaphore, does, value_is_constant, is_constant};
+
+use guest_code::program::{Expression, Instruction, Value};
+
+/// A use of a local or an object, which goes by its number.
+#[derive(Clone, Copy, Debug, PartialEq, Eq)]
+pub enum Use {
+    /// A local is read.
+    Reads,
+    /// A local gets a value.
+    Sets,
+    /// A local gets a value, and nothing else is done.
+    Fills,
+    /// A variable is read.
+    Loads,
+    /// A variable is written.
+    Stores,
+    /// A mutex is named.
+    OfMutex,
+    /// A condition is named.
+    OfCondition,
+    /// A semaphore is named.
+    OfSemaphore,
+}
+
+fn value_reads(local: usize, value: Value) -> bool
+    ensures { result ≡ value_reads local value }
+{
+    match value {
+        Value::Local(read) => read == local,
+        Value::Literal(_) => false,
+    }
+}
+
+fn expression_reads(local: usize, expression: &Expression) -> bool
+    ensures { result ≡ expression_reads local expression.now }
+{
+    match expression {
+        Expression::Single(a) => value_reads(local, *a),
+        Expression::Both(a, _, b) => value_reads(local, *a) || value_reads(local, *b),
+    }
+}
+
+/// Whether an instruction reads a local.
+fn reads(local: usize, instruction: &Instruction) -> bool
+    ensures { result ≡ reads local instruction.now }
+{
+    match instruction {
+        Instruction::Store { value, .. } | Instruction::Add { value, .. } => {
+            value_reads(local, *value)
+        }
+        Instruction::Cas { expected, new, .. } => {
+            value_reads(local, *expected) || value_reads(local, *new)
+        }
+        Instruction::Set { value, .. } => expression_reads(local, value),
+        Instruction::Assert(test) | Instruction::SkipIfZero(test, _) => {
+            expression_reads(local, test)
+        }
+        _ => false,
+    }
+}
+
+/// Whether it gives a local a value.
+fn sets(wanted: usize, instruction: &Instruction) -> bool
+    ensures { result ≡ sets wanted instruction.now }
+{
+    match instruction {
+        Instruction::Load { local, .. }
+        | Instruction::Add { local, .. }
+        | Instruction::Cas { local, .. }
+        | Instruction::Set { local, .. } => *local == wanted,
+        _ => false,
+    }
+}
+
+/// Whether it does so for that alone.
+fn fills(wanted: usize, instruction: &Instruction) -> bool
+    ensures { result ≡ fills wanted instruction.now }
+{
+    match instruction {
+        Instruction::Load { local, .. } | Instruction::Set { local, .. } => *local == wanted,
+        _ => false,
+    }
+}
+
+/// Whether it reads a variable.
+fn loads(wanted: usize, instruction: &Instruction) -> bool
+    ensures { result ≡ loads wanted instruction.now }
+{
+    match instruction {
+        Instruction::Load { variable, .. }
+        | Instruction::Add { variable, .. }
+        | Instruction::Cas { variable, .. } => *variable == wanted,
+        _ => false,
+    }
+}
+
+/// Whether it writes a variable.
+fn stores(wanted: usize, instruction: &Instruction) -> bool
+    ensures { result ≡ stores wanted instruction.now }
+{
+    match instruction {
+        Instruction::Store { variable, .. }
+        | Instruction::Add { variable, .. }
+        | Instruction::Cas { variable, .. } => *variable == wanted,
+        _ => false,
+    }
+}
+
+/// Whether it names a mutex.
+fn names_mutex(wanted: usize, instruction: &Instruction) -> bool
+    ensures { result ≡ names_mutex wanted instruction.now }
+{
+    match instruction {
+        Instruction::Lock(mutex) | Instruction::Unlock(mutex) => *mutex == wanted,
+        Instruction::Wait { mutex, .. } => *mutex == wanted,
+        _ => false,
+    }
+}
+
+/// Whether it names a condition.
+fn names_condition(wanted: usize, instruction: &Instruction) -> bool
+    ensures { result ≡ names_condition wanted instruction.now }
+{
+    match instruction {
+        Instruction::Signal(condition) | Instruction::Broadcast(condition) => *condition == wanted,
+        Instruction::Wait { condition, .. } => *condition == wanted,
+        _ => false,
+    }
+}
+
+/// Whether it names a semaphore.
+fn names_semaphore(wanted: usize, instruction: &Instruction) -> bool
+    ensures { result ≡ names_semaphore wanted instruction.now }
+{
+    match instruction {
+        Instruction::Acquire(semaphore) | Instruction::Release(semaphore) => *semaphore == wanted,
+        _ => false,
+    }
+}
+
+impl Use {
+    /// Whether an instruction makes this use of the local or the object of this number.
+    pub fn is_made(self, number: usize, instruction: &Instruction) -> bool
+        ensures { result ≡ does self number instruction.now }
+    {
+        match self {
+            Use::Reads => reads(number, instruction),
+            Use::Sets => sets(number, instruction),
+            Use::Fills => fills(number, instruction),
+            Use::Loads => loads(number, instruction),
+            Use::Stores => stores(number, instruction),
+            Use::OfMutex => names_mutex(number, instruction),
+            Use::OfCondition => names_condition(number, instruction),
+            Use::OfSemaphore => names_semaphore(number, instruction),
+        }
+    }
+
+    /// Whether some instruction does.
+    pub fn is_made_in(self, number: usize, code: &[Instruction]) -> bool
+        ensures { result ≡ list_any (does self number) code.now }
+    {
+        code.iter()
+            .any(|instruction| self.is_made(number, instruction))
+    }
+}
+
+/// Whether an instruction asserts numbers alone.
+pub fn is_constant(instruction: &Instruction) -> bool
+    ensures { result ≡ is_constant instruction.now }
+{
+    match instruction {
+        Instruction::Assert(Expression::Single(Value::Literal(_))) => true,
+        Instruction::Assert(Expression::Both(Value::Literal(_), _, Value::Literal(_))) => true,
+        _ => false,
+    }
+}

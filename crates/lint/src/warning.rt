@@ -1,0 +1,180 @@
+//! Warnings, and when they are so.
+
+ghost use Rattle.std.specs.Prelude.{◌≡◌, ◌<◌, ◌↔◌, ℕ, suc, IsTrue, IfOk, length, MatchBool, ◌^◌, ◌≤◌};
+ghost use Rattle.std.specs.List.{list_any};
+ghost use Rattle.guest_code.specs.Program.{code_of, JumpsWithin};
+ghost use Rattle.lint.specs.Paths.{IsReached};
+ghost use Rattle.lint.specs.Warnings.{UsesIn, UsesAnywhere, IsSo, MayKeep, MayLack, IsOfThread, count_of};
+
+use crate::paths::paths;
+use crate::uses::{Use, is_constant};
+use guest_code::limits::INSTRUCTIONS;
+use guest_code::program::{Instruction, Program};
+use std::alloc::{AllocError, Global};
+
+/// What is warned of, with the number of the thread where that matters.
+#[derive(Clone, Copy, Debug, PartialEq, Eq)]
+pub enum Kind {
+    /// A local is read, and no statement of its thread gives it a value.
+    NeverSet(u8),
+    /// A local gets a value by a `load` or a `set`, and no statement of its thread reads it.
+    NeverRead(u8),
+    /// No statement names a variable.
+    UnusedVariable,
+    /// A variable is loaded, and never written.
+    NeverStored,
+    /// A variable is written, and never loaded.
+    NeverLoaded,
+    /// No statement names a mutex.
+    UnusedMutex,
+    /// No statement names a condition.
+    UnusedCondition,
+    /// No statement names a semaphore.
+    UnusedSemaphore,
+    /// An assertion has no local.
+    Constant(u8),
+    /// No path through the thread leads to an instruction.
+    Unreached(u8),
+    /// On some path a mutex that is locked here is still owned at the end.
+    MayKeep(u8),
+    /// On some path a mutex that is given back here isn't owned.
+    MayLack(u8),
+}
+
+/// A warning: its kind, and the number of the local, the object or the instruction.
+#[derive(Clone, Copy, Debug, PartialEq, Eq)]
+pub struct Warning {
+    pub kind: Kind,
+    pub number: usize,
+}
+
+/// Whether some instruction of a thread makes this use.
+fn is_used_in(program: &Program, thread: u8, use_: Use, number: usize) -> bool
+    requires { thread < length program.now.threads }
+    ensures { IsTrue result ↔ UsesIn program.now thread use_ number }
+{
+    use_.is_made_in(number, program.code(thread))
+}
+
+/// Whether some instruction of the program does.
+fn is_used(program: &Program, use_: Use, number: usize) -> bool
+    ensures { IsTrue result ↔ UsesAnywhere program.now use_ number }
+{
+    for thread in 0..program.threads() {
+        if use_.is_made_in(number, program.code(thread)) {
+            return true;
+        }
+    }
+    false
+}
+
+/// The code of a thread.
+fn code_of(program: &Program, thread: u8) -> &[Instruction]
+    requires { thread < length program.now.threads }
+    ensures code { result.now ≡ code_of program.now thread }
+    ensures jumps { JumpsWithin result.now }
+    ensures short { length result.now ≤ INSTRUCTIONS }
+{
+    program.keeps_limits();
+    program.code(thread)
+}
+
+/// Whether some path leads to an instruction.
+fn is_reached(alloc: Global, code: &[Instruction], at: usize) -> Result<bool, AllocError>
+    requires jumps { JumpsWithin code.now }
+    requires short { length code.now < 2 ^ 32 }
+    requires at { at < length code.now }
+    ensures { IfOk result (λ b. IsTrue b ↔ IsReached code.now at) }
+{
+    let marks = paths(alloc, code, 0, 0, false)?;
+    Ok(marks[at].owned || marks[at].free)
+}
+
+/// Whether a mutex that is locked here may still be owned at the end.
+fn may_keep(alloc: Global, code: &[Instruction], at: usize) -> Result<bool, AllocError>
+    requires jumps { JumpsWithin code.now }
+    requires short { length code.now < 2 ^ 32 }
+    requires at { at < length code.now }
+    ensures { IfOk result (λ b. IsTrue b ↔ MayKeep code.now at) }
+{
+    let Instruction::Lock(mutex) = code[at] else {
+        return Ok(false);
+    };
+    if !is_reached(alloc, code, at)? {
+        return Ok(false);
+    }
+    let marks = paths(alloc, code, mutex, at + 1, true)?;
+    Ok(marks[code.len()].owned)
+}
+
+/// Whether a mutex that is given back here may not be owned.
+fn may_lack(alloc: Global, code: &[Instruction], at: usize) -> Result<bool, AllocError>
+    requires jumps { JumpsWithin code.now }
+    requires short { length code.now < 2 ^ 32 }
+    requires at { at < length code.now }
+    ensures { IfOk result (λ b. IsTrue b ↔ MayLack code.now at) }
+{
+    let mutex = match code[at] {
+        Instruction::Unlock(mutex) => mutex,
+        Instruction::Wait { mutex, .. } => mutex,
+        _ => return Ok(false),
+    };
+    let marks = paths(alloc, code, mutex, 0, false)?;
+    Ok(marks[at].free)
+}
+
+impl Kind {
+    /// How many numbers it may be so of.
+    pub fn count(self, program: &Program) -> usize
+        requires { IsOfThread program.now self }
+        ensures { result ≡ count_of program.now self }
+    {
+        match self {
+            Kind::NeverSet(thread) | Kind::NeverRead(thread) => program.locals(thread),
+            Kind::UnusedVariable | Kind::NeverStored | Kind::NeverLoaded => {
+                program.variables() as usize
+            }
+            Kind::UnusedMutex => program.mutexes() as usize,
+            Kind::UnusedCondition => program.conditions() as usize,
+            Kind::UnusedSemaphore => program.semaphores() as usize,
+            Kind::Constant(thread)
+            | Kind::Unreached(thread)
+            | Kind::MayKeep(thread)
+            | Kind::MayLack(thread) => program.code(thread).len(),
+        }
+    }
+
+    /// Whether it is so of a number.
+    pub fn is_so(self, alloc: Global, program: &Program, number: usize) -> Result<bool, AllocError>
+        requires thread { IsOfThread program.now self }
+        requires number { number < count_of program.now self }
+        ensures { IfOk result (λ b. IsTrue b ↔ IsSo program.now self number) }
+    {
+        match self {
+            Kind::NeverSet(thread) => Ok(
+                is_used_in(program, thread, Use::Reads, number)
+                    && !is_used_in(program, thread, Use::Sets, number),
+            ),
+            Kind::NeverRead(thread) => Ok(
+                is_used_in(program, thread, Use::Fills, number)
+                    && !is_used_in(program, thread, Use::Reads, number),
+            ),
+            Kind::UnusedVariable => Ok(
+                !is_used(program, Use::Loads, number) && !is_used(program, Use::Stores, number),
+            ),
+            Kind::NeverStored => Ok(
+                is_used(program, Use::Loads, number) && !is_used(program, Use::Stores, number),
+            ),
+            Kind::NeverLoaded => Ok(
+                is_used(program, Use::Stores, number) && !is_used(program, Use::Loads, number),
+            ),
+            Kind::UnusedMutex => Ok(!is_used(program, Use::OfMutex, number)),
+            Kind::UnusedCondition => Ok(!is_used(program, Use::OfCondition, number)),
+            Kind::UnusedSemaphore => Ok(!is_used(program, Use::OfSemaphore, number)),
+            Kind::Constant(thread) => Ok(is_constant(&program.code(thread)[number])),
+            Kind::Unreached(thread) => Ok(!is_reached(alloc, code_of(program, thread), number)?),
+            Kind::MayKeep(thread) => Ok(may_keep(alloc, code_of(program, thread), number)?),
+            Kind::MayLack(thread) => Ok(may_lack(alloc, code_of(program, thread), number)?),
+        }
+    }
+}

@@ -1,0 +1,11 @@
+pub mod Lists
+pub mod Objects
+pub mod Landings
+pub mod Queues
+pub mod LocalRuns
+pub mod Performed
+pub mod WholeSteps
+pub mod Values
+pub mod Openings
+pub mod EndKinds
+pub mod Sleepers

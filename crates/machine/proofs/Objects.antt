@@ -1,0 +1,346 @@
+-- Who may go on after a change of an object, and the sets of those who are at it.
+use Rattle.std.proofs.Common.{◌≡◌, ◌≢◌, ℕ, zero, suc, ◌+◌, ◌-◌, ◌<◌, Bool, true, false, cond, not, ◌&&◌, ◌||◌, nat_eq, nat_lt, length, Option, Some, None, get_or, set, refl, ap, ◌∙◌, sym, arith}
+use Rattle.std.proofs.lemmas.Bool.Decides.{nat_tests}
+use Rattle.guest_code.specs.Program.{Program}
+use Rattle.guest_code.specs.declared.program.Instruction.{Instruction}
+use Rattle.guest_code.specs.declared.program.Instruction.TheVariants.{Wait}
+use Rattle.semantics.specs.declared.mask.Mask.{Mask}
+use Rattle.semantics.specs.declared.state.Status.{Status}
+use Rattle.semantics.specs.declared.state.Status.TheVariants.{Running, Waiting, Woken, Ended, Stopped}
+use Rattle.semantics.specs.declared.state.MutexAction.{MutexAction}
+use Rattle.semantics.specs.declared.state.MutexAction.TheVariants.{Lock as Locks, Unlock as Unlocks, Retake as Retakes}
+use Rattle.semantics.specs.declared.state.SemaphoreAction.TheVariants.{Acquire as Acquires, Release as Releases}
+use Rattle.semantics.specs.declared.state.Action.{Action}
+use Rattle.semantics.specs.declared.state.Action.TheVariants.{OnVariable, OnMutex, Wait as Waits, OnCondition, OnSemaphore}
+use Rattle.semantics.specs.Machine.{Snapshot, thread_at, owner_of, count_of, next_of, can_do, action_at, is_free}
+use Rattle.semantics.specs.Mask.{has}
+use Rattle.semantics.specs.Ends.{is_stopped, is_ended}
+use Rattle.machine.specs.declared.control.Control.{Control}
+use Rattle.machine.specs.Refinement.{takes_mutex, takes_semaphore, is_woken, at_mutex, at_semaphore, held, HasThreadAt, IsControl}
+use Rattle.machine.specs.inner.Parts.{IsControlBut, IsTaking}
+use Rattle.machine.proofs.Lists.{same_set, set_has, set_there, test_set}
+
+and_true : (b : Bool) → (b && true) ≡ b
+and_true true = refl
+and_true false = refl
+
+pub and_false : (b : Bool) → (b && false) ≡ false
+and_false true = refl
+and_false false = refl
+
+or_false : (b : Bool) → (b || false) ≡ b
+or_false true = refl
+or_false false = refl
+
+locked_out : (b q : Bool) → cond q false b ≡ (b && not q)
+locked_out true true = refl
+locked_out true false = refl
+locked_out false true = refl
+locked_out false false = refl
+
+let_in : (b q : Bool) → cond q true b ≡ (b || q)
+let_in true true = refl
+let_in true false = refl
+let_in false true = refl
+let_in false false = refl
+
+-- only the objects are asked
+pub can_held : (s : Snapshot) (a : Option Action) → can_do (held s) a ≡ can_do s a
+can_held s None = refl
+can_held s (Some (OnVariable x d)) = refl
+can_held s (Some (OnMutex n d)) = refl
+can_held s (Some (Waits c n)) = refl
+can_held s (Some (OnCondition c d)) = refl
+can_held s (Some (OnSemaphore k d)) = refl
+
+-- a mutex was taken
+locked : (s : Snapshot) (m t : ℕ) (a : Option Action) → m < length s.owners
+    → can_do (record s { owners = set s.owners m (Some t) }) a
+    ≡ (can_do s a && not (takes_mutex m a))
+locked s m t None l = refl
+locked s m t (Some (OnVariable x d)) l = refl
+locked s m t (Some (OnMutex n Locks)) l = test_set is_free s.owners m (Some t) None l n
+    ∙ locked_out (is_free (owner_of s n)) (nat_eq n m)
+locked s m t (Some (OnMutex n Retakes)) l = test_set is_free s.owners m (Some t) None l n
+    ∙ locked_out (is_free (owner_of s n)) (nat_eq n m)
+locked s m t (Some (OnMutex n Unlocks)) l = refl
+locked s m t (Some (Waits c n)) l = refl
+locked s m t (Some (OnCondition c d)) l = refl
+locked s m t (Some (OnSemaphore k d)) l = sym (and_true (can_do s (Some (OnSemaphore k d))))
+
+-- a mutex got free
+freed : (s : Snapshot) (m : ℕ) (a : Option Action) → m < length s.owners
+    → can_do (record s { owners = set s.owners m None }) a ≡ (can_do s a || takes_mutex m a)
+freed s m None l = refl
+freed s m (Some (OnVariable x d)) l = refl
+freed s m (Some (OnMutex n Locks)) l = test_set is_free s.owners m None None l n
+    ∙ let_in (is_free (owner_of s n)) (nat_eq n m)
+freed s m (Some (OnMutex n Retakes)) l = test_set is_free s.owners m None None l n
+    ∙ let_in (is_free (owner_of s n)) (nat_eq n m)
+freed s m (Some (OnMutex n Unlocks)) l = refl
+freed s m (Some (Waits c n)) l = refl
+freed s m (Some (OnCondition c d)) l = refl
+freed s m (Some (OnSemaphore k d)) l = sym (or_false (can_do s (Some (OnSemaphore k d))))
+
+-- a semaphore can't be acquired any more
+run_out : (s : Snapshot) (k : ℕ) (a : Option Action) → k < length s.counts
+    → can_do (record s { counts = set s.counts k 0 }) a
+    ≡ (can_do s a && not (takes_semaphore k a))
+run_out s k None l = refl
+run_out s k (Some (OnVariable x d)) l = refl
+run_out s k (Some (OnMutex n d)) l = sym (and_true (can_do s (Some (OnMutex n d))))
+run_out s k (Some (Waits c n)) l = refl
+run_out s k (Some (OnCondition c d)) l = refl
+run_out s k (Some (OnSemaphore j Acquires)) l = test_set (nat_lt 0) s.counts k 0 0 l j
+    ∙ locked_out (nat_lt 0 (count_of s j)) (nat_eq j k)
+run_out s k (Some (OnSemaphore j Releases)) l = refl
+
+-- a semaphore can be acquired
+let_through : (s : Snapshot) (k n : ℕ) (a : Option Action) → k < length s.counts
+    → can_do (record s { counts = set s.counts k (suc n) }) a
+    ≡ (can_do s a || takes_semaphore k a)
+let_through s k n None l = refl
+let_through s k n (Some (OnVariable x d)) l = refl
+let_through s k n (Some (OnMutex m d)) l = sym (or_false (can_do s (Some (OnMutex m d))))
+let_through s k n (Some (Waits c m)) l = refl
+let_through s k n (Some (OnCondition c d)) l = refl
+let_through s k n (Some (OnSemaphore j Acquires)) l =
+    let one : nat_lt 0 (suc n) ≡ true = grind (arith, nat_tests) in
+    test_set (nat_lt 0) s.counts k (suc n) 0 l j
+    ∙ (ap (λ b. cond (nat_eq j k) b (nat_lt 0 (count_of s j))) one
+    ∙ let_in (nat_lt 0 (count_of s j)) (nat_eq j k))
+let_through s k n (Some (OnSemaphore j Releases)) l = refl
+
+-- who is at a semaphore whose count is above 0 may go on
+may_acquire : (s : Snapshot) (k : ℕ) (a : Option Action) → nat_lt 0 (count_of s k) ≡ true
+    → (can_do s a || takes_semaphore k a) ≡ can_do s a
+may_acquire s k None h = refl
+may_acquire s k (Some (OnVariable x d)) h = refl
+may_acquire s k (Some (OnMutex m d)) h = or_false (can_do s (Some (OnMutex m d)))
+may_acquire s k (Some (Waits c m)) h = refl
+may_acquire s k (Some (OnCondition c d)) h = refl
+may_acquire s k (Some (OnSemaphore j Acquires)) h = go (nat_eq j k) refl
+  where
+    go : (q : Bool) → nat_eq j k ≡ q → (nat_lt 0 (count_of s j) || q) ≡ nat_lt 0 (count_of s j)
+    go true e = let z : j ≡ k = grind (arith, nat_tests, e) in rw z (rw h refl)
+    go false e = or_false (nat_lt 0 (count_of s j))
+may_acquire s k (Some (OnSemaphore j Releases)) h = refl
+
+-- a count that stays above 0
+still : (s : Snapshot) (k n : ℕ) (a : Option Action) → k < length s.counts → 0 < n
+    → nat_lt 0 (count_of s k) ≡ true
+    → can_do (record s { counts = set s.counts k n }) a ≡ can_do s a
+still s k zero a l z h = absurd (omega arith)
+still s k (suc n) a l z h = let_through s k n a l ∙ may_acquire s k a h
+
+-- a thread that is about to do something is not over
+not_over : (status : Status) (o : Option Instruction) (d : Action) → action_at status o ≡ Some d
+    → (is_ended status ≡ false) × (is_stopped status ≡ false)
+not_over Running o d e = (refl, refl)
+not_over Woken o d e = (refl, refl)
+not_over (Waiting c) o d e = (refl, refl)
+not_over Ended o d e = cc
+not_over (Stopped why) o d e = cc
+
+-- one that is about to acquire a semaphore wasn't called
+not_called : (status : Status) (o : Option Instruction) (k : ℕ)
+    → action_at status o ≡ Some (OnSemaphore k Acquires) → is_woken status ≡ false
+not_called Running o k e = refl
+not_called (Waiting c) o k e = refl
+not_called Ended o k e = refl
+not_called (Stopped why) o k e = refl
+not_called Woken None k e = cc
+not_called Woken (Some (Wait c m)) k e = cc
+not_called Woken (Some x) k e = cc
+
+takes : (d : MutexAction) (m n : ℕ) → IsTaking d → takes_mutex n (Some (OnMutex m d)) ≡ nat_eq m n
+takes Locks m n h = refl
+takes Retakes m n h = refl
+takes Unlocks m n h = absurd h
+
+-- a thread takes a mutex
+pub took : (p : Program) (s : Snapshot) (t m : ℕ) (d : MutexAction) (c : Control)
+    (near up less : Mask)
+    → IsControl p c s → m < length s.owners → m < length c.mutexes → m < length c.owners
+    → next_of p s t ≡ Some (OnMutex m d) → IsTaking d
+    → has near t ≡ false → ((u : ℕ) → u ≢ t → has near u ≡ has (at_mutex c m) u)
+    → has up t ≡ false → ((u : ℕ) → u ≢ t → has up u ≡ has c.woken u)
+    → ((u : ℕ) → has less u ≡ (has c.enabled u && not (has near u)))
+    → IsControlBut p (record c {
+      mutexes = set c.mutexes m near;
+      owners = set c.owners m (Some t);
+      woken = up;
+      enabled = less;
+    }) (record s { owners = set s.owners m (Some t) }) t
+took p s t m d c near up less shows inside few room next taking out others awake sleep left =
+    record {
+      objects = record {
+        owners_are = same_set c.owners s.owners m (Some t) None shows.objects.owners_are room
+            inside;
+        counts_are = shows.objects.counts_are;
+        queues_are = shows.objects.queues_are;
+        lengths_are = shows.objects.lengths_are;
+      };
+      threads = λ u ne. let h = shows.threads u in record {
+        place = h.place;
+        unended = h.unended;
+        stopped = h.stopped;
+        woken = sleep u ne ∙ h.woken;
+        enabled = left u ∙ ((λ i. h.enabled i && not ((others u ne ∙ h.mutexes m) i))
+            ∙ sym (locked (held s) m t (next_of p s u) inside));
+        mutexes = λ n. set_has c.mutexes m u near few (others u ne) n ∙ h.mutexes n;
+        semaphores = h.semaphores;
+      };
+      idle = record {
+        unended = mine.unended ∙ ap not over.0;
+        stopped = mine.stopped ∙ over.1;
+        woken = awake;
+        apart = record {
+          mutexes = λ n. set_there c.mutexes m t near false few out
+              (λ k e. mine.mutexes k ∙ (ap (takes_mutex k) next ∙ (takes d m k taking ∙ e))) n
+              ∙ and_false (nat_eq m n);
+          semaphores = λ k. mine.semaphores k ∙ ap (takes_semaphore k) next;
+        };
+      };
+    }
+  where
+    mine : HasThreadAt p c s t (thread_at s t)
+    mine = shows.threads t
+
+    over : (is_ended (thread_at s t).status ≡ false) × (is_stopped (thread_at s t).status ≡ false)
+    over = not_over (thread_at s t).status _ _ next
+
+-- a mutex gets free
+pub gave : (p : Program) (s : Snapshot) (t m : ℕ) (c : Control) (more : Mask)
+    → IsControlBut p c s t → m < length s.owners → m < length c.owners
+    → ((u : ℕ) → has more u ≡ (has c.enabled u || has (at_mutex c m) u))
+    → IsControlBut p (record c { owners = set c.owners m None; enabled = more })
+    (record s { owners = set s.owners m None }) t
+gave p s t m c more shows inside room more_is = record {
+  objects = record {
+    owners_are = same_set c.owners s.owners m None None shows.objects.owners_are room inside;
+    counts_are = shows.objects.counts_are;
+    queues_are = shows.objects.queues_are;
+    lengths_are = shows.objects.lengths_are;
+  };
+  threads = λ u ne. let h = shows.threads u ne in record {
+    place = h.place;
+    unended = h.unended;
+    stopped = h.stopped;
+    woken = h.woken;
+    enabled = more_is u ∙ ((λ i. h.enabled i || h.mutexes m i)
+        ∙ sym (freed (held s) m (next_of p s u) inside));
+    mutexes = h.mutexes;
+    semaphores = h.semaphores;
+  };
+  idle = shows.idle;
+}
+
+-- a thread acquires a semaphore; `less` are those enabled after it
+pub acquired : (p : Program) (s : Snapshot) (t k : ℕ) (c : Control) (near less : Mask)
+    → IsControl p c s → k < length s.counts → k < length c.semaphores → k < length c.counts
+    → next_of p s t ≡ Some (OnSemaphore k Acquires)
+    → has near t ≡ false → ((u : ℕ) → u ≢ t → has near u ≡ has (at_semaphore c k) u)
+    → ((u : ℕ) → u ≢ t → has less u
+    ≡ can_do (held (record s { counts = set s.counts k (count_of s k - 1) })) (next_of p s u))
+    → IsControlBut p (record c {
+      semaphores = set c.semaphores k near;
+      counts = set c.counts k (get_or c.counts k 0 - 1);
+      enabled = less;
+    }) (record s { counts = set s.counts k (count_of s k - 1) }) t
+acquired p s t k c near less shows inside few room next out others left = record {
+  objects = record {
+    owners_are = shows.objects.owners_are;
+    counts_are = λ j. ap (λ n. get_or (set c.counts k (n - 1)) j 0) (shows.objects.counts_are k)
+        ∙ same_set c.counts s.counts k (count_of s k - 1) 0 shows.objects.counts_are room inside j;
+    queues_are = shows.objects.queues_are;
+    lengths_are = shows.objects.lengths_are;
+  };
+  threads = λ u ne. let h = shows.threads u in record {
+    place = h.place;
+    unended = h.unended;
+    stopped = h.stopped;
+    woken = h.woken;
+    enabled = left u ne;
+    mutexes = h.mutexes;
+    semaphores = λ n. set_has c.semaphores k u near few (others u ne) n ∙ h.semaphores n;
+  };
+  idle = record {
+    unended = mine.unended ∙ ap not over.0;
+    stopped = mine.stopped ∙ over.1;
+    woken = mine.woken ∙ not_called (thread_at s t).status _ k next;
+    apart = record {
+      mutexes = λ m. mine.mutexes m ∙ ap (takes_mutex m) next;
+      semaphores = λ n. set_there c.semaphores k t near false few out
+          (λ j e. mine.semaphores j ∙ (ap (takes_semaphore j) next ∙ e)) n
+          ∙ and_false (nat_eq k n);
+    };
+  };
+}
+  where
+    mine : HasThreadAt p c s t (thread_at s t)
+    mine = shows.threads t
+
+    over : (is_ended (thread_at s t).status ≡ false) × (is_stopped (thread_at s t).status ≡ false)
+    over = not_over (thread_at s t).status _ _ next
+
+-- whom it leaves enabled: at count 0 nobody who is at the semaphore
+pub left_empty : (p : Program) (s : Snapshot) (t k : ℕ) (c : Control) (near less : Mask)
+    → IsControl p c s → k < length s.counts → get_or c.counts k 0 - 1 ≡ 0
+    → ((u : ℕ) → u ≢ t → has near u ≡ has (at_semaphore c k) u)
+    → ((u : ℕ) → has less u ≡ (has c.enabled u && not (has near u)))
+    → (u : ℕ) → u ≢ t → has less u
+    ≡ can_do (held (record s { counts = set s.counts k (count_of s k - 1) })) (next_of p s u)
+left_empty p s t k c near less shows inside none others left u ne =
+    let h = shows.threads u in
+    let z : count_of s k - 1 ≡ 0 = ap (λ n. n - 1) (sym (shows.objects.counts_are k)) ∙ none in
+    left u ∙ ((λ i. h.enabled i && not ((others u ne ∙ h.semaphores k) i))
+    ∙ (sym (run_out (held s) k (next_of p s u) inside)
+    ∙ ap (λ n. can_do (held (record s { counts = set s.counts k n })) (next_of p s u)) (sym z)))
+
+-- above it all as before
+pub left_some : (p : Program) (s : Snapshot) (t k : ℕ) (c : Control)
+    → IsControl p c s → k < length s.counts → (get_or c.counts k 0 - 1 ≡ 0 → ⊥)
+    → (u : ℕ) → u ≢ t → has c.enabled u
+    ≡ can_do (held (record s { counts = set s.counts k (count_of s k - 1) })) (next_of p s u)
+left_some p s t k c shows inside some u ne =
+    let h = shows.threads u in
+    let e = shows.objects.counts_are k in
+    let l : 0 < count_of s k - 1 = omega (arith, some, e) in
+    let g : nat_lt 0 (count_of s k) ≡ true = grind (arith, nat_tests, l) in
+    h.enabled ∙ sym (still (held s) k (count_of s k - 1) (next_of p s u) inside l g)
+
+-- a count rises
+pub rose : (p : Program) (s : Snapshot) (t k : ℕ) (c : Control) (more : Mask)
+    → IsControlBut p c s t → k < length s.counts → k < length c.counts
+    → ((u : ℕ) → has more u ≡ (has c.enabled u || has (at_semaphore c k) u))
+    → IsControlBut p (record c {
+      counts = set c.counts k (get_or c.counts k 0 + 1);
+      enabled =
+          more;
+    })
+    (record s { counts = set s.counts k (count_of s k + 1) }) t
+rose p s t k c more shows inside room more_is = record {
+  objects = record {
+    owners_are = shows.objects.owners_are;
+    counts_are = λ j. ap (λ n. get_or (set c.counts k (n + 1)) j 0) (shows.objects.counts_are k)
+        ∙ same_set c.counts s.counts k (count_of s k + 1) 0 shows.objects.counts_are room inside j;
+    queues_are = shows.objects.queues_are;
+    lengths_are = shows.objects.lengths_are;
+  };
+  threads = λ u ne. let h = shows.threads u ne in record {
+    place = h.place;
+    unended = h.unended;
+    stopped = h.stopped;
+    woken = h.woken;
+    enabled = more_is u ∙ ((λ i. h.enabled i || h.semaphores k i)
+        ∙ sym (ap (λ n. can_do (held (record s { counts = set s.counts k n })) (next_of p s u)) up
+        ∙ let_through (held s) k (count_of s k) (next_of p s u) inside));
+    mutexes = h.mutexes;
+    semaphores = h.semaphores;
+  };
+  idle = shows.idle;
+}
+  where
+    up : count_of s k + 1 ≡ suc (count_of s k)
+    up = omega arith

@@ -1,0 +1,508 @@
+-- What each statement's step makes of a state, but for what its thread does itself after it.
+use Rattle.std.proofs.Common.{◌≡◌, ◌≢◌, ℕ, ℤ, ◌+◌, ◌-◌, ◌<◌, ◌≤◌, true, false, cond, not, ◌⊎◌, nat_eq, List, [], ◌∷◌, ◌++◌, length, take, drop, pos, Some, None, get_or, set, refl, ap, ◌∙◌, sym, subst, arith, get_or-set_same, get_or-set_other, length-set, inl, inr}
+use Rattle.std.proofs.lemmas.Bool.{cases_lt, cases_order}
+use Rattle.std.proofs.lemmas.Bool.Decides.{nat_tests}
+use Rattle.std.proofs.lemmas.List.{set-get_or, get_or_past}
+use Rattle.guest_code.specs.declared.limits.TheConstants.{COUNT}
+use Rattle.guest_code.specs.declared.program.Instruction.{Instruction}
+use Rattle.guest_code.specs.declared.program.Instruction.TheVariants.{Signal, Broadcast}
+use Rattle.guest_code.specs.Program.{Program, code_of}
+use Rattle.semantics.specs.declared.state.Stop.TheVariants.{NotHeld, SemFull}
+use Rattle.semantics.specs.declared.state.VariableAction.{VariableAction}
+use Rattle.semantics.specs.declared.state.Thread.{Thread}
+use Rattle.semantics.specs.declared.state.Status.{Status}
+use Rattle.semantics.specs.declared.state.Status.TheVariants.{Running, Waiting, Woken, Ended, Stopped}
+use Rattle.semantics.specs.declared.state.MutexAction.TheVariants.{Lock as Locks, Unlock as Unlocks}
+use Rattle.semantics.specs.declared.state.ConditionAction.TheVariants.{Signal as Signals, Broadcast as Broadcasts}
+use Rattle.semantics.specs.declared.state.SemaphoreAction.TheVariants.{Acquire as Acquires, Release as Releases}
+use Rattle.semantics.specs.declared.state.Action.{Action}
+use Rattle.semantics.specs.declared.state.Action.TheVariants.{OnVariable, OnMutex, Wait as Waits, OnCondition, OnSemaphore}
+use Rattle.semantics.specs.Machine.{Snapshot, thread_at, owner_of, queue_of, count_of, value_of, action_of, missing_thread, var_after, reader_after, acts, owns, is_full, resumed, with_status, wake, woken, woken_status}
+use Rattle.semantics.specs.Ends.{is_stopped, is_ended}
+use Rattle.semantics.specs.Waiters.{In, Once}
+use Rattle.semantics.proofs.StepsKeepStates.{room_in_queue}
+use Rattle.machine.specs.declared.control.Control.{Control}
+use Rattle.machine.specs.declared.local.Landing.{Landing}
+use Rattle.machine.specs.Refinement.{takes_mutex, takes_semaphore, is_woken, HasThreadAt}
+use Rattle.machine.specs.inner.LocalRuns.{own_thread, IsAccessBelow}
+use Rattle.machine.specs.inner.Parts.{IsControlBut}
+use Rattle.machine.specs.inner.Steps.{IsPoised, IsPerformed, IsCalling, settled}
+use Rattle.machine.proofs.Lists.{set_twice}
+use Rattle.machine.proofs.LocalRuns.{narrow_var, narrow_reader, reader_pc}
+
+pub leaves : (p : Program) (s : Snapshot) (t : ℕ) (i : Instruction) (c : Control)
+    (vars mine : List ℤ) (a : Action)
+    → IsPoised p s t i c vars mine → action_of i ≡ Some a
+    → ((m : ℕ) → takes_mutex m (Some a) ≡ false)
+    → ((k : ℕ) → takes_semaphore k (Some a) ≡ false) → IsControlBut p c s t
+leaves p s t i c vars mine a poised is mutex semaphore = record {
+  objects = poised.control.objects;
+  threads = λ u ne. poised.control.threads u;
+  idle = record {
+    unended = h.unended ∙ ap (λ x. not (is_ended x)) poised.status;
+    stopped = h.stopped ∙ ap is_stopped poised.status;
+    woken = h.woken ∙ ap is_woken poised.status;
+    apart = record {
+      mutexes = λ m. h.mutexes m ∙ (ap (takes_mutex m) (poised.next ∙ is) ∙ mutex m);
+      semaphores = λ k. h.semaphores k ∙ (ap (takes_semaphore k) (poised.next ∙ is) ∙ semaphore k);
+    };
+  };
+}
+  where
+    h : HasThreadAt p c s t (thread_at s t)
+    h = poised.control.threads t
+
+-- variables
+
+pub accessed : (p : Program) (s : Snapshot) (t : ℕ) (i : Instruction) (c : Control)
+    (vars mine : List ℤ)
+    (x : ℕ) (d : VariableAction) (cell : ℤ) (vars' mine' : List ℤ)
+    → IsPoised p s t i c vars mine → action_of i ≡ Some (OnVariable x d)
+    → IsAccessBelow (length mine) d
+    → cell ≡ get_or vars x (pos 0) → vars' ≡ set vars x (var_after d mine cell)
+    → ((at : Landing) → own_thread at mine' ≡ reader_after d (own_thread at mine) cell)
+    → length mine' ≡ length mine
+    → IsPerformed p s t c vars' mine' Running
+accessed p s t i c vars mine x d cell vars' mine' poised is below read wrote own long = record {
+  after = record s { vars = set s.vars x (var_after d th.locals (value_of s x)) };
+  th = reader_after d th (value_of s x);
+  control = record { objects = but.objects; threads = but.threads; idle = but.idle };
+  variables = wrote ∙ (λ j. set (poised.variables j) x (value j));
+  own = ap (λ (y : Thread). y.locals) (own nowhere)
+      ∙ ((λ j. (reader_after d (own_thread nowhere (poised.own j)) (old j)).locals)
+      ∙ (narrow_reader (length mine) th d (value_of s x) nowhere below
+      ∙ ap (λ n. take n (reader_after d th (value_of s x)).locals) (sym long)));
+  pc = reader_pc d th (value_of s x);
+  threads = refl;
+  others = λ u ne. refl;
+  step = ap (acts p s t th) (poised.next ∙ is);
+}
+  where
+    but : IsControlBut p c s t
+    but = leaves p s t i c vars mine (OnVariable x d) poised is (λ m. refl) (λ k. refl)
+
+    th : Thread
+    th = thread_at s t
+
+    nowhere : Landing
+    nowhere = record { pc = 0; status = Running }
+
+    old : cell ≡ value_of s x
+    old = read ∙ ap (λ vs. get_or vs x (pos 0)) poised.variables
+
+    value : var_after d mine cell ≡ var_after d th.locals (value_of s x)
+    value = (λ j. var_after d (poised.own j) (old j))
+        ∙ narrow_var (length mine) th.locals d (value_of s x) below
+
+-- a step that changes a mutex or a semaphore, or none, with the thread as it was
+pub moved_on : (p : Program) (s : Snapshot) (t : ℕ) (i : Instruction) (c d : Control)
+    (vars mine : List ℤ) (a : Action)
+    (after : Snapshot) (status : Status)
+    → IsPoised p s t i c vars mine → action_of i ≡ Some a → IsControlBut p d after t → after.vars
+    ≡ s.vars
+    → after.threads ≡ s.threads
+    → acts p s t (thread_at s t) (Some a)
+    ≡ record after { threads = set after.threads t (settled (code_of p t) status (thread_at s t)) }
+    → IsPerformed p s t d vars mine status
+moved_on p s t i c d vars mine a after status poised is control vs ts does = record {
+  after = after;
+  th = thread_at s t;
+  control = control;
+  variables = poised.variables ∙ sym vs;
+  own = poised.own;
+  pc = refl;
+  threads = ap (λ (T : List Thread). length T) ts;
+  others = λ u ne. ap (λ (T : List Thread). (get_or T u missing_thread).locals) ts;
+  step = ap (acts p s t (thread_at s t)) (poised.next ∙ is) ∙ does;
+}
+
+pub locks : (p : Program) (s : Snapshot) (t : ℕ) (i : Instruction) (c d : Control)
+    (vars mine : List ℤ) (m : ℕ)
+    → IsPoised p s t i c vars mine → action_of i ≡ Some (OnMutex m Locks)
+    → IsControlBut p d (record s { owners = set s.owners m (Some t) }) t
+    → IsPerformed p s t d vars mine Running
+locks p s t i c d vars mine m poised is control =
+    moved_on p s t i c d vars mine (OnMutex m Locks) _ Running poised is control refl refl refl
+
+pub unlocks : (p : Program) (s : Snapshot) (t : ℕ) (i : Instruction) (c d : Control)
+    (vars mine : List ℤ) (m : ℕ)
+    → IsPoised p s t i c vars mine → action_of i ≡ Some (OnMutex m Unlocks)
+    → owns t (owner_of s m) ≡ true
+    → IsControlBut p d (record s { owners = set s.owners m None }) t
+    → IsPerformed p s t d vars mine Running
+unlocks p s t i c d vars mine m poised is mine_it control =
+    moved_on p s t i c d vars mine (OnMutex m Unlocks) _ Running poised is control refl refl
+    (λ j. record s {
+      owners = set s.owners m (cond (mine_it j) None (owner_of s m));
+      threads = set s.threads t (cond (mine_it j) (resumed (code_of p t) (thread_at s t))
+          (with_status (thread_at s t) (Stopped NotHeld)));
+    })
+
+pub cannot_unlock : (p : Program) (s : Snapshot) (t : ℕ) (i : Instruction) (c : Control)
+    (vars mine : List ℤ) (m : ℕ)
+    → IsPoised p s t i c vars mine → action_of i ≡ Some (OnMutex m Unlocks)
+    → owns t (owner_of s m) ≡ false
+    → IsPerformed p s t c vars mine (Stopped NotHeld)
+cannot_unlock p s t i c vars mine m poised is not_it =
+    moved_on p s t i c c vars mine (OnMutex m Unlocks) s (Stopped NotHeld) poised is
+    (leaves p s t i c vars mine (OnMutex m Unlocks) poised is (λ n. refl) (λ k. refl)) refl refl
+    ((λ j. record s {
+      owners = set s.owners m (cond (not_it j) None (owner_of s m));
+      threads = set s.threads t (cond (not_it j) (resumed (code_of p t) (thread_at s t))
+          (with_status (thread_at s t) (Stopped NotHeld)));
+    }) ∙ (λ j. record s {
+      owners = set-get_or s.owners m None j;
+      threads = set s.threads t (with_status (thread_at s t) (Stopped NotHeld));
+    }))
+
+pub acquires : (p : Program) (s : Snapshot) (t : ℕ) (i : Instruction) (c d : Control)
+    (vars mine : List ℤ) (k : ℕ)
+    → IsPoised p s t i c vars mine → action_of i ≡ Some (OnSemaphore k Acquires)
+    → IsControlBut p d (record s { counts = set s.counts k (count_of s k - 1) }) t
+    → IsPerformed p s t d vars mine Running
+acquires p s t i c d vars mine k poised is control =
+    moved_on p s t i c d vars mine (OnSemaphore k Acquires) _ Running poised is control refl refl
+    refl
+
+pub releases : (p : Program) (s : Snapshot) (t : ℕ) (i : Instruction) (c d : Control)
+    (vars mine : List ℤ) (k : ℕ)
+    → IsPoised p s t i c vars mine → action_of i ≡ Some (OnSemaphore k Releases)
+    → is_full (count_of s k) ≡ false
+    → IsControlBut p d (record s { counts = set s.counts k (count_of s k + 1) }) t
+    → IsPerformed p s t d vars mine Running
+releases p s t i c d vars mine k poised is room control =
+    moved_on p s t i c d vars mine (OnSemaphore k Releases) _ Running poised is control refl refl
+    (λ j. record s {
+      counts = set s.counts k (cond (room j) (count_of s k) (count_of s k + 1));
+      threads = set s.threads t (cond (room j) (with_status (thread_at s t) (Stopped SemFull))
+          (resumed (code_of p t) (thread_at s t)));
+    })
+
+pub cannot_release : (p : Program) (s : Snapshot) (t : ℕ) (i : Instruction) (c : Control)
+    (vars mine : List ℤ) (k : ℕ)
+    → IsPoised p s t i c vars mine → action_of i ≡ Some (OnSemaphore k Releases)
+    → is_full (count_of s k) ≡ true
+    → IsPerformed p s t c vars mine (Stopped SemFull)
+cannot_release p s t i c vars mine k poised is full =
+    moved_on p s t i c c vars mine (OnSemaphore k Releases) s (Stopped SemFull) poised is
+    (leaves p s t i c vars mine (OnSemaphore k Releases) poised is (λ n. refl) (λ j. refl)) refl
+    refl
+    ((λ j. record s {
+      counts = set s.counts k (cond (full j) (count_of s k) (count_of s k + 1));
+      threads = set s.threads t (cond (full j) (with_status (thread_at s t) (Stopped SemFull))
+          (resumed (code_of p t) (thread_at s t)));
+    }) ∙ (λ j. record s {
+      counts = set-get_or s.counts k 0 j;
+      threads = set s.threads t (with_status (thread_at s t) (Stopped SemFull));
+    }))
+
+-- places and limits
+
+pub full_count : (n : ℕ) → n ≡ COUNT → is_full n ≡ true
+full_count n e = grind (arith, nat_tests, e)
+
+pub room_count : (n : ℕ) → n ≢ COUNT → is_full n ≡ false
+room_count n e = grind (arith, nat_tests, e)
+
+-- a wait, for the owner of the mutex and for another
+pub waits_on : (p : Program) (s : Snapshot) (t : ℕ) (i : Instruction) (c d : Control)
+    (vars mine : List ℤ) (n m : ℕ)
+    → IsPoised p s t i c vars mine → action_of i ≡ Some (Waits n m) → owns t (owner_of s m) ≡ true
+    → IsControlBut p d (record s {
+      queues = set s.queues n (queue_of s n ++ t ∷ []);
+      owners = set
+          s.owners m None;
+    }) t
+    → IsPerformed p s t d vars mine (Waiting n)
+waits_on p s t i c d vars mine n m poised is mine_it control =
+    moved_on p s t i c d vars mine (Waits n m) _ (Waiting n) poised is control refl refl
+    (λ j. record s {
+      owners = set s.owners m (cond (mine_it j) None (owner_of s m));
+      queues = set s.queues n (cond (mine_it j) (queue_of s n ++ t ∷ []) (queue_of s n));
+      threads = set s.threads t (cond (mine_it j) (with_status (thread_at s t) (Waiting n))
+          (with_status (thread_at s t) (Stopped NotHeld)));
+    })
+
+pub cannot_wait : (p : Program) (s : Snapshot) (t : ℕ) (i : Instruction) (c : Control)
+    (vars mine : List ℤ) (n m : ℕ)
+    → IsPoised p s t i c vars mine → action_of i ≡ Some (Waits n m) → owns t (owner_of s m) ≡ false
+    → IsPerformed p s t c vars mine (Stopped NotHeld)
+cannot_wait p s t i c vars mine n m poised is not_it =
+    moved_on p s t i c c vars mine (Waits n m) s (Stopped NotHeld) poised is
+    (leaves p s t i c vars mine (Waits n m) poised is (λ k. refl) (λ k. refl)) refl refl
+    ((λ j. record s {
+      owners = set s.owners m (cond (not_it j) None (owner_of s m));
+      queues = set s.queues n (cond (not_it j) (queue_of s n ++ t ∷ []) (queue_of s n));
+      threads = set s.threads t (cond (not_it j) (with_status (thread_at s t) (Waiting n))
+          (with_status (thread_at s t) (Stopped NotHeld)));
+    }) ∙ (λ j. record s {
+      owners = set-get_or s.owners m None j;
+      queues = set-get_or s.queues n [] j;
+      threads = set s.threads t (with_status (thread_at s t) (Stopped NotHeld));
+    }))
+
+pub room_for : (p : Program) (s : Snapshot) (t : ℕ) (i : Instruction) (c : Control)
+    (vars mine : List ℤ) (n m : ℕ)
+    → IsPoised p s t i c vars mine → action_of i ≡ Some (Waits n m) → get_or c.lengths n 0 < 16
+room_for p s t i c vars mine n m poised is =
+    let r = room_in_queue p s t n (Waits n m) poised.of.waiters poised.thread (poised.next ∙ is) in
+    omega (arith, r, poised.of.few, poised.control.objects.lengths_are n)
+
+nothing : (q : List ℕ) → length q ≡ 0 → q ≡ []
+nothing [] e = refl
+nothing (x ∷ q) e = absurd (omega arith)
+
+-- a signal
+
+first_in : (q : List ℕ) (f : ℕ) → take 1 q ≡ f ∷ [] → In q f
+first_in [] f e = cc
+first_in (x ∷ q) f e = inl (let h : x ≡ f = cc in h)
+
+pub first_waits : (p : Program) (s : Snapshot) (t n f : ℕ) (i : Instruction) (c : Control)
+    (vars mine : List ℤ)
+    → IsPoised p s t i c vars mine → take 1 (queue_of s n) ≡ f ∷ [] → (thread_at s f).status
+    ≡ Waiting n
+first_waits p s t n f i c vars mine poised e = poised.of.waiters.waits n f
+    (first_in (queue_of s n) f e)
+
+pub first_apart : (p : Program) (s : Snapshot) (t n f : ℕ) (i : Instruction) (c : Control)
+    (vars mine : List ℤ)
+    → IsPoised p s t i c vars mine → (thread_at s f).status ≡ Waiting n → f ≢ t
+first_apart p s t n f i c vars mine poised waits = λ e.
+    let r : (thread_at s f).status ≡ Running = ap (λ k. (thread_at s k).status) e ∙ poised.status in
+    let q : Waiting n ≡ Running = sym waits ∙ r in cc
+
+pub first_below : (p : Program) (s : Snapshot) (t n f : ℕ) (i : Instruction) (c : Control)
+    (vars mine : List ℤ)
+    → IsPoised p s t i c vars mine → take 1 (queue_of s n) ≡ f ∷ [] → f < length s.threads
+first_below p s t n f i c vars mine poised e = elim (cases_lt f (length s.threads)) [
+  | inl l ↦ l
+  | inr g ↦ (let w : Waiting n ≡ Ended = sym (first_waits p s t n f i c vars mine poised e)
+      ∙ ap (λ (x : Thread). x.status) (get_or_past s.threads f missing_thread g) in cc)
+]
+
+pub signals : (p : Program) (s : Snapshot) (t n f : ℕ) (c d : Control) (vars mine : List ℤ)
+    → IsPoised p s t (Signal n) c vars mine → take 1 (queue_of s n) ≡ f ∷ []
+    → IsControlBut p d (record s {
+      queues = set s.queues n (drop 1 (queue_of s n));
+      threads = set s.threads f (with_status (thread_at s f) Woken);
+    }) t
+    → IsPerformed p s t d vars mine Running
+signals p s t n f c d vars mine poised e control = record {
+  after = record s {
+    queues = set s.queues n (drop 1 (queue_of s n));
+    threads = set s.threads f (with_status (thread_at s f) Woken);
+  };
+  th = thread_at s t;
+  control = control;
+  variables = poised.variables;
+  own = poised.own;
+  pc = refl;
+  threads = length-set s.threads f (with_status (thread_at s f) Woken);
+  others = λ u ne. go u (cases_order u f);
+  step = ap (acts p s t (thread_at s t)) poised.next ∙ (λ j. record s {
+    queues = set s.queues n (drop 1 (queue_of s n));
+    threads = set (called j) t (resumed (code_of p t) (thread_at s t));
+  });
+}
+  where
+    below : f < length s.threads
+    below = first_below p s t n f (Signal n) c vars mine poised e
+
+    waits : (thread_at s f).status ≡ Waiting n
+    waits = first_waits p s t n f (Signal n) c vars mine poised e
+
+    same : nat_eq n n ≡ true
+    same = grind (arith, nat_tests)
+
+    called : wake n (take 1 (queue_of s n)) s.threads
+        ≡ set s.threads f (with_status (thread_at s f) Woken)
+    called = ap (λ q. wake n q s.threads) e
+        ∙ ap (λ w. set s.threads f (with_status (thread_at s f) w))
+        (ap (woken_status n) waits ∙ ap (λ b. cond b Woken (Waiting n)) same)
+
+    go : (u : ℕ) → (u ≡ f) ⊎ ((u < f) ⊎ (f < u))
+        → (get_or (set s.threads f (with_status (thread_at s f) Woken)) u missing_thread).locals
+        ≡ (thread_at s u).locals
+    go u (inl q) = rw q (ap (λ (x : Thread). x.locals) (get_or-set_same s.threads f
+        (with_status (thread_at s f) Woken) missing_thread below))
+    go u (inr (inl l)) = ap (λ (x : Thread). x.locals)
+        (get_or-set_other s.threads f u (with_status (thread_at s f) Woken) missing_thread
+        (omega arith))
+    go u (inr (inr l)) = ap (λ (x : Thread). x.locals)
+        (get_or-set_other s.threads f u (with_status (thread_at s f) Woken) missing_thread
+        (omega arith))
+
+pub signals_nobody : (p : Program) (s : Snapshot) (t n : ℕ) (c : Control) (vars mine : List ℤ)
+    → IsPoised p s t (Signal n) c vars mine → get_or c.lengths n 0 ≡ 0
+    → IsPerformed p s t c vars mine Running
+signals_nobody p s t n c vars mine poised none =
+    moved_on p s t (Signal n) c c vars mine (OnCondition n Signals) s Running poised refl
+    (leaves p s t (Signal n) c vars mine (OnCondition n Signals) poised refl (λ k. refl)
+    (λ k. refl)) refl refl
+    ((λ j. record s {
+      queues = set s.queues n (drop 1 (empty j));
+      threads = set (wake n (take 1 (empty j)) s.threads) t (resumed (code_of p t) (thread_at s t));
+    }) ∙ ((λ j. record s {
+      queues = set s.queues n (sym empty j);
+      threads = set s.threads t (resumed (code_of p t) (thread_at s t));
+    }) ∙ (λ j. record s {
+      queues = set-get_or s.queues n [] j;
+      threads = set s.threads t (resumed (code_of p t) (thread_at s t));
+    })))
+  where
+    empty : queue_of s n ≡ []
+    empty = nothing (queue_of s n) (sym (poised.control.objects.lengths_are n) ∙ none)
+
+-- a queue has no more threads than there are
+pub few_wait : (p : Program) (s : Snapshot) (t n : ℕ) (i : Instruction) (c : Control)
+    (vars mine : List ℤ) {d : Action} → IsPoised p s t i c vars mine → action_of i ≡ Some d
+    → get_or c.lengths n 0 ≤ 16
+few_wait p s t n i c vars mine {d = d} poised is =
+    let r = room_in_queue p s t n d poised.of.waiters poised.thread (poised.next ∙ is) in
+    omega (arith, r, poised.of.few, poised.control.objects.lengths_are n)
+
+-- a broadcast
+
+pub calling_start : (p : Program) (s : Snapshot) (t n : ℕ) (c : Control) (vars mine : List ℤ)
+    → IsPoised p s t (Broadcast n) c vars mine → IsCalling p s t n c
+calling_start p s t n c vars mine poised = record {
+  rest = queue_of s n;
+  threads = s.threads;
+  control = subst (λ q. IsControlBut p c (record s { queues = q; threads = s.threads }) t)
+      (sym (set-get_or s.queues n []))
+      (leaves p s t (Broadcast n) c vars mine (OnCondition n Broadcasts) poised refl (λ k. refl)
+      (λ k. refl));
+  same = refl;
+  waits = λ u i. poised.of.waiters.waits n u i;
+  once = poised.of.waiters.once n;
+  many = refl;
+  locals = λ u. refl;
+  me = refl;
+}
+
+module _ (p : Program) (s : Snapshot) (t n : ℕ) (c : Control) (h : IsCalling p s t n c)
+    (inside : n < length s.queues)
+    (running : (thread_at s t).status ≡ Running) where
+  abbrev pub calling_state : Snapshot
+  calling_state = record s { queues = set s.queues n h.rest; threads = h.threads }
+
+  queue_now : get_or (set s.queues n h.rest) n [] ≡ h.rest
+  queue_now = get_or-set_same s.queues n h.rest [] inside
+
+  module _ (f : ℕ) (first : take 1 (get_or (set s.queues n h.rest) n []) ≡ f ∷ []) where
+    front : take 1 h.rest ≡ f ∷ []
+    front = ap (take 1) (sym queue_now) ∙ first
+
+    pub called_waits : (get_or h.threads f missing_thread).status ≡ Waiting n
+    called_waits = h.waits f (first_in h.rest f front)
+
+    pub called_apart : f ≢ t
+    called_apart = λ e.
+        let r : (get_or h.threads f missing_thread).status ≡ Running =
+        ap (λ k. (get_or h.threads k missing_thread).status) e
+        ∙ (ap (λ (x : Thread). x.status) h.me ∙ running) in
+        let q : Waiting n ≡ Running = sym called_waits ∙ r in cc
+
+    pub called_below : f < length h.threads
+    called_below = elim (cases_lt f (length h.threads)) [
+      | inl l ↦ l
+      | inr g ↦ (let w : Waiting n ≡ Ended = sym called_waits
+          ∙ ap (λ (x : Thread). x.status) (get_or_past h.threads f missing_thread g) in cc)
+    ]
+
+    abbrev pub to : Thread
+    to = with_status (get_or h.threads f missing_thread) Woken
+
+    same_nat : nat_eq n n ≡ true
+    same_nat = grind (arith, nat_tests)
+
+    is_woken_one : woken n (get_or h.threads f missing_thread) ≡ to
+    is_woken_one = ap (with_status (get_or h.threads f missing_thread))
+        (ap (woken_status n) called_waits ∙ ap (λ b. cond b Woken (Waiting n)) same_nat)
+
+    woke : (q : List ℕ) → take 1 q ≡ f ∷ [] → wake n (drop 1 q) (set h.threads f to)
+        ≡ wake n q h.threads
+    woke [] e = cc
+    woke (x ∷ q) e = let z : f ≡ x = cc in
+        (λ i. wake n q (set h.threads f (sym is_woken_one i)))
+        ∙ (ap (λ k. wake n q (set h.threads k (woken n (get_or h.threads k missing_thread)))) z)
+
+    in_rest : (q : List ℕ) (u : ℕ) → In (drop 1 q) u → In q u
+    in_rest [] u i = i
+    in_rest (x ∷ q) u i = inr i
+
+    not_first : (q : List ℕ) → take 1 q ≡ f ∷ [] → Once q → In (drop 1 q) f → ⊥
+    not_first [] e o i = i
+    not_first (x ∷ q) e o i = let z : f ≡ x = cc in o.0 (subst (In q) z i)
+
+    once_rest : (q : List ℕ) → Once q → Once (drop 1 q)
+    once_rest [] o = o
+    once_rest (x ∷ q) o = o.1
+
+    other : (u : ℕ) → u ≢ f → get_or (set h.threads f to) u missing_thread
+        ≡ get_or h.threads u missing_thread
+    other u ne = get_or-set_other h.threads f u to missing_thread ne
+
+    pub calling_next : (d : Control)
+        → IsControlBut p d (record s {
+          queues = set (set s.queues n h.rest) n (drop 1 (get_or (set s.queues n h.rest) n []));
+          threads = set h.threads f to;
+        }) t → IsCalling p s t n d
+    calling_next d control = record {
+      rest = drop 1 h.rest;
+      threads = set h.threads f to;
+      control = subst (λ q. IsControlBut p d (record s {
+        queues = q;
+        threads = set h.threads f to;
+      }) t)
+          (set_twice s.queues n h.rest (drop 1 (get_or (set s.queues n h.rest) n []))
+          ∙ ap (λ q. set s.queues n (drop 1 q)) queue_now) control;
+      same = woke h.rest front ∙ h.same;
+      waits = λ u i. ap (λ (x : Thread). x.status)
+          (other u (λ e. not_first h.rest front h.once (subst (In (drop 1 h.rest)) e i)))
+          ∙ h.waits u (in_rest h.rest u i);
+      once = once_rest h.rest h.once;
+      many = length-set h.threads f to ∙ h.many;
+      locals = λ u. go u (cases_order u f);
+      me = other t (λ e. called_apart (sym e)) ∙ h.me;
+    }
+      where
+        go : (u : ℕ) → (u ≡ f) ⊎ ((u < f) ⊎ (f < u))
+            → (get_or (set h.threads f to) u missing_thread).locals ≡ (thread_at s u).locals
+        go u (inl q) = rw q (ap (λ (x : Thread). x.locals) (get_or-set_same h.threads f to
+            missing_thread called_below)
+            ∙ h.locals f)
+        go u (inr (inl l)) = ap (λ (x : Thread). x.locals) (other u (omega arith)) ∙ h.locals u
+        go u (inr (inr l)) = ap (λ (x : Thread). x.locals) (other u (omega arith)) ∙ h.locals u
+
+pub calling_done : (p : Program) (s : Snapshot) (t n : ℕ) (c d : Control) (vars mine : List ℤ)
+    → IsPoised p s t (Broadcast n) c vars mine → IsCalling p s t n d → get_or d.lengths n 0 ≡ 0
+    → IsPerformed p s t d vars mine Running
+calling_done p s t n c d vars mine poised h none = record {
+  after = record s { queues = set s.queues n []; threads = h.threads };
+  th = thread_at s t;
+  control = subst (λ q. IsControlBut p d (record s {
+    queues = set s.queues n q;
+    threads =
+        h.threads;
+  }) t) empty h.control;
+  variables = poised.variables;
+  own = poised.own;
+  pc = refl;
+  threads = h.many;
+  others = λ u ne. h.locals u;
+  step = ap (acts p s t (thread_at s t)) poised.next ∙ (λ j. record s {
+    queues = set s.queues n [];
+    threads = set ((sym h.same ∙ ap (λ q. wake n q h.threads) empty) j) t
+        (resumed (code_of p t) (thread_at s t));
+  });
+}
+  where
+    inside : n < length s.queues
+    inside = omega (arith, poised.fine, poised.of.queues)
+
+    empty : h.rest ≡ []
+    empty = nothing h.rest (ap (λ (q : List ℕ). length q) (sym
+        (get_or-set_same s.queues n h.rest [] inside))
+        ∙ (sym (h.control.objects.lengths_are n) ∙ none))

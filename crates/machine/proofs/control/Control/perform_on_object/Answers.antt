@@ -1,0 +1,26 @@
+use Rattle.std.proofs.Common.{arith, ◌∙◌, ap, subst}
+use Rattle.guest_code.specs.Program.{IsValid}
+use Rattle.semantics.specs.declared.state.MutexAction.TheVariants.{Lock as Locks}
+use Rattle.semantics.specs.Machine.{action_of}
+use Rattle.machine.proofs.Performed.{locks, acquires}
+use Rattle.machine.proofs.control.Control.perform_on_object.Goals as goal
+
+pub returns-in-Lock : goal.returns-in-Lock
+returns-in-Lock c = λ s vars mine poised.
+    let p = c.args.program.now in
+    let is = ap action_of c.in-Lock.is in
+    locks p s c.args.thread c.args.instruction.now c.args.self.now c.take.new.self vars mine
+    c.in-Lock.m poised is
+    (c.take.ensures p s Locks poised.control
+    (let v = subst (IsValid c.args.program.now) c.in-Lock.is poised.fine in
+    omega (arith, v, poised.of.owners)) (poised.next ∙ is) tt)
+
+pub returns-in-Acquire : goal.returns-in-Acquire
+returns-in-Acquire c = λ s vars mine poised.
+    let p = c.args.program.now in
+    let is = ap action_of c.in-Acquire.is in
+    acquires p s c.args.thread c.args.instruction.now c.args.self.now c.acquire.new.self vars mine
+    c.in-Acquire.k poised is
+    (c.acquire.ensures p s poised.control
+    (let v = subst (IsValid c.args.program.now) c.in-Acquire.is poised.fine in
+    omega (arith, v, poised.of.counts)) (poised.next ∙ is))

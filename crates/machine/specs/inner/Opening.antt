@@ -1,0 +1,25 @@
+-- The opening: thread after thread is put where it is.
+use Rattle.std.specs.Prelude.{◌≡◌, ℕ, ◌+◌, ◌*◌, ◌<◌, ◌≤◌, length, take, drop, All}
+use Rattle.guest_code.specs.Program.{Program, LocalsBelow}
+use Rattle.semantics.specs.Machine.{Snapshot, thread_at}
+use Rattle.machine.specs.declared.control.Control.{Control}
+use Rattle.machine.specs.declared.machine.Machine.{Machine}
+use Rattle.machine.specs.Refinement.{HasObjects, HasThreadAt, locals_at}
+use Rattle.machine.specs.inner.Parts.{IsIdle}
+
+-- the first k threads are those of the state, and the rest are idle
+pub record IsOpenedTo (p : Program) (s : Snapshot) (k : ℕ) (c : Control) : Type 0 where
+  pub objects : HasObjects c s
+  pub before : (t : ℕ) → t < k → HasThreadAt p c s t (thread_at s t)
+  pub past : (t : ℕ) → length s.threads ≤ t → HasThreadAt p c s t (thread_at s t)
+  pub idle : (t : ℕ) → k ≤ t → t < length s.threads → IsIdle c t
+
+-- and their locals are there
+pub record IsOpening (p : Program) (s : Snapshot) (k : ℕ) (m : Machine) : Type 0 where
+  pub control : IsOpenedTo p s k m.control
+  pub fixed : m.fixed ≡ length s.vars
+  pub variables : take m.fixed m.values.items ≡ s.vars
+  pub locals : (t : ℕ) → t < k
+      → locals_at m.width (drop m.fixed m.values.items) t ≡ take m.width (thread_at s t).locals
+  pub size : length m.values.items ≡ m.fixed + k * m.width
+  pub wide : All (λ th. All (LocalsBelow m.width) th.code) p.threads

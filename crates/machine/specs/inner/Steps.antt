@@ -1,0 +1,83 @@
+-- A step, from the thread that may take it to what it made of the state.
+use Rattle.std.specs.Prelude.{◌≡◌, ◌≢◌, ℕ, ◌<◌, ℤ, true, List, length, take, slice_index_or, slice_set, All}
+use Rattle.guest_code.specs.Program.{Program, code_of, IsValid, LocalsBelow}
+use Rattle.guest_code.specs.declared.program.Instruction.{Instruction}
+use Rattle.semantics.specs.declared.state.Thread.{Thread}
+use Rattle.semantics.specs.declared.state.Status.{Status}
+use Rattle.semantics.specs.declared.state.Status.TheVariants.{Running, Waiting, Woken, Ended, Stopped}
+use Rattle.semantics.specs.Machine.{Snapshot, thread_at, queue_of, next_of, is_enabled, can_do, action_of, step, resumed, with_status, wake, missing_thread}
+use Rattle.semantics.specs.Reachable.{IsOf}
+use Rattle.semantics.specs.Waiters.{In, Once}
+use Rattle.machine.specs.declared.control.Control.{Control}
+use Rattle.machine.specs.Refinement.{IsControl}
+use Rattle.machine.specs.inner.Parts.{IsControlBut}
+
+-- thread t may take a step; its locals are these
+pub record IsReadyIn (p : Program) (s : Snapshot) (t : ℕ) (c : Control) (vars mine : List ℤ)
+    : Type 0 where
+  pub of : IsOf p s
+  pub control : IsControl p c s
+  pub variables : vars ≡ s.vars
+  pub own : mine ≡ take (length mine) (thread_at s t).locals
+  pub enabled : is_enabled p s t ≡ true
+  pub below : All (LocalsBelow (length mine)) (code_of p t)
+
+-- thread t is at this instruction and may take its step; its locals are these
+pub record IsPoised (p : Program) (s : Snapshot) (t : ℕ) (i : Instruction) (c : Control)
+    (vars mine : List ℤ) : Type 0 where
+  pub of : IsOf p s
+  pub thread : t < length s.threads
+  pub control : IsControl p c s
+  pub variables : vars ≡ s.vars
+  pub own : mine ≡ take (length mine) (thread_at s t).locals
+  pub status : (thread_at s t).status ≡ Running
+  pub next : next_of p s t ≡ action_of i
+  pub allowed : can_do s (action_of i) ≡ true
+  pub fine : IsValid p i
+  pub below : LocalsBelow (length mine) i
+
+-- the thread after its step: it runs on, or it has got another status
+abbrev pub settled : List Instruction → Status → Thread → Thread
+settled code Running th = resumed code th
+settled code Ended th = with_status th Ended
+settled code Woken th = with_status th Woken
+settled code (Waiting c) th = with_status th (Waiting c)
+settled code (Stopped why) th = with_status th (Stopped why)
+
+-- all that a step of thread t does, but for what the thread does itself after it
+pub record IsPerformed (p : Program) (s : Snapshot) (t : ℕ) (c : Control) (vars mine : List ℤ)
+    (status : Status) : Type 0 where
+  pub after : Snapshot
+  pub th : Thread
+  pub control : IsControlBut p c after t
+  pub variables : vars ≡ after.vars
+  pub own : mine ≡ take (length mine) th.locals
+  pub pc : th.pc ≡ (thread_at s t).pc
+  pub threads : length after.threads ≡ length s.threads
+  pub others : (u : ℕ) → u ≢ t → (thread_at after u).locals ≡ (thread_at s u).locals
+  pub step : step p s t
+      ≡ record after { threads = slice_set after.threads t (settled (code_of p t) status th) }
+
+-- a step of thread t led from s to this
+pub record IsStepped (p : Program) (s : Snapshot) (t : ℕ) (c : Control) (vars mine : List ℤ)
+    : Type 0 where
+  pub control : IsControl p c (step p s t)
+  pub variables : vars ≡ (step p s t).vars
+  pub own : mine ≡ take (length mine) (thread_at (step p s t) t).locals
+  pub others : (u : ℕ) → u ≢ t → (thread_at (step p s t) u).locals ≡ (thread_at s u).locals
+
+-- some of those whom a broadcast for condition n calls were called, and the rest are still in the
+-- queue
+pub record IsCalling (p : Program) (s : Snapshot) (t n : ℕ) (c : Control) : Type 0 where
+  pub rest : List ℕ
+  pub threads : List Thread
+  pub control : IsControlBut p c
+      (record s { queues = slice_set s.queues n rest; threads = threads }) t
+  pub same : wake n rest threads ≡ wake n (queue_of s n) s.threads
+  pub waits : (u : ℕ) → In rest u
+      → (slice_index_or threads u missing_thread).status ≡ Waiting n
+  pub once : Once rest
+  pub many : length threads ≡ length s.threads
+  pub locals : (u : ℕ) → (slice_index_or threads u missing_thread).locals
+      ≡ (thread_at s u).locals
+  pub me : slice_index_or threads t missing_thread ≡ thread_at s t

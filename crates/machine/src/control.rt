@@ -1,0 +1,326 @@
+//! A state but for its values, and the parts of a step.
+
+ghost use Rattle.std.specs.Prelude.{◌≡◌, ◌≢◌, ◌^◌, ◌<◌, ◌≤◌, ◌∷◌, [], ◌+◌, ◌-◌, ℕ, ◌++◌, take, drop, nat_lt, length, slice_get, slice_index_or, slice_set, Some, None};
+ghost use Rattle.guest_code.specs.Program.{Program, IsValid, IsValidCode, IsWellFormed, code_of};
+ghost use Rattle.semantics.specs.declared.state.Thread.{Thread};
+ghost use Rattle.semantics.specs.declared.state.Status.TheVariants.{Waiting, Woken};
+ghost use Rattle.semantics.specs.declared.state.Action.TheVariants.{OnMutex, OnSemaphore};
+ghost use Rattle.semantics.specs.declared.state.MutexAction.{MutexAction};
+ghost use Rattle.semantics.specs.declared.state.SemaphoreAction.TheVariants.{Acquire as Acquires};
+ghost use Rattle.semantics.specs.Machine.{Snapshot, queue_of, count_of, next_of, thread_at, start, action_of, action_at, retake_of, with_status};
+ghost use Rattle.semantics.specs.Mask.{has};
+ghost use Rattle.machine.specs.Refinement.{queued, IsControl, HasObjects};
+ghost use Rattle.machine.specs.inner.LocalRuns.{IsLandingOf};
+ghost use Rattle.machine.specs.inner.Parts.{IsIdle, IsApart, IsControlBut, IsMarked, Stands, Lands, IsTaking};
+ghost use Rattle.machine.specs.inner.Opening.{IsOpenedTo};
+
+mod steps;
+
+use crate::local::Landing;
+use guest_code::limits::{COUNT, OBJECTS, THREADS};
+use guest_code::program::{Instruction, Program};
+use semantics::mask::Mask;
+use semantics::state::Status;
+
+/// A state but for its values: which threads can take a step and which are over, where each is, the
+/// objects, and which threads are at each mutex and semaphore. It is copied as it is.
+#[derive(Clone, Copy, Debug)]
+pub struct Control {
+    /// The threads that can take a step.
+    pub(crate) enabled: Mask,
+    /// The threads that haven't ended.
+    pub(crate) unended: Mask,
+    /// The threads that stopped.
+    pub(crate) stopped: Mask,
+    /// The threads that were called, and have to take their mutexes again.
+    pub(crate) woken: Mask,
+    /// The number of the instruction where each thread is.
+    pub(crate) places: [u16; THREADS],
+    pub(crate) owners: [Option<u8>; OBJECTS],
+    pub(crate) counts: [u16; OBJECTS],
+    /// The threads whose next step takes each mutex, whether it is free or not.
+    pub(crate) mutexes: [Mask; OBJECTS],
+    /// The threads whose next step acquires each semaphore, also at count 0.
+    pub(crate) semaphores: [Mask; OBJECTS],
+    /// How many threads are in each queue.
+    pub(crate) lengths: [u8; OBJECTS],
+    /// Who is in each queue: four bits for each thread, the last one lowest.
+    pub(crate) queues: [u64; OBJECTS],
+}
+
+// The set of a program's threads.
+fn threads_of(program: &Program) -> Mask
+    ensures { (t : ℕ) → has result t ≡ nat_lt t (length program.now.threads) }
+{
+    program.keeps_limits();
+    let mut all = Mask::empty();
+    for t in 0..program.threads() {
+        all = all.with(t, true);
+    }
+    all
+}
+
+// The counts with which a program opens.
+fn counts_of(program: &Program) -> [u16; OBJECTS]
+    ensures { (k : ℕ) → slice_index_or result k 0 ≡ count_of (start program.now) k }
+{
+    let mut counts = [0; OBJECTS];
+    for k in 0..program.semaphores() {
+        counts[k as usize] = program.count(k as usize);
+    }
+    counts
+}
+
+// A queue of this length with a thread behind the others.
+fn joined(queue: u64, thread: u8, _length: u8) -> u64
+    requires thread { thread < THREADS }
+    requires room { _length < THREADS }
+    ensures { queued (_length + 1) result ≡ queued _length queue ++ thread ∷ [] }
+{
+    (queue << 4) | (thread as u64)
+}
+
+// The first of a queue of this length.
+fn first_of(queue: u64, length: u8) -> u8
+    requires some { 0 < length }
+    requires few { length ≤ THREADS }
+    ensures few { result < THREADS }
+    ensures first { queued length queue ≡ result ∷ queued (length - 1) queue }
+{
+    ((queue >> (4 * (length - 1))) & 15) as u8
+}
+
+impl Control {
+    /// The opening of a program before its threads are there.
+    pub(crate) fn unbegun(program: &Program) -> Control
+        ensures { IsOpenedTo program.now (start program.now) 0 result }
+    {
+        Control {
+            enabled: Mask::empty(),
+            unended: threads_of(program),
+            stopped: Mask::empty(),
+            woken: Mask::empty(),
+            places: [0; THREADS],
+            owners: [None; OBJECTS],
+            counts: counts_of(program),
+            mutexes: [Mask::empty(); OBJECTS],
+            semaphores: [Mask::empty(); OBJECTS],
+            lengths: [0; OBJECTS],
+            queues: [0; OBJECTS],
+        }
+    }
+
+    // A thread that is at a mutex, which is free, takes it.
+    fn take(&mut self, thread: u8, m: usize)
+        requires thread { thread < THREADS }
+        requires m { m < OBJECTS }
+        ensures { (p : Program) → (s : Snapshot) → (d : MutexAction) → IsControl p self.old s
+            → m < length s.owners → next_of p s thread ≡ Some (OnMutex m d) → IsTaking d
+            → IsControlBut p self.new
+            (record s { owners = slice_set s.owners m (Some thread) }) thread }
+    {
+        let near = self.mutexes[m].with(thread, false);
+        self.mutexes[m] = near;
+        self.owners[m] = Some(thread);
+        self.woken = self.woken.with(thread, false);
+        self.enabled = self.enabled.minus(near);
+    }
+
+    // A mutex gets free.
+    fn give_back(&mut self, m: usize)
+        requires m { m < OBJECTS }
+        ensures { (p : Program) → (s : Snapshot) → (t : ℕ) → IsControlBut p self.old s t
+            → m < length s.owners
+            → IsControlBut p self.new (record s { owners = slice_set s.owners m None }) t }
+    {
+        self.owners[m] = None;
+        self.enabled = self.enabled.union(self.mutexes[m]);
+    }
+
+    // A thread that is at a semaphore acquires it.
+    fn acquire(&mut self, thread: u8, k: usize)
+        requires thread { thread < THREADS }
+        requires k { k < OBJECTS }
+        requires count { 0 < slice_index_or self.old.counts k 0 }
+        ensures { (p : Program) → (s : Snapshot) → IsControl p self.old s → k < length s.counts
+            → next_of p s thread ≡ Some (OnSemaphore k Acquires)
+            → IsControlBut p self.new
+            (record s { counts = slice_set s.counts k (count_of s k - 1) }) thread }
+    {
+        let near = self.semaphores[k].with(thread, false);
+        self.semaphores[k] = near;
+        let count = self.counts[k] - 1;
+        self.counts[k] = count;
+        if count == 0 {
+            self.enabled = self.enabled.minus(near);
+        }
+    }
+
+    // A semaphore's count rises.
+    fn release(&mut self, k: usize)
+        requires k { k < OBJECTS }
+        requires count { slice_index_or self.old.counts k 0 < COUNT }
+        ensures { (p : Program) → (s : Snapshot) → (t : ℕ) → IsControlBut p self.old s t
+            → k < length s.counts
+            → IsControlBut p self.new
+            (record s { counts = slice_set s.counts k (count_of s k + 1) }) t }
+    {
+        self.counts[k] += 1;
+        self.enabled = self.enabled.union(self.semaphores[k]);
+    }
+
+    // A thread joins a condition's queue.
+    fn put_last(&mut self, thread: u8, c: usize)
+        requires thread { thread < THREADS }
+        requires c { c < OBJECTS }
+        requires room { slice_index_or self.old.lengths c 0 < THREADS }
+        ensures { (p : Program) → (s : Snapshot) → (t : ℕ) → IsControlBut p self.old s t
+            → c < length s.queues → IsControlBut p self.new
+            (record s { queues = slice_set s.queues c (queue_of s c ++ thread ∷ []) }) t }
+    {
+        let length = self.lengths[c];
+        self.queues[c] = joined(self.queues[c], thread, length);
+        self.lengths[c] = length + 1;
+    }
+
+    // Takes the first out of a condition's queue.
+    fn take_first(&mut self, c: usize) -> u8
+        requires c { c < OBJECTS }
+        requires some { 0 < slice_index_or self.old.lengths c 0 }
+        requires few { slice_index_or self.old.lengths c 0 ≤ THREADS }
+        ensures fewer { slice_index_or self.new.lengths c 0 < slice_index_or self.old.lengths c 0 }
+        ensures first { (p : Program) → (s : Snapshot) → (t : ℕ) → IsControlBut p self.old s t
+            → take 1 (queue_of s c) ≡ result ∷ [] }
+        ensures rest { (p : Program) → (s : Snapshot) → (t : ℕ) → IsControlBut p self.old s t
+            → c < length s.queues → IsControlBut p self.new
+            (record s { queues = slice_set s.queues c (drop 1 (queue_of s c)) }) t }
+    {
+        let length = self.lengths[c];
+        let thread = first_of(self.queues[c], length);
+        self.lengths[c] = length - 1;
+        thread
+    }
+
+    // A thread gets the marks of this status.
+    fn mark(&mut self, thread: u8, status: Status)
+        requires thread { thread < THREADS }
+        ensures lengths { self.new.lengths ≡ self.old.lengths }
+        ensures marks { IsIdle self.old thread → IsMarked self.old self.new thread status }
+    {
+        match status {
+            Status::Running | Status::Waiting(_) => {}
+            Status::Woken => self.woken = self.woken.with(thread, true),
+            Status::Ended => self.unended = self.unended.with(thread, false),
+            Status::Stopped(_) => self.stopped = self.stopped.with(thread, true),
+        }
+    }
+
+    // A thread is put to a mutex. Whether it is free.
+    fn stand_at(&mut self, thread: u8, m: usize) -> bool
+        requires thread { thread < THREADS }
+        requires m { m < OBJECTS }
+        ensures lengths { self.new.lengths ≡ self.old.lengths }
+        ensures stands { (s : Snapshot) → (d : MutexAction) → HasObjects self.old s
+            → IsApart self.old thread → IsTaking d
+            → Stands self.old self.new s thread (Some (OnMutex m d)) result }
+    {
+        self.mutexes[m] = self.mutexes[m].with(thread, true);
+        self.owners[m].is_none()
+    }
+
+    // A running thread is put to what this instruction takes. Whether it may go on.
+    #[inline(always)]
+    fn stand_running(&mut self, instruction: &Instruction, thread: u8) -> bool
+        requires thread { thread < THREADS }
+        requires fine { (p : Program) × IsValid p instruction.now × IsWellFormed p }
+        ensures lengths { self.new.lengths ≡ self.old.lengths }
+        ensures stands { (s : Snapshot) → HasObjects self.old s → IsApart self.old thread
+            → Stands self.old self.new s thread (action_of instruction.now) result }
+    {
+        match instruction {
+            Instruction::Lock(m) => self.stand_at(thread, *m),
+            Instruction::Acquire(k) => {
+                self.semaphores[*k] = self.semaphores[*k].with(thread, true);
+                self.counts[*k] > 0
+            }
+            Instruction::Set { .. }
+            | Instruction::Assert(_)
+            | Instruction::SkipIfZero(_, _)
+            | Instruction::Skip(_) => false,
+            _ => true,
+        }
+    }
+
+    // A woken thread is put to the mutex of its `wait`. Whether it may go on.
+    fn stand_woken(&mut self, instruction: &Instruction, thread: u8) -> bool
+        requires thread { thread < THREADS }
+        requires fine { (p : Program) × IsValid p instruction.now × IsWellFormed p }
+        ensures lengths { self.new.lengths ≡ self.old.lengths }
+        ensures stands { (s : Snapshot) → HasObjects self.old s → IsApart self.old thread
+            → Stands self.old self.new s thread (retake_of instruction.now) result }
+    {
+        match instruction {
+            Instruction::Wait { mutex, .. } => self.stand_at(thread, *mutex),
+            _ => false,
+        }
+    }
+
+    // A thread is put to what its next step takes. Whether it can take a step.
+    #[inline(always)]
+    fn stand(&mut self, code: &[Instruction], thread: u8, at: Landing) -> bool
+        requires thread { thread < THREADS }
+        requires fine { (p : Program) × IsValidCode p code.now × IsWellFormed p }
+        ensures lengths { self.new.lengths ≡ self.old.lengths }
+        ensures stands { (s : Snapshot) → HasObjects self.old s → IsApart self.old thread
+            → Stands self.old self.new s thread
+            (action_at at.status (slice_get code.now at.pc)) result }
+    {
+        match at.status {
+            Status::Running => match code.get(at.pc) {
+                Some(instruction) => self.stand_running(instruction, thread),
+                None => false,
+            },
+            Status::Woken => match code.get(at.pc) {
+                Some(instruction) => self.stand_woken(instruction, thread),
+                None => false,
+            },
+            Status::Waiting(_) | Status::Ended | Status::Stopped(_) => false,
+        }
+    }
+
+    /// An idle thread is put where it is now.
+    #[inline(always)]
+    pub(crate) fn arrive(&mut self, code: &[Instruction], thread: u8, at: Landing)
+        requires thread { thread < THREADS }
+        requires fine { (p : Program) × IsValidCode p code.now × IsWellFormed p }
+        requires pc { at.pc < 2 ^ 16 }
+        ensures lengths { self.new.lengths ≡ self.old.lengths }
+        ensures lands { (p : Program) → (s : Snapshot) → (th : Thread) → HasObjects self.old s
+            → IsIdle self.old thread → IsLandingOf at th → code.now ≡ code_of p thread
+            → Lands p self.old self.new s thread th }
+    {
+        self.mark(thread, at.status);
+        let on = self.stand(code, thread, at);
+        self.places[thread as usize] = at.pc as u16;
+        self.enabled = self.enabled.with(thread, on);
+    }
+
+    // A thread that waits is woken.
+    fn wake(&mut self, program: &Program, thread: u8)
+        requires thread { thread < length program.now.threads }
+        ensures lengths { self.new.lengths ≡ self.old.lengths }
+        ensures shows { (s : Snapshot) → (t : ℕ) → (n : ℕ) → IsControlBut program.now self.old s t
+            → thread ≢ t → (thread_at s thread).status ≡ Waiting n → thread < length s.threads
+            → IsControlBut program.now self.new (record s {
+              threads =
+                  slice_set s.threads thread (with_status (thread_at s thread) Woken);
+            }) t }
+    {
+        program.keeps_limits();
+        let at = Landing {
+            pc: self.places[thread as usize] as usize,
+            status: Status::Woken,
+        };
+        self.arrive(program.code(thread), thread, at);
+    }
+}

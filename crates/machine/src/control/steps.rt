@@ -1,0 +1,301 @@
+//! The step of a thread, over the values of the variables and its own locals.
+
+ghost use Rattle.std.specs.Prelude.{◌≡◌, ◌<◌, ◌≤◌, ℕ, ℤ, List, take, true, length, Some, All};
+ghost use Rattle.guest_code.specs.Program.{Program, IsValid, IsWellFormed, LocalsBelow, code_of};
+ghost use Rattle.guest_code.specs.declared.program.Instruction.TheVariants.{Unlock, Wait, Signal, Broadcast, Release};
+ghost use Rattle.semantics.specs.declared.state.VariableAction.{VariableAction};
+ghost use Rattle.semantics.specs.declared.state.Status.TheVariants.{Running, Woken};
+ghost use Rattle.semantics.specs.declared.state.Action.TheVariants.{OnVariable};
+ghost use Rattle.semantics.specs.Machine.{Snapshot, thread_at, action_of, is_enabled, next_of, retake_of, step};
+ghost use Rattle.semantics.specs.Reachable.{IsOf};
+ghost use Rattle.machine.specs.Refinement.{IsControl, IsState};
+ghost use Rattle.machine.specs.inner.Steps.{IsPoised, IsPerformed, IsStepped, IsReadyIn};
+
+use crate::control::Control;
+use crate::local::{Landing, access, run_own};
+use guest_code::limits::{COUNT, THREADS};
+use guest_code::program::{Instruction, Program};
+use semantics::state::VariableAction::{Add as Adds, Cas as Swaps, Load as Loads, Store as Stores};
+use semantics::state::{Action, Status, Stop};
+use semantics::{action_at, owns};
+
+impl Control {
+    // The first step of a `wait`.
+    fn begin_wait(&mut self, thread: u8, condition: usize, mutex: usize) -> Status
+        requires thread { thread < THREADS }
+        requires ready { (p : Program) × (s : Snapshot) × (vars : List ℤ) × (mine : List ℤ)
+            × IsWellFormed p × IsPoised p s thread (Wait condition mutex) self.old vars mine }
+        ensures { (p : Program) → (s : Snapshot) → (vars : List ℤ) → (mine : List ℤ)
+            → IsPoised p s thread (Wait condition mutex) self.old vars mine
+            → IsPerformed p s thread self.new vars mine result }
+    {
+        if !owns(thread, self.owners[mutex]) {
+            return Status::Stopped(Stop::NotHeld);
+        }
+        self.put_last(thread, condition);
+        self.give_back(mutex);
+        Status::Waiting(condition as u8)
+    }
+
+    // The step of an `unlock`.
+    fn unlock(&mut self, thread: u8, mutex: usize) -> Status
+        requires thread { thread < THREADS }
+        requires ready { (p : Program) × (s : Snapshot) × (vars : List ℤ) × (mine : List ℤ)
+            × IsWellFormed p × IsPoised p s thread (Unlock mutex) self.old vars mine }
+        ensures { (p : Program) → (s : Snapshot) → (vars : List ℤ) → (mine : List ℤ)
+            → IsPoised p s thread (Unlock mutex) self.old vars mine
+            → IsPerformed p s thread self.new vars mine result }
+    {
+        if !owns(thread, self.owners[mutex]) {
+            return Status::Stopped(Stop::NotHeld);
+        }
+        self.give_back(mutex);
+        Status::Running
+    }
+
+    // The step of a `release`.
+    fn release_if_room(&mut self, _thread: u8, semaphore: usize) -> Status
+        requires ready { (p : Program) × (s : Snapshot) × (vars : List ℤ) × (mine : List ℤ)
+            × IsWellFormed p × IsPoised p s _thread (Release semaphore) self.old vars mine }
+        ensures { (p : Program) → (s : Snapshot) → (vars : List ℤ) → (mine : List ℤ)
+            → IsPoised p s _thread (Release semaphore) self.old vars mine
+            → IsPerformed p s _thread self.new vars mine result }
+    {
+        if self.counts[semaphore] == COUNT {
+            return Status::Stopped(Stop::SemFull);
+        }
+        self.release(semaphore);
+        Status::Running
+    }
+
+    // A signal wakes the first of the queue, if there is one.
+    fn signal(&mut self, program: &Program, thread: u8, c: usize)
+        requires thread { thread < length program.now.threads }
+        requires ready { (s : Snapshot) × (vars : List ℤ) × (mine : List ℤ)
+            × IsPoised program.now s thread (Signal c) self.old vars mine }
+        ensures { (s : Snapshot) → (vars : List ℤ) → (mine : List ℤ)
+            → IsPoised program.now s thread (Signal c) self.old vars mine
+            → IsPerformed program.now s thread self.new vars mine Running }
+    {
+        program.keeps_limits();
+        if self.lengths[c] > 0 {
+            let first = self.take_first(c);
+            self.wake(program, first);
+        }
+    }
+
+    // A broadcast wakes all of the queue.
+    fn broadcast(&mut self, program: &Program, thread: u8, c: usize)
+        requires thread { thread < length program.now.threads }
+        requires ready { (s : Snapshot) × (vars : List ℤ) × (mine : List ℤ)
+            × IsPoised program.now s thread (Broadcast c) self.old vars mine }
+        ensures { (s : Snapshot) → (vars : List ℤ) → (mine : List ℤ)
+            → IsPoised program.now s thread (Broadcast c) self.old vars mine
+            → IsPerformed program.now s thread self.new vars mine Running }
+    {
+        program.keeps_limits();
+        while self.lengths[c] > 0 {
+            let first = self.take_first(c);
+            self.wake(program, first);
+        }
+    }
+
+    // The step of a running thread at an instruction that is on no variable, but for what the
+    // thread does itself after it: its status then.
+    #[inline(always)]
+    fn perform_on_object(
+        &mut self,
+        program: &Program,
+        thread: u8,
+        instruction: &Instruction,
+    ) -> Status
+        requires thread { thread < length program.now.threads }
+        requires object { (x : ℕ) → (d : VariableAction)
+            → action_of instruction.now ≡ Some (OnVariable x d) → ⊥ }
+        requires ready { (s : Snapshot) × (vars : List ℤ) × (mine : List ℤ)
+            × IsPoised program.now s thread instruction.now self.old vars mine }
+        ensures { (s : Snapshot) → (vars : List ℤ) → (mine : List ℤ)
+            → IsPoised program.now s thread instruction.now self.old vars mine
+            → IsPerformed program.now s thread self.new vars mine result }
+    {
+        program.keeps_limits();
+        match instruction {
+            Instruction::Lock(m) => {
+                self.take(thread, *m);
+                Status::Running
+            }
+            Instruction::Unlock(m) => self.unlock(thread, *m),
+            Instruction::Acquire(k) => {
+                self.acquire(thread, *k);
+                Status::Running
+            }
+            Instruction::Release(k) => self.release_if_room(thread, *k),
+            Instruction::Wait { condition, mutex } => self.begin_wait(thread, *condition, *mutex),
+            Instruction::Signal(c) => {
+                self.signal(program, thread, *c);
+                Status::Running
+            }
+            Instruction::Broadcast(c) => {
+                self.broadcast(program, thread, *c);
+                Status::Running
+            }
+            _ => Status::Running,
+        }
+    }
+
+    // The step of a running thread, but for what it does itself after it: its status then.
+    #[inline(always)]
+    fn perform(
+        &mut self,
+        program: &Program,
+        variables: &mut [i64],
+        own: &mut [i64],
+        thread: u8,
+        instruction: &Instruction,
+    ) -> Status
+        requires thread { thread < length program.now.threads }
+        requires ready { (s : Snapshot)
+            × IsPoised program.now s thread instruction.now self.old variables.old own.old }
+        ensures { (s : Snapshot)
+            → IsPoised program.now s thread instruction.now self.old variables.old own.old
+            → IsPerformed program.now s thread self.new variables.new own.new result }
+    {
+        match instruction {
+            Instruction::Load { local, variable } => {
+                access(&mut variables[*variable], own, Loads(*local));
+                Status::Running
+            }
+            Instruction::Store { variable, value } => {
+                access(&mut variables[*variable], own, Stores(*value));
+                Status::Running
+            }
+            Instruction::Add {
+                local,
+                variable,
+                value,
+            } => {
+                access(&mut variables[*variable], own, Adds(*local, *value));
+                Status::Running
+            }
+            Instruction::Cas {
+                local,
+                variable,
+                expected,
+                new,
+            } => {
+                let action = Swaps(*local, *expected, *new);
+                access(&mut variables[*variable], own, action);
+                Status::Running
+            }
+            _ => self.perform_on_object(program, thread, instruction),
+        }
+    }
+
+    // After what a thread performed at this place it runs on, or gets the status.
+    #[inline(always)]
+    fn finish(&mut self, program: &Program, own: &mut [i64], thread: u8, pc: usize, status: Status)
+        requires thread { thread < length program.now.threads }
+        requires pc { pc < length (code_of program.now thread) }
+        requires below { All (LocalsBelow (length own.old)) (code_of program.now thread) }
+        ensures { (s : Snapshot) → (vars : List ℤ)
+            → IsPerformed program.now s thread self.old vars own.old status
+            → thread < length s.threads → pc ≡ (thread_at s thread).pc
+            → IsStepped program.now s thread self.new vars own.new }
+    {
+        program.keeps_limits();
+        let code = program.code(thread);
+        match status {
+            Status::Running => {
+                let at = run_own(code, own, pc + 1);
+                self.arrive(code, thread, at);
+            }
+            _ => self.arrive(code, thread, Landing { pc, status }),
+        }
+    }
+
+    // The step of a woken thread at this instruction, but for what it does itself after it.
+    fn retake(&mut self, thread: u8, instruction: &Instruction)
+        requires thread { thread < THREADS }
+        requires ready { (p : Program) × IsWellFormed p × IsValid p instruction.now }
+        ensures { (p : Program) → (s : Snapshot) → (vars : List ℤ) → (mine : List ℤ)
+            → IsControl p self.old s → vars ≡ s.vars
+            → mine ≡ take (length mine) (thread_at s thread).locals → IsOf p s
+            → IsValid p instruction.now → next_of p s thread ≡ retake_of instruction.now
+            → is_enabled p s thread ≡ true
+            → IsPerformed p s thread self.new vars mine Running }
+    {
+        if let Instruction::Wait { mutex, .. } = instruction {
+            self.take(thread, *mutex);
+        }
+    }
+
+    /// A step of an enabled thread, whose locals these are. It takes no memory.
+    #[inline(always)]
+    pub(crate) fn advance(
+        &mut self,
+        program: &Program,
+        variables: &mut [i64],
+        own: &mut [i64],
+        thread: u8,
+    )
+        requires { (s : Snapshot)
+            × IsReadyIn program.now s thread self.old variables.old own.old }
+        ensures { (s : Snapshot) → IsReadyIn program.now s thread self.old variables.old own.old
+            → IsStepped program.now s thread self.new variables.new own.new }
+    {
+        program.keeps_limits();
+        let code = program.code(thread);
+        let pc = self.places[thread as usize] as usize;
+        let instruction = &code[pc];
+        if self.woken.has(thread) {
+            self.retake(thread, instruction);
+            self.finish(program, own, thread, pc, Status::Running);
+        } else {
+            let status = self.perform(program, variables, own, thread, instruction);
+            self.finish(program, own, thread, pc, status);
+        }
+    }
+
+    /// A step of an enabled thread over the values: so many of variables, and then so many locals
+    /// for each thread. It takes no memory.
+    #[inline(always)]
+    pub(crate) fn advance_over(
+        &mut self,
+        program: &Program,
+        values: &mut [i64],
+        fixed: usize,
+        width: usize,
+        thread: u8,
+    )
+        requires { (s : Snapshot) × IsState program.now fixed width self.old values.old s
+            × (is_enabled program.now s thread ≡ true) }
+        ensures shows { (s : Snapshot) → IsState program.now fixed width self.old values.old s
+            → is_enabled program.now s thread ≡ true
+            → IsState program.now fixed width self.new values.new (step program.now s thread) }
+        ensures size { length values.new ≡ length values.old }
+    {
+        let (variables, locals) = values.split_at_mut(fixed);
+        let from = thread as usize * width;
+        self.advance(program, variables, &mut locals[from..from + width], thread);
+    }
+
+    /// What an enabled thread does next.
+    pub(crate) fn next(&self, program: &Program, thread: u8) -> Option<Action>
+        requires { (s : Snapshot) × IsOf program.now s × IsControl program.now self.now s
+            × (is_enabled program.now s thread ≡ true) }
+        ensures { (s : Snapshot) → IsOf program.now s → IsControl program.now self.now s
+            → is_enabled program.now s thread ≡ true → result ≡ next_of program.now s thread }
+    {
+        program.keeps_limits();
+        let instruction = &program.code(thread)[self.places[thread as usize] as usize];
+        let woken = self.woken.has(thread);
+        action_at(
+            if woken {
+                Status::Woken
+            } else {
+                Status::Running
+            },
+            instruction,
+        )
+    }
+}

@@ -1,0 +1,229 @@
+//! The state in which a walk runs a program.
+
+ghost use Rattle.std.specs.Prelude.{◌≡◌, ◌<◌, ◌≤◌, ◌+◌, ◌||◌, ◌&&◌, nat_lt, ℕ, true, false, length, All, IfOk, OnOk, IsTrue, IsFalse};
+ghost use Rattle.guest_code.specs.Program.{Program, LocalsBelow};
+ghost use Rattle.semantics.specs.Mask.{HasEnabled, has, mask_of};
+ghost use Rattle.semantics.specs.Ends.{final_kind};
+ghost use Rattle.schedules.specs.Sleep.{next_sleep_set};
+ghost use Rattle.semantics.specs.Reachable.{IsOf};
+ghost use Rattle.semantics.specs.Machine.{Snapshot, start, step, is_enabled, thread_at};
+ghost use Rattle.machine.specs.declared.machine.Machine.{Machine};
+ghost use Rattle.machine.specs.Refinement.{Shows};
+ghost use Rattle.machine.specs.inner.Opening.{IsOpening};
+
+use crate::control::Control;
+use crate::local::Landing;
+use guest_code::limits::LOCALS;
+use guest_code::program::Program;
+use schedules::independence::next_apart;
+use semantics::mask::Mask;
+use semantics::state::State;
+use semantics::view::Kind;
+use std::alloc::{AllocError, Global};
+
+/// A state of a program, in a form that is fast to step and to copy.
+#[derive(Drop)]
+pub struct Machine {
+    pub(crate) control: Control,
+    /// The values of the variables, and then for each thread the same number of locals.
+    pub(crate) values: Vec<i64>,
+    /// How many variables there are.
+    pub(crate) fixed: usize,
+    /// How many locals are kept for each thread: the most that one has.
+    pub(crate) width: usize,
+}
+
+// The most locals that a thread has.
+fn width_of(program: &Program) -> usize
+    ensures few { result ≤ LOCALS }
+    ensures wide { All (λ th. All (LocalsBelow result) th.code) program.now.threads }
+{
+    program.keeps_limits();
+    let mut width = 0;
+    for t in 0..program.threads() {
+        width = width.max(program.locals(t));
+    }
+    width
+}
+
+// Whether a set is empty.
+fn is_empty(mask: Mask) -> bool
+    ensures none { IsTrue result → (t : ℕ) → has mask t ≡ false }
+    ensures some { IsFalse result → (t : ℕ) × (has mask t ≡ true) }
+{
+    mask.first_from(0).is_none()
+}
+
+// Whether a thread sleeps or comes before this one.
+fn is_tried(asleep: Mask, thread: u8, other: u8) -> bool
+    ensures { result ≡ (has asleep other || nat_lt other thread) }
+{
+    asleep.has(other) || other < thread
+}
+
+impl Machine {
+    // Puts in a thread as it is in the opening state.
+    fn admit(&mut self, program: &Program, state: &State, thread: u8) -> Result<(), AllocError>
+        requires state { state.now ≡ start program.now }
+        requires of { IsOf program.now state.now }
+        requires thread { thread < length program.now.threads }
+        requires width { self.old.width ≤ LOCALS }
+        requires opening { IsOpening program.now state.now thread self.old }
+        ensures width { OnOk result (self.new.width ≡ self.old.width) }
+        ensures opening { OnOk result (IsOpening program.now state.now (thread + 1) self.new) }
+    {
+        program.keeps_limits();
+        self.values
+            .extend_from_slice(&state.locals(thread)[..self.width])?;
+        let at = Landing {
+            pc: state.pc(thread),
+            status: state.status(thread),
+        };
+        self.control.arrive(program.code(thread), thread, at);
+        Ok(())
+    }
+
+    /// The opening state of a program: each thread has run its own instructions. Only this takes
+    /// memory.
+    ///
+    /// # Errors
+    ///
+    /// `AllocError` where memory runs out.
+    pub fn start(alloc: Global, program: &Program) -> Result<Machine, AllocError>
+        ensures { IfOk result (λ m. Shows program.now m (start program.now)) }
+    {
+        program.keeps_limits();
+        let state = State::start(alloc, program)?;
+        let mut machine = Machine {
+            control: Control::unbegun(program),
+            values: state.variables().to_vec(alloc)?,
+            fixed: program.variables() as usize,
+            width: width_of(program),
+        };
+        for t in 0..program.threads() {
+            machine.admit(program, &state, t)?;
+        }
+        Ok(machine)
+    }
+
+    /// A step of an enabled thread. It takes no memory.
+    #[inline(always)]
+    pub fn step(&mut self, program: &Program, thread: u8)
+        requires { (s : Snapshot) × Shows program.now self.old s
+            × (is_enabled program.now s thread ≡ true) }
+        ensures shows { (s : Snapshot) → Shows program.now self.old s
+            → is_enabled program.now s thread ≡ true
+            → Shows program.now self.new (step program.now s thread) }
+        ensures size { length self.new.values.items ≡ length self.old.values.items }
+        ensures fixed { self.new.fixed ≡ self.old.fixed }
+        ensures width { self.new.width ≡ self.old.width }
+    {
+        let values = self.values.as_mut_slice();
+        self.control
+            .advance_over(program, values, self.fixed, self.width, thread);
+    }
+
+    /// The set of the enabled threads.
+    pub fn enabled(&self) -> Mask
+        ensures { (p : Program) → (s : Snapshot) → Shows p self.now s → HasEnabled result p s }
+    {
+        self.control.enabled
+    }
+
+    /// How a complete schedule to this state ends.
+    pub fn kind(&self) -> Kind
+        ensures { (p : Program) → (s : Snapshot) → Shows p self.now s
+            → result ≡ final_kind s.threads }
+    {
+        if !is_empty(self.control.stopped) {
+            Kind::Failed
+        } else if is_empty(self.control.unended) {
+            Kind::Done
+        } else {
+            Kind::Stuck
+        }
+    }
+
+    /// The values of the variables.
+    pub fn variables(&self) -> &[i64]
+        requires { (p : Program) × (s : Snapshot) × Shows p self.now s }
+        ensures { (p : Program) → (s : Snapshot) → Shows p self.now s → result.now ≡ s.vars }
+    {
+        &self.values.as_slice()[..self.fixed]
+    }
+
+    // Whether an enabled thread sleeps after a step of another, where these sleep now.
+    fn falls_asleep(&self, program: &Program, asleep: Mask, thread: u8, other: u8) -> bool
+        requires { (s : Snapshot) × Shows program.now self.now s
+            × (is_enabled program.now s thread ≡ true) × (is_enabled program.now s other ≡ true) }
+        ensures { (s : Snapshot) → Shows program.now self.now s
+            → is_enabled program.now s thread ≡ true → is_enabled program.now s other ≡ true
+            → result ≡ next_sleep_set program.now s (has asleep) thread other }
+    {
+        if !is_tried(asleep, thread, other) {
+            return false;
+        }
+        if thread == other {
+            return false;
+        }
+        let next = self.control.next(program, thread);
+        next_apart(next, self.control.next(program, other))
+    }
+
+    /// Who sleeps after a step of an enabled thread, where these sleep now: the enabled threads
+    /// that slept or come before it, and whose next steps are independent of its own. It takes no
+    /// memory.
+    pub fn sleepers(&self, program: &Program, asleep: Mask, thread: u8) -> Mask
+        requires { (s : Snapshot) × Shows program.now self.now s
+            × (is_enabled program.now s thread ≡ true) }
+        ensures { (s : Snapshot) → Shows program.now self.now s
+            → is_enabled program.now s thread ≡ true
+            → result ≡ mask_of (next_sleep_set program.now s (has asleep) thread) }
+    {
+        let mut sleepers = Mask::empty();
+        let mut from = 0;
+        while let Some(other) = self.control.enabled.first_from(from) {
+            let sleeps = self.falls_asleep(program, asleep, thread, other);
+            sleepers = sleepers.with(other, sleeps);
+            from = other + 1;
+        }
+        sleepers
+    }
+
+    /// All but the values, to be copied.
+    pub fn control(&self) -> Control
+        ensures { result ≡ self.now.control }
+    {
+        self.control
+    }
+
+    /// How many values there are.
+    pub fn size(&self) -> usize
+        ensures { result ≡ length self.now.values.items }
+    {
+        self.values.len()
+    }
+
+    /// Copies the values into as many words.
+    pub fn copy_into(&self, words: &mut [i64])
+        requires { length words.old ≡ length self.now.values.items }
+        ensures { words.new ≡ self.now.values.items }
+    {
+        words.copy_from_slice(self.values.as_slice());
+    }
+
+    /// Goes back to a state that was copied: it shows what the machine showed then.
+    pub fn restore(&mut self, control: &Control, words: &[i64])
+        requires { length words.now ≡ length self.old.values.items }
+        ensures shows { (p : Program) → (s : Snapshot) → (m : Machine) → Shows p m s
+            → control.now ≡ m.control → words.now ≡ m.values.items
+            → self.old.fixed ≡ m.fixed → self.old.width ≡ m.width → Shows p self.new s }
+        ensures control { self.new.control ≡ control.now }
+        ensures values { self.new.values.items ≡ words.now }
+        ensures fixed { self.new.fixed ≡ self.old.fixed }
+        ensures width { self.new.width ≡ self.old.width }
+    {
+        self.control = *control;
+        self.values.as_mut_slice().copy_from_slice(words);
+    }
+}

@@ -1,0 +1,3 @@
+pub mod CommonSteps
+pub mod WayBytes
+pub mod PackedPrefixes

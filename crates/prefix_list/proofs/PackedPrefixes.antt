@@ -1,0 +1,680 @@
+-- How a stack of schedules grows, shrinks, and goes on top of another.
+use Rattle.std.proofs.Common.{◌≡◌, ℕ, suc, ◌+◌, ◌-◌, ◌^◌, ◌<◌, ◌≤◌, List, [], ◌∷◌, ◌++◌, length, take, drop, refl, sym, ◌∙◌, ap, arith, append_assoc, length-append, length-take, length-drop, zero, inl, inr, Result, Ok, Err, cond, is_ok, OnOk, IsOk, Some, slice_get, slice_index_or, subst, ⊎_elim, min, true, false, nat_lt, set, get_or, length-set}
+use Rattle.std.proofs.lemmas.List.{append-nil, take_at, length_push, take-append-drop, get_or_push, take_rest, take-take, take_all, take_more, take_more_set, drop_at, drop_all, drop-take, drop-append-le, take-append-le}
+use Rattle.std.proofs.lemmas.Bool.{cases_lt}
+use Rattle.prefix_list.specs.inner.Packed.{Way, IsPacked, way_bytes, ways_bytes, first_by, AreWays, IsStack, back, listed, before, below_of, tail_of, start_of, end_of, dropped_of, head_of}
+use Rattle.prefix_list.specs.PrefixLists.{last_of, common_length}
+use Rattle.prefix_list.proofs.CommonSteps.{same_where, where_same}
+use Rattle.prefix_list.proofs.WayBytes.{below_of-way, before-way, length-way}
+
+pub length-listed : (n : ℕ) (b last : List ℕ) → length (listed n b last) ≡ n
+unfolding listed
+length-listed zero b last = refl
+length-listed (suc n) b last =
+    omega (
+      arith,
+      length-append (listed n (below_of b) (before b last)) (last ∷ []),
+      length-listed n (below_of b) (before b last),
+    )
+
+pub listed_one : (b last : List ℕ) → listed 1 b last ≡ last ∷ []
+unfolding listed
+listed_one b last = refl
+
+pub listed_more : (n : ℕ) (b last : List ℕ) → 0 < n
+    → listed n b last ≡ listed (n - 1) (below_of b) (before b last) ++ last ∷ []
+unfolding listed
+listed_more zero b last more = absurd (omega arith)
+listed_more (suc n) b last more = let e : suc n - 1 ≡ n = omega arith in rw e refl
+
+pub listed_push : (n : ℕ) (b t : List ℕ) (d : ℕ) (last next : List ℕ) → d < 2 ^ 64
+    → length t < 2 ^ 64 → back (d, t) next ≡ last
+    → listed (n + 1) (b ++ way_bytes d t) next ≡ listed n b last ++ next ∷ []
+listed_push n b t d last next fits short leads =
+    let e : n + 1 - 1 ≡ n = omega arith in
+    rw (
+      listed_more (n + 1) (b ++ way_bytes d t) next (omega arith),
+      e,
+      below_of-way b t d fits short,
+      before-way b t d next fits short,
+      leads,
+    ) refl
+
+more_room : (ws : List Way) (last : List ℕ) (l m : ℕ) → AreWays ws last l → l ≤ m
+    → AreWays ws last m
+unfolding AreWays
+more_room [] last l m a le = omega arith
+more_room (w ∷ ws) last l m a le = (
+  a.0,
+  a.1,
+  omega (arith, a.2),
+  more_room ws (back w last) l m a.3 le,
+)
+
+last_short : (ws : List Way) (last : List ℕ) (l : ℕ) → AreWays ws last l → length last ≤ l
+unfolding AreWays
+last_short [] last l a = a
+last_short (w ∷ ws) last l a = a.2
+
+pub stack_one : (s : List ℕ) (l : ℕ) → length s ≤ l → IsStack 1 [] s s l
+unfolding ways_bytes first_by AreWays
+stack_one s l short = record {
+  ways = [];
+  counted = omega arith;
+  spelt = refl;
+  leads = refl;
+  sound = short;
+}
+
+pub stack_short : (n : ℕ) (b last first : List ℕ) (l : ℕ) → IsStack n b last first l
+    → length last ≤ l
+stack_short n b last first l s = last_short s.ways last l s.sound
+
+pub stack_push : (n : ℕ) (b last first : List ℕ) (l m : ℕ) (t next : List ℕ) (d : ℕ)
+    → IsStack n b last first l → l ≤ m → length next ≤ m → d < 2 ^ 64 → length t < 2 ^ 64
+    → back (d, t) next ≡ last → IsStack (n + 1) (b ++ way_bytes d t) next first m
+unfolding ways_bytes first_by AreWays
+stack_push n b last first l m t next d s le short fits fit leads = record {
+  ways = (d, t) ∷ s.ways;
+  counted = omega (arith, s.counted);
+  spelt = ap (λ x. x ++ way_bytes d t) s.spelt;
+  leads = rw leads s.leads;
+  sound = (fits, fit, short, rw leads (more_room s.ways last l m s.sound le));
+}
+
+pop_ways : (ws : List Way) (n : ℕ) (b last first : List ℕ) (l : ℕ) → n ≡ length ws + 1
+    → b ≡ ways_bytes ws → first ≡ first_by ws last → AreWays ws last l → 1 < n
+    → IsStack (n - 1) (below_of b) (before b last) first l
+unfolding ways_bytes first_by AreWays
+pop_ways [] n b last first l c s e a more = absurd (omega arith)
+pop_ways (w ∷ ws) n b last first l c s e a more = record {
+  ways = ws;
+  counted = omega arith;
+  spelt = rw (s, below_of-way (ways_bytes ws) w.1 w.0 a.0 a.1) refl;
+  leads = rw (s, before-way (ways_bytes ws) w.1 w.0 last a.0 a.1) e;
+  sound = rw (s, before-way (ways_bytes ws) w.1 w.0 last a.0 a.1) a.3;
+}
+
+pub stack_pop : (n : ℕ) (b last first : List ℕ) (l : ℕ) → IsStack n b last first l → 1 < n
+    → IsStack (n - 1) (below_of b) (before b last) first l
+stack_pop n b last first l s more = pop_ways s.ways n b last first l s.counted s.spelt s.leads
+    s.sound more
+
+no_tail : (i j : ℕ) (b : List ℕ) → b ≡ [] → length (take j (drop i b)) ≤ 0
+no_tail i j b e = omega (arith, length-drop i b, length-take j (drop i b), ap length e)
+
+before_ways : (ws : List Way) (b last : List ℕ) (l : ℕ) → b ≡ ways_bytes ws → AreWays ws last l
+    → length (before b last) ≤ l
+unfolding ways_bytes AreWays
+before_ways [] b last l s a =
+    rw s (omega (
+      arith,
+      length-append (take (length last - dropped_of []) last) (tail_of []),
+      length-take (length last - dropped_of []) last,
+      no_tail (start_of []) (end_of [] - start_of []) [] refl,
+    ))
+before_ways (w ∷ ws) b last l s a =
+    rw (s, before-way (ways_bytes ws) w.1 w.0 last a.0 a.1) (last_short ws (back w last) l a.3)
+
+pub before_short : (n : ℕ) (b last first : List ℕ) (l : ℕ) → IsStack n b last first l
+    → length (before b last) ≤ l
+before_short n b last first l s = before_ways s.ways b last l s.spelt s.sound
+
+count_ways : (ws : List Way) → length ws ≤ length (ways_bytes ws)
+unfolding ways_bytes
+count_ways [] = omega arith
+count_ways (w ∷ ws) =
+    omega (
+      arith,
+      count_ways ws,
+      length-append (ways_bytes ws) (way_bytes w.0 w.1),
+      length-way w.0 w.1,
+    )
+
+pub stack_count : (n : ℕ) (b last first : List ℕ) (l : ℕ) → IsStack n b last first l
+    → n ≤ length b + 1
+stack_count n b last first l s = omega (arith, count_ways s.ways, s.counted, ap length s.spelt)
+
+ways_bytes-append : (us ws : List Way) → ways_bytes (us ++ ws) ≡ ways_bytes ws ++ ways_bytes us
+unfolding ways_bytes
+ways_bytes-append [] ws = sym (append-nil (ways_bytes ws))
+ways_bytes-append (u ∷ us) ws = rw (ways_bytes-append us ws)
+    (append_assoc (ways_bytes ws) (ways_bytes us) (way_bytes u.0 u.1))
+
+first_by-append : (us ws : List Way) (last : List ℕ)
+    → first_by (us ++ ws) last ≡ first_by ws (first_by us last)
+unfolding first_by
+first_by-append [] ws last = refl
+first_by-append (u ∷ us) ws last = first_by-append us ws (back u last)
+
+AreWays-append : (us ws : List Way) (last : List ℕ) (l : ℕ) → AreWays us last l
+    → AreWays ws (first_by us last) l → AreWays (us ++ ws) last l
+unfolding AreWays first_by
+AreWays-append [] ws last l a c = c
+AreWays-append (u ∷ us) ws last l a c = (a.0, a.1, a.2, AreWays-append us ws (back u last) l a.3 c)
+
+first_short : (us : List Way) (last : List ℕ) (l : ℕ) → AreWays us last l
+    → length (first_by us last) ≤ l
+unfolding AreWays first_by
+first_short [] last l a = a
+first_short (u ∷ us) last l a = first_short us (back u last) l a.3
+
+pub stack_append : (n k : ℕ) (b c last first end start : List ℕ) (l j m : ℕ) (t : List ℕ) (d : ℕ)
+    → IsStack n b last first l → IsStack k c end start j → l ≤ m → j ≤ m → d < 2 ^ 64
+    → length t < 2 ^ 64 → back (d, t) start ≡ last
+    → IsStack (n + k) ((b ++ way_bytes d t) ++ c) end first m
+unfolding ways_bytes first_by AreWays
+stack_append n k b c last first end start l j m t d s r le je fits fit leads =
+    let over = more_room r.ways end j m r.sound je in
+    let w : Way = (d, t) in
+    record {
+      ways = r.ways ++ w ∷ s.ways;
+      counted = omega (arith, s.counted, r.counted, length-append r.ways (w ∷ s.ways));
+      spelt = rw (s.spelt, r.spelt, ways_bytes-append r.ways (w ∷ s.ways)) refl;
+      leads = rw (first_by-append r.ways (w ∷ s.ways) end, ← r.leads, leads) s.leads;
+      sound = AreWays-append r.ways (w ∷ s.ways) end m over
+          (rw (← r.leads) (
+            fits,
+            fit,
+            rw r.leads (first_short r.ways end m over),
+            rw leads (more_room s.ways last l m s.sound le),
+          ));
+    }
+
+listed_over : (us : List Way) (n : ℕ) (b last : List ℕ) (l : ℕ) (x : List (List ℕ))
+    → AreWays us last l → listed n (below_of b) (before b (first_by us last)) ≡ x
+    → listed (n + length us + 1) (b ++ ways_bytes us) last
+    ≡ x ++ listed (length us + 1) (ways_bytes us) last
+unfolding AreWays first_by ways_bytes
+listed_over [] n b last l x a e =
+    let k : n + 0 + 1 - 1 ≡ n = omega arith in
+    rw (append-nil b, listed_more (n + 0 + 1) b last (omega arith), k, e, listed_one [] last) refl
+listed_over (u ∷ us) n b last l x a e =
+    let k : n + suc (length us) + 1 ≡ n + length us + 1 + 1 = omega arith in
+    let j : suc (length us) + 1 ≡ length us + 1 + 1 = omega arith in
+    rw (
+      k,
+      j,
+      ← append_assoc b (ways_bytes us) (way_bytes u.0 u.1),
+      listed_push (n + length us + 1) (b ++ ways_bytes us) u.1 u.0 (back u last) last a.0 a.1 refl,
+      listed_push (length us + 1) (ways_bytes us) u.1 u.0 (back u last) last a.0 a.1 refl,
+      listed_over us n b (back u last) l x a.3 e,
+    ) (append_assoc x (listed (length us + 1) (ways_bytes us) (back u last)) (last ∷ []))
+
+pub listed_append : (n k : ℕ) (b c last end start : List ℕ) (j : ℕ) (t : List ℕ) (d : ℕ)
+    → IsStack k c end start j → d < 2 ^ 64 → length t < 2 ^ 64 → back (d, t) start ≡ last
+    → listed (n + k) ((b ++ way_bytes d t) ++ c) end ≡ listed n b last ++ listed k c end
+listed_append n k b c last end start j t d r fits fit leads =
+    let e : n + (length r.ways + 1) ≡ n + length r.ways + 1 = omega arith in
+    rw (r.counted, r.spelt, e)
+    (listed_over r.ways n (b ++ way_bytes d t) end j (listed n b last) r.sound
+    (rw (← r.leads, below_of-way b t d fits fit, before-way b t d start fits fit, leads) refl))
+
+pub packed_pop : (n : ℕ) (b last first : List ℕ) (l : ℕ) → IsPacked n b last first l → 0 < n
+    → IsPacked (n - 1) (below_of b) (before b last) first l
+packed_pop n b last first l (inl e) more = absurd (omega arith)
+packed_pop n b last first l (inr s) more =
+    ⊎_elim (λ h. inr (stack_pop n b last first l s h)) (λ h. inl (omega arith)) (cases_lt 1 n)
+
+-- and where longer schedules are allowed
+pub packed_more : (n : ℕ) (b last first : List ℕ) (l m : ℕ) → l ≤ m → IsPacked n b last first l
+    → IsPacked n b last first m
+packed_more n b last first l m le (inl e) = inl e
+packed_more n b last first l m le (inr s) = inr (record {
+  ways = s.ways;
+  counted = s.counted;
+  spelt = s.spelt;
+  leads = s.leads;
+  sound = more_room s.ways last l m s.sound le;
+})
+
+-- the same bytes and the same last schedule, with as much room or more
+pub with_room : (n front : ℕ) (b last c top : List ℕ) (l m : ℕ) → l ≤ m → c ≡ b → top ≡ last →
+    (front ≤ length b) × IsPacked n (drop front b) last (take front b) l →
+    (front ≤ length c) × IsPacked n (drop front c) top (take front c) m
+with_room n front b last c top l m le e f h =
+    rw (e, f) (h.0, packed_more n (drop front b) last (take front b) l m le h.1)
+
+pub packed_before : (n : ℕ) (b last first : List ℕ) (l : ℕ) → IsPacked n b last first l → 0 < n
+    → length (before b last) ≤ l
+packed_before n b last first l (inl e) more = absurd (omega arith)
+packed_before n b last first l (inr s) more = before_short n b last first l s
+
+pub packed_short : (n : ℕ) (b last first : List ℕ) (l : ℕ) → IsPacked n b last first l → 0 < n
+    → length last ≤ l
+packed_short n b last first l (inl e) more = absurd (omega arith)
+packed_short n b last first l (inr s) more = stack_short n b last first l s
+
+pub packed_stack : (n : ℕ) (b last first : List ℕ) (l : ℕ) → IsPacked n b last first l → 0 < n
+    → IsStack n b last first l
+packed_stack n b last first l (inl e) more = absurd (omega arith)
+packed_stack n b last first l (inr s) more = s
+
+pub view_pop : (n : ℕ) (b last : List ℕ) → 0 < n
+    → listed (n - 1) (below_of b) (before b last)
+    ≡ take (length (listed n b last) - 1) (listed n b last)
+view_pop n b last more =
+    rw (listed_more n b last more)
+    (sym (take_at (listed (n - 1) (below_of b) (before b last)) (last ∷ []) _
+    (omega (arith, length_push (listed (n - 1) (below_of b) (before b last)) last))))
+
+-- an equation that holds where a call went well
+pub on_ok : {T E X : Type 0} (r : Result T E) (x y z w : X) → x ≡ cond (is_ok r) y z → y ≡ w
+    → OnOk r (x ≡ w)
+on_ok (Ok v) x y z w e f = e ∙ f
+on_ok (Err v) x y z w e f = tt
+
+pub went_well : {T E X : Type 0} (r : Result T E) (x y : X) → IsOk r → OnOk r (x ≡ y) → x ≡ y
+went_well (Ok v) x y ok e = e
+went_well (Err v) x y ok e = absurd (cc)
+
+pub if_ok : {T E X : Type 0} (r : Result T E) (x y z : X) → IsOk r → x ≡ cond (is_ok r) y z → x ≡ y
+if_ok (Ok v) x y z ok e = e
+if_ok (Err v) x y z ok e = absurd (cc)
+
+pub listed_none : (n : ℕ) (b last : List ℕ) → n ≡ 0 → listed n b last ≡ []
+unfolding listed
+listed_none n b last e = rw e refl
+
+slice_get_at : {X : Type 0} (xs : List X) (y : X) (n : ℕ) → n ≡ length xs
+    → slice_get (xs ++ y ∷ []) n ≡ Some y
+slice_get_at [] y n e = rw e refl
+slice_get_at (x ∷ xs) y n e = rw e (slice_get_at xs y (length xs) refl)
+
+pub listed_last : (n : ℕ) (b last : List ℕ) → 0 < n
+    → Some last ≡ slice_get (listed n b last) (length (listed n b last) - 1)
+listed_last n b last more =
+    rw (listed_more n b last more)
+    (sym (slice_get_at (listed (n - 1) (below_of b) (before b last)) last _
+    (omega (arith, length_push (listed (n - 1) (below_of b) (before b last)) last))))
+
+leads_back : (last rest t : List ℕ) (k : ℕ) → k ≤ length last → t ≡ drop k last
+    → back (length rest, t) (take k last ++ rest) ≡ last
+leads_back last rest t k le e =
+    let j : length (take k last ++ rest) - length rest ≡ k
+    = omega (arith, length-append (take k last) rest, length-take k last) in
+    let cut : take k (take k last ++ rest) ≡ take k last
+    = take_at (take k last) rest k (omega (arith, length-take k last)) in
+    rw (j, cut, e) (take-append-drop k last)
+
+-- a schedule goes on top
+pub record Grown (n : ℕ) (b last first : List ℕ) (m : ℕ) (all : List (List ℕ)) : Type 0 where
+  pub stack : IsStack n b last first m
+  pub view : listed n b last ≡ all
+
+pub pushed : (n : ℕ) (b last first : List ℕ) (l : ℕ) (rest c top t : List ℕ) (k m : ℕ)
+    → IsStack n b last first l → k ≤ length last → length rest < 2 ^ 64 → length t < 2 ^ 64
+    → t ≡ drop k last → c ≡ b ++ way_bytes (length rest) t → top ≡ take k last ++ rest
+    → l ≤ m → length top ≤ m
+    → Grown (n + 1) c top first m (listed n b last ++ (take k last ++ rest) ∷ [])
+pushed n b last first l rest c top t k m stack le fits fit e f g room short =
+    let s = take k last ++ rest in
+    let long : length s ≡ k + length rest
+    = omega (arith, length-append (take k last) rest, length-take k last) in
+    let leads : back (length rest, t) s ≡ last = leads_back last rest t k le e in
+    rw (f, g) (record {
+      stack = stack_push n b last first l m t s (length rest) stack room
+          (omega (arith, ap length g, short)) fits fit leads;
+      view = listed_push n b t (length rest) last s fits fit leads;
+    })
+
+-- all steps but the last, and the last
+last_step : (w : List ℕ) (k x : ℕ) → length w ≡ k + 1 → x ≡ get_or w k x → drop k w ≡ x ∷ []
+last_step w k x one read =
+    let parts : w ≡ take k w ++ x ∷ [] =
+    sym (take_all (k + 1) w (omega (arith, one)))
+    ∙ (take_more w k x (omega (arith, one)) ∙ ap (λ (y : ℕ). take k w ++ y ∷ []) (sym read)) in
+    ap (drop k) parts
+    ∙ drop_at (take k w) (x ∷ []) k (omega (arith, one, length-take k w))
+
+set_last : (w : List ℕ) (k x : ℕ) → length w ≡ k + 1 → set w k x ≡ take k w ++ x ∷ []
+set_last w k x one =
+    sym (take_all (k + 1) (set w k x) (omega (arith, one, length-set w k x)))
+    ∙ take_more_set w k x (omega (arith, one))
+
+-- two bytes, one after the other
+pub pushed_two : (b : List ℕ) (x y : ℕ) (c d : List ℕ) → c ≡ b ++ x ∷ [] → d ≡ c ++ y ∷ []
+    → d ≡ b ++ x ∷ y ∷ []
+pushed_two b x y c d e f =
+    f ∙ (ap (λ (w : List ℕ). w ++ y ∷ []) e ∙ append_assoc b (x ∷ []) (y ∷ []))
+
+-- the way back to a schedule that differs in its last step
+small_bytes : (x : ℕ) → x ∷ 17 ∷ [] ≡ way_bytes 1 (x ∷ [])
+unfolding way_bytes
+small_bytes x = refl
+
+-- a schedule that differs from the last in its last step goes on top
+pub replaced : (n : ℕ) (b last first : List ℕ) (l k x t : ℕ) (c : List ℕ)
+    → IsStack n b last first l → length last ≡ k + 1 → x ≡ get_or last k x
+    → c ≡ b ++ x ∷ 17 ∷ []
+    → Grown (n + 1) c (set last k t) first l (listed n b last ++ (take k last ++ t ∷ []) ∷ [])
+replaced n b last first l k x t c stack one read wrote =
+    let top = set_last last k t one in
+    let short = stack_short n b last first l stack in
+    pushed n b last first l (t ∷ []) c (set last k t) (x ∷ []) k l stack (omega (arith, one))
+    (omega arith) (omega arith) (sym (last_step last k x one read))
+    (wrote ∙ ap (λ (y : List ℕ). b ++ y) (small_bytes x)) top (omega arith)
+    (omega (arith, short, one, length-set last k t))
+
+-- the way back to a schedule that differs in its last step, from one that is a step longer
+long_bytes : (x : ℕ) → x ∷ 33 ∷ [] ≡ way_bytes 2 (x ∷ [])
+unfolding way_bytes
+long_bytes x = refl
+
+-- such a schedule goes on top
+pub replaced_by_two : (n : ℕ) (b last first : List ℕ) (l m k x t u : ℕ) (c top : List ℕ)
+    → IsStack n b last first l → length last ≡ k + 1 → x ≡ get_or last k x
+    → c ≡ b ++ x ∷ 33 ∷ [] → top ≡ set last k t ++ u ∷ [] → l ≤ m → length top ≤ m
+    → Grown (n + 1) c top first m (listed n b last ++ (take k last ++ t ∷ u ∷ []) ∷ [])
+replaced_by_two n b last first l m k x t u c top stack one read wrote made more short =
+    pushed n b last first l (t ∷ u ∷ []) c top (x ∷ []) k m stack (omega (arith, one))
+    (omega arith) (omega arith) (sym (last_step last k x one read))
+    (wrote ∙ ap (λ (y : List ℕ). b ++ y) (long_bytes x))
+    (made ∙ (ap (λ (w : List ℕ). w ++ u ∷ []) (set_last last k t one)
+    ∙ append_assoc (take k last) (t ∷ []) (u ∷ []))) more short
+
+-- a stack goes on top
+pub appended : (n k : ℕ) (b c last first end start : List ℕ) (l j : ℕ) (mid both top t : List ℕ)
+    (i m : ℕ) → IsStack n b last first l → IsStack k c end start j → i ≤ length last
+    → i ≤ length start → length start < 2 ^ 64 → length t < 2 ^ 64 → take i last ≡ take i start
+    → t ≡ drop i last → mid ≡ b ++ way_bytes (length start - i) t → both ≡ mid ++ c → top ≡ end
+    → l ≤ m → j ≤ m → Grown (n + k) both top first m (listed n b last ++ listed k c end)
+appended n k b c last first end start l j mid both top t i m stack other low le fits fit alike e f
+    g h room above =
+    let made : take i last ++ drop i start ≡ start = rw alike (take-append-drop i start) in
+    let count : length (drop i start) ≡ length start - i = length-drop i start in
+    let leads : back (length start - i, t) start ≡ last
+    = ap (back (length start - i, t)) (sym made)
+    ∙ ap (λ n. back (n, t) (take i last ++ drop i start)) (sym count)
+    ∙ leads_back last (drop i start) t i low e in
+    rw (g, f, h) (record {
+      stack = stack_append n k b c last first end start l j m t (length start - i) stack other room
+          above (omega arith) fit leads;
+      view = listed_append n k b c last end start j t (length start - i) other (omega arith) fit
+          leads;
+    })
+
+pub last_of_listed : (n : ℕ) (b last : List ℕ) → 0 < n → last_of (listed n b last) ≡ last
+last_of_listed n b last more =
+    rw (listed_more n b last more)
+    (get_or_push (listed (n - 1) (below_of b) (before b last)) last [] _
+    (omega (arith, length_push (listed (n - 1) (below_of b) (before b last)) last)))
+
+-- a prefix is what it shares with the last one, and what comes after
+pub taken_after : (p : List (List ℕ)) (last prefix : List ℕ) (k : ℕ) → last_of p ≡ last
+    → take k last ≡ take k prefix
+    → p ++ (take k (last_of p) ++ take (length prefix - k) (drop k prefix)) ∷ [] ≡ p ++ prefix ∷ []
+taken_after p last prefix k e alike =
+    rw (e, alike, take_rest prefix k, take-append-drop k prefix) refl
+
+-- a list that counts none has none
+pub none_listed : (n : ℕ) (b last : List ℕ) (p : List (List ℕ)) → listed n b last ≡ p → n ≡ 0
+    → p ≡ []
+none_listed n b last p e none = sym e ∙ listed_none n b last none
+
+take_none : {X : Type 0} (k : ℕ) → take {A = X} k [] ≡ []
+take_none zero = refl
+take_none (suc k) = refl
+
+pub take_within : {X : Type 0} (k : ℕ) (xs : List X) → take (min k (length xs)) xs ≡ take k xs
+take_within k [] = take_none (min k 0) ∙ sym (take_none k)
+take_within zero (x ∷ xs) =
+    let e : min 0 (length (x ∷ xs)) ≡ 0 = omega arith in
+    ap (λ n. take n (x ∷ xs)) e
+take_within (suc k) (x ∷ xs) =
+    let e : min (suc k) (suc (length xs)) ≡ suc (min k (length xs)) = omega arith in
+    rw e (ap (λ r. x ∷ r) (take_within k xs))
+
+-- after none, what comes after is all
+pub after_none : (p : List (List ℕ)) (rest : List ℕ) (k : ℕ) → p ≡ []
+    → p ++ (take k (last_of p) ++ rest) ∷ [] ≡ rest ∷ []
+after_none p rest k none = rw (none, take_none {X = ℕ} k) refl
+
+-- A search from the last prefix on. It stands at one of the prefixes, of which it knows how many
+-- steps it has and how many it shares with the wanted one; those after it are not the wanted one.
+pub record Seeks (list : List (List ℕ)) (wanted : List ℕ) (place : ℕ) (bytes : List ℕ)
+    (steps shared : ℕ) : Type 0 where
+  pub last : List ℕ
+  pub first : List ℕ
+  pub longest : ℕ
+  pub small : longest < 2 ^ 63
+  pub long : steps ≡ length last
+  pub alike : shared ≡ common_length last wanted
+  pub few : shared ≤ length wanted
+  pub packed : IsPacked place bytes last first longest
+  pub left : listed place bytes last ≡ take place list
+  pub within : place ≤ length list
+  pub none : (j : ℕ) (d : List ℕ) → place ≤ j → j < length list →
+      slice_index_or list j d ≡ wanted → ⊥
+
+pub got_take : {X : Type 0} (n k : ℕ) (xs : List X) → k < n →
+    slice_get (take n xs) k ≡ slice_get xs k
+got_take zero k xs h = absurd (omega arith)
+got_take (suc n) k [] h = refl
+got_take (suc n) zero (x ∷ xs) h = refl
+got_take (suc n) (suc k) (x ∷ xs) h = got_take n k xs (omega arith)
+
+got_at : {X : Type 0} (xs : List X) (k : ℕ) (x d : X) → slice_get xs k ≡ Some x →
+    slice_index_or xs k d ≡ x
+got_at [] k x d e = cc
+got_at (y ∷ ys) zero x d e = cc
+got_at (y ∷ ys) (suc k) x d e = got_at ys k x d e
+
+-- the prefix at which the search stands
+pub stands_at : (list : List (List ℕ)) (wanted : List ℕ) (place : ℕ)
+    (bytes : List ℕ) (steps shared : ℕ) → 0 < place →
+    (s : Seeks list wanted place bytes steps shared) →
+    slice_get list (place - 1) ≡ Some s.last
+stands_at list wanted place bytes steps shared some s =
+    let n = length-listed place bytes s.last in
+    let k : length (listed place bytes s.last) - 1 ≡ place - 1 = omega (arith, n) in
+    sym (got_take place (place - 1) list (omega (arith, some)))
+    ∙ (ap (λ l. slice_get l (place - 1)) (sym s.left)
+    ∙ (ap (λ j. slice_get (listed place bytes s.last) j) (sym k)
+    ∙ sym (listed_last place bytes s.last some)))
+
+-- it is found
+pub seek_found : (list : List (List ℕ)) (wanted : List ℕ) (place : ℕ)
+    (bytes : List ℕ) (steps shared : ℕ) → 0 < place →
+    Seeks list wanted place bytes steps shared →
+    shared ≡ steps → steps ≡ length wanted → slice_get list (place - 1) ≡ Some wanted
+seek_found list wanted place bytes steps shared some s e f =
+    let is : s.last ≡ wanted =
+    same_where s.last wanted (sym s.alike ∙ (e ∙ s.long)) (sym s.long ∙ f) in
+    stands_at list wanted place bytes steps shared some s ∙ ap (λ w. Some w) is
+
+-- the search goes on, where the prefix isn't the wanted one
+pub seek_before : (list : List (List ℕ)) (wanted : List ℕ) (place : ℕ)
+    (bytes rest : List ℕ) (steps shared steps' shared' : ℕ) → 0 < place →
+    (s : Seeks list wanted place bytes steps shared) →
+    ((shared ≡ steps) × (steps ≡ length wanted) → ⊥) →
+    rest ≡ below_of bytes → steps' ≡ length (before bytes s.last) →
+    shared' ≡ common_length (before bytes s.last) wanted → shared' ≤ length wanted →
+    Seeks list wanted (place - 1) rest steps' shared'
+seek_before list wanted place bytes rest steps shared steps' shared' some s other e f g h =
+    record {
+      last = before bytes s.last;
+      first = s.first;
+      longest = s.longest;
+      small = s.small;
+      long = f;
+      alike = g;
+      few = h;
+      packed = subst (λ (b : List ℕ). IsPacked (place - 1) b (before bytes s.last) s.first
+          s.longest)
+          (sym e) (packed_pop place bytes s.last s.first s.longest s.packed some);
+      left = ap (λ b. listed (place - 1) b (before bytes s.last)) e
+          ∙ (view_pop place bytes s.last some
+          ∙ ((λ i. take (length (s.left i) - 1) (s.left i)) ∙ shorter));
+      within = omega (arith, s.within);
+      none = λ j d lo hi is. none-at j d lo hi is;
+    }
+  where
+    shorter : take (length (take place list) - 1) (take place list) ≡ take (place - 1) list
+    shorter =
+        let n : length (take place list) - 1 ≡ place - 1
+        = omega (arith, length-take place list, s.within) in
+        ap (λ n. take n (take place list)) n
+        ∙ take-take (place - 1) place list (omega arith)
+
+    here : (d : List ℕ) → slice_index_or list (place - 1) d ≡ wanted → ⊥
+    here d is =
+        let at : slice_index_or list (place - 1) d ≡ s.last =
+        got_at list (place - 1) s.last d
+        (stands_at list wanted place bytes steps shared some s) in
+        let same : s.last ≡ wanted = sym at ∙ is in
+        other (
+          s.alike ∙ (ap (λ w. common_length s.last w) (sym same) ∙
+              (where_same s.last ∙ sym s.long)),
+          s.long ∙ ap length same,
+        )
+
+    none-at : (j : ℕ) (d : List ℕ) → place - 1 ≤ j → j < length list →
+        slice_index_or list j d ≡ wanted → ⊥
+    none-at j d lo hi is = ⊎_elim (λ (l : place - 1 < j). s.none j d (omega arith) hi is)
+        (λ (g : j ≤ place - 1).
+        let e : j ≡ place - 1 = omega arith in
+        here d (ap (λ k. slice_index_or list k d) (sym e) ∙ is))
+        (cases_lt (place - 1) j)
+
+end_within : (b : List ℕ) → end_of b ≤ length b
+unfolding end_of
+end_within b = elim (nat_lt (head_of b) 240) as
+    (λ t. cond t (length b - 1) (length b - 17) ≤ length b)
+    [ true ↦ omega arith | false ↦ omega arith ]
+
+pub length-before : (b last : List ℕ) →
+    length (before b last) ≡ length last - dropped_of b + (end_of b - start_of b)
+length-before b last =
+    omega (
+      arith,
+      length-append (take (length last - dropped_of b) last) (tail_of b),
+      length-take (length last - dropped_of b) last,
+      length-take (end_of b - start_of b) (drop (start_of b) b),
+      length-drop (start_of b) b,
+      end_within b,
+    )
+
+-- the prefix before fits
+pub before_fits : (list : List (List ℕ)) (wanted : List ℕ) (place : ℕ)
+    (bytes : List ℕ) (steps shared : ℕ) → 0 < place →
+    Seeks list wanted place bytes steps shared →
+    steps - dropped_of bytes + (end_of bytes - start_of bytes) < 2 ^ 63
+before_fits list wanted place bytes steps shared some s =
+    omega (
+      arith,
+      s.long,
+      length-before bytes s.last,
+      s.small,
+      packed_before place bytes s.last s.first s.longest s.packed some,
+    )
+
+-- a search begins at the last prefix
+pub seek_start : (list : List (List ℕ)) (first wanted : List ℕ) (longest count : ℕ)
+    (bytes there last : List ℕ) (steps shared : ℕ) → longest < 2 ^ 63
+    → IsPacked count bytes last first longest →
+    there ≡ bytes → listed count bytes last ≡ list → steps ≡ length last →
+    shared ≡ common_length last wanted → shared ≤ length wanted →
+    Seeks list wanted count there steps shared
+seek_start list first wanted longest count bytes there last steps shared small packed e view f g
+    h = record {
+      last = last;
+      first = first;
+      longest = longest;
+      small = small;
+      long = f;
+      alike = g;
+      few = h;
+      packed = subst (λ (b : List ℕ). IsPacked count b last first longest) (sym e) packed;
+      left = ap (λ b. listed count b last) e ∙ (view ∙ sym (take_all count list (omega (arith, many))));
+      within = omega (arith, many);
+      none = λ j d lo hi is. absurd (omega (arith, many, lo, hi));
+    }
+  where
+    many : length list ≡ count
+    many = sym (ap length view) ∙ length-listed count bytes last
+
+pub packed_few : (n : ℕ) (b last first : List ℕ) (l : ℕ) → IsPacked n b last first l →
+    n ≤ length b + 1
+packed_few n b last first l (inl e) = omega (arith, e)
+packed_few n b last first l (inr s) = stack_count n b last first l s
+
+-- the list that bytes, of which so many at the front are the first prefix, and the last prefix hold
+pub record Holds (n front : ℕ) (bytes last : List ℕ) (l : ℕ) (all : List (List ℕ)) : Type 0 where
+  pub within : front ≤ length bytes
+  pub packed : IsPacked n (drop front bytes) last (take front bytes) l
+  pub view : listed n (drop front bytes) last ≡ all
+
+pub counted_few : (n front : ℕ) (bytes last : List ℕ) (l : ℕ) →
+    IsPacked n (drop front bytes) last (take front bytes) l → n ≤ length bytes + 1
+counted_few n front bytes last l packed =
+    omega (
+      arith,
+      packed_few n (drop front bytes) last (take front bytes) l packed,
+      length-drop front bytes,
+    )
+
+-- and it holds the same where longer ones are allowed
+pub held_more : (n front : ℕ) (b last : List ℕ) (l m : ℕ) (all : List (List ℕ)) → l ≤ m →
+    Holds n front b last l all → Holds n front b last m all
+held_more n front b last l m all le h = record {
+  within = h.within;
+  packed = packed_more n (drop front b) last (take front b) l m le h.packed;
+  view = h.view;
+}
+
+-- bytes after the others leave the first prefix as it is
+pub grown_after : (n front : ℕ) (b w c top : List ℕ) (m : ℕ) (all : List (List ℕ)) →
+    front ≤ length b → c ≡ b ++ w →
+    ((d : List ℕ) → d ≡ drop front b ++ w → Grown n d top (take front b) m all) →
+    Holds n front c top m all
+grown_after n front b w c top m all le wrote grown =
+    let more : drop front c ≡ drop front b ++ w =
+    ap (drop front) wrote ∙ drop-append-le front b w le in
+    let same : take front c ≡ take front b =
+    ap (take front) wrote ∙ take-append-le front b w le in
+    let g = grown (drop front c) more in
+    record {
+      within = omega (arith, ap length wrote, length-append b w);
+      packed = inr (subst (λ (f : List ℕ). IsStack n (drop front c) top f m) (sym same) g.stack);
+      view = g.view;
+    }
+
+-- the first prefix
+pub started_with : (front : ℕ) (b p last : List ℕ) (l : ℕ) → front ≡ length p → b ≡ p → last ≡ p →
+    length p ≤ l → Holds 1 front b last l (p ∷ [])
+started_with front b p last l e f g short =
+    let none : drop front b ≡ [] = ap (drop front) f ∙ drop_all front p (omega arith) in
+    let whole : take front b ≡ p = ap (take front) f ∙ take_all front p (omega arith) in
+    record {
+      within = omega (arith, ap length f);
+      packed = inr (rw (none, whole, g) (stack_one p l short));
+      view = rw (none, g) (listed_one [] p);
+    }
+
+-- the last prefix comes off
+pub popped : (n front : ℕ) (b last : List ℕ) (l : ℕ) (c top : List ℕ) → 0 < n →
+    front ≤ length b → IsPacked n (drop front b) last (take front b) l →
+    start_of (drop front b) ≤ length (drop front b) →
+    c ≡ take (front + start_of (drop front b)) b → top ≡ before (drop front b) last →
+    Holds (n - 1) front c top l
+    (take (length (listed n (drop front b) last) - 1) (listed n (drop front b) last))
+popped n front b last l c top more le packed start cut back =
+    let below : drop front c ≡ below_of (drop front b) =
+    ap (drop front) cut ∙ drop-take front (start_of (drop front b)) b in
+    let same : take front c ≡ take front b =
+    ap (take front) cut
+    ∙ take-take front (front + start_of (drop front b)) b (omega arith) in
+    record {
+      within = omega (
+        arith,
+        ap length cut,
+        length-take (front + start_of (drop front b)) b,
+        length-drop front b,
+        start,
+        le,
+      );
+      packed = rw (below, same, back) (packed_pop n (drop front b) last (take front b) l packed
+          more);
+      view = rw (below, back) (view_pop n (drop front b) last more);
+    }

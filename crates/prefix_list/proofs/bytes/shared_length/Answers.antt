@@ -1,0 +1,17 @@
+use Rattle.std.proofs.Common.{sym, arith}
+use Rattle.prefix_list.proofs.CommonSteps.{common_is}
+use Rattle.prefix_list.proofs.bytes.shared_length.Goals as goal
+
+pub returns-else-a-n-clause-all : goal.returns-else-a-n-clause-all
+returns-else-a-n-clause-all c =
+    sym (common_is c.loop-n.n c.args.a.now c.args.b.now
+    (omega (arith, c.loop-n.invariant.within, c.min-most.ensures))
+    (omega (arith, c.loop-n.invariant.within, c.min-most.ensures)) c.loop-n.invariant.alike
+    (λ g h e. c.if-a-n.false e))
+
+pub returns-after-loop-n-clause-all : goal.returns-after-loop-n-clause-all
+returns-after-loop-n-clause-all c =
+    sym (common_is c.loop-n.n c.args.a.now c.args.b.now
+    (omega (arith, c.loop-n.invariant.within, c.min-most.ensures))
+    (omega (arith, c.loop-n.invariant.within, c.min-most.ensures)) c.loop-n.invariant.alike
+    (λ g h e. absurd (omega (arith, c.loop-n-test.false, c.min-most.ensures, g, h))))

@@ -1,0 +1,2 @@
+pub mod PrefixLists
+pub mod inner

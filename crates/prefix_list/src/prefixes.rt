@@ -1,0 +1,415 @@
+//! The packed list, and a reader of it from the last prefix on.
+
+ghost use Rattle.std.specs.Prelude.{◌≡◌, ℕ, ◌-◌, ◌^◌, ◌<◌, ◌≤◌, ◌==◌, List, [], ◌∷◌, ◌++◌, length, take, is_ok, IfOk, IfSome, IfNone, All, Some, if◌then◌else◌, option_copied, slice_get, vec_capacity};
+ghost use Rattle.prefix_list.specs.PrefixLists.{last_of};
+
+use crate::bytes::{
+    has_room_for_two, is_one_longer, is_short, put_few, put_reserved, put_short_way, put_way,
+    shared_length, step_back, top,
+};
+use crate::seeker::Seeker;
+use std::alloc::{AllocError, Global};
+use std::marker::Model;
+use std::mem;
+
+// What ends the way back from a prefix to one that differs in its last step: one step to take away,
+// one to put back.
+const LAST_REPLACED: u8 = 17;
+
+// The same for one that is a step longer: two to take away, one to put back.
+const ONE_FOR_TWO: u8 = 33;
+
+// A list begins with room for prefixes that are so much longer than the first, and for some ways
+// back, so that a short one seldom grows.
+const MORE_STEPS: usize = 32;
+
+const MORE_BYTES: usize = 96;
+
+/// A list of prefixes. Contracts see `List (List ℕ)`. The bytes are the first prefix, which ends at
+/// `front`, and the ways back. Where the last prefix stands there is room for each.
+#[derive(Drop)]
+pub struct Prefixes {
+    count: usize,
+    bytes: Vec<u8>,
+    front: usize,
+    last: Vec<u8>,
+}
+
+impl Model for Prefixes {
+    ghost use Rattle.std.specs.Prelude.{List, ℕ, ◌≤◌, length, take, drop, vec_capacity};
+    ghost use Rattle.prefix_list.specs.inner.Packed.{listed, IsPacked};
+
+    ghost Value = { List (List ℕ) };
+
+    ghost view = { λ p. listed p.count (drop p.front p.bytes.items) p.last.items };
+
+    ghost invariant = { λ p. (p.front ≤ length p.bytes.items)
+        × IsPacked p.count (drop p.front p.bytes.items) p.last.items
+        (take p.front p.bytes.items) (vec_capacity p.last) };
+}
+
+impl Prefixes {
+    /// A list of none.
+    pub fn new(alloc: Global) -> Prefixes
+        ensures { result ≡ [] }
+    {
+        Prefixes {
+            count: 0,
+            bytes: Vec::new(alloc),
+            front: 0,
+            last: Vec::new(alloc),
+        }
+    }
+
+    /// How many prefixes there are.
+    pub fn length(&self) -> usize
+        ensures length { result ≡ length self.now }
+        ensures few { result ≤ 2 ^ 63 }
+    {
+        self.count
+    }
+
+    /// Whether there is none.
+    pub fn is_empty(&self) -> bool
+        ensures { result ≡ (length self.now == 0) }
+    {
+        self.count == 0
+    }
+
+    /// The last prefix.
+    pub fn last(&self) -> Option<&[u8]>
+        ensures { option_copied result ≡ slice_get self.now (length self.now - 1) }
+    {
+        if self.count == 0 {
+            None
+        } else {
+            Some(self.last.as_slice())
+        }
+    }
+
+    /// A place of a prefix, counted from 0, looked for from the last on. It takes no memory.
+    pub fn position(&self, prefix: &[u8]) -> Option<usize>
+        ensures some { IfSome result (λ k.
+            (k < length self.now) × (slice_get self.now k ≡ Some prefix.now)) }
+        ensures none { IfNone result (All (λ p. p ≡ prefix.now → ⊥) self.now) }
+    {
+        let mut seeker = Seeker {
+            bytes: &self.bytes[self.front..],
+            steps: self.last.len(),
+            shared: shared_length(self.last.as_slice(), prefix),
+        };
+        let mut place = self.count;
+        while 0 < place {
+            place -= 1;
+            if seeker.has_found(prefix) {
+                return Some(place);
+            }
+            seeker = seeker.before(prefix);
+        }
+        None
+    }
+
+    /// Takes the last prefix away. It takes no memory.
+    pub fn pop(&mut self)
+        requires { 0 < length self.old }
+        ensures { self.new ≡ take (length self.old - 1) self.old }
+    {
+        let ways = &self.bytes[self.front..];
+        let top = top(ways);
+        let _ = step_back(ways, top, &mut self.last);
+        self.bytes.truncate(self.front + top.start);
+        self.count -= 1;
+    }
+
+    /// Keeps so many prefixes at most, the first of them. It takes no memory.
+    pub fn truncate(&mut self, length: usize)
+        ensures { self.new ≡ take length self.old }
+    {
+        while length < self.length() {
+            self.pop();
+        }
+    }
+
+    /// Takes all prefixes away, and keeps the list's memory.
+    pub fn clear(&mut self)
+        ensures { self.new ≡ [] }
+    {
+        self.count = 0;
+    }
+
+    /// Puts a prefix after the others.
+    ///
+    /// # Errors
+    ///
+    /// `AllocError` where memory runs out; the list is then as before.
+    pub fn push(&mut self, prefix: &[u8]) -> Result<(), AllocError>
+        ensures { self.new ≡ (if is_ok result then self.old ++ prefix.now ∷ [] else self.old) }
+    {
+        if self.count == 0 {
+            return self.start(prefix);
+        }
+        let shared = shared_length(self.last.as_slice(), prefix);
+        self.push_after(shared, &prefix[shared..])
+    }
+
+    /// Puts a prefix after the others that begins as the last one does, so many steps, and then
+    /// goes on with the rest. It compares nothing.
+    ///
+    /// # Errors
+    ///
+    /// `AllocError` where memory runs out; the list is then as before.
+    pub fn push_after(&mut self, shared: usize, rest: &[u8]) -> Result<(), AllocError>
+        ensures { self.new ≡ (if is_ok result
+            then self.old ++ (take shared (last_of self.old) ++ rest.now) ∷ [] else self.old) }
+    {
+        self.push_by(shared, rest)
+    }
+
+    // The same, written into its callers. Mostly the way back is short, and there is room.
+    #[inline(always)]
+    fn push_by(&mut self, shared: usize, rest: &[u8]) -> Result<(), AllocError>
+        ensures { self.new ≡ (if is_ok result
+            then self.old ++ (take shared (last_of self.old) ++ rest.now) ∷ [] else self.old) }
+    {
+        if self.count != 0 && is_short(&self.bytes, &self.last, shared, rest) {
+            put_short_way(&mut self.bytes, rest.len(), &self.last[shared..]);
+            self.last.truncate(shared);
+            put_reserved(&mut self.last, rest);
+            self.count += 1;
+            return Ok(());
+        }
+        self.push_long(shared, rest)
+    }
+
+    // The same in every case, out of the way of the usual one.
+    #[inline(never)]
+    fn push_long(&mut self, shared: usize, rest: &[u8]) -> Result<(), AllocError>
+        ensures { self.new ≡ (if is_ok result
+            then self.old ++ (take shared (last_of self.old) ++ rest.now) ∷ [] else self.old) }
+    {
+        if self.count == 0 {
+            return self.start(rest);
+        }
+        let shared = shared.min(self.last.len());
+        self.last.reserve(rest.len())?;
+        put_way(&mut self.bytes, rest.len(), &self.last[shared..])?;
+        self.last.truncate(shared);
+        let _ = put_few(&mut self.last, rest);
+        self.count += 1;
+        Ok(())
+    }
+
+    /// Puts a prefix after the others that begins as the last one does, so many steps, and then goes
+    /// on with one step. Mostly that step takes the place of the last prefix's last one, and there
+    /// is room for the way back.
+    ///
+    /// # Errors
+    ///
+    /// `AllocError` where memory runs out; the list is then as before.
+    #[inline(always)]
+    pub fn push_step(&mut self, shared: usize, step: u8) -> Result<(), AllocError>
+        ensures { self.new ≡ (if is_ok result
+            then self.old ++ (take shared (last_of self.old) ++ step ∷ []) ∷ [] else self.old) }
+    {
+        if self.count != 0 && is_one_longer(&self.last, shared) && has_room_for_two(&self.bytes) {
+            self.bytes.push_reserved(self.last[shared]);
+            self.bytes.push_reserved(LAST_REPLACED);
+            self.last[shared] = step;
+            self.count += 1;
+            return Ok(());
+        }
+        self.push_any_step(shared, step)
+    }
+
+    // The same in every case, out of the way of the usual one.
+    #[inline(never)]
+    fn push_any_step(&mut self, shared: usize, step: u8) -> Result<(), AllocError>
+        ensures { self.new ≡ (if is_ok result
+            then self.old ++ (take shared (last_of self.old) ++ step ∷ []) ∷ [] else self.old) }
+    {
+        self.push_by(shared, &[step])
+    }
+
+    /// Puts a prefix after the others as [`Prefixes::push_step`] does, with two steps: mostly the
+    /// first takes the place of the last prefix's last one.
+    ///
+    /// # Errors
+    ///
+    /// `AllocError` where memory runs out; the list is then as before.
+    #[inline(always)]
+    pub fn push_two(&mut self, shared: usize, step: u8, next: u8) -> Result<(), AllocError>
+        ensures { self.new ≡ (if is_ok result
+            then self.old ++ (take shared (last_of self.old) ++ step ∷ next ∷ []) ∷ []
+            else self.old) }
+    {
+        if self.count != 0
+            && is_one_longer(&self.last, shared)
+            && has_room_for_two(&self.bytes)
+            && self.last.len() < self.last.capacity()
+        {
+            self.bytes.push_reserved(self.last[shared]);
+            self.bytes.push_reserved(ONE_FOR_TWO);
+            self.last[shared] = step;
+            self.last.push_reserved(next);
+            self.count += 1;
+            return Ok(());
+        }
+        self.push_any_two(shared, step, next)
+    }
+
+    // The same in every case, out of the way of the usual one.
+    #[inline(never)]
+    fn push_any_two(&mut self, shared: usize, step: u8, next: u8) -> Result<(), AllocError>
+        ensures { self.new ≡ (if is_ok result
+            then self.old ++ (take shared (last_of self.old) ++ step ∷ next ∷ []) ∷ []
+            else self.old) }
+    {
+        self.push_by(shared, &[step, next])
+    }
+
+    // Puts the first prefix in.
+    fn start(&mut self, prefix: &[u8]) -> Result<(), AllocError>
+        requires { self.old ≡ [] }
+        ensures { self.new ≡ (if is_ok result then prefix.now ∷ [] else []) }
+    {
+        self.last.reserve(prefix.len().saturating_add(MORE_STEPS))?;
+        self.bytes.reserve(prefix.len().saturating_add(MORE_BYTES))?;
+        self.bytes.clear();
+        let _ = self.bytes.extend_from_slice(prefix);
+        self.front = prefix.len();
+        self.last.clear();
+        let _ = self.last.extend_from_slice(prefix);
+        self.count = 1;
+        Ok(())
+    }
+
+    /// Moves the prefixes of another list after these.
+    ///
+    /// # Errors
+    ///
+    /// `AllocError` where memory runs out; both lists are then as before.
+    pub fn append(&mut self, other: &mut Prefixes) -> Result<(), AllocError>
+        ensures all { self.new ≡ (if is_ok result then self.old ++ other.old else self.old) }
+        ensures moved { other.new ≡ (if is_ok result then [] else other.old) }
+    {
+        if other.count == 0 {
+            return Ok(());
+        }
+        if self.count == 0 {
+            mem::swap(self, other);
+            return Ok(());
+        }
+        let room = other.last.capacity();
+        self.last.reserve(room.saturating_sub(self.last.len()))?;
+        let shared = shared_length(self.last.as_slice(), &other.bytes[..other.front]);
+        let len = self.bytes.len();
+        put_way(&mut self.bytes, other.front - shared, &self.last[shared..])?;
+        if let Err(error) = self.bytes.extend_from_slice(&other.bytes[other.front..]) {
+            self.bytes.truncate(len);
+            return Err(error);
+        }
+        self.last.clear();
+        let _ = self.last.extend_from_slice(other.last.as_slice());
+        self.count += other.count;
+        other.count = 0;
+        Ok(())
+    }
+
+    /// An equal list.
+    ///
+    /// # Errors
+    ///
+    /// `AllocError` where memory runs out.
+    pub fn try_clone(&self, alloc: Global) -> Result<Prefixes, AllocError>
+        ensures { IfOk result (λ p. p ≡ self.now) }
+    {
+        let bytes = self.bytes.as_slice().to_vec(alloc)?;
+        let last = copy_with_room(alloc, self.last.as_slice(), self.last.capacity())?;
+        Ok(Prefixes {
+            count: self.count,
+            bytes,
+            front: self.front,
+            last,
+        })
+    }
+
+    /// The prefixes, to be read from the last on.
+    ///
+    /// # Errors
+    ///
+    /// `AllocError` where memory runs out.
+    pub fn last_first(&self, alloc: Global) -> Result<LastFirst<'_>, AllocError>
+        ensures { IfOk result (λ r. r ≡ self.now) }
+    {
+        let last = copy_with_room(alloc, self.last.as_slice(), self.last.capacity())?;
+        Ok(LastFirst {
+            count: self.count,
+            bytes: &self.bytes[self.front..],
+            last,
+            first: &self.bytes[..self.front],
+        })
+    }
+}
+
+// A copy of a prefix, with room for one of so many steps.
+fn copy_with_room(alloc: Global, prefix: &[u8], longest: usize) -> Result<Vec<u8>, AllocError>
+    ensures prefix { IfOk result (λ v. v.items ≡ prefix.now) }
+    ensures room { IfOk result (λ v. longest ≤ vec_capacity v) }
+{
+    let mut copy = Vec::with_capacity(alloc, longest)?;
+    copy.extend_from_slice(prefix)?;
+    Ok(copy)
+}
+
+/// The prefixes of a list, read from the last on. Contracts see those that are still to be read, in
+/// the order of the list.
+#[derive(Drop)]
+pub struct LastFirst<'a> {
+    count: usize,
+    bytes: &'a [u8],
+    last: Vec<u8>,
+    first: &'a [u8],
+}
+
+impl<'a> Model for LastFirst<'a> {
+    ghost use Rattle.std.specs.Prelude.{List, ℕ, vec_capacity};
+    ghost use Rattle.prefix_list.specs.inner.Packed.{listed, IsPacked};
+
+    ghost Value = { List (List ℕ) };
+
+    ghost view = { λ p. listed p.count p.bytes.now p.last.items };
+
+    ghost invariant = { λ p. IsPacked p.count p.bytes.now p.last.items p.first.now
+        (vec_capacity p.last) };
+}
+
+impl<'a> LastFirst<'a> {
+    /// How many are still to be read.
+    pub fn length(&self) -> usize
+        ensures { result ≡ length self.now }
+    {
+        self.count
+    }
+
+    /// The last of those that are still to be read.
+    pub fn prefix(&self) -> Option<&[u8]>
+        ensures { option_copied result ≡ slice_get self.now (length self.now - 1) }
+    {
+        if self.count == 0 {
+            None
+        } else {
+            Some(self.last.as_slice())
+        }
+    }
+
+    /// Goes on to the one before. It takes no memory.
+    pub fn advance(&mut self)
+        requires { 0 < length self.old }
+        ensures { self.new ≡ take (length self.old - 1) self.old }
+    {
+        let top = top(self.bytes);
+        let _ = step_back(self.bytes, top, &mut self.last);
+        self.bytes = &self.bytes[..top.start];
+        self.count -= 1;
+    }
+}

@@ -1,0 +1,27 @@
+//! What is proved of the definitions alone. A law is what its function ensures; the functions do
+//! nothing.
+
+ghost use Rattle.std.specs.Prelude.{◌≡◌, Bool, false};
+ghost use Rattle.guest_code.specs.Program.{Program};
+ghost use Rattle.runner.specs.declared.limits.TheConstants.{QUOTA, WORKERS};
+ghost use Rattle.runner.specs.declared.options.Options.{Options};
+ghost use Rattle.runner.specs.declared.report.Report.{Report};
+ghost use Rattle.runner.specs.Promises.{IsReport, IsWhole};
+ghost use Rattle.runner.specs.ReportText.{report_text};
+
+use crate::limits::{QUOTA, WORKERS};
+
+/// Two reports of one program and search that aren't quick and were not cut short have one text. So it
+/// depends neither on the workers, the gate and the quota, nor on a limit that was not reached.
+pub fn reports_agree()
+    ensures { (may other : Bool) (p : Program) (o q : Options) (r s : Report) →
+        o.search ≡ q.search → o.quick ≡ false → q.quick ≡ false →
+        IsReport may p o r → IsReport other p q s →
+        IsWhole r.verdict → IsWhole s.verdict → report_text r ≡ report_text s }
+{}
+
+/// The number of each limit.
+pub fn limits_are()
+    ensures quota { QUOTA ≡ 256 }
+    ensures workers { WORKERS ≡ 16 }
+{}

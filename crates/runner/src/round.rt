@@ -1,0 +1,49 @@
+//! A round of several workers.
+
+ghost use Rattle.std.specs.Prelude.{◌<◌, vec_len, IfSome};
+
+use board::NONE_TOLD;
+use walk::item::Item;
+use walk::mode::Mode;
+
+/// The items of a round, and how they are walked. Nobody changes it while workers have it.
+#[derive(Drop)]
+pub(crate) struct Round {
+    pub mode: Mode,
+    pub quick: bool,
+    pub quota: u32,
+    /// Which round of its stretch it is, counted from 1.
+    pub turn: u64,
+    /// The number of its first item on the board. Those of a round follow those of the one before.
+    pub first: u64,
+    pub items: Vec<Item>,
+}
+
+impl Round {
+    /// The place of the item with a number of the board, if it is of this round.
+    pub fn place_of(&self, number: u64) -> Option<usize>
+        ensures { IfSome result (λ k. k < vec_len self.now.items) }
+    {
+        let place = number.checked_sub(self.first)? as usize;
+        if place < self.items.len() {
+            Some(place)
+        } else {
+            None
+        }
+    }
+
+    /// How many of its items come before this one, in the order of schedules.
+    pub fn rank_of(&self, item: &Item) -> u64 {
+        let before = self
+            .items
+            .iter()
+            .filter(|other| other.prefix() < item.prefix());
+        before.count() as u64
+    }
+
+    /// Whether a quick search leaves an item out for now, where this is the least rank told of an item
+    /// with a bad schedule: the item comes after that one, in the order of schedules.
+    pub fn leaves_out(&self, item: &Item, least: u64) -> bool {
+        least != NONE_TOLD && self.rank_of(item) > least
+    }
+}

@@ -1,0 +1,29 @@
+-- The schedules of two threads that each load a variable, add 1 and store the sum, by computing
+-- them.
+use Rattle.std.proofs.Common.{◌≡◌, pos, [], ◌∷◌, map, refl}
+use Rattle.std.specs.Int.{int_wrap}
+use Rattle.semantics.specs.Machine.{start}
+use Rattle.semantics.specs.Work.{work}
+use Rattle.schedules.specs.Schedules.{complete_schedules, preemptions}
+use Rattle.semantics.specs.Ends.{enabled, is_terminal}
+use Rattle.schedules.specs.Order.{end_of}
+use Rattle.schedules.specs.Sleep.{reduced_schedules, independent, none_asleep}
+use Rattle.schedules.specs.Increments.{increments, six_schedules, four_schedules, done_with}
+
+pub six_complete : complete_schedules increments (start increments) ≡ six_schedules
+unfolding complete_schedules work enabled int_wrap
+six_complete = refl
+
+pub their_preemptions : map (preemptions increments) six_schedules ≡ 0 ∷ 2 ∷ 1 ∷ 1 ∷ 2 ∷ 0 ∷ []
+unfolding int_wrap
+their_preemptions = refl
+
+pub their_ends : map (end_of increments) six_schedules
+    ≡ done_with (pos 2) ∷ done_with (pos 1) ∷ done_with (pos 1) ∷ done_with (pos 1)
+    ∷ done_with (pos 1) ∷ done_with (pos 2) ∷ []
+unfolding int_wrap
+their_ends = refl
+
+pub four_kept : reduced_schedules increments (start increments) none_asleep ≡ four_schedules
+unfolding reduced_schedules complete_schedules work enabled is_terminal independent int_wrap
+four_kept = refl

@@ -1,0 +1,9 @@
+pub mod Schedules
+pub mod Execution
+pub mod Order
+pub mod Rising
+pub mod Sleep
+pub mod Dependence
+pub mod Increments
+pub mod PrunedAway
+pub mod Branches

@@ -1,0 +1,8 @@
+//! Laws of the definitions, for their readers and for the crates above. A law is what its function
+//! ensures; the functions do nothing.
+
+pub mod independence;
+pub mod order;
+pub mod reachable;
+pub mod schedules;
+pub mod worked;

@@ -1,5 +1,0 @@
-use Rattle.semantics.proofs.SleepSets.{reduced_schedules-terminal, reduced_schedules-more}
-use Rattle.semantics.proofs.laws.independence.reduced_schedules_unfold.Goals as goal
-
-pub returns : goal.returns
-returns c = record { terminal = reduced_schedules-terminal; more = reduced_schedules-more }

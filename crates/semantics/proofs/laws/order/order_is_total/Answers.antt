@@ -1,9 +1,0 @@
-use Rattle.semantics.proofs.LeastSchedule.{never_before_itself, before_later, either_first}
-use Rattle.semantics.proofs.laws.order.order_is_total.Goals as goal
-
-pub returns : goal.returns
-returns c = record {
-  never_itself = never_before_itself;
-  later = before_later;
-  either = either_first;
-}

@@ -1,5 +1,0 @@
-use Rattle.semantics.proofs.SchedulesUnderPrefix.{smaller_first}
-use Rattle.semantics.proofs.laws.order.smaller_threads_come_first.Goals as goal
-
-pub returns : goal.returns
-returns c = smaller_first

@@ -1,5 +1,0 @@
-use Rattle.semantics.proofs.MutexSteps.{over_keeps, over_stays}
-use Rattle.semantics.proofs.laws.steps.threads_that_are_over_keep_their_mutexes.Goals as goal
-
-pub returns : goal.returns
-returns c = record { mutexes = over_keeps; thread = over_stays }

@@ -1,0 +1,12 @@
+use Rattle.std.proofs.Common.{◌∙◌, ◌++◌}
+use Rattle.summary.specs.Summaries.{sorted_views}
+use Rattle.summary.proofs.SumsJoin.{parts_joined}
+use Rattle.summary.proofs.summary.Summary.join.Goals as goal
+
+pub invariant_of-result : goal.invariant_of-result
+invariant_of-result c =
+    parts_joined _ _ _ _ _ _ _ _ c.self.invariant c.other.invariant
+    c.saturating_add.ensures c.saturating_add-2.ensures c.saturating_add-3.ensures
+    c.in_ok-lesser_of.ensures
+    (c.in_ok-views_of_both.ensures
+    ∙ (λ i. sorted_views (c.as_slice.ensures.value i ++ c.as_slice-2.ensures.value i)))

@@ -1,0 +1,515 @@
+//! Summaries of schedules: how many were tried, how they ended, and the first bad one.
+
+ghost use Rattle.std.specs.Prelude.{◌≡◌, ◌+◌, ◌<◌, ◌≤◌, IfOk, IsOk, IsTrue, MatchOption, Some, None, true, false, ◌++◌, ◌⊎◌, [], length, is_ok, if◌then◌else◌, vec_len, vec_capacity};
+ghost use Rattle.std.specs.List.Sorted.{IsStrictlySortedBy};
+ghost use Rattle.std.specs.Option.{option_or};
+ghost use Rattle.schedules.specs.Order.{precedes, lesser};
+ghost use Rattle.semantics.specs.View.{is_bad, view_cmp};
+ghost use Rattle.summary.specs.Summaries.{SummaryView, IsSummary, schedule_view, cut, nothing, is_failed, is_stuck, with_view, sorted_views, join, with_beyond, added, counted_if, first_bad_with, end_with};
+ghost use Rattle.summary.specs.inner.EndPlaces.{IsPlaceOf};
+
+use crate::hints::{EndHints, EndMemory};
+use semantics::view::{EndView, Kind};
+use std::alloc::{AllocError, Global};
+use std::cmp::Ordering;
+use std::marker::Model;
+
+// A summary begins with room for so many end views: that of a small item has one to three.
+const FEW_ENDS: usize = 3;
+
+/// What is known of a list of complete schedules. Counts stop at the greatest `u64`.
+#[derive(Drop)]
+pub struct Summary {
+    tried: u64,
+    failed: u64,
+    stuck: u64,
+    beyond: bool,
+    first_bad: Option<Vec<u8>>,
+    ends: Vec<EndView>,
+}
+
+impl Model for Summary {
+    ghost use Rattle.summary.specs.Summaries.{SummaryView, IsSummary, summary_view};
+
+    ghost Value = { SummaryView };
+
+    ghost view = { λ s. summary_view s.tried s.failed s.stuck s.beyond s.first_bad s.ends };
+
+    ghost invariant = { λ s. IsSummary
+        (summary_view s.tried s.failed s.stuck s.beyond s.first_bad s.ends) };
+}
+
+impl Summary {
+    /// The summary of no schedule.
+    pub fn empty(alloc: Global) -> Summary
+        ensures { result ≡ nothing }
+    {
+        Summary {
+            tried: 0,
+            failed: 0,
+            stuck: 0,
+            beyond: false,
+            first_bad: None,
+            ends: Vec::new(alloc),
+        }
+    }
+
+    /// Forgets all schedules, and gives the end views to this memory.
+    pub fn clear(&mut self, memory: &mut EndMemory)
+        ensures { self.new ≡ nothing }
+    {
+        self.forget_beyond();
+        memory.take_in(&mut self.ends);
+        reset(&mut self.tried);
+        reset(&mut self.failed);
+        reset(&mut self.stuck);
+        self.first_bad = None;
+    }
+
+    /// How many schedules were tried.
+    pub fn tried(&self) -> u64
+        ensures { result ≡ self.now.tried }
+    {
+        self.tried
+    }
+
+    /// How many of them failed.
+    pub fn failed(&self) -> u64
+        ensures { result ≡ self.now.failed }
+    {
+        self.failed
+    }
+
+    /// How many of them got stuck.
+    pub fn stuck(&self) -> u64
+        ensures { result ≡ self.now.stuck }
+    {
+        self.stuck
+    }
+
+    /// Whether some schedule has more preemptions than the bound.
+    pub fn beyond(&self) -> bool
+        ensures { result ≡ self.now.beyond }
+    {
+        self.beyond
+    }
+
+    /// The least of those that failed or got stuck.
+    pub fn first_bad(&self) -> Option<&[u8]>
+        ensures { MatchOption result
+            (self.now.first_bad ≡ None) (λ w. self.now.first_bad ≡ Some w.now) }
+    {
+        match &self.first_bad {
+            None => None,
+            Some(schedule) => Some(schedule.as_slice()),
+        }
+    }
+
+    /// How they ended: the end views by kind and then by the values of the variables, each once.
+    pub fn ends(&self) -> &[EndView]
+        ensures ends { result.now ≡ self.now.ends }
+        ensures kept { IsSummary self.now }
+    {
+        self.ends.as_slice()
+    }
+
+    /// An equal summary.
+    ///
+    /// # Errors
+    ///
+    /// `AllocError` where memory runs out.
+    pub fn try_clone(&self, alloc: Global) -> Result<Summary, AllocError>
+        ensures { IfOk result (λ s. s ≡ self.now) }
+    {
+        Ok(Summary {
+            tried: self.tried,
+            failed: self.failed,
+            stuck: self.stuck,
+            beyond: self.beyond,
+            first_bad: copy_schedule(alloc, &self.first_bad)?,
+            ends: copy_views(alloc, self.ends.as_slice())?,
+        })
+    }
+
+    /// This summary and another as one: the counts added, the lesser first bad schedule, the end
+    /// views of both.
+    ///
+    /// # Errors
+    ///
+    /// `AllocError` where memory runs out.
+    #[tactic(auto, using(crate::proofs::SumsJoin::join_kept), unfolding(crate::specs::Summaries::join))]
+    pub fn join(&self, alloc: Global, other: &Summary) -> Result<Summary, AllocError>
+        ensures { IfOk result (λ s. s ≡ join self.now other.now) }
+    {
+        Ok(Summary {
+            tried: self.tried.saturating_add(other.tried),
+            failed: self.failed.saturating_add(other.failed),
+            stuck: self.stuck.saturating_add(other.stuck),
+            beyond: self.beyond || other.beyond,
+            first_bad: lesser_of(alloc, &self.first_bad, &other.first_bad)?,
+            ends: views_of_both(alloc, self.ends.as_slice(), other.ends.as_slice())?,
+        })
+    }
+
+    /// Joins another summary in, in place: what [`Summary::join`] answers. Nothing is cloned, and
+    /// nothing is allocated where the other has no end view that is new. Hints tell at which index
+    /// an end view was found in earlier joins; they may be wrong. Of the other summary its memory
+    /// is left: what it is then is not said.
+    ///
+    /// # Errors
+    ///
+    /// `AllocError` where memory runs out; the summary is then as before.
+    #[tactic(auto, unfolding(crate::specs::Summaries::join))]
+    pub fn join_in_by(
+        &mut self,
+        hints: &mut EndHints,
+        other: &mut Summary,
+    ) -> Result<(), AllocError>
+        ensures { self.new ≡ (if is_ok result then join self.old other.old else self.old) }
+    {
+        join_views(&mut self.ends, hints, &mut other.ends)?;
+        take_lesser(&mut self.first_bad, other.first_bad.take());
+        increase(&mut self.tried, other.tried);
+        increase(&mut self.failed, other.failed);
+        increase(&mut self.stuck, other.stuck);
+        self.beyond = self.beyond || other.beyond;
+        reset(&mut other.failed);
+        reset(&mut other.stuck);
+        Ok(())
+    }
+
+    /// Forgets that some schedule is beyond the bound, for a bound that is raised.
+    pub fn forget_beyond(&mut self)
+        ensures { self.new ≡ with_beyond self.old false }
+    {
+        self.beyond = false;
+    }
+
+    /// Counts one more complete schedule, which ends so, in place. Mostly its view stands where a
+    /// hint says.
+    ///
+    /// # Errors
+    ///
+    /// `AllocError` where memory runs out; the summary is then as before.
+    #[tactic(auto, unfolding(crate::specs::Summaries::added))]
+    pub fn add(
+        &mut self,
+        alloc: Global,
+        memory: &mut EndMemory,
+        schedule: &[u8],
+        kind: Kind,
+        values: &[i64],
+    ) -> Result<(), AllocError>
+        ensures { self.new ≡ (if is_ok result
+            then added self.old schedule.now (end_with kind values.now) else self.old) }
+    {
+        let better = lesser_bad(alloc, &self.first_bad, schedule, kind)?;
+        add_view(alloc, &mut self.ends, memory, kind, values)?;
+        replace_by(&mut self.first_bad, better);
+        increase(&mut self.tried, 1);
+        count_if(is_failed(kind), &mut self.failed);
+        count_if(is_stuck(kind), &mut self.stuck);
+        Ok(())
+    }
+
+    /// Some schedule is beyond the bound.
+    pub fn set_beyond(&mut self)
+        ensures { self.new ≡ with_beyond self.old true }
+    {
+        self.beyond = true;
+    }
+}
+
+fn is_failed(kind: Kind) -> bool
+    ensures { result ≡ is_failed kind }
+{
+    matches!(kind, Kind::Failed)
+}
+
+fn is_stuck(kind: Kind) -> bool
+    ensures { result ≡ is_stuck kind }
+{
+    matches!(kind, Kind::Stuck)
+}
+
+// So many more.
+fn increase(count: &mut u64, more: u64)
+    ensures { count.new ≡ cut (count.old + more) }
+{
+    *count = count.saturating_add(more);
+}
+
+// None any more.
+fn reset(count: &mut u64)
+    ensures { count.new ≡ 0 }
+{
+    *count = 0;
+}
+
+// One more, where it is to be counted.
+fn count_if(counted: bool, count: &mut u64)
+    ensures { count.new ≡ counted_if counted count.old }
+{
+    if counted {
+        increase(count, 1);
+    }
+}
+
+// A copy of a schedule that ends so, where it comes before the first bad one.
+fn lesser_bad(
+    alloc: Global,
+    first: &Option<Vec<u8>>,
+    schedule: &[u8],
+    kind: Kind,
+) -> Result<Option<Vec<u8>>, AllocError>
+    ensures { IfOk result (λ better. option_or (schedule_view better) (schedule_view first.now)
+        ≡ first_bad_with (is_bad kind) (schedule_view first.now) schedule.now) }
+{
+    if kind.is_bad() && comes_first(schedule, first) {
+        Ok(Some(schedule.to_vec(alloc)?))
+    } else {
+        Ok(None)
+    }
+}
+
+// Whether a schedule comes before another, where there is another.
+fn comes_first(schedule: &[u8], first: &Option<Vec<u8>>) -> bool
+    ensures { lesser (schedule_view first.now) (Some schedule.now)
+        ≡ (if result then Some schedule.now else schedule_view first.now) }
+{
+    match first {
+        None => true,
+        Some(there) => precedes(schedule, there.as_slice()),
+    }
+}
+
+// Puts a schedule in place of another, where there is one to put.
+fn replace_by(first: &mut Option<Vec<u8>>, better: Option<Vec<u8>>)
+    ensures { schedule_view first.new ≡ option_or (schedule_view better) (schedule_view first.old) }
+{
+    match better {
+        None => {}
+        Some(schedule) => {
+            *first = Some(schedule);
+        }
+    }
+}
+
+// The lesser of two schedules, in place of the first; one that is there where the other isn't.
+fn take_lesser(first: &mut Option<Vec<u8>>, other: Option<Vec<u8>>)
+    ensures { schedule_view first.new ≡ lesser (schedule_view first.old) (schedule_view other) }
+{
+    match other {
+        None => {}
+        Some(schedule) => {
+            if comes_first(schedule.as_slice(), first) {
+                *first = Some(schedule);
+            }
+        }
+    }
+}
+
+// Whether one schedule comes before another.
+#[tactic(auto, using(schedules::proofs::LeastSchedule::slices_order))]
+fn precedes(first: &[u8], second: &[u8]) -> bool
+    ensures { result ≡ precedes first.now second.now }
+{
+    first.cmp(&second) == Ordering::Less
+}
+
+// The lesser of a schedule, where there is one, and another.
+fn keep_lesser(
+    alloc: Global,
+    first: Option<Vec<u8>>,
+    other: &[u8],
+) -> Result<Option<Vec<u8>>, AllocError>
+    ensures { IfOk result (λ v. schedule_view v ≡ lesser (schedule_view first) (Some other.now)) }
+{
+    match first {
+        None => Ok(Some(other.to_vec(alloc)?)),
+        Some(schedule) => {
+            if precedes(other, schedule.as_slice()) {
+                Ok(Some(other.to_vec(alloc)?))
+            } else {
+                Ok(Some(schedule))
+            }
+        }
+    }
+}
+
+// An equal schedule, where there is one.
+fn copy_schedule(alloc: Global, schedule: &Option<Vec<u8>>) -> Result<Option<Vec<u8>>, AllocError>
+    ensures { IfOk result (λ v. schedule_view v ≡ schedule_view schedule.now) }
+{
+    match schedule {
+        None => Ok(None),
+        Some(there) => Ok(Some(there.as_slice().to_vec(alloc)?)),
+    }
+}
+
+// The lesser of two schedules; one that is there where the other isn't.
+fn lesser_of(
+    alloc: Global,
+    first: &Option<Vec<u8>>,
+    second: &Option<Vec<u8>>,
+) -> Result<Option<Vec<u8>>, AllocError>
+    ensures { IfOk result (λ v.
+        schedule_view v ≡ lesser (schedule_view first.now) (schedule_view second.now)) }
+{
+    let copy = copy_schedule(alloc, first)?;
+    match second {
+        None => Ok(copy),
+        Some(other) => keep_lesser(alloc, copy, other.as_slice()),
+    }
+}
+
+// Where the view of a kind and values stands in a sorted list, or the index at which it belongs.
+fn search_view(ends: &[EndView], kind: Kind, values: &[i64]) -> Result<usize, usize>
+    requires { IsStrictlySortedBy view_cmp ends.now }
+    ensures { IsPlaceOf (end_with kind values.now) ends.now result }
+{
+    ends.binary_search_by(|end| EndView::compare_parts(kind, values, end).reverse())
+}
+
+// The same, by a hint where it is right.
+fn find_view(
+    ends: &[EndView],
+    hints: &mut EndHints,
+    kind: Kind,
+    values: &[i64],
+) -> Result<usize, usize>
+    requires { IsStrictlySortedBy view_cmp ends.now }
+    ensures { IsPlaceOf (end_with kind values.now) ends.now result }
+{
+    let hint = hints.hint_in(ends.len(), kind, values);
+    if stands_at(ends, hint, kind, values) {
+        return Ok(hint);
+    }
+    let found = search_view(ends, kind, values);
+    match found {
+        Ok(index) | Err(index) => hints.keep(EndHints::place_of(kind, values), index),
+    }
+    found
+}
+
+// Whether the view of a kind and values stands at an index.
+fn stands_at(ends: &[EndView], index: usize, kind: Kind, values: &[i64]) -> bool
+    requires { IsStrictlySortedBy view_cmp ends.now }
+    ensures { IsTrue result → (index < length ends.now)
+        × (with_view (end_with kind values.now) ends.now ≡ ends.now) }
+{
+    if index >= ends.len() {
+        return false;
+    }
+    match EndView::compare_parts(kind, values, &ends[index]) {
+        Ordering::Equal => true,
+        Ordering::Less | Ordering::Greater => false,
+    }
+}
+
+// Puts the view of a kind and values where it belongs in a sorted list, unless it is there.
+fn add_view(
+    alloc: Global,
+    ends: &mut Vec<EndView>,
+    memory: &mut EndMemory,
+    kind: Kind,
+    values: &[i64],
+) -> Result<(), AllocError>
+    requires { IsStrictlySortedBy view_cmp ends.old.items }
+    ensures { ends.new.items ≡ (if is_ok result
+        then with_view (end_with kind values.now) ends.old.items else ends.old.items) }
+{
+    if ends.is_empty() {
+        ends.reserve_exact(FEW_ENDS)?;
+        ends.push(memory.view(alloc, kind, values)?)?;
+        return Ok(());
+    }
+    match find_view(ends.as_slice(), &mut memory.hints, kind, values) {
+        Ok(_) => Ok(()),
+        Err(index) => {
+            ends.insert(index, memory.view(alloc, kind, values)?)?;
+            Ok(())
+        }
+    }
+}
+
+// Puts a view where it belongs in a sorted list, unless it is there.
+fn insert_view(ends: &mut Vec<EndView>, view: EndView) -> Result<(), AllocError>
+    requires { IsStrictlySortedBy view_cmp ends.old.items }
+    ensures items { ends.new.items ≡ (if is_ok result
+        then with_view view ends.old.items else ends.old.items) }
+    ensures length { vec_len ends.new ≤ vec_len ends.old + 1 }
+    ensures capacity { vec_capacity ends.old ≤ vec_capacity ends.new }
+    ensures room { vec_len ends.old < vec_capacity ends.old → IsOk result }
+{
+    match search_view(ends.as_slice(), view.kind(), view.vars()) {
+        Ok(_) => Ok(()),
+        Err(index) => {
+            ends.insert(index, view)?;
+            Ok(())
+        }
+    }
+}
+
+// Whether each of these views is in a sorted list.
+fn has_all(ends: &[EndView], hints: &mut EndHints, views: &[EndView]) -> bool
+    requires { IsStrictlySortedBy view_cmp ends.now }
+    ensures { IsTrue result → sorted_views (ends.now ++ views.now) ≡ ends.now }
+{
+    for view in views {
+        match find_view(ends, hints, view.kind(), view.vars()) {
+            Ok(_) => {}
+            Err(_) => return false,
+        }
+    }
+    true
+}
+
+// Puts views into a sorted list: sorted, each once. Their own list is emptied, but where all of them
+// are there.
+fn join_views(
+    ends: &mut Vec<EndView>,
+    hints: &mut EndHints,
+    views: &mut Vec<EndView>,
+) -> Result<(), AllocError>
+    requires { IsStrictlySortedBy view_cmp ends.old.items }
+    ensures joined { ends.new.items ≡ (if is_ok result
+        then sorted_views (ends.old.items ++ views.old.items) else ends.old.items) }
+    ensures left { (views.new.items ≡ []) ⊎ (views.new.items ≡ views.old.items) }
+{
+    if has_all(ends.as_slice(), hints, views.as_slice()) {
+        return Ok(());
+    }
+    ends.reserve(views.len())?;
+    while let Some(view) = views.pop() {
+        let _ = insert_view(ends, view);
+    }
+    Ok(())
+}
+
+// Equal views.
+fn copy_views(alloc: Global, views: &[EndView]) -> Result<Vec<EndView>, AllocError>
+    ensures { IfOk result (λ v. v.items ≡ views.now) }
+{
+    let mut copies = Vec::new(alloc);
+    for view in views {
+        copies.push(view.try_clone(alloc)?)?;
+    }
+    Ok(copies)
+}
+
+// The views of two lists, the first of them sorted: sorted, each once.
+fn views_of_both(
+    alloc: Global,
+    first: &[EndView],
+    second: &[EndView],
+) -> Result<Vec<EndView>, AllocError>
+    requires { IsStrictlySortedBy view_cmp first.now }
+    ensures { IfOk result (λ v. v.items ≡ sorted_views (first.now ++ second.now)) }
+{
+    let mut views = copy_views(alloc, first)?;
+    for view in second {
+        insert_view(&mut views, view.try_clone(alloc)?)?;
+    }
+    Ok(views)
+}

@@ -1,0 +1,13 @@
+use Rattle.std.proofs.Common.{◌≡◌, sym, subst}
+use Rattle.walk.specs.declared.mode.Mode.{Mode}
+use Rattle.walk.specs.inner.Paths.{state_at}
+use Rattle.walk.specs.inner.Children.{mask_after}
+use Rattle.walk.specs.inner.WalkerInvariant.{here}
+use Rattle.walk.proofs.path.Path.sleepers.Goals as goal
+
+pub returns-in-Reduced : goal.returns-in-Reduced
+returns-in-Reduced c =
+    let p = c.args.program.now in
+    let t = c.args.self.now in
+    subst (λ (m : Mode). c.sleepers.result ≡ mask_after m (here p t) c.args.thread) (sym c.in-Reduced.is)
+    (c.sleepers.ensures (state_at p t.steps.items) c.requires.path.shows c.requires.enabled)

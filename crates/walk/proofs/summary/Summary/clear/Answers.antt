@@ -1,7 +1,0 @@
-use Rattle.walk.proofs.SumsJoin.{nothing_kept}
-use Rattle.walk.proofs.summary.Summary.clear.Goals as goal
-
-pub invariant_of-self : goal.invariant_of-self
-invariant_of-self c =
-    nothing_kept _ _ _ c.self.inside.beyond c.take_in.new.views.items c.reset.ensures
-    c.reset-2.ensures c.reset-3.ensures c.take_in.ensures

@@ -1,0 +1,285 @@
+//! The way from the start of a program to where a walk stands, with copies of the states of nodes
+//! on it.
+
+ghost use Rattle.std.specs.Prelude.{◌≡◌, ◌+◌, ◌*◌, ◌-◌, ◌<◌, ◌≤◌, ◌^◌, ◌++◌, ◌∷◌, [], ℕ, true, None, IfOk, OnOk, length, take};
+ghost use Rattle.semantics.specs.Machine.{start, is_enabled};
+ghost use Rattle.schedules.specs.Schedules.{runs};
+ghost use Rattle.semantics.specs.Mask.{one_if};
+ghost use Rattle.walk.specs.inner.Paths.{IsPath, used_frames, frame_at, leaves, state_at};
+ghost use Rattle.walk.specs.declared.mode.Mode.{Mode};
+ghost use Rattle.walk.specs.inner.WalkerInvariant.{IsOpened, IsGone, left_above, still_open};
+
+use guest_code::laws::programs_are_well_formed;
+use guest_code::program::Program;
+use machine::{Control, Machine};
+use prefix_list::shared_length;
+use semantics::mask::Mask;
+use std::alloc::{AllocError, Global};
+use summary::EndMemory;
+
+/// A node of the tree of schedules: how it was come to, who sleeps, whose step is still to be
+/// tried.
+#[derive(Clone, Copy, Debug)]
+pub struct Node {
+    /// The threads whose steps are still to be tried.
+    pub todo: Mask,
+    pub asleep: Mask,
+    /// The thread of the last step.
+    pub last: Option<u8>,
+    /// The preemptions so far.
+    pub used: u32,
+}
+
+/// A node above the one where a walk stands, to which it can go back.
+#[derive(Clone, Copy, Debug)]
+pub struct Frame {
+    pub node: Node,
+    /// How many steps lead to it.
+    pub steps: usize,
+    /// The state there, but for its values.
+    pub control: Control,
+}
+
+/// The way from the start of a program: its steps, the state that they lead to, the node there, and
+/// some nodes above it, whose states' values are the words, so many for each.
+#[derive(Drop)]
+pub struct Path {
+    pub machine: Machine,
+    pub steps: Vec<u8>,
+    pub node: Node,
+    /// Frames after those in use are there to be written over.
+    pub frames: Vec<Frame>,
+    /// How many frames are in use.
+    pub depth: usize,
+    pub words: Vec<i64>,
+    pub size: usize,
+    /// How many of the frames lead to the item that is walked.
+    pub base: usize,
+    /// What end views are made with.
+    pub ends: EndMemory,
+}
+
+impl Node {
+    // The node at the start.
+    fn first() -> Node
+        ensures last { result.last ≡ None }
+        ensures used { result.used ≡ 0 }
+    {
+        Node {
+            todo: Mask::empty(),
+            asleep: Mask::empty(),
+            last: None,
+            used: 0,
+        }
+    }
+
+    // Becomes the node after a step of a thread, where these are enabled at the node before and
+    // these sleep after the step.
+    #[inline(always)]
+    fn step(&mut self, enabled: Mask, thread: u8, asleep: Mask)
+        requires { self.old.used + 1 < 2 ^ 32 }
+        ensures asleep { self.new.asleep ≡ asleep }
+        ensures last { self.new.last ≡ Some thread }
+        ensures used { self.new.used ≡ self.old.used + one_if (leaves enabled self.old thread) }
+    {
+        self.todo = Mask::empty();
+        self.asleep = asleep;
+        match self.last {
+            Some(last) => {
+                if last != thread {
+                    self.used += u32::from(enabled.has(last));
+                    self.last = Some(thread);
+                }
+            }
+            None => self.last = Some(thread),
+        }
+    }
+}
+
+// Sees to it that there are so many words.
+fn make_words(words: &mut Vec<i64>, count: usize) -> Result<(), AllocError>
+    ensures there { OnOk result (count ≤ length words.new.items) }
+    ensures room { length words.old.items ≤ length words.new.items }
+    ensures same { (n : ℕ) → n ≤ length words.old.items
+        → take n words.new.items ≡ take n words.old.items }
+{
+    while words.len() < count {
+        words.push(0)?;
+    }
+    Ok(())
+}
+
+// Sees to it that there is a frame after so many.
+#[inline(always)]
+fn make_frame(frames: &mut Vec<Frame>, depth: usize, machine: &Machine) -> Result<(), AllocError>
+    requires { depth ≤ length frames.old.items }
+    ensures there { OnOk result (depth < length frames.new.items) }
+    ensures room { depth ≤ length frames.new.items }
+    ensures same { take depth frames.new.items ≡ take depth frames.old.items }
+{
+    if frames.len() <= depth {
+        frames.push(Frame {
+            node: Node::first(),
+            steps: 0,
+            control: machine.control(),
+        })?;
+    }
+    Ok(())
+}
+
+impl Path {
+    /// The way of no step.
+    ///
+    /// # Errors
+    ///
+    /// `AllocError` where memory runs out.
+    pub fn start(alloc: Global, program: &Program) -> Result<Path, AllocError>
+        ensures { IfOk result (IsPath program.now) }
+    {
+        programs_are_well_formed(program);
+        let machine = Machine::start(alloc, program)?;
+        let size = machine.size();
+        Ok(Path {
+            machine,
+            steps: Vec::new(alloc),
+            node: Node::first(),
+            frames: Vec::new(alloc),
+            depth: 0,
+            words: Vec::new(alloc),
+            size,
+            base: 0,
+            ends: EndMemory::new(alloc),
+        })
+    }
+
+    /// The node where it stands gets a frame.
+    ///
+    /// # Errors
+    ///
+    /// `AllocError` where memory runs out.
+    #[inline(always)]
+    pub fn open(&mut self, _program: &Program) -> Result<(), AllocError>
+        requires { IsPath _program.now self.old }
+        ensures path { IsPath _program.now self.new }
+        ensures opened { OnOk result (IsOpened _program.now self.old self.new) }
+    {
+        let depth = self.depth;
+        let at = depth * self.size;
+        let end = at + self.size;
+        make_words(&mut self.words, end)?;
+        make_frame(&mut self.frames, depth, &self.machine)?;
+        let frame = &mut self.frames[depth];
+        frame.node = self.node;
+        frame.steps = self.steps.len();
+        frame.control = self.machine.control();
+        self.machine
+            .copy_into(&mut self.words.as_mut_slice()[at..end]);
+        self.depth = depth + 1;
+        Ok(())
+    }
+
+    /// Goes back to the node of a frame, which is one no more.
+    #[inline(always)]
+    pub fn leave(&mut self, _program: &Program, depth: usize)
+        requires path { IsPath _program.now self.old }
+        requires frame { depth < self.old.depth }
+        ensures path { IsPath _program.now self.new }
+        ensures steps { self.new.steps.items
+            ≡ take (length self.new.steps.items) self.old.steps.items }
+        ensures few { length self.new.steps.items ≤ (frame_at self.old.frames.items depth).steps }
+        ensures depth { self.new.depth ≡ depth }
+        ensures base { self.new.base ≡ self.old.base }
+        ensures left { (mode : Mode) → self.old.base ≤ depth
+            → self.old.depth ≡ depth + 1
+            → still_open mode _program.now self.new ≡ left_above mode _program.now self.old }
+    {
+        let at = depth * self.size;
+        let frame = &self.frames[depth];
+        self.machine
+            .restore(&frame.control, &self.words[at..at + self.size]);
+        self.steps.truncate(frame.steps);
+        self.node = frame.node;
+        self.depth = depth;
+    }
+
+    /// A step of an enabled thread, after which these threads sleep.
+    ///
+    /// # Errors
+    ///
+    /// `AllocError` where memory runs out; no step is taken then.
+    #[inline(always)]
+    pub fn go(&mut self, program: &Program, thread: u8, asleep: Mask) -> Result<(), AllocError>
+        requires path { IsPath program.now self.old }
+        requires frames { 0 < length (used_frames self.old) }
+        requires enabled { is_enabled program.now
+            (state_at program.now self.old.steps.items) thread ≡ true }
+        ensures path { IsPath program.now self.new }
+        ensures gone { OnOk result (IsGone program.now self.old self.new thread asleep) }
+    {
+        self.steps.push(thread)?;
+        let enabled = self.machine.enabled();
+        self.node.step(enabled, thread, asleep);
+        self.machine.step(program, thread);
+        Ok(())
+    }
+
+    /// One more step of the thread of the last one, which is enabled: so it is no preemption. Those
+    /// who slept sleep on.
+    ///
+    /// # Errors
+    ///
+    /// `AllocError` where memory runs out; no step is taken then.
+    #[inline(always)]
+    pub fn go_on(&mut self, program: &Program, thread: u8) -> Result<(), AllocError>
+        requires path { IsPath program.now self.old }
+        requires frames { 0 < length (used_frames self.old) }
+        requires last { self.old.node.last ≡ Some thread }
+        requires enabled { is_enabled program.now
+            (state_at program.now self.old.steps.items) thread ≡ true }
+        ensures path { IsPath program.now self.new }
+        ensures gone { OnOk result
+            (IsGone program.now self.old self.new thread self.old.node.asleep) }
+    {
+        self.steps.push(thread)?;
+        self.machine.step(program, thread);
+        Ok(())
+    }
+
+    // Goes back to the node of the last frame to which so many steps lead, or fewer.
+    fn go_back(&mut self, program: &Program, count: usize)
+        requires path { IsPath program.now self.old }
+        ensures path { IsPath program.now self.new }
+        ensures few { length self.new.steps.items ≤ count }
+        ensures steps { self.new.steps.items
+            ≡ take (length self.new.steps.items) self.old.steps.items }
+    {
+        if self.steps.len() <= count {
+            return;
+        }
+        let mut depth = self.depth - 1;
+        while self.frames[depth].steps > count {
+            depth -= 1;
+        }
+        self.leave(program, depth);
+    }
+
+    /// Goes to where a schedule leads: back to what it shares with the steps so far, and then on.
+    ///
+    /// # Errors
+    ///
+    /// `AllocError` where memory runs out.
+    pub fn go_to(&mut self, program: &Program, schedule: &[u8]) -> Result<(), AllocError>
+        requires path { IsPath program.now self.old }
+        requires runs { runs program.now (start program.now) schedule.now ≡ true }
+        ensures path { IsPath program.now self.new }
+        ensures steps { OnOk result (self.new.steps.items ≡ schedule.now) }
+    {
+        let shared = shared_length(self.steps.as_slice(), schedule);
+        self.go_back(program, shared);
+        for place in self.steps.len()..schedule.len() {
+            self.open(program)?;
+            self.go(program, schedule[place], Mask::empty())?;
+        }
+        Ok(())
+    }
+}

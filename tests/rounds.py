@@ -1,0 +1,342 @@
+#!/usr/bin/env python3
+"""tests/rounds.py PROGRAM LISTENER: what workers do in each round, and what the answer may depend on.
+
+PROGRAM is `ctxbound`. LISTENER is the program of the crate `rounds`, which searches a guest by a gate that writes
+down who is asked about which item, and when a round ends. Expected numbers are counted by hand: n threads
+of one step each have n! complete schedules, all without a preemption; where a walk tries one schedule,
+there are as many walks as schedules. The last line is `N passed, M failed`.
+"""
+import json
+import math
+import os
+import subprocess
+import sys
+import tempfile
+
+HERE = os.path.dirname(os.path.abspath(__file__))
+SECONDS = 120
+FULL = 64
+KEPT = ("bound", "kind", "preemptions", "schedule", "verdict")
+NAMES = "ABCDEFGHIJKLMNOP"
+
+
+def stores(count):
+    """Threads that each store to a variable of their own."""
+    names = NAMES[:count]
+    return "".join("var %s; " % name.lower() for name in names) + \
+        " ".join("thread %s { store %s 1; }" % (name, name.lower()) for name in names)
+
+
+def writers(count, bad):
+    """Threads of which the first fails where one of the next ones, up to `bad`, is before it. The others are
+    there to be in other orders."""
+    names = NAMES[1:count]
+    return "var x; " + "".join("var %s; " % name.lower() for name in names) + \
+        "thread A { load r x; assert r == 0; } " + \
+        " ".join("thread %s { store %s 1; }" % (name, "x" if k < bad else name.lower())
+                 for k, name in enumerate(names))
+
+
+GUESTS = {
+    **{"threads%d" % count: stores(count) for count in range(2, 13)},
+    "first": "var x; thread A { store x 1; assert 0; } thread B { store x 1; } thread C { store x 1; }",
+    "late": writers(7, 2), "later": writers(11, 2),
+    # B is told apart between its third step and its fourth. What the bound puts off of B's run comes last first.
+    "moment": "var x; thread A { load r x; assert r != 3; } "
+    "thread B { store x 1; store x 2; store x 3; store x 4; }",
+    "race": "var x; thread A { store x 1; } thread B { load r x; assert r == 0; }",
+    # Three threads of four steps: 12! / (4! 4! 4!) schedules.
+    "steps": "var x; " + " ".join("thread %s { repeat 4 { load r x; } }" % name for name in "ABC"),
+    # The last to store to each of three variables can be any of four threads: 64 ends.
+    "ends": "var x; var y; var z; " + " ".join(
+        "thread %s { store x %d; store y %d; store z %d; }" % (name, k, k, k)
+        for name, k in zip(NAMES, range(1000, 1004))),
+    "shared": "var x; " + " ".join("thread %s { load r x; store x r; }" % name for name in "ABCD"),
+    "long": "var x; " + " ".join("thread %s { repeat 100 { repeat 10 { store x 1; } } }" % name for name in "AB"),
+}
+
+
+class Trial:
+    def __init__(self, program, listener, folder):
+        self.program, self.listener, self.folder = program, listener, folder
+        self.passed, self.failed = 0, 0
+
+    def check(self, holds, *what):
+        """Counts a comparison, and tells of one that fails."""
+        self.passed, self.failed = self.passed + bool(holds), self.failed + (not holds)
+        if not holds:
+            print(*what, flush=True)
+
+    def run(self, words, size=0):
+        """What a run writes and its status, where each request for so many bytes is refused."""
+        env = dict(os.environ, LD_PRELOAD=self.folder + "/fail_alloc.so", FAIL_SIZE=str(size)) if size else None
+        done = subprocess.run(words, capture_output=True, timeout=SECONDS, env=env)
+        return done.stdout, done.stderr, done.returncode
+
+    def heard(self, guest, search, workers, quota=1, limit=0, quick=False, does=("open", 0), size=0):
+        """The rounds that the gate heard of, and the report; none where memory is refused."""
+        words = [self.listener, self.folder + "/" + guest, str(search), "quick" if quick else "whole",
+                 str(workers), str(quota), str(limit), does[0], str(does[1])]
+        out, err, status = self.run(words, size)
+        if status:
+            self.check(size, " ".join(words), "ended with status", status, err)
+            return [], {}
+        *lines, report = out.decode("ascii").split("\n")[:-1]
+        rounds, now = [], []
+        for line in lines:
+            kind, *numbers = line.split()
+            if kind == "round":
+                rounds.append((now, int(numbers[1])))
+                now = []
+            else:
+                now.append((kind, int(numbers[0]), int(numbers[1])))
+        if now:
+            rounds.append((now, 0))
+        return rounds, json.loads(report)
+
+    def search(self, guest, *words):
+        """What `ctxbound` writes and its status."""
+        command, *others = words
+        return self.run([self.program, command, self.folder + "/" + guest] + [str(word) for word in others])
+
+
+def items(events, *kinds):
+    return [(worker, item) for kind, worker, item in events if kind in kinds]
+
+
+def is_whole(rounds, workers):
+    """Whether each round has as many items as it may, each asked about once and walked by who asked."""
+    opened = 1
+    for events, left in rounds:
+        asked, walked = items(events, "go"), items(events, "walked")
+        if sorted(item for _, item in asked) != list(range(min(opened, FULL))) or sorted(asked) != sorted(walked):
+            return False
+        if any(worker >= workers for worker, _ in asked) or items(events, "late", "stop"):
+            return False
+        opened = left
+    return opened == 0
+
+
+def clean(count, tried, bound=0):
+    return {"all": True, "bound": bound, "ends": [{"kind": "done", "vars": [1] * count}], "failed": 0, "stuck": 0,
+            "tried": tried, "verdict": "clean"}
+
+
+def full_rounds(trial):
+    """Rounds of small items: each item once, and in some run each worker."""
+    for workers in (2, 3, 4, 16):
+        seen, runs = set(), 0
+        while runs < 200 and (runs < 3 or len(seen) < workers):
+            rounds, report = trial.heard("threads7", 0, workers)
+            runs += 1
+            trial.check(is_whole(rounds, workers), "a round of %d workers isn't whole" % workers)
+            walks = [worker for events, _ in rounds for worker, _ in items(events, "walked")]
+            trial.check(len(walks) == math.factorial(7), workers, "workers walk", len(walks), "items")
+            trial.check(any(len(items(events, "go")) == FULL for events, _ in rounds), "no round is full")
+            trial.check(report == clean(7, math.factorial(7)), workers, "workers:", report)
+            seen |= set(walks)
+        trial.check(seen == set(range(workers)), "of %d workers only these walked: %s" % (workers, seen))
+
+
+def side_by_side(trial):
+    """All workers are at an item at once."""
+    for workers in (2, 3, 4, 16):
+        rounds, report = trial.heard("threads7", 0, workers, does=("together", workers))
+        trial.check(is_whole(rounds, workers), "%d workers aren't out at once" % workers)
+        trial.check(report == clean(7, math.factorial(7)), workers, "workers:", report)
+
+
+def left_by(count, tried):
+    """How many prefixes a walk of threads of one step leaves that has tried so many schedules: at each step of
+    the last one the threads whose turn would have come later."""
+    left, place = 0, tried - 1
+    for others in range(1, count):
+        place, chosen = divmod(place, others + 1)
+        left += others - chosen
+    return left
+
+
+def every_size(trial):
+    """Rounds of each number of items, and of schedules that are pruned."""
+    chosen = {}
+    for count in range(2, 13):
+        for quota in range(1, min(200, math.factorial(count))):
+            chosen.setdefault(left_by(count, quota), (count, quota))
+    for size in range(1, FULL + 1):
+        count, quota = chosen[size]
+        for workers in (2, 4):
+            rounds, report = trial.heard("threads%d" % count, 0, workers, quota, quota + 1)
+            asked = sorted(item for _, item in items(rounds[1][0], "go"))
+            trial.check(asked == list(range(size)), workers, "workers, a round of", size, "items:", asked)
+            trial.check(report["tried"] > quota, report)
+    _, alone = trial.heard("shared", "unbounded", 1)
+    for workers in (2, 4, 16):
+        rounds, report = trial.heard("shared", "unbounded", workers)
+        trial.check(is_whole(rounds, workers) and report == alone, workers, "workers, unbounded:", report)
+        trial.check(len(rounds) > 2, "few rounds without a bound")
+
+
+def stops(trial):
+    """Gates that stop."""
+    for workers in (2, 4, 16):
+        rounds, report = trial.heard("threads7", 0, workers, does=("item", 3))
+        asked = [item for events, _ in rounds for _, item in items(events, "go")]
+        trial.check(report.get("cause") == "stopped" and max(asked) <= 2, "a stop at later items:", report)
+        rounds, report = trial.heard("threads8", 0, workers, 256, does=("pass", 20))
+        trial.check(report.get("cause") == "stopped" and report["tried"] >= 1000, "a late stop:", report)
+        for quick in (False, True):
+            rounds, report = trial.heard("threads7", 0, workers, quick=quick, does=("worker", 1))
+            asked = {worker for events, _ in rounds for worker, _ in items(events, "go")}
+            stopped = [worker for events, _ in rounds for worker, _ in items(events, "stop")]
+            last = sorted(item for _, item in items(rounds[-1][0], "go", "stop")) if rounds else []
+            trial.check(stopped in ([], [1]) and 1 not in asked, "worker 1 is stopped:", stopped, asked)
+            trial.check(last == list(range(len(last))), "items aren't asked about once:", last)
+            trial.check((report["verdict"] == "incomplete") == bool(stopped), "stopped once:", report)
+
+
+def by_one(rounds):
+    """Whether worker 0 walks each round's items, in their order."""
+    return all(items(events, "go") == [(0, item) for item in range(len(items(events, "go")))]
+               for events, _ in rounds)
+
+
+def without_board(trial):
+    """Where no board can be made the first worker walks, and asks the gate. Which requests a board makes isn't said
+    anywhere: those of some size are its own, so where all of that size are refused there is never a board, and the
+    search has its answer."""
+    sizes = []
+    for size in range(8, 513, 8):
+        # By chance one worker may do all that two have to do, but not ten times.
+        answers = [trial.heard("threads7", 0, 2, size=size)]
+        while len(answers) < 10 and answers[-1][0] and by_one(answers[-1][0]):
+            answers.append(trial.heard("threads7", 0, 2, size=size))
+        if len(answers) == 10 and by_one(answers[-1][0]):
+            sizes.append(size)
+            trial.check(all(is_whole(rounds, 1) for rounds, _ in answers), "without a board something isn't walked")
+            trial.check(all(report == clean(7, 5040) for _, report in answers), "another report without a board")
+            rounds, report = trial.heard("threads7", 0, 2, does=("pass", 50), size=size)
+            trial.check(by_one(rounds) and report.get("cause") == "stopped" and report["tried"] == 50,
+                        "a stop without a board:", report)
+    trial.check(sizes, "no board was refused")
+
+
+def hints(trial):
+    """What a quick search leaves out."""
+    for workers in (2, 8):
+        # The root, and then 55 items in their order: the first schedule of 45 is bad, and that of 46.
+        counts = []
+        for _ in range(20):
+            rounds, report = trial.heard("later", 0, workers, limit=2, quick=True, does=("after", 45))
+            asked = sorted(item for _, item in items(rounds[1][0], "go"))
+            trial.check(asked[:46] == list(range(46)), "what comes first is left out:", asked)
+            trial.check(sorted(items(rounds[1][0], "go")) == sorted(items(rounds[1][0], "walked")), "walks aren't told")
+            trial.check(report["schedule"].startswith("1,0,2"), report)
+            counts.append(len(asked))
+        trial.check(min(counts) < 55, workers, "workers leave nothing out")
+    for _ in range(20):
+        # The first item of the second round is bad and the last of all, so none of the others is left out.
+        rounds, report = trial.heard("moment", 1, 2, 256, quick=True, does=("after", 0))
+        asked = sorted(item for _, item in items(rounds[1][0], "go"))
+        trial.check(asked == [0, 1, 2], "items before a bad one:", asked)
+        trial.check(report["schedule"] == "1x3,0,1", report)
+    for workers in (2, 4):
+        rounds, report = trial.heard("threads7", 0, workers, quick=True)
+        trial.check(is_whole(rounds, workers), "a quick search leaves something out of a clean program")
+        trial.check(report == dict(clean(7, math.factorial(7)), quick=True), report)
+        rounds, whole = trial.heard("late", 0, workers)
+        trial.check(is_whole(rounds, workers) and whole["tried"] == math.factorial(7), whole)
+        _, quick = trial.heard("late", 0, workers, quick=True)
+        trial.check(quick["tried"] < whole["tried"], "a quick search tries all:", quick)
+        trial.check(quick["schedule"] == whole["schedule"] == "1,0,2,3,4,5,6", quick, whole)
+
+
+def limits(trial):
+    """Limits, by any number of workers."""
+    for workers in (1, 2, 3, 4, 16):
+        for quick in (False, True):
+            _, report = trial.heard("threads8", 0, workers, 256, 1000, quick)
+            trial.check(report.get("cause") == "limit" and 1000 <= report["tried"] <= 17383
+                        and report["finished"] is None, workers, "workers, limit 1000:", report)
+            # The first round is one walk.
+            for quota in (256, 3):
+                _, report = trial.heard("threads8", 0, workers, quota, 1, quick)
+                trial.check(report.get("cause") == "limit" and report["tried"] == quota,
+                            workers, "workers, limit 1, quota", quota, report)
+            # A bad schedule is told also where the limit is reached.
+            _, report = trial.heard("race", 2, workers, 256, 1, quick)
+            trial.check(report["verdict"] == "bad" and report["tried"] == 2, workers, "workers:", report)
+            _, report = trial.heard("shared", "unbounded", workers, 1, 2, quick)
+            trial.check(report.get("cause") == "limit", workers, "workers, unbounded, limit 2:", report)
+        # The first schedule is bad, and all others come later.
+        for search in (0, "unbounded"):
+            for limit in (0, 1):
+                _, report = trial.heard("first", search, workers, 1, limit, True)
+                trial.check(report["verdict"] == "bad" and report["tried"] == 1, workers, "workers:", report)
+
+
+def bounds(trial):
+    """Each bound, and many open items."""
+    for bound in range(65):
+        for workers in (1, 2):
+            _, report = trial.heard("race", bound, workers, 256)
+            trial.check(report["bound"] == 0 and report["verdict"] == "bad", "bound", bound, report)
+            if bound in (0, 1, 2, 3, 4, 63, 64):
+                _, report = trial.heard("steps", bound, workers, 256)
+                # The bounds differ up to 9: so many preemptions can three threads of four steps have.
+                trial.check(report["bound"] == min(bound, 9), "bound", bound, report)
+                if bound > 9:
+                    trial.check(report["tried"] == 34650 and report["all"], report)
+    rounds, report = trial.heard("steps", 64, 3, 1)
+    trial.check(report["tried"] == 34650 and report["all"], report)
+    trial.check(max(left for _, left in rounds) > 1000, "few items are open")
+
+
+def words(trial):
+    """The program: every number of workers, long reports and traces, texts of each length."""
+    for guest, others, wanted in (("threads7", ["--bound", 0], 0), ("late", [], 1), ("late", ["--quick"], 1),
+                                  ("threads8", ["--bound", 0, "--limit", 1], 3),
+                                  ("threads8", ["--bound", 0, "--quick", "--limit", 1], 3)):
+        answers = [trial.search(guest, "explore", "--workers", workers, *others) for workers in range(1, 17)]
+        for workers, (out, err, status) in enumerate(answers, 1):
+            report = json.loads(out or b"{}")
+            trial.check(status == wanted and err == b"", guest, others, workers, "workers:", status, err)
+            trial.check(report.get("quick", False) == ("--quick" in others), guest, workers, report)
+            same = {key: report.get(key) for key in KEPT}
+            trial.check(same == {key: json.loads(answers[0][0]).get(key) for key in KEPT}, guest, workers, report)
+            if "--limit" in others:
+                trial.check(report.get("tried") == 256, workers, "workers, limit 1:", report)
+    for bound in (0, 1, 2, 3, 4, 9, 10, 63, 64):
+        out, _, _ = trial.search("steps", "explore", "--bound", bound)
+        trial.check(json.loads(out)["bound"] == min(bound, 9), "--bound", bound, out)
+    out, _, status = trial.search("ends", "explore", "--bound", 64)
+    trial.check(status == 0 and len(out) > 2048 and len(json.loads(out)["ends"]) == 64, "a long report:", len(out))
+    out, _, status = trial.search("long", "replay", "0x1000,1x1000")
+    trial.check(status == 0 and len(out) > 2**14 and out.count(b"\n") == 2003, "a long trace:", len(out))
+    out, err, _ = trial.run([trial.program, "--version"])
+    with open(os.path.join(HERE, "..", "share", "vscode", "package.json"), encoding="utf-8") as file:
+        trial.check(out + err == b"ctxbound %s\n" % json.load(file)["version"].encode(), "--version:", out + err)
+    report = trial.search("race", "explore")
+    for length in [2**k + more for k in range(8, 17) for more in (-1, 0, 1) if 2**k + more <= 65536]:
+        with open(trial.folder + "/padded", "w", encoding="ascii") as file:
+            file.write(GUESTS["race"].ljust(length))
+        trial.check(trial.search("padded", "explore") == report, "a text of", length, "bytes")
+
+
+def main(program, listener):
+    with tempfile.TemporaryDirectory() as folder:
+        for name, text in GUESTS.items():
+            with open(os.path.join(folder, name), "w", encoding="ascii") as file:
+                file.write(text)
+        subprocess.run([os.environ.get("CC", "cc"), "-shared", "-fPIC", "-O1", "-o", folder + "/fail_alloc.so",
+                        os.path.join(HERE, "fail_alloc.c"), "-ldl"], check=True)
+        trial = Trial(os.path.abspath(program), os.path.abspath(listener), folder)
+        for part in (full_rounds, side_by_side, every_size, stops, without_board, hints, limits, bounds, words):
+            part(trial)
+    print("%d passed, %d failed" % (trial.passed, trial.failed))
+    return 1 if trial.failed else 0
+
+
+if __name__ == "__main__":
+    if len(sys.argv) != 3:
+        sys.exit(__doc__)
+    sys.exit(main(*sys.argv[1:]))
