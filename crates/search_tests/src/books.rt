@@ -1,4 +1,4 @@
-ghost use Rattle.std.specs.Prelude.{◌≤◌};
+ghost use Rattle.std.specs.Prelude.{◌≡◌, ◌≤◌};
 
 use book::books::Book;
 use guest_code::lowering::lower;
@@ -212,28 +212,50 @@ fn walk_first(alloc: Global, book: &mut Book, quota: u32) -> Result<(), Fail>
     Ok(())
 }
 
+/// Walks the counters' root where it stands, and then what the first walk left.
+fn walk_both(rt: &(impl Abort + Alloc<A = Global>), book: &mut Book) -> Result<(), Fail> {
+    walk_first(rt.alloc(), book, 1)?;
+    shows(rt, book, "1 true open [1] deferred [0, 1]")?;
+    walk_first(rt.alloc(), book, 256)?;
+    shows(rt, book, "2 true deferred [0, 1] deferred [1, 0]")?;
+    Ok(())
+}
+
 #[test]
 fn items_are_walked_where_they_stand(rt: HostRuntime) -> Result<(), Fail> {
     let mut book = book_of(rt.alloc(), COUNTERS, FIRST)?;
-    walk_first(rt.alloc(), &mut book, 1)?;
-    shows(&rt, &book, "1 true open [1] deferred [0, 1]")?;
-    walk_first(rt.alloc(), &mut book, 256)?;
-    shows(&rt, &book, "2 true deferred [0, 1] deferred [1, 0]")?;
+    walk_both(&rt, &mut book)
+}
+
+/// The prefixes of items, in one line.
+fn shown_items(alloc: Global, items: &[Item]) -> Result<String, AllocError> {
+    let mut line = String::new(alloc);
+    for item in items {
+        add_prefix(alloc, &mut line, "item", item)?;
+    }
+    Ok(line)
+}
+
+/// The items of a book's next round, which are written two times.
+fn twice(alloc: Global, book: &mut Book) -> Result<Vec<Item>, AllocError> {
+    let mut items = Vec::new(alloc);
+    book.next_round(alloc, &mut items)?;
+    book.next_round(alloc, &mut items)?;
+    Ok(items)
+}
+
+/// Stops the test where a round that is written over another isn't the counters' root.
+fn check_twice(rt: &(impl Abort + Alloc<A = Global>), book: &mut Book) -> Result<(), Fail> {
+    let items = twice(rt.alloc(), book)?;
+    let line = shown_items(rt.alloc(), &items)?;
+    assert_eq!(rt; line.as_str(), " item []");
     Ok(())
 }
 
 #[test]
 fn a_round_is_written_over_another(rt: HostRuntime) -> Result<(), Fail> {
     let mut book = book_of(rt.alloc(), COUNTERS, FIRST)?;
-    let mut items = Vec::new(rt.alloc());
-    book.next_round(rt.alloc(), &mut items)?;
-    book.next_round(rt.alloc(), &mut items)?;
-    let mut line = String::new(rt.alloc());
-    for item in &items {
-        add_prefix(rt.alloc(), &mut line, "item", item)?;
-    }
-    assert_eq!(rt; line.as_str(), " item []");
-    Ok(())
+    check_twice(&rt, &mut book)
 }
 
 /// Walks of another program, of another mode, and of an item that isn't open.
@@ -310,13 +332,18 @@ fn asked(alloc: Global, book: &Book) -> Result<(bool, bool, bool, bool), Fail> {
     Ok(answers(book, &writers, &counters))
 }
 
+/// Asks a book before and after its items are walked.
+fn ask_twice(rt: &(impl Abort + Alloc<A = Global>), book: &mut Book) -> Result<(), Fail> {
+    assert_eq!(rt; asked(rt.alloc(), book)?, (false, false, false, false));
+    finish(rt.alloc(), book, 256)?;
+    assert_eq!(rt; asked(rt.alloc(), book)?, (true, false, false, false));
+    Ok(())
+}
+
 #[test]
 fn a_closed_book_asks_who_wants_to_know(rt: HostRuntime) -> Result<(), Fail> {
     let mut book = book_of(rt.alloc(), WRITERS, FIRST)?;
-    assert_eq!(rt; asked(rt.alloc(), &book)?, (false, false, false, false));
-    finish(rt.alloc(), &mut book, 256)?;
-    assert_eq!(rt; asked(rt.alloc(), &book)?, (true, false, false, false));
-    Ok(())
+    ask_twice(&rt, &mut book)
 }
 
 /// What a book of the counters has when the items of each bound are walked, bound after bound.
@@ -366,13 +393,18 @@ fn is_not_raised(
     Ok(())
 }
 
+/// Tries to raise a book of the greatest bound before and after its items are walked.
+fn raise_twice(rt: &(impl Abort + Alloc<A = Global>), book: &mut Book) -> Result<(), Fail> {
+    is_not_raised(rt, book, "book B4 StillOpen")?;
+    finish(rt.alloc(), book, 1)?;
+    is_not_raised(rt, book, "book B5 LastBound")?;
+    Ok(())
+}
+
 #[test]
 fn books_are_raised_where_nothing_is_open(rt: HostRuntime) -> Result<(), Fail> {
     let mut book = book_of(rt.alloc(), WRITERS, Mode::Bounded(64))?;
-    is_not_raised(&rt, &mut book, "book B4 StillOpen")?;
-    finish(rt.alloc(), &mut book, 1)?;
-    is_not_raised(&rt, &mut book, "book B5 LastBound")?;
-    Ok(())
+    raise_twice(&rt, &mut book)
 }
 
 /// Walks one schedule of a book's root, and settles the walk.
@@ -396,16 +428,26 @@ fn is_closed_as_quick(alloc: Global, book: &Book) -> Result<bool, Fail> {
     Ok(!whole && book.closed_quick(&program, FIRST).is_some())
 }
 
+/// A quick book of the failing program, where all is open.
+fn quick_book(alloc: Global) -> Result<Book, Fail> {
+    let program = program_of(alloc, FAILING)?;
+    Ok(Book::open_quick(alloc, program, FIRST)?)
+}
+
+/// Stops the test where a quick book drops too much or too little.
+fn check_drops(rt: &(impl Abort + Alloc<A = Global>), book: &mut Book) -> Result<(), Fail> {
+    assert!(rt; book.drop_later() == 0 && !book.has_dropped() && book.is_quick());
+    start(rt.alloc(), book)?;
+    assert!(rt; drops_all(book));
+    assert!(rt; is_closed_as_quick(rt.alloc(), book)?);
+    is_not_raised(rt, book, "book B6 Dropped")?;
+    Ok(())
+}
+
 #[test]
 fn a_quick_book_drops_what_comes_later(rt: HostRuntime) -> Result<(), Fail> {
-    let program = program_of(rt.alloc(), FAILING)?;
-    let mut book = Book::open_quick(rt.alloc(), program, FIRST)?;
-    assert!(&rt; book.drop_later() == 0 && !book.has_dropped() && book.is_quick());
-    start(rt.alloc(), &mut book)?;
-    assert!(&rt; drops_all(&mut book));
-    assert!(&rt; is_closed_as_quick(rt.alloc(), &book)?);
-    is_not_raised(&rt, &mut book, "book B6 Dropped")?;
-    Ok(())
+    let mut book = quick_book(rt.alloc())?;
+    check_drops(&rt, &mut book)
 }
 
 /// Whether a book is of this text's program at bound 0.
@@ -414,23 +456,35 @@ fn is_of(alloc: Global, book: &Book, text: &str) -> Result<bool, Fail> {
     Ok(book.mode() == FIRST && book.program().is_same(&program))
 }
 
+/// Walks an item of a book, and settles what the walk found.
+fn settle_item(alloc: Global, book: &mut Book, walker: &mut Walker, item: &Item) -> Result<(), Fail>
+    requires { (item.now.program ≡ walker.old) × (book.old.program ≡ item.now.program) }
+{
+    let mut found = Found::new(alloc);
+    walker.walk_into(alloc, &mut found, item, book.mode(), 256)?;
+    book.settle_found(alloc, item, &mut found)?;
+    Ok(())
+}
+
 /// Walks a book's root, which the book doesn't drop, and settles what the walk found.
 fn settle_root(rt: &(impl Abort + Alloc<A = Global>), book: &mut Book) -> Result<(), Fail> {
     let program = Arc::try_clone(book.program())?;
     let mut walker = Walker::new(rt.alloc(), Arc::try_clone(&program)?)?;
     let root = Item::root(rt.alloc(), program)?;
     assert!(rt; !book.drops(&root));
-    let mut found = Found::new(rt.alloc());
-    walker.walk_into(rt.alloc(), &mut found, &root, book.mode(), 256)?;
-    book.settle_found(rt.alloc(), &root, &mut found)?;
+    settle_item(rt.alloc(), book, &mut walker, &root)
+}
+
+/// Stops the test where a book of the counters doesn't take what a walk of its root found.
+fn check_settled(rt: &(impl Abort + Alloc<A = Global>), book: &mut Book) -> Result<(), Fail> {
+    assert!(rt; is_of(rt.alloc(), book, COUNTERS)?);
+    settle_root(rt, book)?;
+    shows(rt, book, "2 true deferred [0, 1] deferred [1, 0]")?;
     Ok(())
 }
 
 #[test]
 fn what_was_found_is_settled(rt: HostRuntime) -> Result<(), Fail> {
     let mut book = book_of(rt.alloc(), COUNTERS, FIRST)?;
-    assert!(&rt; is_of(rt.alloc(), &book, COUNTERS)?);
-    settle_root(&rt, &mut book)?;
-    shows(&rt, &book, "2 true deferred [0, 1] deferred [1, 0]")?;
-    Ok(())
+    check_settled(&rt, &mut book)
 }

@@ -1,7 +1,7 @@
 use Rattle.std.proofs.Common.{◌<◌}
 use Rattle.semantics.specs.Reachable.{IsOf}
 use Rattle.machine.specs.Refinement.{Shows}
-use Rattle.library_tests.proofs.machines.check_schedule.Given as goal
+use Rattle.program_tests.proofs.machines.check_schedule.Given as goal
 
 abbrev pub invariant-loop : goal.invariant-loop
 invariant-loop g l = record {
