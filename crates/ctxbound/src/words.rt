@@ -224,41 +224,63 @@ fn unbounded_command<'a>(alloc: Global) -> Result<Command<'a>, AllocError> {
     .arg(trace_arg(alloc))
 }
 
-fn explain_command<'a>(alloc: Global) -> Result<Command<'a>, AllocError> {
-    let schedule = Arg::new(alloc, "SCHEDULE").help(
-        "The schedule to explain; left out, a search finds one",
-    );
-    let unbounded = Arg::new(alloc, "unbounded")
-        .long("unbounded")
-        .action(ArgAction::SetTrue)
-        .conflicts_with("bound")?
-        .help("Search without a bound");
-    let all = Arg::new(alloc, "all")
+fn explained_schedule_arg<'a>(alloc: Global) -> Arg<'a> {
+    Arg::new(alloc, "SCHEDULE").help("The schedule to explain; left out, a search finds one")
+}
+
+fn unbounded_arg<'a>(alloc: Global) -> Result<Arg<'a>, AllocError> {
+    Ok(
+        Arg::new(alloc, "unbounded")
+            .long("unbounded")
+            .action(ArgAction::SetTrue)
+            .conflicts_with("bound")?
+            .help("Search without a bound"),
+    )
+}
+
+fn all_arg<'a>(alloc: Global) -> Arg<'a> {
+    Arg::new(alloc, "all")
         .long("all")
         .action(ArgAction::SetTrue)
-        .help("Show each step, and fold none");
-    let width = Arg::new(alloc, "width")
+        .help("Show each step, and fold none")
+}
+
+fn width_arg<'a>(alloc: Global) -> Arg<'a> {
+    Arg::new(alloc, "width")
         .long("width")
         .value_name("N")
         .value_parser(value_parser!(u32).range(40..=1000))
-        .help("The columns of a line, at most [default: 100]");
-    let html = Arg::new(alloc, "html")
-        .long("html")
-        .action(ArgAction::SetTrue)
-        .conflicts_with("json")?
-        .help("Print a page");
+        .help("The columns of a line, at most [default: 100]")
+}
+
+fn html_arg<'a>(alloc: Global) -> Result<Arg<'a>, AllocError> {
+    Ok(
+        Arg::new(alloc, "html")
+            .long("html")
+            .action(ArgAction::SetTrue)
+            .conflicts_with("json")?
+            .help("Print a page"),
+    )
+}
+
+/// The command without the words that say how it is printed.
+fn bare_explain_command<'a>(alloc: Global) -> Result<Command<'a>, AllocError> {
     search_command(
         alloc,
         "explain",
         "Says why a schedule of a guest program ends as it does",
     )?
-    .arg(schedule)?
+    .arg(explained_schedule_arg(alloc))?
     .arg(bound_arg(alloc))?
-    .arg(unbounded)?
-    .arg(all)?
-    .arg(width)?
-    .arg(html)?
-    .arg(json_arg(alloc).help("Print JSON"))
+    .arg(unbounded_arg(alloc)?)
+}
+
+fn explain_command<'a>(alloc: Global) -> Result<Command<'a>, AllocError> {
+    bare_explain_command(alloc)?
+        .arg(all_arg(alloc))?
+        .arg(width_arg(alloc))?
+        .arg(html_arg(alloc)?)?
+        .arg(json_arg(alloc).help("Print JSON"))
 }
 
 fn json_arg<'a>(alloc: Global) -> Arg<'a> {
