@@ -241,11 +241,14 @@ impl Path {
         ensures steps { self.new.steps.items ≡ self.old.steps.items }
         ensures tried { IfOk result (λ _. found.new.part.tried ≡ found.old.part.tried) }
         ensures spent { IfOk result (λ alone. IsTrue alone → IsSpent mode self.new.node) }
-        ensures free { IfOk result (λ alone. IsFalse alone → IsFree mode _item.now.program self.new) }
-        ensures alone { IfOk result (λ alone. IsTrue alone → IsSearch mode _item.now self.new found.new
+        ensures free { IfOk result (λ alone. IsFalse alone
+            → IsFree mode _item.now.program self.new) }
+        ensures alone { IfOk result (λ alone. IsTrue alone
+            → IsSearch mode _item.now self.new found.new
             (child_of mode (here _item.now.program self.new) thread
             ∷ left_above mode _item.now.program self.new)) }
-        ensures over { IfOk result (λ alone. IsFalse alone → IsSearch mode _item.now self.new found.new
+        ensures over { IfOk result (λ alone. IsFalse alone
+            → IsSearch mode _item.now self.new found.new
             (here _item.now.program self.new ∷ left_above mode _item.now.program self.new)) }
     {
         let enabled = self.machine.enabled();
