@@ -1,5 +1,7 @@
 -- What arriving at a node does to a walk: the node gives way to its children, or is tried.
-use Rattle.std.proofs.Common.{◌≡◌, ℕ, ◌+◌, ◌-◌, ◌<◌, ◌≤◌, Bool, true, false, ◌&&◌, ◌||◌, not, nat_eq, List, [], ◌∷◌, ◌++◌, length, take, map, ap, refl, ◌∙◌, sym, arith, subst, min, Some}
+use Rattle.std.proofs.Common.{◌≡◌, ℕ, ◌+◌, ◌-◌, ◌<◌, ◌≤◌, Bool, true, false, ◌&&◌, ◌||◌, not}
+use Rattle.std.proofs.Common.{nat_eq, List, [], ◌∷◌, ◌++◌, length, take, map, ap, refl, ◌∙◌, sym}
+use Rattle.std.proofs.Common.{arith, subst, min, Some}
 use Rattle.std.specs.List.{filter}
 use Rattle.guest_code.specs.Program.{Program}
 use Rattle.semantics.specs.Reachable.{IsOf}
@@ -17,16 +19,23 @@ use Rattle.walk.specs.declared.found.Found.{Found}
 use Rattle.summary.specs.Summaries.{SummaryView, with_beyond, greatest_count, added}
 use Rattle.walk.specs.Items.{ItemView, IsItem, item_at}
 use Rattle.walk.specs.Walks.{IsWalked}
-use Rattle.walk.specs.inner.Children.{state_of, IsWithin, is_kept_step, kept_steps, past_steps, passes_bound, child_of, children_of, children, past_children, mask_after, cost_of, costs}
+use Rattle.walk.specs.inner.Children.{state_of, IsWithin, is_kept_step, kept_steps, past_steps}
+use Rattle.walk.specs.inner.Children.{passes_bound, child_of, children_of, children, past_children}
+use Rattle.walk.specs.inner.Children.{mask_after, cost_of, costs}
 use Rattle.walk.specs.inner.Paths.{used_frames, IsNode, IsPath, state_at}
-use Rattle.walk.specs.inner.WalkerInvariant.{item_of, here, left_above, still_open, turns_left, turns_from, turns_into, is_kept_at, is_past_at, IsWithinAt, IsSpent, IsAwake, open_from, IsPlace, IsSearch, IsShared, IsGone, IsKept, IsOpened}
+use Rattle.walk.specs.inner.WalkerInvariant.{item_of, here, left_above, still_open, turns_left}
+use Rattle.walk.specs.inner.WalkerInvariant.{turns_from, turns_into, is_kept_at, is_past_at}
+use Rattle.walk.specs.inner.WalkerInvariant.{IsWithinAt, IsSpent, IsAwake, open_from, IsPlace}
+use Rattle.walk.specs.inner.WalkerInvariant.{IsSearch, IsShared, IsGone, IsKept, IsOpened}
 use Rattle.std.proofs.lemmas.List.{append-nil}
 use Rattle.std.proofs.Math.Bool.{or-false}
 use Rattle.semantics.proofs.Masks.{empty_has, members_over}
 use Rattle.walk.proofs.SharedSteps.{shared_same, shared_kept, shared_entered, shared_back}
 use Rattle.walk.proofs.PathSteps.{path_same}
-use Rattle.walk.proofs.WalkTurns.{step_enabled, kept_members, past_members, node_enabled, deferred_are}
-use Rattle.walk.proofs.WalkSteps.{walk_of, first_open, walked_leaf, walked_node, over_none, over_some}
+use Rattle.walk.proofs.WalkTurns.{step_enabled, kept_members, past_members, node_enabled}
+use Rattle.walk.proofs.WalkTurns.{deferred_are}
+use Rattle.walk.proofs.WalkSteps.{walk_of, first_open, walked_leaf, walked_node, over_none}
+use Rattle.walk.proofs.WalkSteps.{over_some}
 use Rattle.walk.proofs.Turns.{costs-append, cost_two, children_cost, child_less}
 
 -- these are enabled where it stands
@@ -36,7 +45,8 @@ AreOn p t e = HasEnabled e p (state_at p t.steps.items)
 pub of_here : (p : Program) (t : Path) → IsPath p t → IsOf p (state_at p t.steps.items)
 of_here p t h = h.shows.of
 
-pub node_of : (p : Program) (t : Path) (e : Mask) → IsPath p t → AreOn p t e → IsNode p t.steps.items e t.node
+pub node_of : (p : Program) (t : Path) (e : Mask) → IsPath p t → AreOn p t e
+    → IsNode p t.steps.items e t.node
 node_of p t e h on = record { reaches = h.reaches; enabled = on }
 
 -- the same place, where other threads may be still to be tried
@@ -52,9 +62,10 @@ pub record IsTurned (old new : Path) : Type 0 where
   pub base : new.base ≡ old.base
 
 pub turned_here : (old new : Path) → new.steps.items ≡ old.steps.items
-    → new.node ≡ record old.node { todo = new.node.todo } → new.machine ≡ old.machine → new.size ≡ old.size
-    → (used_frames new) ≡ (used_frames old) → new.words.items ≡ old.words.items → new.base ≡ old.base
-    → IsTurned old new
+    → new.node ≡ record old.node { todo = new.node.todo } → new.machine ≡ old.machine
+    → new.size ≡ old.size
+    → (used_frames new) ≡ (used_frames old) → new.words.items ≡ old.words.items
+    → new.base ≡ old.base → IsTurned old new
 turned_here old new steps node machine size frames words base = record {
   steps = steps;
   last = ap (λ (n : Node). n.last) node;
@@ -72,12 +83,14 @@ pub place_turned : (p : Program) (old new : Path) → IsPlace p old → IsTurned
 place_turned p old new h o room = record {
   path = path_same p old new h.path o.steps o.last o.used o.machine o.size o.frames o.words room;
   some = let s = h.some in let e = o.base in omega (arith, s, e);
-  base = let b = h.base in let e = o.base in let k = ap (λ fs. length fs) o.frames in omega (arith, b, e, k);
+  base = let b = h.base in let e = o.base in let k = ap (λ fs. length fs) o.frames in
+      omega (arith, b, e, k);
 }
 
 pub left_turned : (mode : Mode) (p : Program) (old new : Path) → IsTurned old new
     → left_above mode p new ≡ left_above mode p old
-left_turned mode p old new o = λ i. open_from mode p (o.steps i) (o.frames i) (o.base i) (length (o.frames i) - o.base i)
+left_turned mode p old new o = λ i. open_from mode p (o.steps i) (o.frames i) (o.base i)
+    (length (o.frames i) - o.base i)
 
 pub here_turned : (p : Program) (old new : Path) → IsTurned old new → here p new ≡ here p old
 here_turned p old new o = λ i. record { program = p; prefix = o.steps i; mask = o.asleep i }
@@ -90,8 +103,8 @@ within_at (Bounded bound) p t h fits =
 within_at Reduced p t h fits = tt
 
 -- its children are open
-open_opened : (mode : Mode) (p : Program) (old new : Path) (e : Mask) → IsPlace p old → AreOn p old e →
-    IsTurned old new →
+open_opened : (mode : Mode) (p : Program) (old new : Path) (e : Mask) → IsPlace p old →
+    AreOn p old e → IsTurned old new →
     ((t : ℕ) → has new.node.todo t ≡ (has e t && is_kept_at mode e old.node t)) →
     still_open mode p new ≡ children mode (here p old) ++ left_above mode p old
 open_opened mode p old new e h on o kept =
@@ -101,14 +114,14 @@ open_opened mode p old new e h on o kept =
     λ i. children_of mode (here_turned p old new o i) (members i) ++ left_turned mode p old new o i
 
 -- something is enabled, or nothing is
-pub here_goes_on : (p : Program) (t : Path) (e : Mask) (u : ℕ) (us : List ℕ) → IsPath p t → AreOn p t e
-    → members_from e 0 ≡ u ∷ us →
+pub here_goes_on : (p : Program) (t : Path) (e : Mask) (u : ℕ) (us : List ℕ) → IsPath p t
+    → AreOn p t e → members_from e 0 ≡ u ∷ us →
     is_terminal p (state_of (here p t)) ≡ false
 here_goes_on p t e u us h on some = over_some p (state_of (here p t)) u us
     (sym (node_enabled p t.steps.items e on (of_here p t h)) ∙ some)
 
-here_is_over : (p : Program) (t : Path) (e : Mask) → IsPath p t → AreOn p t e → members_from e 0 ≡ [] →
-    is_terminal p (state_of (here p t)) ≡ true
+here_is_over : (p : Program) (t : Path) (e : Mask) → IsPath p t → AreOn p t e →
+    members_from e 0 ≡ [] → is_terminal p (state_of (here p t)) ≡ true
 here_is_over p t e h on none = over_none p (state_of (here p t))
     (sym (node_enabled p t.steps.items e on (of_here p t h)) ∙ none)
 
@@ -161,7 +174,8 @@ pub arrived_node : (mode : Mode) (i : ItemView) (old new : Path) (f g : Found) (
     members_from e 0 ≡ u ∷ us →
     g.part ≡ with_beyond f.part (f.part.beyond || not (is_empty (members_from past 0))) →
     g.deferred ≡ f.deferred ++ map (λ t. old.steps.items ++ t ∷ []) (members_from past 0) →
-    IsShared old.steps.items g → new.depth ≤ length new.frames.items → IsSearch mode i new g (still_open mode i.program new)
+    IsShared old.steps.items g → new.depth ≤ length new.frames.items
+    → IsSearch mode i new g (still_open mode i.program new)
 arrived_node mode i old new f g e past u us h on o kept passed some part deferred shared room =
     let p : Program = i.program in
     record {
@@ -169,8 +183,8 @@ arrived_node mode i old new f g e past u us h on o kept passed some part deferre
       walked = subst (λ (rs : List ItemView). IsWalked
           (walk_of mode i g.part rs (map (item_at p) g.deferred)))
           (sym (open_opened mode p old new e h.place on o kept))
-          (put_off mode i old f g e past h on (here_goes_on p old e u us h.place.path on some) passed part
-          deferred);
+          (put_off mode i old f g e past h on (here_goes_on p old e u us h.place.path on some)
+          passed part deferred);
       shared = shared_same old.steps.items new.steps.items g shared o.steps;
     }
 
@@ -196,8 +210,8 @@ arrived_free mode i old new f e u us h on o kept free some room =
     none = members_over no_threads 0 16 (omega arith) (λ k l. empty_has (0 + k))
 
 -- a complete schedule
-pub arrived_leaf : (mode : Mode) (i : ItemView) (old new : Path) (f g : Found) (e : Mask) (w : List ℕ)
-    (v : View) →
+pub arrived_leaf : (mode : Mode) (i : ItemView) (old new : Path) (f g : Found) (e : Mask)
+    (w : List ℕ) (v : View) →
     IsSearch mode i old f (here i.program old ∷ left_above mode i.program old)
     → AreOn i.program old e → IsTurned old new →
     ((t : ℕ) → has new.node.todo t ≡ (has e t && is_kept_at mode e old.node t)) →
@@ -239,7 +253,8 @@ unfolding turns_left turns_from
 falls_node mode p old new e u us h on o kept some =
     let a = ap costs (open_opened mode p old new e h on o kept) ∙ costs-append
     (children mode (here p old)) (left_above mode p old) in
-    let b = children_cost mode (here p old) (of_here p old h.path) (here_goes_on p old e u us h.path on some) in
+    let b = children_cost mode (here p old) (of_here p old h.path)
+    (here_goes_on p old e u us h.path on some) in
     let k = ap (λ fs. length fs) o.frames in
     omega (arith, a, b, k)
 
@@ -251,7 +266,8 @@ pub falls_leaf : (mode : Mode) (p : Program) (old new : Path) (e : Mask) → IsP
 unfolding turns_left turns_from
 falls_leaf mode p old new e h on o kept none =
     let a = ap costs (open_opened mode p old new e h on o kept ∙
-    ap (λ (cs : List ItemView). cs ++ left_above mode p old) (none_kept mode p old e h.path on none))
+    ap (λ (cs : List ItemView). cs ++ left_above mode p old)
+    (none_kept mode p old e h.path on none))
     in
     let b = cost_two (here p old) in
     let k = ap (λ fs. length fs) o.frames in
@@ -265,23 +281,25 @@ tried_added a w v = least (a.tried + 1) greatest_count
     least m n = grind arith
 
 -- the first child that is open is entered
-pub child_enabled : (mode : Mode) (p : Program) (t : Path) (u : ℕ) → IsItem (child_of mode (here p t) u)
-    → is_enabled p (state_at p t.steps.items) u ≡ true
+pub child_enabled : (mode : Mode) (p : Program) (t : Path) (u : ℕ)
+    → IsItem (child_of mode (here p t) u) → is_enabled p (state_at p t.steps.items) u ≡ true
 child_enabled mode p t u i = step_enabled p t.steps.items u i
 
-pub search_enabled : (mode : Mode) (i : ItemView) (t : Path) (f : Found) (u : ℕ) (rs : List ItemView) →
-    IsSearch mode i t f (child_of mode (here i.program t) u ∷ rs) →
+pub search_enabled : (mode : Mode) (i : ItemView) (t : Path) (f : Found) (u : ℕ)
+    (rs : List ItemView) → IsSearch mode i t f (child_of mode (here i.program t) u ∷ rs) →
     is_enabled i.program (state_at i.program t.steps.items) u ≡ true
 search_enabled mode i t f u rs h = child_enabled mode i.program t u
     (first_open mode i (child_of mode (here i.program t) u) f.part rs _ h.walked).item
 
 -- the walk stands at it then
-here_gone : (mode : Mode) (p : Program) (old new : Path) (u : ℕ) (asleep : Mask) → IsGone p old new u asleep
+here_gone : (mode : Mode) (p : Program) (old new : Path) (u : ℕ) (asleep : Mask)
+    → IsGone p old new u asleep
     → asleep ≡ mask_after mode (here p old) u → here p new ≡ child_of mode (here p old) u
 here_gone mode p old new u asleep e mask =
     λ k. record { program = p; prefix = e.steps k; mask = (e.asleep ∙ mask) k }
 
-pub gone_search : (mode : Mode) (i : ItemView) (old new : Path) (f : Found) (u : ℕ) (asleep : Mask) →
+pub gone_search : (mode : Mode) (i : ItemView) (old new : Path) (f : Found) (u : ℕ)
+    (asleep : Mask) →
     IsSearch mode i old f (child_of mode (here i.program old) u ∷ left_above mode i.program old) →
     IsPath i.program new → IsGone i.program old new u asleep
     → asleep ≡ mask_after mode (here i.program old) u →
@@ -292,7 +310,8 @@ gone_search mode i old new f u asleep h path e mask =
       place = record {
         path = path;
         some = let s = h.place.some in let k = e.base in omega (arith, s, k);
-        base = let b = h.place.base in let k = e.base in let d = ap (λ fs. length fs) e.frames in omega (arith, b, k, d);
+        base = let b = h.place.base in let k = e.base in let d = ap (λ fs. length fs) e.frames in
+            omega (arith, b, k, d);
       };
       walked = subst (λ (c : ItemView). IsWalked
           (walk_of mode i f.part (c ∷ left_above mode p new) (map (item_at p) f.deferred)))
@@ -310,18 +329,20 @@ pub gone_turns : (mode : Mode) (p : Program) (old new : Path) (u : ℕ) (asleep 
     old.base ≤ length (used_frames old) → turns_from mode p new ≡ turns_into mode p old u
 unfolding turns_from turns_into
 gone_turns mode p old new u asleep e mask within =
-    λ k. cost_of (here_gone mode p old new u asleep e mask k) + costs (e.left mode within k) + length (e.frames k)
+    λ k. cost_of (here_gone mode p old new u asleep e mask k) + costs (e.left mode within k)
+    + length (e.frames k)
 
 -- a frame for the node, or none
-pub opened_place : (p : Program) (old new : Path) → IsPlace p old → IsPath p new → IsOpened p old new
-    → IsPlace p new
+pub opened_place : (p : Program) (old new : Path) → IsPlace p old → IsPath p new
+    → IsOpened p old new → IsPlace p new
 opened_place p old new h path o = record {
   path = path;
   some = let s = h.some in let e = o.base in omega (arith, s, e);
   base = let b = h.base in let e = o.base in let d = o.depth in omega (arith, b, e, d);
 }
 
-pub opened_kept : (p : Program) (old new : Path) → IsPlace p old → IsOpened p old new → IsKept p old new
+pub opened_kept : (p : Program) (old new : Path) → IsPlace p old → IsOpened p old new
+    → IsKept p old new
 opened_kept p old new h o = record {
   steps = o.steps;
   node = o.node;
@@ -338,9 +359,11 @@ kept_search mode i old new f u h place e =
     record {
       place = place;
       walked = subst (λ (w : List ℕ). IsWalked (walk_of mode i f.part
-          (child_of mode (item_of p w new.node) u ∷ left_above mode p new) (map (item_at p) f.deferred))) (sym e.steps)
+          (child_of mode (item_of p w new.node) u ∷ left_above mode p new)
+          (map (item_at p) f.deferred))) (sym e.steps)
           (subst (λ (n : Node). IsWalked (walk_of mode i f.part
-          (child_of mode (item_of p old.steps.items n) u ∷ left_above mode p new) (map (item_at p) f.deferred))) (sym e.node)
+          (child_of mode (item_of p old.steps.items n) u ∷ left_above mode p new)
+          (map (item_at p) f.deferred))) (sym e.node)
           (subst (λ (rs : List ItemView). IsWalked
           (walk_of mode i f.part (child_of mode (here p old) u ∷ rs) (map (item_at p) f.deferred)))
           (sym (e.left mode)) h.walked));
@@ -375,16 +398,20 @@ pub retreated_search : (mode : Mode) (i : ItemView) (old new : Path) (f g : Foun
     IsSearch mode i old f (still_open mode i.program old) → IsPlace i.program new
     → still_open mode i.program new ≡ still_open mode i.program old
     → new.steps.items ≡ take (length new.steps.items) old.steps.items → n ≡ length new.steps.items
-    → g ≡ record f { shared = min f.shared n } → IsSearch mode i new g (still_open mode i.program new)
+    → g ≡ record f { shared = min f.shared n }
+    → IsSearch mode i new g (still_open mode i.program new)
 retreated_search mode i old new f g n h place same steps long found =
-    subst (λ (x : Found). IsSearch mode i new x (still_open mode i.program new)) (sym found) (record {
+    subst (λ (x : Found). IsSearch mode i new x (still_open mode i.program new)) (sym found)
+    (record {
       place = place;
-      walked = subst (λ (rs : List ItemView). IsWalked (walk_of mode i f.part rs (map (item_at i.program) f.deferred)))
+      walked = subst (λ (rs : List ItemView). IsWalked
+          (walk_of mode i f.part rs (map (item_at i.program) f.deferred)))
           (sym same) h.walked;
       shared = record {
         fits = let m : min f.shared n ≤ n = right f.shared n in omega (arith, m, long);
         same = shared_back old.steps.items new.steps.items f (min f.shared n) h.shared steps
-            (left f.shared n) (let m : min f.shared n ≤ n = right f.shared n in omega (arith, m, long));
+            (left f.shared n) (let m : min f.shared n ≤ n = right f.shared n in
+            omega (arith, m, long));
       };
     })
   where
@@ -395,8 +422,8 @@ retreated_search mode i old new f g n h place same steps long found =
     right a b = grind arith
 
 -- the steps stand in other memory
-steps_turned : (old new : Path) → new ≡ record old { steps = new.steps } → new.steps.items ≡ old.steps.items
-    → IsTurned old new
+steps_turned : (old new : Path) → new ≡ record old { steps = new.steps }
+    → new.steps.items ≡ old.steps.items → IsTurned old new
 steps_turned old new same steps = record {
   steps = steps;
   last = ap (λ (t : Path). t.node.last) same;
@@ -409,13 +436,16 @@ steps_turned old new same steps = record {
   base = ap (λ (t : Path). t.base) same;
 }
 
-pub run_turns : (mode : Mode) (p : Program) (old new : Path) → new ≡ record old { steps = new.steps }
+pub run_turns : (mode : Mode) (p : Program) (old new : Path)
+    → new ≡ record old { steps = new.steps }
     → new.steps.items ≡ old.steps.items → turns_from mode p new ≡ turns_from mode p old
 unfolding turns_from
 run_turns mode p old new same steps = let o = steps_turned old new same steps in
-    λ i. cost_of (here_turned p old new o i) + costs (left_turned mode p old new o i) + length (o.frames i)
+    λ i. cost_of (here_turned p old new o i) + costs (left_turned mode p old new o i)
+    + length (o.frames i)
 
-pub followed_turns : (mode : Mode) (p : Program) (old new : Path) (u : ℕ) → new ≡ record old { steps = new.steps }
+pub followed_turns : (mode : Mode) (p : Program) (old new : Path) (u : ℕ)
+    → new ≡ record old { steps = new.steps }
     → new.steps.items ≡ old.steps.items → is_enabled p (state_at p new.steps.items) u ≡ true
     → turns_into mode p new u ≤ turns_from mode p old
 followed_turns mode p old new u same steps on =
@@ -424,7 +454,8 @@ followed_turns mode p old new u same steps on =
 
 -- where there is a bound nobody sleeps after a step, or before
 
-pub awake_after : (mode : Mode) (i : ItemView) (n : Node) (t : ℕ) → n.asleep ≡ mask_after mode i t → IsAwake mode n
+pub awake_after : (mode : Mode) (i : ItemView) (n : Node) (t : ℕ) → n.asleep ≡ mask_after mode i t
+    → IsAwake mode n
 awake_after (Bounded bound) i n t e = e
 awake_after Reduced i n t e = tt
 

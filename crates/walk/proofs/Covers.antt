@@ -1,5 +1,6 @@
 -- How many items of a list a schedule lies under.
-use Rattle.std.proofs.Common.{◌≡◌, ℕ, ◌+◌, ◌<◌, ◌≤◌, Bool, true, false, ◌||◌, List, [], ◌∷◌, ◌++◌, refl, arith}
+use Rattle.std.proofs.Common.{◌≡◌, ℕ, ◌+◌, ◌<◌, ◌≤◌, Bool, true, false, ◌||◌, List, [], ◌∷◌, ◌++◌}
+use Rattle.std.proofs.Common.{refl, arith}
 use Rattle.schedules.specs.Schedules.{begins_with}
 use Rattle.semantics.specs.Mask.{one_if}
 use Rattle.walk.specs.Items.{ItemView, covers, is_under}

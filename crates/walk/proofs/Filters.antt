@@ -1,5 +1,6 @@
 -- Sums of parts of one list.
-use Rattle.std.proofs.Common.{◌≡◌, ℕ, ◌≤◌, Bool, true, false, cond, ◌&&◌, ◌||◌, not, List, [], ◌∷◌, refl, ap, ◌∙◌, sym, subst, arith, inl, inr}
+use Rattle.std.proofs.Common.{◌≡◌, ℕ, ◌≤◌, Bool, true, false, cond, ◌&&◌, ◌||◌, not, List, [], ◌∷◌}
+use Rattle.std.proofs.Common.{refl, ap, ◌∙◌, sym, subst, arith, inl, inr}
 use Rattle.std.specs.List.{filter}
 use Rattle.guest_code.specs.Program.{Program}
 use Rattle.schedules.specs.Schedules.{begins_with}
@@ -8,7 +9,8 @@ use Rattle.semantics.specs.Waiters.{In}
 use Rattle.summary.specs.Summaries.{SummaryView, IsSummary, nothing, sum_of, join}
 use Rattle.walk.specs.Items.{ItemView, covers, is_under}
 use Rattle.walk.specs.Walks.{clear_of}
-use Rattle.summary.proofs.SumsJoin.{sum_of-append, sum_of_none, sum_of-beyond, sum_kept, join_comm, join_assoc, join_nothing}
+use Rattle.summary.proofs.SumsJoin.{sum_of-append, sum_of_none, sum_of-beyond, sum_kept, join_comm}
+use Rattle.summary.proofs.SumsJoin.{join_assoc, join_nothing}
 use Rattle.walk.proofs.Covers.{under_counts}
 
 pub filter_same : {A : Type 0} (f g : A → Bool) (L : List A) → ((x : A) → In L x → f x ≡ g x) →

@@ -1,5 +1,6 @@
 -- A single item as a walk: not begun, complete, one step further, and past its bound.
-use Rattle.std.proofs.Common.{◌≡◌, ℕ, ◌<◌, ◌≤◌, Bool, true, false, cond, ◌||◌, nat_le, nat_lt, List, [], ◌∷◌, ◌++◌, map, refl, ap, ◌∙◌, sym, subst, arith, inl, inr}
+use Rattle.std.proofs.Common.{◌≡◌, ℕ, ◌<◌, ◌≤◌, Bool, true, false, cond, ◌||◌, nat_le, nat_lt, List}
+use Rattle.std.proofs.Common.{[], ◌∷◌, ◌++◌, map, refl, ap, ◌∙◌, sym, subst, arith, inl, inr}
 use Rattle.std.specs.List.{filter, flat_map}
 use Rattle.std.proofs.lemmas.Bool.Decides.{nat_tests}
 use Rattle.std.proofs.lemmas.List.{append-nil}
@@ -12,16 +13,21 @@ use Rattle.semantics.specs.Ends.{is_terminal}
 use Rattle.semantics.specs.Waiters.{In}
 use Rattle.semantics.proofs.ListMembers.{contains_in}
 use Rattle.schedules.proofs.SleepSets.{reduced_schedules-terminal}
-use Rattle.schedules.proofs.UnfoldingUnderPrefix.{schedules_under-terminal, schedules_within-terminal, exceeds_bound-terminal}
+use Rattle.schedules.proofs.UnfoldingUnderPrefix.{schedules_under-terminal}
+use Rattle.schedules.proofs.UnfoldingUnderPrefix.{schedules_within-terminal, exceeds_bound-terminal}
 use Rattle.schedules.proofs.SchedulesUnderPrefix.{begins_itself, in_under}
 use Rattle.walk.specs.declared.mode.Mode.{Mode}
 use Rattle.walk.specs.declared.mode.Mode.TheVariants.{Bounded, Reduced}
 use Rattle.summary.specs.Summaries.{nothing, sum_of, with_beyond}
 use Rattle.walk.specs.Items.{ItemView, IsItem, schedules_of, goes_beyond, is_under}
-use Rattle.walk.specs.Walks.{IsWalked, IsBelow, IsDeferred, IsCut, IsPastBound, walk_past_bound, clear_of}
-use Rattle.walk.specs.inner.Children.{state_of, IsWithin, passes_bound, children_of, children, past_children}
+use Rattle.walk.specs.Walks.{IsWalked, IsBelow, IsDeferred, IsCut, IsPastBound, walk_past_bound}
+use Rattle.walk.specs.Walks.{clear_of}
+use Rattle.walk.specs.inner.Children.{state_of, IsWithin, passes_bound, children_of, children}
+use Rattle.walk.specs.inner.Children.{past_children}
 use Rattle.walk.proofs.WalkedItems.{HasItsOf, past_none, past_beyond}
-use Rattle.walk.proofs.Children.{begins_own, clear_none, children_schedules, children_clear, children_beyond, children_below, children_apart, children_within, children_deferred, children_have, children_pruned, reduced_past}
+use Rattle.walk.proofs.Children.{begins_own, clear_none, children_schedules, children_clear}
+use Rattle.walk.proofs.Children.{children_beyond, children_below, children_apart, children_within}
+use Rattle.walk.proofs.Children.{children_deferred, children_have, children_pruned, reduced_past}
 
 -- a walk that has not begun: the item is its own rest
 

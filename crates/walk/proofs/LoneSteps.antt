@@ -1,5 +1,7 @@
 -- A thread that goes on alone: the bound is used up, so that a step of another passes it.
-use Rattle.std.proofs.Common.{◌≡◌, ◌≢◌, ℕ, zero, suc, ◌+◌, ◌-◌, ◌<◌, ◌≤◌, Bool, true, false, ◌&&◌, ◌||◌, ◌⊎◌, nat_eq, nat_le, nat_lt, not, List, [], ◌∷◌, ◌++◌, length, map, refl, ap, ◌∙◌, sym, arith, subst, inl, inr, Some, None, Option}
+use Rattle.std.proofs.Common.{◌≡◌, ◌≢◌, ℕ, zero, suc, ◌+◌, ◌-◌, ◌<◌, ◌≤◌, Bool, true, false, ◌&&◌}
+use Rattle.std.proofs.Common.{◌||◌, ◌⊎◌, nat_eq, nat_le, nat_lt, not, List, [], ◌∷◌, ◌++◌, length}
+use Rattle.std.proofs.Common.{map, refl, ap, ◌∙◌, sym, arith, subst, inl, inr, Some, None, Option}
 use Rattle.std.specs.List.{filter}
 use Rattle.std.proofs.lemmas.Bool.{cases_lt, cases_order, false≢true}
 use Rattle.std.proofs.lemmas.Bool.Decides.{nat_tests}
@@ -21,12 +23,15 @@ use Rattle.walk.specs.Items.{ItemView, item_at}
 use Rattle.walk.specs.Walks.{IsWalked}
 use Rattle.walk.specs.inner.Children.{is_kept_step, kept_steps, child_of, children_of, children}
 use Rattle.walk.specs.inner.Paths.{leaves, leaves_last, state_at, IsNode, IsPath}
-use Rattle.walk.specs.inner.WalkerInvariant.{item_of, here, left_above, is_kept_at, is_past_at, IsWithinAt, IsFree, is_spent_at, IsSpent, IsSearch, IsShared}
+use Rattle.walk.specs.inner.WalkerInvariant.{item_of, here, left_above, is_kept_at, is_past_at}
+use Rattle.walk.specs.inner.WalkerInvariant.{IsWithinAt, IsFree, is_spent_at, IsSpent, IsSearch}
+use Rattle.walk.specs.inner.WalkerInvariant.{IsShared}
 use Rattle.walk.proofs.Filters.{filter_twice}
 use Rattle.walk.proofs.SharedSteps.{shared_same}
 use Rattle.walk.proofs.WalkSteps.{walk_of}
 use Rattle.walk.proofs.WalkTurns.{filter_alike, kept_alike}
-use Rattle.walk.proofs.Arrivals.{AreOn, node_of, put_off, IsTurned, place_turned, left_turned, here_turned}
+use Rattle.walk.proofs.Arrivals.{AreOn, node_of, put_off, IsTurned, place_turned, left_turned}
+use Rattle.walk.proofs.Arrivals.{here_turned}
 
 -- a number stands once among those from a first one on
 
@@ -54,8 +59,8 @@ lone_leaves e n t last on u =
     ap (λ (l : Option ℕ). leaves_last l e u) last ∙ ap (λ b. b && not (nat_eq t u)) on
 
 -- so its own step is kept, and no other
-lone_kept : (bound : ℕ) (e : Mask) (n : Node) (t : ℕ) → n.last ≡ Some t → n.used ≡ bound → has e t ≡ true →
-    (u : ℕ) → is_kept_at (Bounded bound) e n u ≡ nat_eq t u
+lone_kept : (bound : ℕ) (e : Mask) (n : Node) (t : ℕ) → n.last ≡ Some t → n.used ≡ bound →
+    has e t ≡ true → (u : ℕ) → is_kept_at (Bounded bound) e n u ≡ nat_eq t u
 lone_kept bound e n t last used on u =
     (λ k. nat_le (used k + one_if (lone_leaves e n t last on u k)) bound) ∙ test (nat_eq t u)
   where
@@ -64,12 +69,13 @@ lone_kept bound e n t last used on u =
     test false = grind (arith, nat_tests)
 
 -- and those of the others pass the bound
-lone_past : (bound : ℕ) (e past : Mask) (n : Node) (t : ℕ) → n.last ≡ Some t → n.used ≡ bound → has e t ≡ true →
-    has past t ≡ false → ((u : ℕ) → u ≢ t → has past u ≡ has e u) → (u : ℕ) →
+lone_past : (bound : ℕ) (e past : Mask) (n : Node) (t : ℕ) → n.last ≡ Some t → n.used ≡ bound →
+    has e t ≡ true → has past t ≡ false → ((u : ℕ) → u ≢ t → has past u ≡ has e u) → (u : ℕ) →
     has past u ≡ (has e u && is_past_at (Bounded bound) e n u)
 lone_past bound e past n t last used on out same u =
     member u ∙ ap (λ b. has e u && b)
-    (sym ((λ k. nat_lt bound (used k + one_if (lone_leaves e n t last on u k))) ∙ test (nat_eq t u)))
+    (sym ((λ k. nat_lt bound (used k + one_if (lone_leaves e n t last on u k)))
+    ∙ test (nat_eq t u)))
   where
     test : (b : Bool) → nat_lt bound (bound + one_if (not b)) ≡ not b
     test true = grind (arith, nat_tests)
@@ -85,7 +91,8 @@ lone_past bound e past n t last used on out same u =
 
     member : (v : ℕ) → has past v ≡ (has e v && not (nat_eq t v))
     member v = elim (cases_order v t) [
-      | inl q ↦ rw q (out ∙ sym (ap (λ b. has e t && not b) (let z : nat_eq t t ≡ true = grind (arith, nat_tests) in z)
+      | inl q ↦ rw q (out ∙ sym (ap (λ b. has e t && not b) (let z : nat_eq t t ≡ true =
+          grind (arith, nat_tests) in z)
           ∙ none (has e t)))
       | inr (inl l) ↦ same v (omega arith) ∙ sym (other v (omega arith))
       | inr (inr l) ↦ same v (omega arith) ∙ sym (other v (omega arith))
@@ -97,7 +104,8 @@ lone_past bound e past n t last used on out same u =
 
 -- the node has one child
 module _ (bound : ℕ) (p : Program) (w : List ℕ) (e : Mask) (n : Node) (t : ℕ)
-    (h : IsNode p w e n) (last : n.last ≡ Some t) (used : n.used ≡ bound) (on : has e t ≡ true) where
+    (h : IsNode p w e n) (last : n.last ≡ Some t) (used : n.used ≡ bound)
+    (on : has e t ≡ true) where
   lone_on : is_enabled p (state_at p w) t ≡ true
   lone_on = sym (h.enabled t) ∙ on
 
@@ -131,27 +139,33 @@ module _ (bound : ℕ) (p : Program) (w : List ℕ) (e : Mask) (n : Node) (t : �
       ∙ only_here t 0 (length z.threads) (omega arith) (omega (arith, below)))
 
 -- it gives way to it, and the steps of the others are put off
-pub lone_search : (mode : Mode) (i : ItemView) (old new : Path) (f g : Found) (e past : Mask) (t : ℕ) →
-    IsSearch mode i old f (here i.program old ∷ left_above mode i.program old) → AreOn i.program old e →
-    IsTurned old new → old.node.last ≡ Some t → IsSpent mode old.node → has e t ≡ true → has past t ≡ false →
-    ((u : ℕ) → u ≢ t → has past u ≡ has e u) →
+pub lone_search : (mode : Mode) (i : ItemView) (old new : Path) (f g : Found) (e past : Mask)
+    (t : ℕ) →
+    IsSearch mode i old f (here i.program old ∷ left_above mode i.program old) →
+    AreOn i.program old e →
+    IsTurned old new → old.node.last ≡ Some t → IsSpent mode old.node → has e t ≡ true →
+    has past t ≡ false → ((u : ℕ) → u ≢ t → has past u ≡ has e u) →
     g.part ≡ with_beyond f.part (f.part.beyond || not (is_empty (members_from past 0))) →
     g.deferred ≡ f.deferred ++ map (λ u. old.steps.items ++ u ∷ []) (members_from past 0) →
     IsShared old.steps.items g → new.depth ≤ length new.frames.items →
     IsSearch mode i new g (child_of mode (here i.program new) t ∷ left_above mode i.program new)
-lone_search Reduced i old new f g e past t h are o last spent on out same part deferred shared room = absurd spent
-lone_search (Bounded bound) i old new f g e past t h are o last spent on out same part deferred shared room = record {
-  place = place_turned p old new h.place o room;
-  walked = subst (λ (c : ItemView). IsWalked (walk_of mode i g.part
-      (child_of mode c t ∷ left_above mode p new) (map (item_at p) g.deferred))) (sym (here_turned p old new o))
-      (subst (λ (ls : List ItemView). IsWalked (walk_of mode i g.part
-      (child_of mode (here p old) t ∷ ls) (map (item_at p) g.deferred))) (sym (left_turned mode p old new o))
-      (subst (λ (cs : List ItemView). IsWalked (walk_of mode i g.part
-      (cs ++ left_above mode p old) (map (item_at p) g.deferred))) kids
-      (put_off mode i old f g e past h are more
-      (lone_past bound e past old.node t last spent on out same) part deferred)));
-  shared = shared_same old.steps.items new.steps.items g shared o.steps;
-}
+lone_search Reduced i old new f g e past t h are o last spent on out same part deferred shared
+    room = absurd spent
+lone_search (Bounded bound) i old new f g e past t h are o last spent on out same part deferred
+    shared room = record {
+      place = place_turned p old new h.place o room;
+      walked = subst (λ (c : ItemView). IsWalked (walk_of mode i g.part
+          (child_of mode c t ∷ left_above mode p new) (map (item_at p) g.deferred)))
+          (sym (here_turned p old new o))
+          (subst (λ (ls : List ItemView). IsWalked (walk_of mode i g.part
+          (child_of mode (here p old) t ∷ ls) (map (item_at p) g.deferred)))
+          (sym (left_turned mode p old new o))
+          (subst (λ (cs : List ItemView). IsWalked (walk_of mode i g.part
+          (cs ++ left_above mode p old) (map (item_at p) g.deferred))) kids
+          (put_off mode i old f g e past h are more
+          (lone_past bound e past old.node t last spent on out same) part deferred)));
+      shared = shared_same old.steps.items new.steps.items g shared o.steps;
+    }
   where
     p : Program
     p = i.program
@@ -163,7 +177,8 @@ lone_search (Bounded bound) i old new f g e past t h are o last spent on out sam
     node = node_of p old e h.place.path are
 
     kids : children mode (here p old) ≡ child_of mode (here p old) t ∷ []
-    kids = ap (children_of mode (here p old)) (lone_steps bound p old.steps.items e old.node t node last spent on)
+    kids = ap (children_of mode (here p old))
+        (lone_steps bound p old.steps.items e old.node t node last spent on)
 
     more : is_terminal p (state_at p old.steps.items) ≡ false
     more = is_terminal-some p (state_at p old.steps.items) t (sym (node.enabled t) ∙ on)
@@ -204,16 +219,19 @@ none_in : (b x : Bool) → x ≡ false → (b && x) ≡ false
 none_in true x h = h
 none_in false x h = refl
 
-pub free_alone : (mode : Mode) (p : Program) (t : Path) (u : ℕ) → IsWithinAt mode t.node → t.node.last ≡ Some u
-    → (is_spent_at mode t.node && is_enabled p (state_at p t.steps.items) u) ≡ false → IsFree mode p t
+pub free_alone : (mode : Mode) (p : Program) (t : Path) (u : ℕ) → IsWithinAt mode t.node
+    → t.node.last ≡ Some u
+    → (is_spent_at mode t.node && is_enabled p (state_at p t.steps.items) u) ≡ false
+    → IsFree mode p t
 free_alone (Bounded bound) p t u within last h = λ e on v.
     none_in (has e v) _ ((λ k. nat_lt bound (t.node.used + one_if
     ((ap (λ (l : Option ℕ). leaves_last l e v) last ∙ ap (λ b. b && not (nat_eq u v)) (on u)) k)))
-    ∙ never_past bound t.node.used (is_enabled p (state_at p t.steps.items) u) (not (nat_eq u v)) within h)
+    ∙ never_past bound t.node.used (is_enabled p (state_at p t.steps.items) u) (not (nat_eq u v))
+    within h)
 free_alone Reduced p t u within last h = λ e on v. none_in (has e v) false refl
 
-pub free_first : (mode : Mode) (p : Program) (t : Path) → IsWithinAt mode t.node → t.node.last ≡ None
-    → IsFree mode p t
+pub free_first : (mode : Mode) (p : Program) (t : Path) → IsWithinAt mode t.node
+    → t.node.last ≡ None → IsFree mode p t
 free_first (Bounded bound) p t within last = λ e on v.
     none_in (has e v) _ ((λ k. nat_lt bound (t.node.used + one_if (leaves_last (last k) e v)))
     ∙ (let z : nat_lt bound (t.node.used + 0) ≡ false = grind (arith, nat_tests, within) in z))

@@ -1,10 +1,14 @@
 -- The h from the start of a program to where a walk stands, as it opens a frame, goes back to
 -- one and takes a step.
-use Rattle.std.proofs.Common.{◌≡◌, ◌≢◌, ℕ, ℤ, zero, suc, ◌+◌, ◌-◌, ◌*◌, ◌<◌, ◌≤◌, Bool, true, false, not, ◌&&◌, nat_eq, ◌⊎◌, List, [], ◌∷◌, ◌++◌, length, take, drop, replicate, Some, None, Option, get_or, refl, ap, ◌∙◌, sym, subst, arith, inl, inr}
+use Rattle.std.proofs.Common.{◌≡◌, ◌≢◌, ℕ, ℤ, zero, suc, ◌+◌, ◌-◌, ◌*◌, ◌<◌, ◌≤◌, Bool, true, false}
+use Rattle.std.proofs.Common.{not, ◌&&◌, nat_eq, ◌⊎◌, List, [], ◌∷◌, ◌++◌, length, take, drop}
+use Rattle.std.proofs.Common.{replicate, Some, None, Option, get_or, refl, ap, ◌∙◌, sym, subst}
+use Rattle.std.proofs.Common.{arith, inl, inr}
 use Rattle.std.proofs.Math.Nat.{mul-le-mul_right}
 use Rattle.std.proofs.lemmas.Bool.{cases_order}
 use Rattle.std.proofs.lemmas.Bool.Decides.{nat_tests}
-use Rattle.std.proofs.lemmas.List.{drop-take, length-append, length-take-le, get_or-take, take-take, get_or_append_left}
+use Rattle.std.proofs.lemmas.List.{drop-take, length-append, length-take-le, get_or-take, take-take}
+use Rattle.std.proofs.lemmas.List.{get_or_append_left}
 use Rattle.std.proofs.Math.Seq.{take-length, get_or-append_seam}
 use Rattle.guest_code.specs.Program.{Program}
 use Rattle.semantics.specs.declared.mask.Mask.{Mask}
@@ -21,7 +25,8 @@ use Rattle.walk.specs.declared.path.Frame.{Frame}
 use Rattle.walk.specs.declared.path.Path.{Path}
 use Rattle.walk.specs.declared.path.Node.{Node}
 use Rattle.walk.specs.declared.mode.Mode.{Mode}
-use Rattle.walk.specs.inner.Paths.{used_frames, words_at, state_at, ReachesNode, leaves_last, leaves, IsPath, IsCopy, AreCopies, frame_at, no_frame}
+use Rattle.walk.specs.inner.Paths.{used_frames, words_at, state_at, ReachesNode, leaves_last}
+use Rattle.walk.specs.inner.Paths.{leaves, IsPath, IsCopy, AreCopies, frame_at, no_frame}
 use Rattle.walk.specs.inner.WalkerInvariant.{open_at, open_from, left_above, still_open, here}
 use Rattle.walk.specs.inner.Children.{children_of}
 
@@ -32,16 +37,17 @@ take_front (suc n) (x ∷ xs) ys l = ap (λ zs. x ∷ zs) (take_front n xs ys (o
 
 -- the words
 
-pub front_kept : (n : ℕ) (old mid : List ℤ) (z : ℤ) → ((m : ℕ) → m ≤ n → take m mid ≡ take m old) → n ≤ length mid
-    → (m : ℕ) → m ≤ n → take m (mid ++ z ∷ []) ≡ take m old
+pub front_kept : (n : ℕ) (old mid : List ℤ) (z : ℤ) → ((m : ℕ) → m ≤ n → take m mid ≡ take m old)
+    → n ≤ length mid → (m : ℕ) → m ≤ n → take m (mid ++ z ∷ []) ≡ take m old
 front_kept n old mid z same room m l = take_front m mid (z ∷ []) (omega arith) ∙ same m l
 
-pub chunk_same : (size k n : ℕ) (new old : List ℤ) → k < n → ((m : ℕ) → m ≤ n * size → take m new ≡ take m old)
-    → words_at size new k ≡ words_at size old k
+pub chunk_same : (size k n : ℕ) (new old : List ℤ) → k < n
+    → ((m : ℕ) → m ≤ n * size → take m new ≡ take m old) → words_at size new k ≡ words_at size old k
 chunk_same size k n new old l same =
     let b = chunk_inside k n size (n * size) l refl in
     sym (drop-take (k * size) size new)
-    ∙ (ap (λ (zs : List ℤ). drop (k * size) zs) (same (k * size + size) b) ∙ drop-take (k * size) size old)
+    ∙ (ap (λ (zs : List ℤ). drop (k * size) zs) (same (k * size + size) b)
+    ∙ drop-take (k * size) size old)
 
 -- machines of one program have as many values
 pub same_values : (p : Program) (l m : Machine) (s z : Snapshot) → Shows p l s → Shows p m z
@@ -57,17 +63,20 @@ pub open_same : (mode : Mode) (p : Program) (v w : List ℕ) (gs fs : List Frame
     → open_from mode p v gs base n ≡ open_from mode p w fs base n
 open_same mode p v w gs fs base zero same takes = refl
 open_same mode p v w gs fs base (suc n) same takes = (λ i. head i
-    ++ open_same mode p v w gs fs base n (λ k l. same k (omega arith)) (λ k l. takes k (omega arith)) i)
+    ++ open_same mode p v w gs fs base n (λ k l. same k (omega arith))
+    (λ k l. takes k (omega arith)) i)
   where
     head : open_at mode p (take (frame_at gs (base + n)).steps v) (frame_at gs (base + n)).node
         ≡ open_at mode p (take (frame_at fs (base + n)).steps w) (frame_at fs (base + n)).node
-    head = ap (λ (f : Frame). open_at mode p (take f.steps v) f.node) (same (base + n) (omega arith))
+    head = ap (λ (f : Frame). open_at mode p (take f.steps v) f.node)
+        (same (base + n) (omega arith))
         ∙ ap (λ u. open_at mode p u (frame_at fs (base + n)).node) (takes (base + n) (omega arith))
 
 -- a step
 
 pub copies_go : (p : Program) (w : List ℕ) (t fixed width size : ℕ) (fs : List Frame) (ws : List ℤ)
-    → AreCopies p w fixed width size fs ws → 0 < length fs → AreCopies p (w ++ t ∷ []) fixed width size fs ws
+    → AreCopies p w fixed width size fs ws → 0 < length fs
+    → AreCopies p (w ++ t ∷ []) fixed width size fs ws
 copies_go p w t fixed width size fs ws h some = record {
   each = λ k l. subst (λ v. IsCopy p v fixed width (frame_at fs k) (words_at size ws k))
       (sym (take_front (frame_at fs k).steps w (t ∷ []) (h.within k l))) (h.each k l);
@@ -80,29 +89,44 @@ copies_go p w t fixed width size fs ws h some = record {
 
 pub path_gone : (p : Program) (old new : Path) (t : ℕ) → IsPath p old → 0 < length (used_frames old)
     → is_enabled p (state_at p old.steps.items) t ≡ true
-    → new.node.used ≡ old.node.used + one_if (preempts p (state_at p old.steps.items) old.node.last t)
+    → new.node.used ≡ old.node.used
+    + one_if (preempts p (state_at p old.steps.items) old.node.last t)
     → new.steps.items ≡ old.steps.items ++ t ∷ [] → new.node.last ≡ Some t
     → Shows p new.machine (step p (state_at p old.steps.items) t)
-    → length new.machine.values.items ≡ length old.machine.values.items → new.machine.fixed ≡ old.machine.fixed
-    → new.machine.width ≡ old.machine.width → new.size ≡ old.size → (used_frames new) ≡ (used_frames old) → new.words.items ≡ old.words.items
+    → length new.machine.values.items ≡ length old.machine.values.items
+    → new.machine.fixed ≡ old.machine.fixed
+    → new.machine.width ≡ old.machine.width → new.size ≡ old.size
+    → (used_frames new) ≡ (used_frames old) → new.words.items ≡ old.words.items
     → new.depth ≤ length new.frames.items → IsPath p new
-path_gone p old new t h some enabled used steps last shows values fixed width size frames words room = record {
-  well_formed = h.well_formed;
-  reaches = subst (λ w. ReachesNode p w new.node) (sym steps)
-      (subst (λ o. Reaches p (w ++ t ∷ []) (record { state = state_at p (w ++ t ∷ []); last = o; preemptions = new.node.used })) (sym last)
-      (reaches_parts p w _ t (state_at p (w ++ t ∷ [])) new.node.used h.reaches enabled push used));
-  shows = subst (λ w. Shows p new.machine (state_at p w)) (sym steps) (subst (Shows p new.machine) (sym push) shows);
-  size = size ∙ (h.size ∙ sym values);
-  frames = subst (λ v. AreCopies p v new.machine.fixed new.machine.width new.size (used_frames new) new.words.items) (sym steps)
-      (subst (λ n. AreCopies p (w ++ t ∷ []) n new.machine.width new.size (used_frames new) new.words.items) (sym fixed)
-      (subst (λ n. AreCopies p (w ++ t ∷ []) old.machine.fixed n new.size (used_frames new) new.words.items) (sym width)
-      (subst (λ n. AreCopies p (w ++ t ∷ []) old.machine.fixed old.machine.width n (used_frames new) new.words.items) (sym size)
-      (subst (λ fs. AreCopies p (w ++ t ∷ []) old.machine.fixed old.machine.width old.size fs new.words.items) (sym frames)
-      (subst (λ ws. AreCopies p (w ++ t ∷ []) old.machine.fixed old.machine.width old.size (used_frames old) ws) (sym words)
-      (copies_go p w t old.machine.fixed old.machine.width old.size (used_frames old) old.words.items h.frames some))))));
-  room = room;
-  count = length-take-le new.depth new.frames.items room;
-}
+path_gone p old new t h some enabled used steps last shows values fixed width size frames words
+    room = record {
+      well_formed = h.well_formed;
+      reaches = subst (λ w. ReachesNode p w new.node) (sym steps)
+          (subst (λ o. Reaches p (w ++ t ∷ [])
+          (record { state = state_at p (w ++ t ∷ []); last = o; preemptions = new.node.used }))
+          (sym last)
+          (reaches_parts p w _ t (state_at p (w ++ t ∷ [])) new.node.used h.reaches enabled
+          push used));
+      shows = subst (λ w. Shows p new.machine (state_at p w)) (sym steps)
+          (subst (Shows p new.machine) (sym push) shows);
+      size = size ∙ (h.size ∙ sym values);
+      frames = subst (λ v. AreCopies p v new.machine.fixed new.machine.width new.size
+          (used_frames new) new.words.items) (sym steps)
+          (subst (λ n. AreCopies p (w ++ t ∷ []) n new.machine.width new.size (used_frames new)
+          new.words.items) (sym fixed)
+          (subst (λ n. AreCopies p (w ++ t ∷ []) old.machine.fixed n new.size (used_frames new)
+          new.words.items) (sym width)
+          (subst (λ n. AreCopies p (w ++ t ∷ []) old.machine.fixed old.machine.width n
+          (used_frames new) new.words.items) (sym size)
+          (subst (λ fs. AreCopies p (w ++ t ∷ []) old.machine.fixed old.machine.width old.size fs
+          new.words.items) (sym frames)
+          (subst (λ ws. AreCopies p (w ++ t ∷ []) old.machine.fixed old.machine.width old.size
+          (used_frames old) ws) (sym words)
+          (copies_go p w t old.machine.fixed old.machine.width old.size (used_frames old)
+          old.words.items h.frames some))))));
+      room = room;
+      count = length-take-le new.depth new.frames.items room;
+    }
   where
     w : List ℕ
     w = old.steps.items
@@ -112,11 +136,13 @@ path_gone p old new t h some enabled used steps last shows values fixed width si
 
 pub left_goes : (mode : Mode) (p : Program) (old : Path) (t : ℕ) (v : List ℕ) → IsPath p old
     → old.base ≤ length (used_frames old) → v ≡ old.steps.items ++ t ∷ []
-    → open_from mode p v (used_frames old) old.base (length (used_frames old) - old.base) ≡ left_above mode p old
+    → open_from mode p v (used_frames old) old.base (length (used_frames old) - old.base)
+    ≡ left_above mode p old
 left_goes mode p old t v h above steps =
-    ap (λ w. open_from mode p w (used_frames old) old.base (length (used_frames old) - old.base)) steps
-    ∙ open_same mode p (old.steps.items ++ t ∷ []) old.steps.items (used_frames old) (used_frames old) old.base
-    (length (used_frames old) - old.base) (λ k l. refl)
+    ap (λ w. open_from mode p w (used_frames old) old.base
+    (length (used_frames old) - old.base)) steps
+    ∙ open_same mode p (old.steps.items ++ t ∷ []) old.steps.items (used_frames old)
+    (used_frames old) old.base (length (used_frames old) - old.base) (λ k l. refl)
     (λ k l. take_front (frame_at (used_frames old) k).steps old.steps.items (t ∷ [])
     (h.frames.within k (omega (arith, l, above))))
 
@@ -131,19 +157,22 @@ stays p s t n = let e : nat_eq t t ≡ true = grind (arith, nat_tests) in
 
 -- back to the last frame
 
-pub copies_leave : (p : Program) (w : List ℕ) (fixed width size : ℕ) (fs : List Frame) (ws : List ℤ) (n : ℕ)
-    → AreCopies p w fixed width size fs ws → n < length fs
+pub copies_leave : (p : Program) (w : List ℕ) (fixed width size : ℕ) (fs : List Frame)
+    (ws : List ℤ) (n : ℕ) → AreCopies p w fixed width size fs ws → n < length fs
     → AreCopies p (take (frame_at fs n).steps w) fixed width size (take n fs) ws
 copies_leave p w fixed width size fs ws n h long = record {
   each = λ k l. let b = below k l in
-      subst (λ (g : Frame). IsCopy p (take g.steps (take (frame_at fs n).steps w)) fixed width g (words_at size ws k)) (sym (same k b))
+      subst (λ (g : Frame). IsCopy p (take g.steps (take (frame_at fs n).steps w)) fixed width g
+      (words_at size ws k)) (sym (same k b))
       (subst (λ v. IsCopy p v fixed width (frame_at fs k) (words_at size ws k))
-      (sym (take-take (frame_at fs k).steps (frame_at fs n).steps w (h.rising k n (omega arith) (omega (arith, long)))))
+      (sym (take-take (frame_at fs k).steps (frame_at fs n).steps w
+      (h.rising k n (omega arith) (omega (arith, long)))))
       (h.each k (omega (arith, b, long))));
   within = λ k l. let b = below k l in
       subst (λ (g : Frame). g.steps ≤ length (take (frame_at fs n).steps w)) (sym (same k b))
       (let r = h.rising k n (omega arith) (omega (arith, long)) in
-      let e = length-take-le (frame_at fs n).steps w (h.within n (omega (arith, long))) in omega (arith, r, e));
+      let e = length-take-le (frame_at fs n).steps w (h.within n (omega (arith, long))) in
+      omega (arith, r, e));
   rising = λ j k le l. let b = below k l in
       subst (λ (g : Frame). (frame_at (take n fs) j).steps ≤ g.steps) (sym (same k b))
       (subst (λ (g : Frame). g.steps ≤ (frame_at fs k).steps) (sym (same j (omega arith)))
@@ -151,8 +180,10 @@ copies_leave p w fixed width size fs ws n h long = record {
   first = λ l. ap (λ (g : Frame). g.steps) (same 0 (below 0 l)) ∙ h.first (omega (arith, long));
   bottom = λ e. let z : n ≡ 0 = sym many ∙ e in
       ap (λ k. take (frame_at fs k).steps w) z ∙ ap (λ k. take k w) (h.first (omega (arith, long)));
-  room = let r = h.room in let m : n * size ≤ length fs * size = mul-le-mul_right size (omega (arith, long)) in
-      let e : length (take n fs) * size ≡ n * size = ap (λ k. k * size) many in omega (arith, r, m, e);
+  room = let r = h.room in let m : n * size ≤ length fs * size =
+      mul-le-mul_right size (omega (arith, long)) in
+      let e : length (take n fs) * size ≡ n * size = ap (λ k. k * size) many in
+      omega (arith, r, m, e);
 }
   where
     many : length (take n fs) ≡ n
@@ -164,28 +195,41 @@ copies_leave p w fixed width size fs ws n h long = record {
     same : (k : ℕ) → k < n → frame_at (take n fs) k ≡ frame_at fs k
     same k l = get_or-take n fs k no_frame l
 
-pub path_left : (p : Program) (old new : Path) (n : ℕ) (f : Frame) → IsPath p old → n < length (used_frames old)
-    → f ≡ frame_at (used_frames old) n → new.steps.items ≡ take f.steps old.steps.items → new.node ≡ f.node
-    → Shows p new.machine (state_at p (take f.steps old.steps.items))
-    → length new.machine.values.items ≡ length old.machine.values.items → new.machine.fixed ≡ old.machine.fixed
-    → new.machine.width ≡ old.machine.width → new.size ≡ old.size → (used_frames new) ≡ take n (used_frames old)
+pub path_left : (p : Program) (old new : Path) (n : ℕ) (f : Frame) → IsPath p old
+    → n < length (used_frames old)
+    → f ≡ frame_at (used_frames old) n → new.steps.items ≡ take f.steps old.steps.items
+    → new.node ≡ f.node → Shows p new.machine (state_at p (take f.steps old.steps.items))
+    → length new.machine.values.items ≡ length old.machine.values.items
+    → new.machine.fixed ≡ old.machine.fixed
+    → new.machine.width ≡ old.machine.width → new.size ≡ old.size
+    → (used_frames new) ≡ take n (used_frames old)
     → new.words.items ≡ old.words.items → new.depth ≤ length new.frames.items → IsPath p new
-path_left p old new n f h long e steps node shows values fixed width size frames words room = record {
-  well_formed = h.well_formed;
-  reaches = subst (λ v. ReachesNode p v new.node) (sym here)
-      (subst (λ m. ReachesNode p w m) (sym (node ∙ ap (λ (g : Frame). g.node) e)) (h.frames.each n long).reaches);
-  shows = subst (λ v. Shows p new.machine (state_at p v)) (sym steps) shows;
-  size = size ∙ (h.size ∙ sym values);
-  frames = subst (λ v. AreCopies p v new.machine.fixed new.machine.width new.size (used_frames new) new.words.items) (sym here)
-      (subst (λ k. AreCopies p w k new.machine.width new.size (used_frames new) new.words.items) (sym fixed)
-      (subst (λ k. AreCopies p w old.machine.fixed k new.size (used_frames new) new.words.items) (sym width)
-      (subst (λ k. AreCopies p w old.machine.fixed old.machine.width k (used_frames new) new.words.items) (sym size)
-      (subst (λ fs. AreCopies p w old.machine.fixed old.machine.width old.size fs new.words.items) (sym frames)
-      (subst (λ ws. AreCopies p w old.machine.fixed old.machine.width old.size (take n (used_frames old)) ws) (sym words)
-      (copies_leave p old.steps.items old.machine.fixed old.machine.width old.size (used_frames old) old.words.items n h.frames long))))));
-  room = room;
-  count = length-take-le new.depth new.frames.items room;
-}
+path_left p old new n f h long e steps node shows values fixed width size frames words room =
+    record {
+      well_formed = h.well_formed;
+      reaches = subst (λ v. ReachesNode p v new.node) (sym here)
+          (subst (λ m. ReachesNode p w m) (sym (node ∙ ap (λ (g : Frame). g.node) e))
+          (h.frames.each n long).reaches);
+      shows = subst (λ v. Shows p new.machine (state_at p v)) (sym steps) shows;
+      size = size ∙ (h.size ∙ sym values);
+      frames = subst (λ v. AreCopies p v new.machine.fixed new.machine.width new.size
+          (used_frames new) new.words.items) (sym here)
+          (subst (λ k. AreCopies p w k new.machine.width new.size (used_frames new) new.words.items)
+          (sym fixed)
+          (subst (λ k. AreCopies p w old.machine.fixed k new.size (used_frames new) new.words.items)
+          (sym width)
+          (subst (λ k. AreCopies p w old.machine.fixed old.machine.width k (used_frames new)
+          new.words.items) (sym size)
+          (subst (λ fs. AreCopies p w old.machine.fixed old.machine.width old.size fs
+          new.words.items)
+          (sym frames)
+          (subst (λ ws. AreCopies p w old.machine.fixed old.machine.width old.size
+          (take n (used_frames old)) ws) (sym words)
+          (copies_leave p old.steps.items old.machine.fixed old.machine.width old.size
+          (used_frames old) old.words.items n h.frames long))))));
+      room = room;
+      count = length-take-le new.depth new.frames.items room;
+    }
   where
     w : List ℕ
     w = take (frame_at (used_frames old) n).steps old.steps.items
@@ -193,13 +237,17 @@ path_left p old new n f h long e steps node shows values fixed width size frames
     here : new.steps.items ≡ w
     here = steps ∙ ap (λ (g : Frame). take g.steps old.steps.items) e
 
-pub left_left : (mode : Mode) (p : Program) (old : Path) (n : ℕ) (f : Frame) (v : List ℕ) (gs : List Frame)
+pub left_left : (mode : Mode) (p : Program) (old : Path) (n : ℕ) (f : Frame) (v : List ℕ)
+    (gs : List Frame)
     → IsPath p old → n + 1 ≡ length (used_frames old) → f ≡ frame_at (used_frames old) n
-    → v ≡ take f.steps old.steps.items → gs ≡ take n (used_frames old) → old.base < length (used_frames old)
-    → open_at mode p v f.node ++ open_from mode p v gs old.base (length gs - old.base) ≡ left_above mode p old
+    → v ≡ take f.steps old.steps.items → gs ≡ take n (used_frames old)
+    → old.base < length (used_frames old)
+    → open_at mode p v f.node ++ open_from mode p v gs old.base (length gs - old.base)
+    ≡ left_above mode p old
 left_left mode p old n f v gs h long e steps frames above =
     (λ i. head i ++ rest i)
-    ∙ ap (λ k. open_from mode p w fs old.base k) (let z : suc (n - old.base) ≡ length fs - old.base = omega (arith, long, above) in z)
+    ∙ ap (λ k. open_from mode p w fs old.base k) (let z : suc (n - old.base) ≡ length fs
+    - old.base = omega (arith, long, above) in z)
   where
     w : List ℕ
     w = old.steps.items
@@ -217,14 +265,17 @@ left_left mode p old n f v gs h long e steps frames above =
     many = length-take-le n fs (omega (arith, long))
 
     head : open_at mode p v f.node
-        ≡ open_at mode p (take (frame_at fs (old.base + (n - old.base))).steps w) (frame_at fs (old.base + (n - old.base))).node
+        ≡ open_at mode p (take (frame_at fs (old.base + (n - old.base))).steps w)
+        (frame_at fs (old.base + (n - old.base))).node
     head = (λ i. open_at mode p (steps i) f.node)
         ∙ (ap (λ (g : Frame). open_at mode p (take g.steps w) g.node) e
         ∙ ap (λ k. open_at mode p (take (frame_at fs k).steps w) (frame_at fs k).node) (sym at))
 
-    rest : open_from mode p v gs old.base (length gs - old.base) ≡ open_from mode p w fs old.base (n - old.base)
+    rest : open_from mode p v gs old.base (length gs - old.base)
+        ≡ open_from mode p w fs old.base (n - old.base)
     rest = (λ i. open_from mode p (here i) (frames i) old.base (length (frames i) - old.base))
-        ∙ (ap (λ k. open_from mode p (take (frame_at fs n).steps w) (take n fs) old.base (k - old.base)) many
+        ∙ (ap (λ k. open_from mode p (take (frame_at fs n).steps w) (take n fs) old.base
+        (k - old.base)) many
         ∙ open_same mode p (take (frame_at fs n).steps w) w (take n fs) fs old.base (n - old.base)
         (λ k l. get_or-take n fs k no_frame (omega (arith, l, at)))
         (λ k l. take-take (frame_at fs k).steps (frame_at fs n).steps w
@@ -232,8 +283,10 @@ left_left mode p old n f v gs h long e steps frames above =
 
 -- other words
 
-pub copies_words : (p : Program) (w : List ℕ) (fixed width size : ℕ) (fs : List Frame) (ws new : List ℤ)
-    → AreCopies p w fixed width size fs ws → ((m : ℕ) → m ≤ length fs * size → take m new ≡ take m ws)
+pub copies_words : (p : Program) (w : List ℕ) (fixed width size : ℕ) (fs : List Frame)
+    (ws new : List ℤ)
+    → AreCopies p w fixed width size fs ws
+    → ((m : ℕ) → m ≤ length fs * size → take m new ≡ take m ws)
     → length fs * size ≤ length new → AreCopies p w fixed width size fs new
 copies_words p w fixed width size fs ws new h same long = record {
   each = λ k l. subst (λ xs. IsCopy p (take (frame_at fs k).steps w) fixed width (frame_at fs k) xs)
@@ -246,36 +299,50 @@ copies_words p w fixed width size fs ws new h same long = record {
 }
 
 pub path_words : (p : Program) (old new : Path) → IsPath p old → new.steps.items ≡ old.steps.items
-    → new.node.last ≡ old.node.last → new.node.used ≡ old.node.used → new.machine ≡ old.machine → new.size ≡ old.size
-    → AreCopies p old.steps.items old.machine.fixed old.machine.width old.size (used_frames new) new.words.items → new.depth ≤ length new.frames.items → IsPath p new
+    → new.node.last ≡ old.node.last → new.node.used ≡ old.node.used → new.machine ≡ old.machine
+    → new.size ≡ old.size
+    → AreCopies p old.steps.items old.machine.fixed old.machine.width old.size (used_frames new)
+    new.words.items → new.depth ≤ length new.frames.items → IsPath p new
 path_words p old new h steps last used machine size frames room = record {
   well_formed = h.well_formed;
   reaches = subst (λ w. ReachesNode p w new.node) (sym steps)
-      (subst (λ o. Reaches p old.steps.items (record { state = state_at p old.steps.items; last = o; preemptions = new.node.used })) (sym last)
-      (subst (λ u. Reaches p old.steps.items (record { state = state_at p old.steps.items; last = old.node.last; preemptions = u })) (sym used) h.reaches));
+      (subst (λ o. Reaches p old.steps.items
+      (record { state = state_at p old.steps.items; last = o; preemptions = new.node.used }))
+      (sym last)
+      (subst (λ u. Reaches p old.steps.items
+      (record { state = state_at p old.steps.items; last = old.node.last; preemptions = u }))
+      (sym used) h.reaches));
   shows = subst (λ w. Shows p new.machine (state_at p w)) (sym steps)
       (subst (λ m. Shows p m (state_at p old.steps.items)) (sym machine) h.shows);
   size = size ∙ (h.size ∙ ap (λ (m : Machine). length m.values.items) (sym machine));
-  frames = subst (λ v. AreCopies p v new.machine.fixed new.machine.width new.size (used_frames new) new.words.items) (sym steps)
-      (subst (λ (m : Machine). AreCopies p old.steps.items m.fixed m.width new.size (used_frames new) new.words.items) (sym machine)
-      (subst (λ k. AreCopies p old.steps.items old.machine.fixed old.machine.width k (used_frames new) new.words.items) (sym size) frames));
+  frames = subst (λ v. AreCopies p v new.machine.fixed new.machine.width new.size (used_frames new)
+      new.words.items) (sym steps)
+      (subst (λ (m : Machine). AreCopies p old.steps.items m.fixed m.width new.size
+      (used_frames new) new.words.items) (sym machine)
+      (subst (λ k. AreCopies p old.steps.items old.machine.fixed old.machine.width k
+      (used_frames new) new.words.items) (sym size) frames));
   room = room;
   count = length-take-le new.depth new.frames.items room;
 }
 
 -- one more frame
 
-pub copies_open : (p : Program) (w : List ℕ) (fixed width size : ℕ) (fs : List Frame) (ws new : List ℤ) (f : Frame)
-    → AreCopies p w fixed width size fs ws → f.steps ≡ length w → IsCopy p w fixed width f (words_at size new (length fs))
-    → ((m : ℕ) → m ≤ length fs * size → take m new ≡ take m ws) → length fs * size + size ≤ length new
-    → AreCopies p w fixed width size (fs ++ f ∷ []) new
+pub copies_open : (p : Program) (w : List ℕ) (fixed width size : ℕ) (fs : List Frame)
+    (ws new : List ℤ) (f : Frame)
+    → AreCopies p w fixed width size fs ws → f.steps ≡ length w
+    → IsCopy p w fixed width f (words_at size new (length fs))
+    → ((m : ℕ) → m ≤ length fs * size → take m new ≡ take m ws)
+    → length fs * size + size ≤ length new → AreCopies p w fixed width size (fs ++ f ∷ []) new
 copies_open p w fixed width size fs ws new f h steps copy same long = record {
   each = λ k l. elim (cases_order k (length fs)) [
-    | inl e ↦ subst (λ j. IsCopy p (take (frame_at (fs ++ f ∷ []) j).steps w) fixed width (frame_at (fs ++ f ∷ []) j) (words_at size new j)) (sym e)
-        (subst (λ (g : Frame). IsCopy p (take g.steps w) fixed width g (words_at size new (length fs))) (sym last)
+    | inl e ↦ subst (λ j. IsCopy p (take (frame_at (fs ++ f ∷ []) j).steps w) fixed width
+        (frame_at (fs ++ f ∷ []) j) (words_at size new j)) (sym e)
+        (subst (λ (g : Frame). IsCopy p (take g.steps w) fixed width g
+        (words_at size new (length fs))) (sym last)
         (subst (λ v. IsCopy p v fixed width f (words_at size new (length fs)))
         (sym (ap (λ j. take j w) steps ∙ take-length w)) copy))
-    | inr (inl a) ↦ subst (λ (g : Frame). IsCopy p (take g.steps w) fixed width g (words_at size new k)) (sym (before k a))
+    | inr (inl a) ↦ subst (λ (g : Frame). IsCopy p (take g.steps w) fixed width g
+        (words_at size new k)) (sym (before k a))
         (subst (λ xs. IsCopy p (take (frame_at fs k).steps w) fixed width (frame_at fs k) xs)
         (sym (chunk_same size k (length fs) new ws a same)) (h.each k a))
     | inr (inr a) ↦ absurd (omega (arith, l, a, many))
@@ -287,22 +354,29 @@ copies_open p w fixed width size fs ws new f h steps copy same long = record {
     | inr (inr a) ↦ absurd (omega (arith, l, a, many))
   ];
   rising = λ j k le l. elim (cases_order k (length fs)) [
-    | inl e ↦ subst (λ i. (frame_at (fs ++ f ∷ []) j).steps ≤ (frame_at (fs ++ f ∷ []) i).steps) (sym e)
+    | inl e ↦ subst (λ i. (frame_at (fs ++ f ∷ []) j).steps
+        ≤ (frame_at (fs ++ f ∷ []) i).steps) (sym e)
         (subst (λ (g : Frame). (frame_at (fs ++ f ∷ []) j).steps ≤ g.steps) (sym last)
-        (subst (λ n. (frame_at (fs ++ f ∷ []) j).steps ≤ n) (sym steps) (up_to j (omega (arith, le, e)))))
-    | inr (inl a) ↦ subst (λ (g : Frame). (frame_at (fs ++ f ∷ []) j).steps ≤ g.steps) (sym (before k a))
-        (subst (λ (g : Frame). g.steps ≤ (frame_at fs k).steps) (sym (before j (omega arith))) (h.rising j k le a))
+        (subst (λ n. (frame_at (fs ++ f ∷ []) j).steps ≤ n) (sym steps)
+        (up_to j (omega (arith, le, e)))))
+    | inr (inl a) ↦ subst (λ (g : Frame). (frame_at (fs ++ f ∷ []) j).steps ≤ g.steps)
+        (sym (before k a))
+        (subst (λ (g : Frame). g.steps ≤ (frame_at fs k).steps) (sym (before j (omega arith)))
+        (h.rising j k le a))
     | inr (inr a) ↦ absurd (omega (arith, l, a, many))
   ];
   first = λ l. elim (cases_order 0 (length fs)) [
     | inl e ↦ ap (λ j. (frame_at (fs ++ f ∷ []) j).steps) e
-        ∙ (ap (λ (g : Frame). g.steps) last ∙ (steps ∙ ap (λ (v : List ℕ). length v) (h.bottom (sym e))))
+        ∙ (ap (λ (g : Frame). g.steps) last
+        ∙ (steps ∙ ap (λ (v : List ℕ). length v) (h.bottom (sym e))))
     | inr (inl a) ↦ ap (λ (g : Frame). g.steps) (before 0 a) ∙ h.first a
     | inr (inr a) ↦ absurd (omega arith)
   ];
   bottom = λ e. absurd (omega (arith, e, many));
-  room = let z : length (fs ++ f ∷ []) * size ≡ suc (length fs) * size = ap (λ k. k * size) (many ∙ one) in
-      let y : suc (length fs) * size ≡ length fs * size + size = next (length fs) size in omega (arith, z, y, long);
+  room = let z : length (fs ++ f ∷ []) * size ≡ suc (length fs) * size =
+      ap (λ k. k * size) (many ∙ one) in
+      let y : suc (length fs) * size ≡ length fs * size + size = next (length fs) size in
+      omega (arith, z, y, long);
 }
   where
     next : (t w : ℕ) → suc t * w ≡ t * w + w
@@ -328,7 +402,8 @@ copies_open p w fixed width size fs ws new f h steps copy same long = record {
       | inr (inr a) ↦ absurd (omega (arith, l, a))
     ]
 
-pub left_opened : (mode : Mode) (p : Program) (old : Path) (f : Frame) (gs : List Frame) → IsPath p old
+pub left_opened : (mode : Mode) (p : Program) (old : Path) (f : Frame) (gs : List Frame)
+    → IsPath p old
     → f.steps ≡ length old.steps.items → f.node ≡ old.node → gs ≡ (used_frames old) ++ f ∷ []
     → old.base ≤ length (used_frames old)
     → open_from mode p old.steps.items gs old.base (length gs - old.base)
@@ -349,10 +424,14 @@ left_opened mode p old f gs h steps todo frames above =
     at : old.base + (length fs - old.base) ≡ length fs
     at = omega (arith, above)
 
-    head : open_at mode p (take (frame_at (fs ++ f ∷ []) (old.base + (length fs - old.base))).steps w)
-        (frame_at (fs ++ f ∷ []) (old.base + (length fs - old.base))).node ≡ open_at mode p old.steps.items old.node
-    head = ap (λ k. open_at mode p (take (frame_at (fs ++ f ∷ []) k).steps w) (frame_at (fs ++ f ∷ []) k).node) at
-        ∙ (ap (λ (g : Frame). open_at mode p (take g.steps w) g.node) (get_or-append_seam fs f [] no_frame)
+    head : open_at mode p (take (frame_at (fs ++ f ∷ [])
+        (old.base + (length fs - old.base))).steps w)
+        (frame_at (fs ++ f ∷ []) (old.base + (length fs - old.base))).node
+        ≡ open_at mode p old.steps.items old.node
+    head = ap (λ k. open_at mode p (take (frame_at (fs ++ f ∷ []) k).steps w)
+        (frame_at (fs ++ f ∷ []) k).node) at
+        ∙ (ap (λ (g : Frame). open_at mode p (take g.steps w) g.node)
+        (get_or-append_seam fs f [] no_frame)
         ∙ (λ i. open_at mode p ((ap (λ j. take j w) steps ∙ take-length w) i) (todo i)))
 
     rest : open_from mode p w (fs ++ f ∷ []) old.base (length fs - old.base) ≡ left_above mode p old
@@ -364,31 +443,41 @@ pub copies_opened : (p : Program) (old : Path) (f : Frame) (new : List ℤ) → 
     → ((m : ℕ) → m ≤ length (used_frames old) * old.size → take m new ≡ take m old.words.items)
     → length (used_frames old) * old.size + old.size ≤ length new
     → words_at old.size new (length (used_frames old)) ≡ old.machine.values.items
-    → AreCopies p old.steps.items old.machine.fixed old.machine.width old.size ((used_frames old) ++ f ∷ []) new
+    → AreCopies p old.steps.items old.machine.fixed old.machine.width old.size
+    ((used_frames old) ++ f ∷ []) new
 copies_opened p old f new h steps node control same long words =
-    copies_open p old.steps.items old.machine.fixed old.machine.width old.size (used_frames old) old.words.items new f h.frames steps
-    (record {
+    copies_open p old.steps.items old.machine.fixed old.machine.width old.size (used_frames old)
+    old.words.items new f h.frames steps (record {
       reaches = subst (λ m. ReachesNode p old.steps.items m) (sym node) h.reaches;
-      shows = subst (λ c. IsState p old.machine.fixed old.machine.width c (words_at old.size new (length (used_frames old)))
+      shows = subst (λ c. IsState p old.machine.fixed old.machine.width c
+          (words_at old.size new (length (used_frames old)))
           (state_at p old.steps.items)) (sym control)
-          (subst (λ xs. IsState p old.machine.fixed old.machine.width old.machine.control xs (state_at p old.steps.items))
+          (subst (λ xs. IsState p old.machine.fixed old.machine.width old.machine.control xs
+          (state_at p old.steps.items))
           (sym words) h.shows);
     }) same long
 
-pub path_opened : (p : Program) (old new : Path) (f : Frame) (q : ℕ) (I mine : List ℤ) → IsPath p old
+pub path_opened : (p : Program) (old new : Path) (f : Frame) (q : ℕ) (I mine : List ℤ)
+    → IsPath p old
     → new.steps.items ≡ old.steps.items → new.node ≡ old.node → new.machine ≡ old.machine
-    → new.size ≡ old.size → (used_frames new) ≡ (used_frames old) ++ f ∷ [] → f.steps ≡ length old.steps.items
+    → new.size ≡ old.size → (used_frames new) ≡ (used_frames old) ++ f ∷ []
+    → f.steps ≡ length old.steps.items
     → f.node ≡ old.node → f.control ≡ old.machine.control → q ≡ length (used_frames old)
-    → Rewrites old.size q I new.words.items mine → length new.words.items ≡ length I → q * old.size + old.size ≤ length I
+    → Rewrites old.size q I new.words.items mine → length new.words.items ≡ length I
+    → q * old.size + old.size ≤ length I
     → ((m : ℕ) → m ≤ length old.words.items → take m I ≡ take m old.words.items)
     → mine ≡ old.machine.values.items → new.depth ≤ length new.frames.items → IsPath p new
-path_opened p old new f q I mine h steps node machine size frames fs fn fc here wrote many inside same own room =
-    path_words p old new h steps (ap (λ (m : Node). m.last) node) (ap (λ (m : Node). m.used) node) machine size
-    (subst (λ (gs : List Frame). AreCopies p old.steps.items old.machine.fixed old.machine.width old.size gs new.words.items) (sym frames)
+path_opened p old new f q I mine h steps node machine size frames fs fn fc here wrote many inside
+    same own room =
+    path_words p old new h steps (ap (λ (m : Node). m.last) node) (ap (λ (m : Node). m.used) node)
+    machine size
+    (subst (λ (gs : List Frame). AreCopies p old.steps.items old.machine.fixed old.machine.width
+    old.size gs new.words.items) (sym frames)
     (copies_opened p old f new.words.items h fs fn fc
     (λ m l. wrote.before m (subst (λ n. m ≤ n * old.size) (sym here) l)
     ∙ same m (let r = h.frames.room in omega (arith, l, r)))
-    (let there = subst (λ n. n * old.size + old.size ≤ length I) here inside in omega (arith, there, many))
+    (let there = subst (λ n. n * old.size + old.size ≤ length I) here inside in
+    omega (arith, there, many))
     (subst (λ n. words_at old.size new.words.items n ≡ old.machine.values.items) here
     (wrote.chunk ∙ own)))) room
 
@@ -400,11 +489,16 @@ leaves_is p s m (Some l) t h = ap (λ b. b && not (nat_eq l t)) (h l)
 
 -- only what is still to be tried changed, and who sleeps
 pub path_same : (p : Program) (old new : Path) → IsPath p old → new.steps.items ≡ old.steps.items
-    → new.node.last ≡ old.node.last → new.node.used ≡ old.node.used → new.machine ≡ old.machine → new.size ≡ old.size
-    → (used_frames new) ≡ (used_frames old) → new.words.items ≡ old.words.items → new.depth ≤ length new.frames.items → IsPath p new
-path_same p old new h steps last used machine size frames words room = path_words p old new h steps last used machine size
-    (subst (λ fs. AreCopies p old.steps.items old.machine.fixed old.machine.width old.size fs new.words.items) (sym frames)
-    (subst (λ ws. AreCopies p old.steps.items old.machine.fixed old.machine.width old.size (used_frames old) ws) (sym words) h.frames)) room
+    → new.node.last ≡ old.node.last → new.node.used ≡ old.node.used → new.machine ≡ old.machine
+    → new.size ≡ old.size
+    → (used_frames new) ≡ (used_frames old) → new.words.items ≡ old.words.items
+    → new.depth ≤ length new.frames.items → IsPath p new
+path_same p old new h steps last used machine size frames words room = path_words p old new h steps
+    last used machine size
+    (subst (λ fs. AreCopies p old.steps.items old.machine.fixed old.machine.width old.size fs
+    new.words.items) (sym frames)
+    (subst (λ ws. AreCopies p old.steps.items old.machine.fixed old.machine.width old.size
+    (used_frames old) ws) (sym words) h.frames)) room
 
 -- nothing is to be tried at the node
 pub open_done : (mode : Mode) (p : Program) (t : Path) → members_from t.node.todo 0 ≡ []

@@ -1,11 +1,14 @@
 -- What sleep sets leave of the schedules that begin with a prefix, and with one more step.
-use Rattle.std.proofs.Common.{◌≡◌, ℕ, ◌<◌, Bool, true, false, cond, not, ◌&&◌, ◌||◌, nat_lt, List, [], ◌∷◌, ◌++◌, length, map, drop, refl, ap, ◌∙◌, sym, subst, arith, append_assoc, inl, inr}
+use Rattle.std.proofs.Common.{◌≡◌, ℕ, ◌<◌, Bool, true, false, cond, not, ◌&&◌, ◌||◌, nat_lt, List}
+use Rattle.std.proofs.Common.{[], ◌∷◌, ◌++◌, length, map, drop, refl, ap, ◌∙◌, sym, subst, arith}
+use Rattle.std.proofs.Common.{append_assoc, inl, inr}
 use Rattle.std.specs.List.{filter, flat_map}
 use Rattle.guest_code.specs.Program.{Program}
 use Rattle.semantics.specs.Mask.{has}
 use Rattle.semantics.specs.Machine.{Snapshot, start, step, is_enabled}
 use Rattle.semantics.specs.Reachable.{IsOf}
-use Rattle.schedules.specs.Schedules.{complete_schedules, schedules_under, state_after, runs, before, begins_with}
+use Rattle.schedules.specs.Schedules.{complete_schedules, schedules_under, state_after, runs}
+use Rattle.schedules.specs.Schedules.{before, begins_with}
 use Rattle.semantics.specs.Ends.{enabled, is_terminal}
 use Rattle.schedules.specs.Sleep.{reduced_schedules, is_kept, next_sleep_set, independent}
 use Rattle.semantics.specs.Waiters.{In}

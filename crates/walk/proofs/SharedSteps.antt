@@ -1,5 +1,6 @@
 -- What the steps of a walk share with the prefix that was put off last.
-use Rattle.std.proofs.Common.{◌≡◌, ℕ, List, [], ◌∷◌, ◌++◌, ◌≤◌, length, take, ap, ◌∙◌, sym, arith, subst}
+use Rattle.std.proofs.Common.{◌≡◌, ℕ, List, [], ◌∷◌, ◌++◌, ◌≤◌, length, take, ap, ◌∙◌, sym, arith}
+use Rattle.std.proofs.Common.{subst}
 use Rattle.std.proofs.lemmas.List.{length_push, take-append-le, take-take}
 use Rattle.walk.specs.declared.found.Found.{Found}
 use Rattle.prefix_list.specs.PrefixLists.{last_of}
@@ -26,8 +27,8 @@ shared_kept w v f g h e deferred shared = record {
 }
 
 -- where it goes back to what the steps begin with
-pub shared_back : (w v : List ℕ) (f : Found) (m : ℕ) → IsShared w f → v ≡ take (length v) w → m ≤ f.shared
-    → m ≤ length v → take m (last_of f.deferred) ≡ take m v
+pub shared_back : (w v : List ℕ) (f : Found) (m : ℕ) → IsShared w f → v ≡ take (length v) w
+    → m ≤ f.shared → m ≤ length v → take m (last_of f.deferred) ≡ take m v
 shared_back w v f m h e few fits =
     sym (take-take m f.shared (last_of f.deferred) few)
     ∙ (ap (take m) h.same ∙ (take-take m f.shared w few

@@ -1,23 +1,28 @@
 -- What a split keeps: at the start, where a walk is settled, and at the next bound.
-use Rattle.std.proofs.Common.{◌≡◌, ℕ, ◌+◌, ◌<◌, ◌≤◌, Bool, true, false, ◌&&◌, ◌||◌, not, nat_le, List, [], ◌∷◌, ◌++◌, refl, ap, ◌∙◌, sym, subst, arith, inl, inr, ◌⊎◌}
+use Rattle.std.proofs.Common.{◌≡◌, ℕ, ◌+◌, ◌<◌, ◌≤◌, Bool, true, false, ◌&&◌, ◌||◌, not, nat_le}
+use Rattle.std.proofs.Common.{List, [], ◌∷◌, ◌++◌, refl, ap, ◌∙◌, sym, subst, arith, inl, inr, ◌⊎◌}
 use Rattle.std.specs.List.{filter, list_any, All, Contains}
 use Rattle.std.proofs.lemmas.Bool.{cases_lt, or_right}
 use Rattle.std.proofs.lemmas.Bool.Decides.{nat_tests}
 use Rattle.std.proofs.lemmas.List.{append-nil}
-use Rattle.std.proofs.lemmas.List.Elements.{All-nil, All-cons, All-append, All-head, All-tail, All-weaker}
+use Rattle.std.proofs.lemmas.List.Elements.{All-nil, All-cons, All-append, All-head, All-tail}
+use Rattle.std.proofs.lemmas.List.Elements.{All-weaker}
 use Rattle.guest_code.specs.Program.{Program}
 use Rattle.semantics.specs.Machine.{start}
-use Rattle.schedules.specs.Schedules.{begins_with, preemptions, runs, schedules_under, schedules_within, exceeds_bound}
+use Rattle.schedules.specs.Schedules.{begins_with, preemptions, runs, schedules_under}
+use Rattle.schedules.specs.Schedules.{schedules_within, exceeds_bound}
 use Rattle.semantics.specs.Mask.{one_if}
 use Rattle.semantics.specs.Waiters.{In}
 use Rattle.semantics.proofs.ListMembers.{in_contains, contains_in}
 use Rattle.schedules.proofs.UnfoldingUnderPrefix.{schedules_within-past}
 use Rattle.schedules.specs.Order.{is_complete}
-use Rattle.schedules.proofs.SchedulesUnderPrefix.{begins_further, in_under, in_within, beyond_is, schedules_under-longer}
+use Rattle.schedules.proofs.SchedulesUnderPrefix.{begins_further, in_under, in_within, beyond_is}
+use Rattle.schedules.proofs.SchedulesUnderPrefix.{schedules_under-longer}
 use Rattle.walk.specs.declared.mode.Mode.{Mode}
 use Rattle.walk.specs.declared.mode.Mode.TheVariants.{Bounded, Reduced}
 use Rattle.summary.specs.Summaries.{SummaryView, IsSummary, nothing, sum_of, join, with_beyond}
-use Rattle.walk.specs.Items.{ItemView, root_of, schedules_of, goes_beyond, item_sum, item_sums, covers, is_under}
+use Rattle.walk.specs.Items.{ItemView, root_of, schedules_of, goes_beyond, item_sum, item_sums}
+use Rattle.walk.specs.Items.{covers, is_under}
 use Rattle.walk.specs.Walks.{HasItsOf, IsBelow, IsDeferred, IsCut, IsSplit, clear_of}
 use Rattle.walk.proofs.ListParts.{all_left, all_right}
 use Rattle.std.proofs.lemmas.List.Folds.{list_any-append}
@@ -26,7 +31,8 @@ use Rattle.walk.proofs.Covers.{at_most_one, covers-append, under-append, under_c
 use Rattle.summary.proofs.SumsJoin.{sum_of_none, sum_of-beyond, sum_kept, join_nothing}
 use Rattle.walk.proofs.WalkedItems.{rest_has}
 use Rattle.walk.specs.FullSums.{full_sum, full_sums}
-use Rattle.walk.proofs.Filters.{filter_same, filter_all, filter_none, filter_twice, filter_longer, sum_either, sums_in, sum_parts}
+use Rattle.walk.proofs.Filters.{filter_same, filter_all, filter_none, filter_twice, filter_longer}
+use Rattle.walk.proofs.Filters.{sum_either, sums_in, sum_parts}
 
 -- sums
 

@@ -1,5 +1,6 @@
 -- How many turns a walk can take: the children of an item cost less than it.
-use Rattle.std.proofs.Common.{◌≡◌, ℕ, zero, suc, ◌+◌, ◌*◌, ◌≤◌, Bool, true, false, cond, List, [], ◌∷◌, ◌++◌, length, refl, ap, arith, inl, inr}
+use Rattle.std.proofs.Common.{◌≡◌, ℕ, zero, suc, ◌+◌, ◌*◌, ◌≤◌, Bool, true, false, cond, List, []}
+use Rattle.std.proofs.Common.{◌∷◌, ◌++◌, length, refl, ap, arith, inl, inr}
 use Rattle.std.specs.List.{filter}
 use Rattle.guest_code.specs.declared.limits.TheConstants.{THREADS}
 use Rattle.guest_code.specs.Program.{Program, IsWellFormed}
@@ -19,7 +20,8 @@ use Rattle.schedules.proofs.UnfoldingUnderPrefix.{state_after-push}
 use Rattle.semantics.proofs.WorkFalls.{work-step}
 use Rattle.walk.specs.declared.mode.Mode.{Mode}
 use Rattle.walk.specs.Items.{ItemView}
-use Rattle.walk.specs.inner.Children.{state_of, next_steps, is_kept_step, kept_steps, child_of, children_of, children, turns, cost_of, costs}
+use Rattle.walk.specs.inner.Children.{state_of, next_steps, is_kept_step, kept_steps, child_of}
+use Rattle.walk.specs.inner.Children.{children_of, children, turns, cost_of, costs}
 
 pub costs-append : (xs ys : List ItemView) → costs (xs ++ ys) ≡ costs xs + costs ys
 costs-append [] ys = omega arith
@@ -103,7 +105,8 @@ pub child_less : (mode : Mode) (i : ItemView) (t : ℕ) → is_enabled i.program
 child_less mode i t e = go (work i.program (state_of i)) refl
   where
     go : (n : ℕ) → work i.program (state_of i) ≡ n → cost_of (child_of mode i t) ≤ turns n
-    go zero none = (let falls = work-step i.program (state_of i) t e in absurd (omega (arith, falls, none)))
+    go zero none = (let falls = work-step i.program (state_of i) t e in
+        absurd (omega (arith, falls, none)))
     go (suc n) left = let c = child_cost mode i t n e left in omega (arith, c)
 
 -- a turn that puts an item's children in its place costs two at least

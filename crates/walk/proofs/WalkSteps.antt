@@ -11,7 +11,8 @@ use Rattle.schedules.specs.Order.{end_of}
 use Rattle.schedules.specs.Schedules.{preemptions}
 use Rattle.walk.specs.declared.mode.Mode.{Mode}
 use Rattle.walk.specs.declared.mode.Mode.TheVariants.{Bounded, Reduced}
-use Rattle.summary.specs.Summaries.{SummaryView, IsSummary, nothing, sum_of, join, with_beyond, added}
+use Rattle.summary.specs.Summaries.{SummaryView, IsSummary, nothing, sum_of, join, with_beyond}
+use Rattle.summary.specs.Summaries.{added}
 use Rattle.walk.specs.Items.{ItemView, IsItem}
 use Rattle.walk.specs.Walks.{WalkView, IsWalked, IsBelow, IsCut}
 use Rattle.walk.specs.inner.Children.{state_of, IsWithin, passes_bound, children, past_children}

@@ -1,5 +1,6 @@
 -- What is still open after one turn of a walk.
-use Rattle.std.proofs.Common.{◌≡◌, ℕ, ◌+◌, ◌-◌, ◌<◌, Bool, true, ◌&&◌, List, [], ◌∷◌, ◌++◌, length, map, refl, ap, ◌∙◌, sym, arith, subst, cond, take, nat_le, nat_lt}
+use Rattle.std.proofs.Common.{◌≡◌, ℕ, ◌+◌, ◌-◌, ◌<◌, Bool, true, ◌&&◌, List, [], ◌∷◌, ◌++◌, length}
+use Rattle.std.proofs.Common.{map, refl, ap, ◌∙◌, sym, arith, subst, cond, take, nat_le, nat_lt}
 use Rattle.std.specs.List.{filter}
 use Rattle.std.proofs.lemmas.List.{length_push, take_at, get_or_at, map-append}
 use Rattle.guest_code.specs.Program.{Program}
@@ -22,7 +23,8 @@ use Rattle.walk.specs.Items.{ItemView, item_at}
 use Rattle.walk.proofs.Filters.{filter_twice}
 use Rattle.walk.proofs.PathSteps.{leaves_is}
 use Rattle.walk.proofs.Children.{reduced_past}
-use Rattle.walk.specs.inner.Children.{child_of, children_of, past_children, kept_steps, past_steps, is_kept_step, is_past_step}
+use Rattle.walk.specs.inner.Children.{child_of, children_of, past_children, kept_steps, past_steps}
+use Rattle.walk.specs.inner.Children.{is_kept_step, is_past_step}
 use Rattle.walk.specs.inner.Paths.{leaves, IsNode, state_at}
 use Rattle.walk.specs.inner.WalkerInvariant.{item_of, is_kept_at, is_past_at}
 

@@ -1,16 +1,21 @@
 -- What an item's schedules are, what is known of a walk, and what follows.
-use Rattle.std.proofs.Common.{◌≡◌, ◌↔◌, ◌⊎◌, inl, inr, ℕ, zero, suc, ◌+◌, ◌<◌, ◌≤◌, Bool, true, false, not, cond, ◌||◌, nat_eq, nat_le, nat_lt, List, [], ◌∷◌, ◌++◌, length, map, get_or, refl, ap, ◌∙◌, sym, arith, subst, length-append}
+use Rattle.std.proofs.Common.{◌≡◌, ◌↔◌, ◌⊎◌, inl, inr, ℕ, zero, suc, ◌+◌, ◌<◌, ◌≤◌, Bool, true}
+use Rattle.std.proofs.Common.{false, not, cond, ◌||◌, nat_eq, nat_le, nat_lt, List, [], ◌∷◌, ◌++◌}
+use Rattle.std.proofs.Common.{length, map, get_or, refl, ap, ◌∙◌, sym, arith, subst, length-append}
 use Rattle.std.specs.List.{filter, flat_map, list_any, All, AllPairs, Contains}
 use Rattle.std.proofs.lemmas.Bool.{not-true, not_from_false, or_parts}
 use Rattle.std.proofs.lemmas.Bool.Decides.{nat_tests}
 use Rattle.std.proofs.lemmas.List.{get_or_append_left, get_or-append-add, get_or-map, length-map}
-use Rattle.std.proofs.lemmas.List.Elements.{All-nil, All-cons, All-head, All-tail, All-weaker, All-contains, All-contains_itself, All-filter, filter_passes, Contains-append_cases}
+use Rattle.std.proofs.lemmas.List.Elements.{All-nil, All-cons, All-head, All-tail, All-weaker}
+use Rattle.std.proofs.lemmas.List.Elements.{All-contains, All-contains_itself, All-filter}
+use Rattle.std.proofs.lemmas.List.Elements.{filter_passes, Contains-append_cases}
 use Rattle.std.proofs.lemmas.List.Folds.{list_any_none}
 use Rattle.std.proofs.lemmas.List.Kept.{AllPairs-filter}
 use Rattle.guest_code.specs.Program.{Program}
 use Rattle.semantics.specs.Machine.{Snapshot, start}
 use Rattle.semantics.specs.Mask.{has, no_threads}
-use Rattle.schedules.specs.Schedules.{state_after, begins_with, preemptions, complete_schedules, schedules_under, schedules_within, exceeds_bound}
+use Rattle.schedules.specs.Schedules.{state_after, begins_with, preemptions, complete_schedules}
+use Rattle.schedules.specs.Schedules.{schedules_under, schedules_within, exceeds_bound}
 use Rattle.schedules.specs.Order.{precedes}
 use Rattle.schedules.specs.Sleep.{reduced_schedules, is_kept, none_asleep}
 use Rattle.semantics.specs.Waiters.{In}
@@ -20,12 +25,15 @@ use Rattle.semantics.proofs.ListMembers.{in_contains, contains_in, from_map}
 use Rattle.schedules.proofs.StatedLaws.{complete}
 use Rattle.schedules.specs.Rising.{IsRising}
 use Rattle.schedules.proofs.CompleteSchedulesRise.{all_rise}
-use Rattle.schedules.proofs.SchedulesUnderPrefix.{schedules_within-longer, in_under, in_within, beyond_is}
+use Rattle.schedules.proofs.SchedulesUnderPrefix.{schedules_within-longer, in_under, in_within}
+use Rattle.schedules.proofs.SchedulesUnderPrefix.{beyond_is}
 use Rattle.schedules.proofs.UnfoldingUnderPrefix.{schedules_within-past, exceeds_bound-past}
 use Rattle.walk.specs.declared.mode.Mode.{Mode}
 use Rattle.walk.specs.declared.mode.Mode.TheVariants.{Bounded, Reduced}
-use Rattle.summary.specs.Summaries.{SummaryView, cut, greatest_count, nothing, sum_of, join, with_beyond}
-use Rattle.walk.specs.Items.{ItemView, AreOf, IsItem, IsScheduleOf, state_of, root_of, schedules_of, goes_beyond, item_sum, item_sums, schedule_count, covers, is_under}
+use Rattle.summary.specs.Summaries.{SummaryView, cut, greatest_count, nothing, sum_of, join}
+use Rattle.summary.specs.Summaries.{with_beyond}
+use Rattle.walk.specs.Items.{ItemView, AreOf, IsItem, IsScheduleOf, state_of, root_of, schedules_of}
+use Rattle.walk.specs.Items.{goes_beyond, item_sum, item_sums, schedule_count, covers, is_under}
 use Rattle.walk.specs.Walks.{WalkView, IsWalked, IsBelow, IsCut, tried_by}
 pub use Rattle.walk.specs.Walks.{HasItsOf}
 use Rattle.walk.proofs.Covers.{at_most_one}

@@ -75,7 +75,6 @@ impl Node {
 
     // Becomes the node after a step of a thread, where these are enabled at the node before and
     // these sleep after the step.
-    #[inline(always)]
     fn step(&mut self, enabled: Mask, thread: u8, asleep: Mask)
         requires { self.old.used + 1 < 2 ^ 32 }
         ensures asleep { self.new.asleep ≡ asleep }

@@ -113,7 +113,6 @@ impl Found {
     }
 
     // Whether fewer than a quota were tried.
-    #[inline(always)]
     fn is_below(&self, quota: u32) -> bool
         ensures below { IsTrue result → self.now.part.tried < quota }
         ensures full { IsFalse result → quota ≤ self.now.part.tried }
@@ -122,7 +121,6 @@ impl Found {
     }
 
     // Goes back with the walk to a node above, so many steps from the start.
-    #[inline(always)]
     fn go_back(&mut self, depth: usize)
         ensures { self.new ≡ record self.old { shared = min self.old.shared depth } }
     {
@@ -131,7 +129,6 @@ impl Found {
 }
 
 // A set without its least member.
-#[inline(always)]
 fn without_first(set: Mask, first: u8) -> Mask
     requires first { members_from set 0 ≡ first ∷ members_from set (first + 1) }
     requires least { (u : ℕ) → u < first → has set u ≡ false }
@@ -143,7 +140,6 @@ fn without_first(set: Mask, first: u8) -> Mask
 
 impl Node {
     // The steps that are kept from here on are to be tried. None passes the bound.
-    #[inline(always)]
     fn open(&mut self, enabled: Mask, mode: Mode)
         requires { (t : ℕ) → (has enabled t && is_past_at mode enabled self.old t) ≡ false }
         ensures kept { (t : ℕ) → has self.new.todo t
@@ -157,7 +153,6 @@ impl Node {
     }
 
     // Whether the bound is used up, and this thread can go on, where these are enabled.
-    #[inline(always)]
     fn is_alone(&self, enabled: Mask, mode: Mode, thread: u8) -> bool
         ensures { result ≡ (is_spent_at mode self.now && has enabled thread) }
     {
@@ -241,11 +236,14 @@ impl Path {
         ensures steps { self.new.steps.items ≡ self.old.steps.items }
         ensures tried { IfOk result (λ _. found.new.part.tried ≡ found.old.part.tried) }
         ensures spent { IfOk result (λ alone. IsTrue alone → IsSpent mode self.new.node) }
-        ensures free { IfOk result (λ alone. IsFalse alone → IsFree mode _item.now.program self.new) }
-        ensures alone { IfOk result (λ alone. IsTrue alone → IsSearch mode _item.now self.new found.new
+        ensures free { IfOk result (λ alone. IsFalse alone
+            → IsFree mode _item.now.program self.new) }
+        ensures alone { IfOk result (λ alone. IsTrue alone
+            → IsSearch mode _item.now self.new found.new
             (child_of mode (here _item.now.program self.new) thread
             ∷ left_above mode _item.now.program self.new)) }
-        ensures over { IfOk result (λ alone. IsFalse alone → IsSearch mode _item.now self.new found.new
+        ensures over { IfOk result (λ alone. IsFalse alone
+            → IsSearch mode _item.now self.new found.new
             (here _item.now.program self.new ∷ left_above mode _item.now.program self.new)) }
     {
         let enabled = self.machine.enabled();

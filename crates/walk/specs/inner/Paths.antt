@@ -1,5 +1,6 @@
 -- The way from the start of a program to where a walk stands, with copies of states on it.
-use Rattle.std.specs.Prelude.{◌≡◌, ℕ, ◌+◌, ◌*◌, ◌≤◌, ◌<◌, ℤ, Bool, false, not, ◌&&◌, nat_eq, List, [], length, take, drop, get_or, Option, Some, None, ◌++◌}
+use Rattle.std.specs.Prelude.{◌≡◌, ℕ, ◌+◌, ◌*◌, ◌≤◌, ◌<◌, ℤ, Bool, false, not, ◌&&◌, nat_eq, List}
+use Rattle.std.specs.Prelude.{[], length, take, drop, get_or, Option, Some, None, ◌++◌}
 use Rattle.guest_code.specs.Program.{Program, IsWellFormed}
 use Rattle.semantics.specs.Machine.{Snapshot, start}
 use Rattle.machine.specs.Refinement.{Shows, IsState}

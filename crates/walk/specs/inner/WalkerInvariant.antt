@@ -1,5 +1,6 @@
 -- What holds while a walk goes over the schedules of an item.
-use Rattle.std.specs.Prelude.{◌≡◌, ℕ, zero, suc, ◌+◌, ◌-◌, ◌<◌, ◌≤◌, Bool, false, not, ◌&&◌, nat_eq, nat_le, nat_lt, List, [], ◌∷◌, ◌++◌, length, take, map, Some}
+use Rattle.std.specs.Prelude.{◌≡◌, ℕ, zero, suc, ◌+◌, ◌-◌, ◌<◌, ◌≤◌, Bool, false, not, ◌&&◌, nat_eq}
+use Rattle.std.specs.Prelude.{nat_le, nat_lt, List, [], ◌∷◌, ◌++◌, length, take, map, Some}
 use Rattle.guest_code.specs.Program.{Program}
 use Rattle.semantics.specs.Mask.{has, no_threads, HasEnabled, members_from, one_if}
 use Rattle.semantics.specs.declared.mask.Mask.{Mask}

@@ -6,7 +6,8 @@ use Rattle.semantics.specs.Mask.{members_from}
 use Rattle.walk.specs.inner.Paths.{state_at}
 use Rattle.walk.specs.inner.WalkerInvariant.{here, is_kept_at, left_above}
 use Rattle.walk.proofs.WalkTurns.{members_chosen}
-use Rattle.walk.proofs.Arrivals.{turned_here, arrived_free, arrived_leaf, falls_node, falls_leaf, tried_added}
+use Rattle.walk.proofs.Arrivals.{turned_here, arrived_free, arrived_leaf, falls_node, falls_leaf}
+use Rattle.walk.proofs.Arrivals.{tried_added}
 use Rattle.walk.proofs.path.Path.arrive.Goals as goal
 
 pub open-requires : goal.open-requires
@@ -20,7 +21,8 @@ pub returns-in-Some-clause-search : goal.returns-in-Some-clause-search
 returns-in-Some-clause-search c =
     let p = c.args.item.now.program in
     let t = c.args.self.now in
-    let on = c.enabled-enabled.ensures p (state_at p t.steps.items) c.requires.search.place.path.shows in
+    let on = c.enabled-enabled.ensures p (state_at p t.steps.items)
+    c.requires.search.place.path.shows in
     arrived_free c.args.mode c.args.item.now t _ c.args.found.now c.enabled-enabled.result _ _
     c.requires.search on (turned_here t _ refl c.open.ensures.same refl refl refl refl refl)
     c.open.ensures.kept (c.requires.free c.enabled-enabled.result on) c.in-Some.ensures.list
@@ -56,7 +58,9 @@ returns-in_ok-add-in-None-clause-falls c =
     falls_leaf c.args.mode c.args.item.now.program c.args.self.now
     (record c.args.self.now { node = c.open.new.self; ends = c.add.new.memory })
     c.enabled-enabled.result
-    c.requires.search.place (c.enabled-enabled.ensures c.args.item.now.program (state_at c.args.item.now.program c.args.self.now.steps.items) c.requires.search.place.path.shows)
+    c.requires.search.place (c.enabled-enabled.ensures c.args.item.now.program
+    (state_at c.args.item.now.program c.args.self.now.steps.items)
+    c.requires.search.place.path.shows)
     (turned_here c.args.self.now _ refl c.open.ensures.same refl refl refl refl refl)
     c.open.ensures.kept c.in-None.ensures.list
 
@@ -71,6 +75,8 @@ pub returns-in_ok-add-in-None-clause-more : goal.returns-in_ok-add-in-None-claus
 returns-in_ok-add-in-None-clause-more c =
     let t = c.args.self.now in
     let over : members_from c.open.new.self.todo 0 ≡ [] =
-    members_chosen c.open.new.self.todo c.enabled-enabled.result (is_kept_at c.args.mode c.enabled-enabled.result t.node)
-    c.open.ensures.kept ∙ ap (filter (is_kept_at c.args.mode c.enabled-enabled.result t.node)) c.in-None.ensures.list in
+    members_chosen c.open.new.self.todo c.enabled-enabled.result
+    (is_kept_at c.args.mode c.enabled-enabled.result t.node)
+    c.open.ensures.kept ∙ ap (filter (is_kept_at c.args.mode c.enabled-enabled.result t.node))
+    c.in-None.ensures.list in
     λ more. absurd (false≢true (sym more ∙ ap is_empty over))

@@ -8,9 +8,10 @@ pub returns-clause-search : goal.returns-clause-search
 returns-clause-search c =
     let program = c.program.ensures in
     let t = c.retreat-more.new.self in
-    retreated_search c.args.mode c.args.item.now c.args.self.now t c.args.found.now c.go_back.new.self c.len.result
-    c.requires.search
+    retreated_search c.args.mode c.args.item.now c.args.self.now t c.args.found.now
+    c.go_back.new.self c.len.result c.requires.search
     (subst (λ (q : Program). IsPlace q t) program c.retreat-more.ensures.place)
-    (subst (λ (q : Program). still_open c.args.mode q t ≡ still_open c.args.mode q c.args.self.now) program
+    (subst (λ (q : Program). still_open c.args.mode q t
+    ≡ still_open c.args.mode q c.args.self.now) program
     c.retreat-more.ensures.same)
     c.retreat-more.ensures.steps (omega (arith, c.len.ensures, t.steps.ok.0)) c.go_back.ensures

@@ -15,8 +15,9 @@ with-requires c =
     let t = c.args.self.now in
     let path = c.requires.search.place.path in
     let below = enabled_below p (state_at p t.steps.items) c.args.thread
-    (sym (c.enabled-enabled.ensures p (state_at p t.steps.items) path.shows c.args.thread) ∙ (and_right (is_spent_at c.args.mode c.args.self.now.node) (has c.enabled-enabled.result c.args.thread)
-    (sym c.is_alone.ensures ∙ c.if-is_alone.true))) in
+    (sym (c.enabled-enabled.ensures p (state_at p t.steps.items) path.shows c.args.thread)
+    ∙ (and_right (is_spent_at c.args.mode c.args.self.now.node)
+    (has c.enabled-enabled.result c.args.thread) (sym c.is_alone.ensures ∙ c.if-is_alone.true))) in
     let few = path.shows.of.few in
     omega (arith, below, few)
 
@@ -24,20 +25,24 @@ pub returns-then-is_alone-clause-alone : goal.returns-then-is_alone-clause-alone
 returns-then-is_alone-clause-alone c = λ _.
     let t = c.args.self.now in
     let new : Path = record t { steps = c.defer.new.steps } in
-    lone_search c.args.mode c.args._item.now t new c.args.found.now c.defer.new.self c.enabled-enabled.result c.with.result c.args.thread
-    c.requires.search (c.enabled-enabled.ensures c.args._item.now.program (state_at c.args._item.now.program t.steps.items) c.requires.search.place.path.shows)
+    lone_search c.args.mode c.args._item.now t new c.args.found.now c.defer.new.self
+    c.enabled-enabled.result c.with.result c.args.thread
+    c.requires.search (c.enabled-enabled.ensures c.args._item.now.program
+    (state_at c.args._item.now.program t.steps.items) c.requires.search.place.path.shows)
     (turned_here t new c.defer.ensures.steps refl refl refl refl refl refl)
-    c.requires.last (spent_is c.args.mode t.node (and_left (is_spent_at c.args.mode t.node) (has c.enabled-enabled.result c.args.thread)
-    (sym c.is_alone.ensures ∙ c.if-is_alone.true))) (and_right (is_spent_at c.args.mode c.args.self.now.node) (has c.enabled-enabled.result c.args.thread)
-    (sym c.is_alone.ensures ∙ c.if-is_alone.true))
-    c.with.ensures.same c.with.ensures.others c.in_ok-defer.ensures.part c.in_ok-defer.ensures.deferred
-    c.in_ok-defer.ensures.shared c.requires.search.place.path.room
+    c.requires.last (spent_is c.args.mode t.node
+    (and_left (is_spent_at c.args.mode t.node) (has c.enabled-enabled.result c.args.thread)
+    (sym c.is_alone.ensures ∙ c.if-is_alone.true)))
+    (and_right (is_spent_at c.args.mode c.args.self.now.node)
+    (has c.enabled-enabled.result c.args.thread) (sym c.is_alone.ensures ∙ c.if-is_alone.true))
+    c.with.ensures.same c.with.ensures.others c.in_ok-defer.ensures.part
+    c.in_ok-defer.ensures.deferred c.in_ok-defer.ensures.shared c.requires.search.place.path.room
 
 pub returns-then-is_alone-clause-spent : goal.returns-then-is_alone-clause-spent
 returns-then-is_alone-clause-spent c = λ _.
     let t = c.args.self.now in
-    spent_is c.args.mode t.node (and_left (is_spent_at c.args.mode t.node) (has c.enabled-enabled.result c.args.thread)
-    (sym c.is_alone.ensures ∙ c.if-is_alone.true))
+    spent_is c.args.mode t.node (and_left (is_spent_at c.args.mode t.node)
+    (has c.enabled-enabled.result c.args.thread) (sym c.is_alone.ensures ∙ c.if-is_alone.true))
 
 pub returns-clause-free : goal.returns-clause-free
 returns-clause-free c = λ _.
@@ -45,7 +50,8 @@ returns-clause-free c = λ _.
     let t = c.args.self.now in
     let path = c.requires.search.place.path in
     free_alone c.args.mode p t c.args.thread
-    (within_at c.args.mode p t path (first_open c.args.mode c.args._item.now (here p t) c.args.found.now.part
+    (within_at c.args.mode p t path (first_open c.args.mode c.args._item.now (here p t)
+    c.args.found.now.part
     (left_above c.args.mode p t) _ c.requires.search.walked).within) c.requires.last
     (ap (λ b. is_spent_at c.args.mode t.node && b)
     (sym (c.enabled-enabled.ensures p (state_at p t.steps.items) path.shows c.args.thread))

@@ -21,10 +21,12 @@ returns-clause-path c =
     let t = c.args.self.now in
     path_gone p t _ c.args.thread c.requires.path c.requires.frames c.requires.enabled
     (c.step.ensures.used ∙ ap (λ b. t.node.used + one_if b) (leaves_is p (state_at p t.steps.items)
-    c.enabled-enabled.result t.node.last c.args.thread (c.enabled-enabled.ensures p (state_at p t.steps.items) c.requires.path.shows)))
+    c.enabled-enabled.result t.node.last c.args.thread
+    (c.enabled-enabled.ensures p (state_at p t.steps.items) c.requires.path.shows)))
     c.in_ok-push.ensures.items c.step.ensures.last
     (c.step-2.ensures.shows (state_at p t.steps.items) c.requires.path.shows c.requires.enabled)
-    c.step-2.ensures.size c.step-2.ensures.fixed c.step-2.ensures.width refl refl refl c.requires.path.room
+    c.step-2.ensures.size c.step-2.ensures.fixed c.step-2.ensures.width refl refl refl
+    c.requires.path.room
 
 pub returns-clause-gone : goal.returns-clause-gone
 returns-clause-gone c = record {
@@ -33,6 +35,6 @@ returns-clause-gone c = record {
   asleep = c.step.ensures.asleep;
   base = refl;
   frames = refl;
-  left = λ mode above. left_goes mode c.args.program.now c.args.self.now c.args.thread _ c.requires.path
-      above c.in_ok-push.ensures.items;
+  left = λ mode above. left_goes mode c.args.program.now c.args.self.now c.args.thread _
+      c.requires.path above c.in_ok-push.ensures.items;
 }

@@ -1,4 +1,5 @@
-use Rattle.std.proofs.Common.{rules, arith, ◌≡◌, ◌∙◌, ◌<◌, ◌≤◌, true, ap, sym, subst, length, take, get_or}
+use Rattle.std.proofs.Common.{rules, arith, ◌≡◌, ◌∙◌, ◌<◌, ◌≤◌, true, ap, sym, subst, length, take}
+use Rattle.std.proofs.Common.{get_or}
 use Rattle.semantics.specs.Machine.{Snapshot, start, is_enabled}
 use Rattle.schedules.specs.Schedules.{state_after}
 use Rattle.schedules.proofs.Executions.{runs_at}
@@ -18,7 +19,8 @@ loop-place-init c =
       steps = c.go_back.ensures.steps
           ∙ (ap (λ m. take m t.steps.items) long
           ∙ (sym (take-take n k t.steps.items few)
-          ∙ (ap (take n) ((λ i. take k (sym c.as_slice.ensures.value i)) ∙ c.shared_length-shared.ensures.alike)
+          ∙ (ap (take n) ((λ i. take k (sym c.as_slice.ensures.value i))
+          ∙ c.shared_length-shared.ensures.alike)
           ∙ take-take n k c.args.schedule.now few)));
     }
 
@@ -28,7 +30,8 @@ go-requires-clause-enabled c =
     let w = c.args.schedule.now in
     let there : c.loop-place.place < length w = search rules in
     subst (λ (z : Snapshot). is_enabled p z (get_or w c.loop-place.place 0) ≡ true)
-    (sym (ap (state_after p (start p)) (c.in_ok-open.ensures.opened.steps ∙ c.loop-place.invariant.steps)))
+    (sym (ap (state_after p (start p)) (c.in_ok-open.ensures.opened.steps
+    ∙ c.loop-place.invariant.steps)))
     (runs_at p (start p) w c.loop-place.place c.requires.runs there)
 
 pub go-requires-clause-frames : goal.go-requires-clause-frames

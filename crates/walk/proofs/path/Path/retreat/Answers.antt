@@ -8,8 +8,10 @@ pub returns-clause-same : goal.returns-clause-same
 returns-clause-same c =
     let t = c.args.self.now in
     let count = c.requires.place.path.count in
-    let below : t.base ≤ t.depth - 1 = omega (arith, c.if-depth-self.false, c.requires.place.base, count) in
-    let top : t.depth ≡ t.depth - 1 + 1 = omega (arith, c.if-depth-self.false, c.requires.place.base, count) in
+    let below : t.base ≤ t.depth - 1 =
+    omega (arith, c.if-depth-self.false, c.requires.place.base, count) in
+    let top : t.depth ≡ t.depth - 1 + 1 =
+    omega (arith, c.if-depth-self.false, c.requires.place.base, count) in
     c.leave.ensures.left c.args._mode below top
     ∙ sym (open_done c.args._mode c.args.program.now t c.requires.done)
 
@@ -18,7 +20,8 @@ unfolding turns_left
 returns-clause-further c =
     let t = c.args.self.now in
     let count = c.requires.place.path.count in
-    let top : t.depth ≡ t.depth - 1 + 1 = omega (arith, c.if-depth-self.false, c.requires.place.base, count) in
+    let top : t.depth ≡ t.depth - 1 + 1 =
+    omega (arith, c.if-depth-self.false, c.requires.place.base, count) in
     let a = ap costs (returns-clause-same c) in
     let b = c.leave.ensures.depth in
     let new = c.leave.ensures.path.count in

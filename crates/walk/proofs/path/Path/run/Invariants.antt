@@ -1,7 +1,8 @@
 use Rattle.std.proofs.Common.{◌≡◌, ◌≤◌, ◌∷◌, Some}
 use Rattle.semantics.specs.Work.{work}
 use Rattle.walk.specs.inner.Paths.{state_at}
-use Rattle.walk.specs.inner.WalkerInvariant.{IsSearch, IsAwake, here, left_above, turns_from, turns_into}
+use Rattle.walk.specs.inner.WalkerInvariant.{IsSearch, IsAwake, here, left_above, turns_from}
+use Rattle.walk.specs.inner.WalkerInvariant.{turns_into}
 use Rattle.walk.proofs.path.Path.run.Given as goal
 
 abbrev pub invariant-loop-self : goal.invariant-loop-self

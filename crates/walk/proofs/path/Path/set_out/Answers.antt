@@ -10,5 +10,7 @@ returns-in-None-clause-free c =
     let p = c.args.item.now.program in
     let t = c.args.self.now in
     free_first c.args.mode p t
-    (within_at c.args.mode p t c.requires.search.place.path (first_open c.args.mode c.args.item.now (here p t)
-    c.args.found.now.part (left_above c.args.mode p t) _ c.requires.search.walked).within) c.in-None.is
+    (within_at c.args.mode p t c.requires.search.place.path
+    (first_open c.args.mode c.args.item.now (here p t)
+    c.args.found.now.part (left_above c.args.mode p t) _ c.requires.search.walked).within)
+    c.in-None.is
