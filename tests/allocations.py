@@ -86,7 +86,10 @@ LASTING = [
     ("explore", "six", "--bound 0 --workers 2", 0), ("explore", "bad", "--bound 0 --workers 2", 1),
     ("unbounded", "locks", "--workers 3", 1), ("replay", "race", "0,1,0", 1),
 ]
-# The same, where each request of one of these sizes fails.
+# Searches of `six` with some rounds of one bound, or one round without a bound.
+THREADED = [("explore", "--bound 0"), ("explore", "--bound 0 --trace"), ("explore", "--bound 0 --quick"),
+            ("unbounded", ""), ("explain", "--bound 0"), ("suite", "--bound 0")]
+# The same as RUNS, where each request of one of these sizes fails.
 OF_SIZE = [
     ("explore", "six", "--bound 0 --workers 2", 0), ("explore", "updates", "--workers 2", 0),
     ("explore", "bad", "--bound 0 --quick --workers 2", 1),
@@ -164,7 +167,7 @@ def sizes(binary, words, library, status):
 
 def threads(binary, words, library, workers):
     """No refusals, and what is wrong with the number of threads that so many workers make in a search of
-    some rounds of one bound, or None: one for all but one of them, once."""
+    some rounds of one bound, or None: a thread for each of them but one, once."""
     answer, told = run(binary, words + ["--workers", str(workers)], library)
     made = told.count(b"t")
     wrong = answer[2] != 0 or made != workers - 1
@@ -182,8 +185,8 @@ def main(binary, walker, again):
             with open(os.path.join(folder, name), "w") as file:
                 file.write(text)
         program, walk = os.path.abspath(binary), os.path.abspath(walker)
-        trials = [(threads, program, ["explore", os.path.join(folder, "six"), "--bound", "0"], library, workers)
-                  for workers in (1, 2, 4, 16)]
+        trials = [(threads, program, [command, os.path.join(folder, "six")] + words.split(), library, workers)
+                  for command, words in THREADED for workers in (1, 2, 4, 16)]
         trials += [(sweep, program, [command, os.path.join(folder, name)] + words.split(), library, status,
                     says_memory, lasting)
                    for runs, lasting in ((RUNS, False), (LASTING, True)) for command, name, words, status in runs]

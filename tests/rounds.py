@@ -274,10 +274,10 @@ def limits(trial):
             trial.check(report.get("cause") == "limit" and 1000 <= report["tried"] <= 17383
                         and report["finished"] is None, workers, "workers, limit 1000:", report)
             # The first round is one walk.
-            for quota in (256, 3):
-                _, report = trial.heard("threads8", 0, workers, quota, 1, quick)
+            for quota, limit in ((256, 1), (3, 1), (256, 256), (3, 3)):
+                _, report = trial.heard("threads8", 0, workers, quota, limit, quick)
                 trial.check(report.get("cause") == "limit" and report["tried"] == quota,
-                            workers, "workers, limit 1, quota", quota, report)
+                            workers, "workers, limit", limit, "quota", quota, report)
             # A bad schedule is told also where the limit is reached.
             _, report = trial.heard("race", 2, workers, 256, 1, quick)
             trial.check(report["verdict"] == "bad" and report["tried"] == 2, workers, "workers:", report)
