@@ -1,5 +1,5 @@
 #!/usr/bin/env python3
-"""bench/beside.py BINARY [OTHER] [RUNS]: searches of the guests in bench/programs, by the clock.
+"""bench/beside.py BINARY [OTHER] [RUNS]: searches of ten guests in bench/programs, by the clock.
 
 For each search it prints the least seconds of RUNS runs (7) by BINARY and, where OTHER is given, by
 another explorer with the same words, and their ratio. The two run in turn and must give the same answer.

@@ -3,7 +3,8 @@
 
 BINARY is the built program. For each guest and bound, or `unbounded`, it prints the least seconds by the
 clock of three searches by 1, 2, 4 and 8 workers, and how many times sooner than one worker each is
-done. The reports must be the same bytes. Without guests it searches `bench/four_by_five.guest`.
+done. The reports must be the same bytes. Without guests it searches one of few threads, whose items are
+small, and two of many, whose items are large.
 """
 import os
 import subprocess
@@ -11,7 +12,8 @@ import sys
 import time
 
 TOP = os.path.dirname(os.path.dirname(os.path.abspath(__file__)))
-GUEST = os.path.join(TOP, "bench", "four_by_five.guest")
+GUESTS = [("four_by_five.guest", "3"), ("four_by_five.guest", "4"),
+          ("programs/lottery.guest", "0"), ("programs/coin_box.guest", "1")]
 WORKERS = (1, 2, 4, 8)
 RUNS = 3
 
@@ -48,7 +50,8 @@ def line(binary, guest, bound):
 
 
 def main(words):
-    cases = list(zip(words[1::2], words[2::2])) or [(GUEST, str(bound)) for bound in range(3, 5)]
+    cases = list(zip(words[1::2], words[2::2]))
+    cases = cases or [(os.path.join(TOP, "bench", name), bound) for name, bound in GUESTS]
     heads = " ".join("%9s" % n if n == 1 else "%9s %6s" % (n, "sooner") for n in WORKERS)
     print("%-18s %9s %s" % ("guest", "bound", heads))
     for guest, bound in cases:

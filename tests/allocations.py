@@ -1,6 +1,6 @@
 #!/usr/bin/env python3
-"""allocations.py BINARY WALKER AGAIN: each request of a run for memory or a thread fails in turn, alone or with
-all later ones.
+"""allocations.py BINARY WALKER AGAIN: each request of a run for memory, a thread or an open file fails in
+turn, alone, with all later ones, or with all of its size.
 
 BINARY is the program. With ample memory each run must end with its own status and say something.
 With a request refused, its answer must be the same, or `ctxbound: memory` with status 4 and nothing
@@ -10,8 +10,8 @@ or say nothing and end with status 1 or 2. AGAIN is the program of the crate `ag
 call of the libraries again that was refused: it must say the same, or nothing with status 2. A run that
 doesn't end in time fails its sweep. The sweep of a run ends at the first number that is past its last
 request; since runs of several threads have more requests or fewer, it ends only after some such numbers
-in a row. So many workers must make threads for all but one of them. The last line is
-`N passed, M failed`.
+in a row. Several workers must make a thread for all but one of them, once for all rounds of a bound. The
+last line is `N passed, M failed`.
 """
 import os
 import subprocess
@@ -86,6 +86,15 @@ LASTING = [
     ("explore", "six", "--bound 0 --workers 2", 0), ("explore", "bad", "--bound 0 --workers 2", 1),
     ("unbounded", "locks", "--workers 3", 1), ("replay", "race", "0,1,0", 1),
 ]
+# Searches of `six` with some rounds of one bound, or one round without a bound.
+THREADED = [("explore", "--bound 0"), ("explore", "--bound 0 --trace"), ("explore", "--bound 0 --quick"),
+            ("unbounded", ""), ("explain", "--bound 0"), ("suite", "--bound 0")]
+# The same as RUNS, where each request of one of these sizes fails.
+OF_SIZE = [
+    ("explore", "six", "--bound 0 --workers 2", 0), ("explore", "updates", "--workers 2", 0),
+    ("explore", "bad", "--bound 0 --quick --workers 2", 1),
+]
+SIZES = range(8, 4097, 8)
 # A guest and a mode: the walk ends with status 0.
 WALKS = [("race", "1"), ("locks", "1"), ("waits", "0"), ("two", "1"),
          ("two", "reduced"), ("locks", "reduced")]
@@ -93,14 +102,12 @@ WALKS = [("race", "1"), ("locks", "1"), ("waits", "0"), ("two", "1"),
 AGAIN = [("updates", "0,1,0,1"), ("locks", "0,1"), ("waits", "1,1,1,0,0"), ("late", "1,0,0"), ("five", "0,1,2,3,4")]
 
 
-def run(binary, words, library=None, fail_at=0, lasting=False):
-    """What a run writes and its status, and what the library told of it."""
+def run(binary, words, library=None, refused=None):
+    """What a run writes and its status, and what the library told of it, which is told what to refuse."""
     env = dict(os.environ)
     told, tells = os.pipe()
     if library:
-        env.update(LD_PRELOAD=library, FAIL_AT=str(fail_at), TOLD_FD=str(tells))
-    if lasting:
-        env["FAIL_ON"] = "1"
+        env.update(refused or {}, LD_PRELOAD=library, TOLD_FD=str(tells))
     try:
         done = subprocess.run([binary] + words, env=env, capture_output=True, timeout=SECONDS,
                               pass_fds=[tells])
@@ -131,7 +138,7 @@ def sweep(binary, words, library, status, is_refusal, lasting=False):
         return 0, "%s, with ample memory: %r" % (" ".join(words), ample)
     refusals = quiet = 0
     for fail_at in range(1, MOST):
-        answer, told = run(binary, words, library, fail_at, lasting)
+        answer, told = run(binary, words, library, {"FAIL_AT": str(fail_at), **({"FAIL_ON": "1"} if lasting else {})})
         was_refused = b"r" in told
         if answer != ample and not (was_refused and is_refusal(answer)):
             return refusals, "%s, request %d refused: %r" % (" ".join(words), fail_at, answer)
@@ -142,11 +149,28 @@ def sweep(binary, words, library, status, is_refusal, lasting=False):
     return refusals, "%s: no end after %d requests" % (" ".join(words), MOST)
 
 
+def sizes(binary, words, library, status):
+    """The same where each request for so many bytes is refused, for one size after the other: what walks or
+    settling need and never get must end the search, also where all else can be had."""
+    ample, _ = run(binary, words)
+    if ample[2] != status:
+        return 0, "%s, with ample memory: %r" % (" ".join(words), ample)
+    refusals = 0
+    for size in SIZES:
+        answer, told = run(binary, words, library, {"FAIL_SIZE": str(size)})
+        was_refused = b"r" in told
+        if answer != ample and not (was_refused and says_memory(answer)):
+            return refusals, "%s, each request for %d bytes refused: %r" % (" ".join(words), size, answer)
+        refusals += was_refused
+    return refusals, None
+
+
 def threads(binary, words, library, workers):
-    """No refusals, and what is wrong with the number of threads that so many workers make, or None."""
+    """No refusals, and what is wrong with the number of threads that so many workers make in a search of
+    some rounds of one bound, or None: a thread for each of them but one, once."""
     answer, told = run(binary, words + ["--workers", str(workers)], library)
     made = told.count(b"t")
-    wrong = answer[2] != 0 or (made != 0 if workers == 1 else made < workers - 1)
+    wrong = answer[2] != 0 or made != workers - 1
     return 0, "%d workers: %d threads, status %r" % (workers, made, answer[2]) if wrong else None
 
 
@@ -161,11 +185,13 @@ def main(binary, walker, again):
             with open(os.path.join(folder, name), "w") as file:
                 file.write(text)
         program, walk = os.path.abspath(binary), os.path.abspath(walker)
-        trials = [(threads, program, ["explore", os.path.join(folder, "six"), "--bound", "0"], library, workers)
-                  for workers in (1, 2, 4, 16)]
+        trials = [(threads, program, [command, os.path.join(folder, "six")] + words.split(), library, workers)
+                  for command, words in THREADED for workers in (1, 2, 4, 16)]
         trials += [(sweep, program, [command, os.path.join(folder, name)] + words.split(), library, status,
                     says_memory, lasting)
                    for runs, lasting in ((RUNS, False), (LASTING, True)) for command, name, words, status in runs]
+        trials += [(sizes, program, [command, os.path.join(folder, name)] + words.split(), library, status)
+                   for command, name, words, status in OF_SIZE]
         trials += [(sweep, walk, [os.path.join(folder, name), mode], library, 0, says_nothing)
                    for name, mode in WALKS]
         trials += [(sweep, os.path.abspath(again), [os.path.join(folder, name), schedule], library, 0,
@@ -176,7 +202,8 @@ def main(binary, walker, again):
             passed, failed = passed + (wrong is None), failed + (wrong is not None)
             if wrong:
                 print(wrong)
-    print("%d requests for memory or a thread were refused, one a run or all from one on" % refusals)
+    print("%d requests for memory, a thread or a file were refused, one a run, all from one on or all of a size"
+          % refusals)
     print("%d passed, %d failed" % (passed, failed))
     return 1 if failed or refusals == 0 else 0
 

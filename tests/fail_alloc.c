@@ -1,12 +1,14 @@
 /* Preloaded before a program: its request number FAIL_AT, counted from 1, is refused, and where FAIL_ON
-   is set all later ones are, too; a request is one for memory or for a thread. Each request for FAIL_SIZE
-   bytes is refused. For one that is refused
-   an `r` is written to the file TOLD_FD, and for a thread that is made a `t`. Only requests of the
-   program itself count: those before `main` are the C library's own. */
+   is set all later ones are, too; a request is one for memory, for a thread or for an open file, which takes
+   memory of the system's. Each request for FAIL_SIZE bytes is refused. For one that is refused an `r` is
+   written to the file TOLD_FD, and for a thread that is made a `t`. Only requests of the program itself
+   count: those before `main` are the C library's own. */
 #define _GNU_SOURCE
 #include <dlfcn.h>
 #include <errno.h>
+#include <fcntl.h>
 #include <pthread.h>
+#include <stdarg.h>
 #include <stdlib.h>
 #include <stddef.h>
 #include <unistd.h>
@@ -68,6 +70,18 @@ int posix_memalign(void **out, size_t align, size_t size) {
     if (!next)
         next = NEXT(posix_memalign);
     return refused(size) ? ENOMEM : next(out, align, size);
+}
+
+int open(const char *path, int flags, ...) {
+    static int (*next)(const char *, int, ...);
+    va_list others;
+    mode_t mode;
+    va_start(others, flags);
+    mode = flags & O_CREAT ? va_arg(others, mode_t) : 0;
+    va_end(others);
+    if (!next)
+        next = NEXT(open);
+    return refused(0) ? -1 : next(path, flags, mode);
 }
 
 int pthread_create(pthread_t *thread, const pthread_attr_t *attributes, void *(*run)(void *), void *given) {

@@ -41,9 +41,12 @@ GUESTS = {
     **{"threads%d" % count: stores(count) for count in range(2, 13)},
     "first": "var x; thread A { store x 1; assert 0; } thread B { store x 1; } thread C { store x 1; }",
     "late": writers(7, 2), "later": writers(11, 2),
-    # B is told apart between its third step and its fourth. What the bound puts off of B's run comes last first.
+    # The load fails at one place among the four stores. The bound puts off three prefixes: the bad one is the
+    # last of all in the order of schedules, and its item is the first of its round in one of the two.
     "moment": "var x; thread A { load r x; assert r != 3; } "
     "thread B { store x 1; store x 2; store x 3; store x 4; }",
+    "soon": "var x; thread A { store x 1; store x 2; store x 3; store x 4; } "
+    "thread B { load r x; assert r != 1; }",
     "race": "var x; thread A { store x 1; } thread B { load r x; assert r == 0; }",
     # Three threads of four steps: 12! / (4! 4! 4!) schedules.
     "steps": "var x; " + " ".join("thread %s { repeat 4 { load r x; } }" % name for name in "ABC"),
@@ -59,7 +62,7 @@ GUESTS = {
 class Trial:
     def __init__(self, program, listener, folder):
         self.program, self.listener, self.folder = program, listener, folder
-        self.passed, self.failed = 0, 0
+        self.passed, self.failed, self.made = 0, 0, 0
 
     def check(self, holds, *what):
         """Counts a comparison, and tells of one that fails."""
@@ -68,9 +71,17 @@ class Trial:
             print(*what, flush=True)
 
     def run(self, words, size=0):
-        """What a run writes and its status, where each request for so many bytes is refused."""
-        env = dict(os.environ, LD_PRELOAD=self.folder + "/fail_alloc.so", FAIL_SIZE=str(size)) if size else None
-        done = subprocess.run(words, capture_output=True, timeout=SECONDS, env=env)
+        """What a run writes and its status. Where a size is given each request for so many bytes is refused, and
+        `made` is how many threads the run made."""
+        told, tells = os.pipe()
+        env = dict(os.environ, LD_PRELOAD=self.folder + "/fail_alloc.so", FAIL_SIZE=str(size),
+                   TOLD_FD=str(tells)) if size else None
+        try:
+            done = subprocess.run(words, capture_output=True, timeout=SECONDS, env=env, pass_fds=[tells])
+        finally:
+            os.close(tells)
+            with os.fdopen(told, "rb") as file:
+                self.made = file.read().count(b"t")
         return done.stdout, done.stderr, done.returncode
 
     def heard(self, guest, search, workers, quota=1, limit=0, quick=False, does=("open", 0), size=0):
@@ -206,39 +217,44 @@ def without_board(trial):
     search has its answer."""
     sizes = []
     for size in range(8, 513, 8):
-        # By chance one worker may do all that two have to do, but not ten times.
-        answers = [trial.heard("threads7", 0, 2, size=size)]
-        while len(answers) < 10 and answers[-1][0] and by_one(answers[-1][0]):
-            answers.append(trial.heard("threads7", 0, 2, size=size))
-        if len(answers) == 10 and by_one(answers[-1][0]):
+        rounds, report = trial.heard("threads7", 0, 2, size=size)
+        # Where there is a board, a thread is made for one of the two, but where its own requests are refused: then
+        # the workers work one after the other, and which of them walks isn't said.
+        if rounds and trial.made == 0 and by_one(rounds):
             sizes.append(size)
-            trial.check(all(is_whole(rounds, 1) for rounds, _ in answers), "without a board something isn't walked")
-            trial.check(all(report == clean(7, 5040) for _, report in answers), "another report without a board")
+            trial.check(is_whole(rounds, 1), "without a board something isn't walked")
+            trial.check(report == clean(7, 5040), "another report without a board:", report)
             rounds, report = trial.heard("threads7", 0, 2, does=("pass", 50), size=size)
             trial.check(by_one(rounds) and report.get("cause") == "stopped" and report["tried"] == 50,
                         "a stop without a board:", report)
+            # A walk tries so many schedules there, too. Other walks may have requests of this size of their own.
+            rounds, report = trial.heard("threads7", 0, 2, 3, 1, size=size)
+            trial.check(not rounds or report["tried"] == 3, "a walk without a board:", report)
     trial.check(sizes, "no board was refused")
 
 
 def hints(trial):
     """What a quick search leaves out."""
     for workers in (2, 8):
-        # The root, and then 55 items in their order: the first schedule of 45 is bad, and that of 46.
+        # The root, and then 55 items in their order: the first schedule of 45 is bad, and that of 46. The next round
+        # is full of good ones, which all come before.
         counts = []
         for _ in range(20):
-            rounds, report = trial.heard("later", 0, workers, limit=2, quick=True, does=("after", 45))
+            rounds, report = trial.heard("later", 0, workers, limit=100, quick=True, does=("after", 45))
             asked = sorted(item for _, item in items(rounds[1][0], "go"))
             trial.check(asked[:46] == list(range(46)), "what comes first is left out:", asked)
             trial.check(sorted(items(rounds[1][0], "go")) == sorted(items(rounds[1][0], "walked")), "walks aren't told")
             trial.check(report["schedule"].startswith("1,0,2"), report)
+            again = sorted(item for _, item in items(rounds[2][0], "go"))
+            trial.check(again == list(range(FULL)), "what is told in a round holds in the next one, too:", again)
             counts.append(len(asked))
         trial.check(min(counts) < 55, workers, "workers leave nothing out")
-    for _ in range(20):
-        # The first item of the second round is bad and the last of all, so none of the others is left out.
-        rounds, report = trial.heard("moment", 1, 2, 256, quick=True, does=("after", 0))
+    for guest, schedule in (("moment", "1x3,0,1"), ("soon", "0,1,0x3")) * 10:
+        # The bad item of the second round is the last of all, so none of the others is left out.
+        rounds, report = trial.heard(guest, 1, 2, 256, quick=True, does=("after", 0))
         asked = sorted(item for _, item in items(rounds[1][0], "go"))
         trial.check(asked == [0, 1, 2], "items before a bad one:", asked)
-        trial.check(report["schedule"] == "1x3,0,1", report)
+        trial.check(report["schedule"] == schedule, report)
     for workers in (2, 4):
         rounds, report = trial.heard("threads7", 0, workers, quick=True)
         trial.check(is_whole(rounds, workers), "a quick search leaves something out of a clean program")
@@ -258,10 +274,10 @@ def limits(trial):
             trial.check(report.get("cause") == "limit" and 1000 <= report["tried"] <= 17383
                         and report["finished"] is None, workers, "workers, limit 1000:", report)
             # The first round is one walk.
-            for quota in (256, 3):
-                _, report = trial.heard("threads8", 0, workers, quota, 1, quick)
+            for quota, limit in ((256, 1), (3, 1), (256, 256), (3, 3)):
+                _, report = trial.heard("threads8", 0, workers, quota, limit, quick)
                 trial.check(report.get("cause") == "limit" and report["tried"] == quota,
-                            workers, "workers, limit 1, quota", quota, report)
+                            workers, "workers, limit", limit, "quota", quota, report)
             # A bad schedule is told also where the limit is reached.
             _, report = trial.heard("race", 2, workers, 256, 1, quick)
             trial.check(report["verdict"] == "bad" and report["tried"] == 2, workers, "workers:", report)

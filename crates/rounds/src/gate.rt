@@ -14,8 +14,9 @@ const FULL: u64 = 64;
 /// More turns than a held worker waits.
 const TURNS: u64 = 2_000_000;
 
-/// For so many turns more a worker is held where another one has to be through with an item.
-const MORE: u64 = 2_000;
+/// For so many turns more a worker is held where another one has to be through with an item. Where other
+/// programs have the processors a turn takes as long as one of theirs.
+const MORE: u64 = 500;
 
 /// What the gate does.
 #[derive(Clone, Copy, Debug)]
@@ -31,7 +32,8 @@ pub enum Does {
     /// In a round of 64 items it holds the first so many calls until the last one of them has begun,
     /// then likewise the next ones, and so on as long as there are as many items.
     Together(u64),
-    /// It holds who comes to a later item of the round until this item was walked, and a little more.
+    /// It holds who comes to a later item of the round before this item was walked, until it was, and a
+    /// little more.
     After(u64),
 }
 
@@ -157,16 +159,22 @@ impl Listening {
         }
     }
 
+    // Holds a worker who comes before an item was walked, until it was, and a little more.
+    fn hold_after(&self, worker: u32, item: u64) {
+        if self.walked.load(Ordering::SeqCst) > 0 {
+            return;
+        }
+        self.hold(&self.walked, 1, worker, item);
+        for _ in 0..MORE {
+            thread::yield_now();
+        }
+    }
+
     // Holds a worker where the gate does so.
     fn hold_at(&self, worker: u32, item: u64) {
         match self.does {
             Does::Together(number) => self.hold_together(number, worker, item),
-            Does::After(first) if item > first => {
-                self.hold(&self.walked, 1, worker, item);
-                for _ in 0..MORE {
-                    thread::yield_now();
-                }
-            }
+            Does::After(first) if item > first => self.hold_after(worker, item),
             _ => {}
         }
     }
