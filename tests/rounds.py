@@ -233,6 +233,14 @@ def without_board(trial):
     trial.check(sizes, "no board was refused")
 
 
+def asked_after(events, item):
+    """The items that the worker who walks this one asks about later in the round."""
+    for place, (kind, worker, walked) in enumerate(events):
+        if (kind, walked) == ("walked", item):
+            return [later for who, later in items(events[place:], "go") if who == worker]
+    return []
+
+
 def hints(trial):
     """What a quick search leaves out."""
     for workers in (2, 8):
@@ -244,6 +252,8 @@ def hints(trial):
             asked = sorted(item for _, item in items(rounds[1][0], "go"))
             trial.check(asked[:46] == list(range(46)), "what comes first is left out:", asked)
             trial.check(sorted(items(rounds[1][0], "go")) == sorted(items(rounds[1][0], "walked")), "walks aren't told")
+            # Who finds a bad schedule leaves out by itself what comes later.
+            trial.check(asked_after(rounds[1][0], 45) == [], "a worker goes on after a bad item:", rounds[1][0])
             trial.check(report["schedule"].startswith("1,0,2"), report)
             again = sorted(item for _, item in items(rounds[2][0], "go"))
             trial.check(again == list(range(FULL)), "what is told in a round holds in the next one, too:", again)
