@@ -7,12 +7,12 @@ ghost use Rattle.std.specs.Prelude.{◌≤◌, ◌<◌, length, IfOk};
 ghost use Rattle.semantics.specs.Machine.{is_enabled};
 ghost use Rattle.semantics.specs.Reachable.{IsOf};
 
-use semantics::mask::Mask;
-use semantics::state::{Action, State, Status, Stop, VariableAction};
-use semantics::view::{EndView, Kind};
 use guest_code::lowering::lower;
 use guest_code::program::{Program, Value};
 use guest_syntax::parse;
+use semantics::mask::Mask;
+use semantics::state::{Action, State, Status, Stop, VariableAction};
+use semantics::view::{EndView, Kind};
 use std::alloc::{AllocError, Global};
 use std::cmp::Ordering;
 use std::process::Abort;
