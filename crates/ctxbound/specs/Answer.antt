@@ -22,12 +22,12 @@ use Rattle.replay.specs.declared.schedule.ScheduleError.TheVariants as schedule
 use Rattle.replay.specs.Run.{ReplayErrorMeans}
 use Rattle.replay.specs.Spelling as spelling
 use Rattle.replay.specs.Trace.{Trace}
-use Rattle.runner.specs.declared.error.ExploreError.{ExploreError}
-use Rattle.runner.specs.declared.error.ExploreError.TheVariants as explore
-use Rattle.runner.specs.declared.options.Options.{Options}
-use Rattle.runner.specs.declared.report.Report.{Report}
-use Rattle.runner.specs.ReportText.{report_text, named_schedule}
-use Rattle.runner.specs.Texts.{IsProgramOf, IsFaultOf, IsReportOfText}
+use Rattle.report.specs.declared.error.ExploreError.{ExploreError}
+use Rattle.report.specs.declared.error.ExploreError.TheVariants as explore
+use Rattle.report.specs.declared.options.Options.{Options}
+use Rattle.report.specs.declared.report.Report.{Report}
+use Rattle.report.specs.ReportText.{report_text, named_schedule}
+use Rattle.report.specs.Texts.{IsProgramOf, IsFaultOf, IsReportOfText}
 use Rattle.ctxbound.specs.declared.answer.Printed.{Printed}
 use Rattle.ctxbound.specs.declared.asked.Asked.{Asked}
 use Rattle.ctxbound.specs.declared.asked.Asked.TheVariants as asked

@@ -5,8 +5,8 @@ use Rattle.advice.specs.declared.Checked.TheVariants.{Sound, Refused}
 use Rattle.advice.specs.Told.{is_warned}
 use Rattle.semantics.specs.declared.view.Kind.{Kind}
 use Rattle.semantics.specs.declared.view.Kind.TheVariants.{Done, Failed, Stuck}
-use Rattle.runner.specs.declared.report.Verdict.{Verdict}
-use Rattle.runner.specs.declared.report.Verdict.TheVariants.{Clean, Bad, Incomplete}
+use Rattle.report.specs.declared.report.Verdict.{Verdict}
+use Rattle.report.specs.declared.report.Verdict.TheVariants.{Clean, Bad, Incomplete}
 use Rattle.ctxbound.specs.declared.fault.Fault.{Fault}
 use Rattle.ctxbound.specs.declared.fault.Fault.TheVariants.{File, Syntax, Check, Schedule}
 use Rattle.ctxbound.specs.declared.fault.Fault.TheVariants.{Replay, Memory}

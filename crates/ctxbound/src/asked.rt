@@ -1,8 +1,8 @@
 //! What the program can be asked for.
 
 ghost use Rattle.std.specs.Prelude.{◌≤◌};
-ghost use Rattle.runner.specs.Promises.{IsSearch};
-ghost use Rattle.runner.specs.declared.limits.TheConstants.{WORKERS};
+ghost use Rattle.report.specs.Promises.{IsSearch};
+ghost use Rattle.workers.specs.declared.limits.TheConstants.{WORKERS};
 ghost use Rattle.ctxbound.specs.inner.Asked.{IsSearch-prop};
 
 use runner::Options;

@@ -1,8 +1,8 @@
 //! The command words, read by `clap`.
 
 ghost use Rattle.std.specs.Prelude.{◌≡◌, ◌↔◌, codes};
-ghost use Rattle.runner.specs.declared.options.Search.TheVariants.{Unbounded};
-ghost use Rattle.runner.specs.Promises.{IsSearch};
+ghost use Rattle.report.specs.declared.options.Search.TheVariants.{Unbounded};
+ghost use Rattle.report.specs.Promises.{IsSearch};
 ghost use Rattle.ctxbound.specs.Words.{words_status};
 
 use crate::asked::{Asked, CheckRequest, ExplainRequest, Exploration, Form, Request, SuiteRequest};

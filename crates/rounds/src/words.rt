@@ -1,8 +1,8 @@
 //! What the program is asked for.
 
 ghost use Rattle.std.specs.Prelude.{◌≤◌, IfSome};
-ghost use Rattle.runner.specs.Promises.{IsSearch};
-ghost use Rattle.runner.specs.declared.limits.TheConstants.{WORKERS};
+ghost use Rattle.report.specs.Promises.{IsSearch};
+ghost use Rattle.workers.specs.declared.limits.TheConstants.{WORKERS};
 ghost use Rattle.rounds.specs.inner.Asked.{IsSearch-prop};
 
 use crate::gate::Does;

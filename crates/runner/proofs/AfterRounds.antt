@@ -4,8 +4,9 @@ use Rattle.guest_code.specs.Program.{Program}
 use Rattle.walk.specs.declared.mode.Mode.{Mode}
 use Rattle.walk.specs.declared.mode.Mode.TheVariants.{Bounded}
 use Rattle.book.specs.Books.{BookView, Raises, thinned, bound_of}
-use Rattle.runner.specs.declared.options.Options.{Options}
-use Rattle.runner.specs.inner.Judging.{IsStage, IsOf, CanRaise}
+use Rattle.report.specs.declared.options.Options.{Options}
+use Rattle.runner.specs.inner.Judging.{IsStage, CanRaise}
+use Rattle.workers.specs.Teams.{IsOf}
 use Rattle.runner.proofs.Judgments.{next_stage}
 
 -- a book is one of the mode that it is known to have

@@ -11,16 +11,16 @@ use Rattle.schedules.specs.Order.{precedes}
 use Rattle.walk.specs.declared.mode.Mode.TheVariants.{Bounded}
 use Rattle.summary.specs.Summaries.{SummaryView, end_kind}
 use Rattle.walk.specs.Items.{whole}
-use Rattle.runner.specs.declared.options.Options.{Options}
-use Rattle.runner.specs.declared.options.Search.{Search}
-use Rattle.runner.specs.declared.options.Search.TheVariants.{UpTo, Unbounded}
-use Rattle.runner.specs.declared.report.Report.{Report}
-use Rattle.runner.specs.declared.report.Verdict.{Verdict}
-use Rattle.runner.specs.declared.report.Verdict.TheVariants.{Clean, Bad, Incomplete}
-use Rattle.runner.specs.Reports.{IsBad, IsClean, SomeExceeds}
-use Rattle.runner.specs.Unbounded.{IsFirstBad}
-use Rattle.runner.specs.Promises.{IsReport, IsReportFor, IsBoundedVerdict, IsUnboundedVerdict, IsWhole}
-use Rattle.runner.specs.ReportText.{verdict_members, report_text, bad_members, clean_members}
+use Rattle.report.specs.declared.options.Options.{Options}
+use Rattle.report.specs.declared.options.Search.{Search}
+use Rattle.report.specs.declared.options.Search.TheVariants.{UpTo, Unbounded}
+use Rattle.report.specs.declared.report.Report.{Report}
+use Rattle.report.specs.declared.report.Verdict.{Verdict}
+use Rattle.report.specs.declared.report.Verdict.TheVariants.{Clean, Bad, Incomplete}
+use Rattle.report.specs.Reports.{IsBad, IsClean, SomeExceeds}
+use Rattle.report.specs.Unbounded.{IsFirstBad}
+use Rattle.report.specs.Promises.{IsReport, IsReportFor, IsBoundedVerdict, IsUnboundedVerdict, IsWhole}
+use Rattle.report.specs.ReportText.{verdict_members, report_text, bad_members, clean_members}
 
 -- neither of two schedules comes before the other: they are one
 neither_first : (v w : List ℕ) → precedes v w ≡ false → precedes w v ≡ false → v ≡ w

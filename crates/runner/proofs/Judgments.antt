@@ -11,19 +11,19 @@ use Rattle.walk.specs.declared.mode.Mode.TheVariants.{Bounded, Reduced}
 use Rattle.summary.specs.Summaries.{SummaryView, end_kind}
 use Rattle.walk.specs.Items.{whole}
 use Rattle.book.specs.Books.{BookView, Keeps, KeepsWhere, bound_of}
-use Rattle.runner.specs.declared.options.Options.{Options}
-use Rattle.runner.specs.declared.options.Search.{Search}
-use Rattle.runner.specs.declared.options.Search.TheVariants.{UpTo, Unbounded}
+use Rattle.report.specs.declared.options.Options.{Options}
+use Rattle.report.specs.declared.options.Search.{Search}
+use Rattle.report.specs.declared.options.Search.TheVariants.{UpTo, Unbounded}
 use Rattle.runner.specs.declared.judge.Next.{Next}
 use Rattle.runner.specs.declared.judge.Next.TheVariants.{Answer, Raise, Again}
-use Rattle.runner.specs.declared.report.Cause.{Cause}
-use Rattle.runner.specs.declared.report.Verdict.{Verdict}
-use Rattle.runner.specs.declared.report.Verdict.TheVariants.{Clean, Bad, Incomplete}
-use Rattle.runner.specs.Reports.{IsBad, HasItems, IsReached, IsCause}
-use Rattle.runner.specs.Unbounded.{IsFirstBad}
-use Rattle.runner.specs.Promises.{IsSearch, IsReportFor, IsReport}
+use Rattle.report.specs.declared.report.Cause.{Cause}
+use Rattle.report.specs.declared.report.Verdict.{Verdict}
+use Rattle.report.specs.declared.report.Verdict.TheVariants.{Clean, Bad, Incomplete}
+use Rattle.report.specs.Reports.{IsBad, HasItems, IsReached, IsCause}
+use Rattle.report.specs.Unbounded.{IsFirstBad}
+use Rattle.report.specs.Promises.{IsSearch, IsReportFor, IsReport}
 use Rattle.runner.specs.inner.Judging.{HasPassed, IsModeOf, IsStage, IsLast, IsFound, IsFinishedIn, IsFirstMode}
-use Rattle.runner.specs.Progress.{mode_bound}
+use Rattle.report.specs.Progress.{mode_bound}
 use Rattle.runner.specs.inner.Judging.{CanRaise, IsVerdictOn, report_in, bounds_left, IsBoundBelow}
 use Rattle.runner.specs.inner.Judging.{ComesWhole, ComesOpen, Comes}
 use Rattle.runner.proofs.Promises.{passed_next, found_bad, found_none, finished_here}

@@ -2,10 +2,7 @@ pub mod AfterRounds
 pub mod Agreement
 pub mod Judgments
 pub mod Preemptions
-pub mod PrintedSchedules
 pub mod Promises
 pub mod ReadTexts
-pub mod ReportTexts
-pub mod RoundItems
 pub mod Shrinks
 pub mod Unbounded

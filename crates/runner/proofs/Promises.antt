@@ -17,8 +17,8 @@ use Rattle.schedules.proofs.SchedulesUnderPrefix.{in_under, in_within, beyond_is
 use Rattle.walk.specs.declared.mode.Mode.TheVariants.{Bounded}
 use Rattle.summary.specs.Summaries.{SummaryView, sum_of, end_kind}
 use Rattle.walk.specs.Items.{whole}
-use Rattle.runner.specs.Reports.{IsBadSchedule, NoBadBelow, SomeExceeds, IsBad, IsClean}
-use Rattle.runner.specs.Reports.{IsFinished, IsSummaryOf}
+use Rattle.report.specs.Reports.{IsBadSchedule, NoBadBelow, SomeExceeds, IsBad, IsClean}
+use Rattle.report.specs.Reports.{IsFinished, IsSummaryOf}
 use Rattle.runner.specs.inner.Judging.{HasPassedBounds}
 
 -- the root's schedules within a bound are all complete ones with so many preemptions

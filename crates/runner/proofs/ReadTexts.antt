@@ -7,12 +7,12 @@ use Rattle.guest_syntax.specs.declared.error.SyntaxError.TheVariants.{TooDeep, O
 use Rattle.guest_syntax.specs.Tree.{Tree}
 use Rattle.guest_syntax.specs.Grammar.{Spells}
 use Rattle.guest_code.specs.Program.{Program}
-use Rattle.runner.specs.declared.error.ExploreError.{ExploreError}
-use Rattle.runner.specs.declared.error.ExploreError.TheVariants as explore
-use Rattle.runner.specs.declared.options.Options.{Options}
-use Rattle.runner.specs.declared.report.Report.{Report}
-use Rattle.runner.specs.Promises.{IsReport}
-use Rattle.runner.specs.Texts.{IsProgramOf, ExploreErrorMeans, ExploreMeans, of_syntax}
+use Rattle.report.specs.declared.error.ExploreError.{ExploreError}
+use Rattle.report.specs.declared.error.ExploreError.TheVariants as explore
+use Rattle.report.specs.declared.options.Options.{Options}
+use Rattle.report.specs.declared.report.Report.{Report}
+use Rattle.report.specs.Promises.{IsReport}
+use Rattle.report.specs.Texts.{IsProgramOf, ExploreErrorMeans, ExploreMeans, of_syntax}
 
 pub syntax_means : (text : List ℕ) (e : SyntaxError)
     → (e ≢ OutOfMemory → (t : Tree) → Spells text t → ⊥) → ExploreErrorMeans text (of_syntax e)

@@ -11,15 +11,14 @@ use native.Mathlib.Decide.{ℕ_discrete}
 use Rattle.guest_code.specs.Program.{Program}
 use Rattle.walk.specs.declared.mode.Mode.{Mode}
 use Rattle.summary.specs.Summaries.{cut}
-use Rattle.walk.specs.Items.{ItemView, schedule_count, schedules_of, root_of}
-use Rattle.walk.specs.Walks.{WalkView, IsWalked, IsBelow, tried_by}
+use Rattle.walk.specs.Items.{ItemView, schedule_count, schedules_of}
+use Rattle.walk.specs.Walks.{WalkView, IsWalked, tried_by}
 use Rattle.walk.proofs.WalkedItems.{walked_counts, walked_count}
-use Rattle.walk.proofs.ListParts.{all_left, all_right}
-use Rattle.book.specs.Books.{BookView, Keeps, KeepsWhere, Settles, HasWalkedAt, drops, thinned}
+use Rattle.book.specs.Books.{BookView, Settles, HasWalkedAt, drops, thinned}
 use Rattle.book.proofs.DroppedCounts.{nothing_dropped}
 use Rattle.book.proofs.Lists.{parted}
 use Rattle.runner.specs.inner.Shrinking.{IsSmaller, HasLess, Went, Goes}
-use Rattle.runner.specs.inner.Judging.{IsOf}
+use Rattle.workers.specs.Teams.{IsOf}
 
 count-append : (mode : Mode) (l r : List ItemView)
     → schedule_count mode (l ++ r) ≡ schedule_count mode l + schedule_count mode r
@@ -156,21 +155,6 @@ last_at open_items items first j item is lt at =
     let n = length-drop first open_items in
     let g = get_or-drop first open_items j item in
     (omega arith, sym (at ∙ ap (λ (l : List ItemView). get_or l j item) is ∙ g))
-
-pub keeps_below : (dropped : Bool) (b : BookView) → KeepsWhere dropped b
-    → All (IsBelow (root_of b.program)) b.open_items
-keeps_below false b h = all_left (IsBelow (root_of b.program)) b.open_items b.deferred h.below
-keeps_below true b t =
-    all_right (IsBelow (root_of b.program)) t.gone b.open_items
-    (all_left (IsBelow (root_of b.program)) (t.gone ++ b.open_items) b.deferred t.split.below)
-
--- an open item is of the book's program
-pub of_book : (b : BookView) → Keeps b → (k : ℕ) (item : ItemView) → k < length b.open_items
-    → get_or b.open_items k item ≡ item → item.program ≡ b.program
-of_book b keeps k item lt at =
-    let h : IsBelow (root_of b.program) (get_or b.open_items k item) =
-    keeps_below b.dropped b keeps k item lt in
-    ap (λ (i : ItemView). i.program) (sym at) ∙ h.program
 
 -- items are dropped
 

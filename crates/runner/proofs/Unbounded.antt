@@ -17,8 +17,8 @@ use Rattle.summary.specs.Summaries.{SummaryView, sum_of, end_kind, sorted_views}
 use Rattle.walk.specs.Items.{whole, root_of, kept_schedules}
 use Rattle.summary.proofs.SortedViews.{sorted_views-alike}
 use Rattle.walk.proofs.WalkedItems.{root_pruned}
-use Rattle.runner.specs.Reports.{IsSummaryOf}
-use Rattle.runner.specs.Unbounded.{IsReducedSummary, IsReducedSummaryOf, IsFirstBad, HasNoBad}
+use Rattle.report.specs.Reports.{IsSummaryOf}
+use Rattle.report.specs.Unbounded.{IsReducedSummary, IsReducedSummaryOf, IsFirstBad, HasNoBad}
 use Rattle.runner.proofs.Promises.{same_bad}
 
 bad_of : (p : Program) (L : List (List ℕ))

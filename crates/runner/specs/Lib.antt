@@ -1,8 +1,1 @@
-pub mod Reports
-pub mod Unbounded
-pub mod Promises
-pub mod Texts
-pub mod ErrorTexts
-pub mod ReportText
-pub mod Progress
 pub mod inner

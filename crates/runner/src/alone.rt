@@ -3,27 +3,25 @@
 ghost use Rattle.std.specs.Prelude.{◌≡◌, ◌≤◌, false, IfOk, IfErr, OnOk};
 ghost use Rattle.std.specs.Arc.{arc_value};
 ghost use Rattle.book.specs.Books.{opening};
-ghost use Rattle.runner.specs.declared.error.ExploreError.TheVariants.{OutOfMemory};
-ghost use Rattle.runner.specs.Promises.{IsSearch, IsReport};
-ghost use Rattle.runner.specs.inner.Judging.{IsFirstMode, IsStage, IsOf, ComesAfter};
+ghost use Rattle.report.specs.declared.error.ExploreError.TheVariants.{OutOfMemory};
+ghost use Rattle.report.specs.Promises.{IsSearch, IsReport};
+ghost use Rattle.runner.specs.inner.Judging.{IsFirstMode, IsStage, ComesAfter};
+ghost use Rattle.workers.specs.Teams.{IsOf};
 ghost use Rattle.runner.specs.inner.Shrinking.{Went, Goes};
 
-use crate::error::ExploreError;
-use crate::gate::{Gate, Open};
 use crate::judge::{Next, judge};
-use crate::options::{Options, Search};
-use crate::progress::Progress;
-use crate::report::Report;
 use book::books::Book;
 use book::errors::{RaiseError, SettleError};
 use book::limits::ROUND;
 use guest_code::program::Program;
+use report::{ExploreError, Options, Progress, Report, Search};
 use std::alloc::Global;
 use std::sync::Arc;
 use walk::found::Found;
 use walk::item::Item;
 use walk::mode::Mode;
 use walk::walker::Walker;
+use workers::{Gate, Open};
 
 // The mode that a search begins with.
 pub(crate) fn first_mode(search: Search) -> Mode

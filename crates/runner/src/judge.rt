@@ -5,20 +5,19 @@ ghost use Rattle.semantics.specs.Machine.{start};
 ghost use Rattle.schedules.specs.Schedules.{complete_schedules};
 ghost use Rattle.replay.specs.Run.{IsRunOf};
 ghost use Rattle.book.specs.Books.{Keeps, IsClosed};
-ghost use Rattle.runner.specs.declared.error.ExploreError.TheVariants.{OutOfMemory};
+ghost use Rattle.report.specs.declared.error.ExploreError.TheVariants.{OutOfMemory};
 ghost use Rattle.runner.specs.declared.judge.Next.TheVariants.{Answer};
-ghost use Rattle.runner.specs.Reports.{HasItems, IsReached, IsCause};
-ghost use Rattle.runner.specs.inner.Judging.{IsModeOf, IsStage, IsOf, IsLast, IsFound, IsBoundBelow, IsVerdictOn, ComesWhole, ComesOpen, Comes, report_in};
-ghost use Rattle.runner.specs.Progress.{mode_bound};
+ghost use Rattle.report.specs.Reports.{HasItems, IsReached, IsCause};
+ghost use Rattle.runner.specs.inner.Judging.{IsModeOf, IsStage, IsLast, IsFound, IsBoundBelow, IsVerdictOn, ComesWhole, ComesOpen, Comes, report_in};
+ghost use Rattle.workers.specs.Teams.{IsOf};
+ghost use Rattle.report.specs.Progress.{mode_bound};
 
-use crate::error::ExploreError;
-use crate::options::{Options, Search};
-use crate::report::{Cause, Report, Verdict};
 use book::books::Book;
 use guest_code::laws::programs_are_well_formed;
 use guest_code::program::Program;
 use replay::laws::one_place_is_the_first_bad;
 use replay::{ReplayError, Run, replay};
+use report::{Cause, ExploreError, Options, Report, Search, Verdict, mode_bound};
 use semantics::view::Kind;
 use std::alloc::Global;
 use summary::Summary;
@@ -95,16 +94,6 @@ fn report_in(
         summary,
         quick: options.quick,
     }))
-}
-
-/// The bound of a mode, if it has one.
-pub(crate) fn mode_bound(mode: Mode) -> Option<u32>
-    ensures { result ≡ mode_bound mode }
-{
-    match mode {
-        Mode::Bounded(bound) => Some(bound),
-        Mode::Reduced => None,
-    }
 }
 
 // The bound below that of a mode, if there is one.

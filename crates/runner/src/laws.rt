@@ -3,11 +3,12 @@
 
 ghost use Rattle.std.specs.Prelude.{◌≡◌, Bool, false};
 ghost use Rattle.guest_code.specs.Program.{Program};
-ghost use Rattle.runner.specs.declared.limits.TheConstants.{QUOTA, WORKERS};
-ghost use Rattle.runner.specs.declared.options.Options.{Options};
-ghost use Rattle.runner.specs.declared.report.Report.{Report};
-ghost use Rattle.runner.specs.Promises.{IsReport, IsWhole};
-ghost use Rattle.runner.specs.ReportText.{report_text};
+ghost use Rattle.report.specs.declared.limits.TheConstants.{QUOTA};
+ghost use Rattle.workers.specs.declared.limits.TheConstants.{WORKERS};
+ghost use Rattle.report.specs.declared.options.Options.{Options};
+ghost use Rattle.report.specs.declared.report.Report.{Report};
+ghost use Rattle.report.specs.Promises.{IsReport, IsWhole};
+ghost use Rattle.report.specs.ReportText.{report_text};
 
 use crate::limits::{QUOTA, WORKERS};
 

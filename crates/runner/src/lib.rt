@@ -12,33 +12,17 @@
 #![tactic(auto)]
 
 mod alone;
-mod desk;
-mod error;
-mod gate;
-mod hand;
 mod judge;
 pub mod laws;
 pub mod limits;
-mod named;
-mod options;
-mod printing;
-mod progress;
-mod report;
-mod round;
-mod shared;
-mod stretch;
-mod team;
 mod text;
 mod together;
-mod worker;
 
 pub use alone::explore_alone;
-pub use error::ExploreError;
-pub use gate::{Answer, Gate, Open};
 pub use limits::{BOUND, QUOTA, WORKERS};
-pub use options::{Options, Search};
-pub use printing::{report_text, report_value};
-pub use progress::Progress;
-pub use report::{Cause, Report, Verdict};
+pub use report::{
+    Cause, ExploreError, Options, Progress, Report, Search, Verdict, report_text, report_value,
+};
 pub use text::{explore_text, explore_text_alone};
 pub use together::explore;
+pub use workers::{Answer, Gate, Open};

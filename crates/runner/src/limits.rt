@@ -1,20 +1,4 @@
 //! The limits of a search, beside those of a walk.
 
-pub use walk::limits::BOUND;
-
-/// How many complete schedules one walk tries at most, where nothing else is asked for.
-pub const QUOTA: u32 = 256;
-
-/// The most workers of a search.
-pub const WORKERS: u32 = 16;
-
-/// How often a worker that waits, for the book or for a round to end, looks and pauses, before it
-/// lets other threads run or sleeps.
-pub const SPINS: u32 = 1000;
-
-/// How often it looks and lets other threads run, before it sleeps.
-pub const YIELDS: u32 = 50;
-
-/// From how many walks on a worker settles those that it keeps, if the book is free. It settles all of
-/// them at the end of a round.
-pub const SETTLED_WALKS: usize = 4;
+pub use report::limits::{BOUND, QUOTA};
+pub use workers::limits::{SETTLED_WALKS, SPINS, WORKERS, YIELDS};

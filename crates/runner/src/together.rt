@@ -2,26 +2,22 @@
 
 ghost use Rattle.std.specs.Prelude.{◌≡◌, ◌≤◌, Bool, true, IfOk, IfErr};
 ghost use Rattle.std.specs.Arc.{arc_value};
-ghost use Rattle.runner.specs.declared.error.ExploreError.TheVariants.{OutOfMemory};
-ghost use Rattle.runner.specs.declared.limits.TheConstants.{WORKERS};
-ghost use Rattle.runner.specs.Promises.{IsSearch, IsReport};
-ghost use Rattle.runner.specs.inner.Judging.{IsStage, IsOf};
-ghost use Rattle.runner.specs.inner.Rounds.{Follows};
+ghost use Rattle.report.specs.declared.error.ExploreError.TheVariants.{OutOfMemory};
+ghost use Rattle.workers.specs.declared.limits.TheConstants.{WORKERS};
+ghost use Rattle.report.specs.Promises.{IsSearch, IsReport};
+ghost use Rattle.runner.specs.inner.Judging.{IsStage, Follows};
+ghost use Rattle.workers.specs.Teams.{IsOf};
 
 use crate::alone::{first_mode, open_book, search_alone};
-use crate::error::ExploreError;
-use crate::gate::Gate;
 use crate::judge::{Next, judge};
-use crate::options::Options;
-use crate::progress::Progress;
-use crate::report::Report;
-use crate::team::Team;
 use book::books::Book;
 use book::errors::RaiseError;
 use guest_code::program::Program;
+use report::{ExploreError, Options, Progress, Report};
 use std::alloc::Global;
 use std::sync::{Arc, Wait};
 use std::thread::Threads;
+use workers::{Gate, Team};
 
 // What follows a round whose workers settled what they walked in this book, where one of them was
 // stopped or not: a report, or another round of the book. A quick book first drops what can't hold

@@ -2,10 +2,10 @@
 
 mod gates;
 mod stops;
-mod workers;
+mod worker_counts;
 
 ghost use Rattle.std.specs.Prelude.{◌≤◌};
-ghost use Rattle.runner.specs.Promises.{IsSearch};
+ghost use Rattle.report.specs.Promises.{IsSearch};
 
 use runner::{Options, Search, explore_text_alone, report_text};
 use std::alloc::Global;

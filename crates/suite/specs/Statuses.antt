@@ -1,10 +1,10 @@
 -- The statuses of a suite and of its files.
 use Rattle.std.specs.Prelude.{◌≡◌, ◌≤◌, ◌⊎◌, ℕ, List, Option, Some, None}
 use Rattle.std.specs.List.{All, Any}
-use Rattle.runner.specs.declared.error.ExploreError.{ExploreError}
-use Rattle.runner.specs.declared.error.ExploreError.TheVariants.{Syntax, Check, OutOfMemory}
-use Rattle.runner.specs.declared.report.Verdict.{Verdict}
-use Rattle.runner.specs.declared.report.Verdict.TheVariants as verdict
+use Rattle.report.specs.declared.error.ExploreError.{ExploreError}
+use Rattle.report.specs.declared.error.ExploreError.TheVariants.{Syntax, Check, OutOfMemory}
+use Rattle.report.specs.declared.report.Verdict.{Verdict}
+use Rattle.report.specs.declared.report.Verdict.TheVariants as verdict
 use Rattle.suite.specs.declared.entry.Entry.{Entry}
 use Rattle.suite.specs.declared.entry.Outcome.{Outcome}
 use Rattle.suite.specs.declared.entry.Outcome.TheVariants.{Searched, Refused, Unclear, Unread}

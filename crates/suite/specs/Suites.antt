@@ -1,16 +1,16 @@
 -- What a suite answers for the text of a file.
 use Rattle.std.specs.Prelude.{◌≡◌, ◌⊎◌, ℕ, List, Bool, true, false, Option, Some, None}
 use Rattle.std.specs.Prelude.{Result, MatchResult, IsSome}
-use Rattle.runner.specs.declared.limits.TheConstants.{QUOTA}
-use Rattle.runner.specs.declared.options.Options.{Options}
-use Rattle.runner.specs.declared.options.Search.{Search}
-use Rattle.runner.specs.declared.options.Search.TheVariants.{UpTo, Unbounded}
-use Rattle.runner.specs.declared.error.ExploreError.{ExploreError}
-use Rattle.runner.specs.declared.report.Report.{Report}
-use Rattle.runner.specs.declared.report.Verdict.{Verdict}
-use Rattle.runner.specs.declared.report.Verdict.TheVariants.{Clean, Bad, Incomplete}
-use Rattle.runner.specs.ReportText.{named_schedule}
-use Rattle.runner.specs.Texts.{IsReportOfText, ExploreErrorMeans}
+use Rattle.report.specs.declared.limits.TheConstants.{QUOTA}
+use Rattle.report.specs.declared.options.Options.{Options}
+use Rattle.report.specs.declared.options.Search.{Search}
+use Rattle.report.specs.declared.options.Search.TheVariants.{UpTo, Unbounded}
+use Rattle.report.specs.declared.error.ExploreError.{ExploreError}
+use Rattle.report.specs.declared.report.Report.{Report}
+use Rattle.report.specs.declared.report.Verdict.{Verdict}
+use Rattle.report.specs.declared.report.Verdict.TheVariants.{Clean, Bad, Incomplete}
+use Rattle.report.specs.ReportText.{named_schedule}
+use Rattle.report.specs.Texts.{IsReportOfText, ExploreErrorMeans}
 use Rattle.suite.specs.declared.entry.Outcome.{Outcome}
 use Rattle.suite.specs.declared.entry.Outcome.TheVariants.{Searched, Refused, Unclear, Unread}
 use Rattle.suite.specs.declared.options.Limits.{Limits}

@@ -1,9 +1,9 @@
 //! What a suite is asked for.
 
 ghost use Rattle.std.specs.Prelude.{◌≤◌};
-ghost use Rattle.runner.specs.declared.limits.TheConstants.{WORKERS};
-ghost use Rattle.runner.specs.declared.options.Search.TheVariants.{UpTo};
-ghost use Rattle.runner.specs.Promises.{IsSearch};
+ghost use Rattle.workers.specs.declared.limits.TheConstants.{WORKERS};
+ghost use Rattle.report.specs.declared.options.Search.TheVariants.{UpTo};
+ghost use Rattle.report.specs.Promises.{IsSearch};
 ghost use Rattle.suite.specs.inner.Limits.{IsSearch-prop};
 
 /// The limit of a search that is given none.

@@ -8,17 +8,18 @@ use Rattle.schedules.specs.Schedules.{preemptions}
 use Rattle.summary.specs.Summaries.{SummaryView, end_kind}
 use Rattle.walk.specs.Items.{whole}
 use Rattle.book.specs.Books.{BookView}
-use Rattle.runner.specs.declared.options.Options.{Options}
-use Rattle.runner.specs.declared.options.Search.{Search}
-use Rattle.runner.specs.declared.options.Search.TheVariants.{UpTo, Unbounded}
+use Rattle.report.specs.declared.options.Options.{Options}
+use Rattle.report.specs.declared.options.Search.{Search}
+use Rattle.report.specs.declared.options.Search.TheVariants.{UpTo, Unbounded}
 use Rattle.runner.specs.declared.judge.Next.{Next}
 use Rattle.runner.specs.declared.judge.Next.TheVariants.{Answer, Raise, Again}
-use Rattle.runner.specs.declared.report.Report.{Report}
-use Rattle.runner.specs.declared.report.Verdict.{Verdict}
-use Rattle.runner.specs.declared.report.Verdict.TheVariants.{Clean, Bad, Incomplete}
-use Rattle.runner.specs.Reports.{NoBadBelow, SomeExceeds, IsSummaryOf, IsReached, IsFinished}
-use Rattle.runner.specs.Progress.{mode_bound}
-use Rattle.runner.specs.Promises.{IsReport}
+use Rattle.report.specs.declared.report.Report.{Report}
+use Rattle.report.specs.declared.report.Verdict.{Verdict}
+use Rattle.report.specs.declared.report.Verdict.TheVariants.{Clean, Bad, Incomplete}
+use Rattle.report.specs.Reports.{NoBadBelow, SomeExceeds, IsSummaryOf, IsReached, IsFinished}
+use Rattle.report.specs.Progress.{mode_bound}
+use Rattle.report.specs.Promises.{IsReport}
+use Rattle.workers.specs.Teams.{IsOf}
 
 -- the bounds below this one were finished without a bad schedule, and some schedule exceeds each
 pub record HasPassedBounds (p : Program) (bound : ℕ) : Type 0 where
@@ -48,12 +49,6 @@ IsFirstMode Unbounded Reduced = Unit {0}
 pub record IsStage (p : Program) (search : Search) (mode : Mode) : Type 0 where
   pub of : IsModeOf search mode
   pub passed : HasPassed p mode
-
--- the book is of this program and mode, a quick one or not
-pub record IsOf (b : BookView) (p : Program) (m : Mode) (q : Bool) : Type 0 where
-  pub program : b.program ≡ p
-  pub mode : b.mode ≡ m
-  pub quick : b.quick ≡ q
 
 -- the mode is the search's last one
 abbrev pub IsLast : Search → Mode → Type 0
@@ -112,6 +107,12 @@ abbrev pub ComesAfter : Program → Options → Mode → BookView → Next → T
 ComesAfter p o mode book (Answer r) = IsReport false p o r
 ComesAfter p o mode book Raise = IsOf book p mode o.quick × Comes false p o mode book Raise
 ComesAfter p o mode book Again = ⊥
+
+-- what follows a round: a report, or another round, which is of the book
+abbrev pub Follows : Bool → Program → Options → BookView → Option Report → Type 0
+Follows may p o book (Some r) = IsReport may p o r
+Follows may p o book None =
+    IsStage p o.search book.mode × IsOf book p book.mode o.quick
 
 -- how many bounds a search may still come to
 abbrev pub bounds_left : Search → Mode → ℕ

@@ -3,7 +3,7 @@ use Rattle.std.specs.Prelude.{◌≡◌, ◌<◌, ◌⊎◌, List, [], length, A
 use Rattle.walk.specs.declared.mode.Mode.{Mode}
 use Rattle.walk.specs.Items.{ItemView, schedule_count}
 use Rattle.book.specs.Books.{BookView}
-use Rattle.runner.specs.declared.error.ExploreError.{ExploreError}
+use Rattle.report.specs.declared.error.ExploreError.{ExploreError}
 
 -- fewer schedules are left, or as many under fewer items
 abbrev pub IsSmaller : Mode → List ItemView → List ItemView → Type 0

@@ -1,8 +1,8 @@
 //! Searches that a gate stops, or keeps waiting.
 
 ghost use Rattle.std.specs.Prelude.{◌≤◌};
-ghost use Rattle.runner.specs.Promises.{IsSearch};
-ghost use Rattle.runner.specs.declared.limits.TheConstants.{WORKERS};
+ghost use Rattle.report.specs.Promises.{IsSearch};
+ghost use Rattle.workers.specs.declared.limits.TheConstants.{WORKERS};
 
 use crate::searches::gates::{Holding, Passing, StopsOne};
 use guest_code::lowering::lower;

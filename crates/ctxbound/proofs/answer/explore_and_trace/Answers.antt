@@ -1,6 +1,6 @@
 use Rattle.std.proofs.Common.{◌≡◌, ◌∙◌, ap, subst, sym, refl, ℕ, List, [], ◌∷◌, ◌++◌, Option}
 use Rattle.std.proofs.Common.{Vec, Global, append-nil}
-use Rattle.runner.specs.ReportText.{report_text}
+use Rattle.report.specs.ReportText.{report_text}
 use Rattle.ctxbound.specs.Answer.{IsTraceOf, IsReplayOf}
 use Rattle.ctxbound.proofs.answer.explore_and_trace.Goals as goal
 use Rattle.ctxbound.proofs.answer.explore_and_trace.Goals.{in-Some+in_ok-schedule+in_ok-trace+in_ok-extend_from_slice, in_default}

@@ -4,7 +4,7 @@ use Rattle.guest_code.specs.Program.{Program}
 use Rattle.walk.specs.declared.mode.Mode.{Mode}
 use Rattle.walk.specs.declared.mode.Mode.TheVariants.{Bounded}
 use Rattle.book.specs.Books.{BookView, bound_of}
-use Rattle.runner.specs.declared.error.ExploreError.TheVariants.{OutOfMemory}
+use Rattle.report.specs.declared.error.ExploreError.TheVariants.{OutOfMemory}
 use Rattle.runner.specs.declared.judge.Next.{Next}
 use Rattle.runner.specs.inner.Judging.{IsStage, ComesAfter, bounds_left}
 use Rattle.runner.proofs.Judgments.{next_stage, fewer_left}

@@ -1,6 +1,7 @@
 use Rattle.std.proofs.Common.{◌≡◌}
 use Rattle.std.specs.Arc.{arc_value}
-use Rattle.runner.specs.inner.Judging.{IsStage, IsOf, bounds_left}
+use Rattle.runner.specs.inner.Judging.{IsStage, bounds_left}
+use Rattle.workers.specs.Teams.{IsOf}
 use Rattle.runner.proofs.alone.search_alone.Given as goal
 
 abbrev pub invariant-loop-walker : goal.invariant-loop-walker

@@ -1,6 +1,6 @@
 use Rattle.std.proofs.Common.{◌≡◌, ◌*◌, ◌+◌, length}
 use Rattle.walk.specs.Items.{schedule_count}
-use Rattle.runner.specs.inner.Judging.{IsOf}
+use Rattle.workers.specs.Teams.{IsOf}
 use Rattle.runner.proofs.alone.search_mode.Given as goal
 
 abbrev pub invariant-loop-found : goal.invariant-loop-found

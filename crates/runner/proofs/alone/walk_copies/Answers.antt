@@ -1,6 +1,7 @@
 use Rattle.std.proofs.Common.{rules, ◌≡◌, ◌∙◌, ◌+◌, ◌-◌, ◌<◌, sym, get_or, arith, length}
 use Rattle.walk.specs.Items.{ItemView}
-use Rattle.runner.proofs.Shrinks.{round_less, last_at, of_book}
+use Rattle.workers.proofs.RoundItems.{of_book}
+use Rattle.runner.proofs.Shrinks.{round_less, last_at}
 use Rattle.runner.proofs.alone.walk_copies.Goals as goal
 
 pub walk_item-requires-clause-item : goal.walk_item-requires-clause-item

@@ -1,11 +1,10 @@
-use Rattle.std.proofs.Common.{rules, ◌≡◌, subst, true, Option, None}
-use Rattle.std.specs.List.{All}
+use Rattle.std.proofs.Common.{rules, ◌≡◌, subst, refl, true, Option, None}
 use Rattle.guest_code.specs.Program.{Program}
-use Rattle.runner.specs.declared.report.Report.{Report}
-use Rattle.runner.specs.declared.hand.Hand.{Hand}
-use Rattle.runner.specs.Promises.{IsReport}
-use Rattle.runner.specs.inner.Judging.{IsStage, IsOf}
-use Rattle.runner.specs.inner.Rounds.{Follows}
+use Rattle.report.specs.declared.report.Report.{Report}
+use Rattle.report.specs.Promises.{IsReport}
+use Rattle.runner.specs.inner.Judging.{IsStage, Follows}
+use Rattle.workers.specs.Teams.{IsOf}
+use Rattle.workers.proofs.Teams.{same_hands}
 use Rattle.runner.proofs.together.explore.Goals as goal
 
 pub returns-in-Some-2-clause-report : goal.returns-in-Some-2-clause-report
@@ -34,10 +33,5 @@ loop-preserved g c =
       subst (λ (p : Program). IsStage p o.search c.after_round.new.book.mode) c.deref.ensures goes.0,
       subst (λ (p : Program). IsOf c.after_round.new.book p c.after_round.new.book.mode o.quick)
           c.deref.ensures goes.1,
-      record {
-        some = kept.some;
-        few = kept.few;
-        of = subst (λ (p : Program). All (λ (h : Hand). h.walker ≡ p) c.in_ok-next.next.hands.items)
-            of.program kept.of;
-      },
+      same_hands _ _ c.in_ok-next.next _ refl of.program kept,
     )

@@ -1,6 +1,6 @@
 use Rattle.std.specs.Arc.{arc_value}
-use Rattle.runner.specs.inner.Judging.{IsStage, IsOf}
-use Rattle.runner.specs.inner.Rounds.{IsTeam}
+use Rattle.runner.specs.inner.Judging.{IsStage}
+use Rattle.workers.specs.Teams.{IsOf, IsTeam}
 use Rattle.runner.proofs.together.explore.Given as goal
 
 abbrev pub invariant-loop : goal.invariant-loop

@@ -1,0 +1,2 @@
+pub mod PrintedSchedules
+pub mod ReportTexts

@@ -1,0 +1,21 @@
+-- How far a search is, of the book that it has after a round.
+use Rattle.std.specs.Prelude.{◌≡◌, ℕ, ◌+◌, Option, Some, None, length}
+use Rattle.walk.specs.declared.mode.Mode.{Mode}
+use Rattle.walk.specs.declared.mode.Mode.TheVariants.{Bounded, Reduced}
+use Rattle.summary.specs.Summaries.{cut}
+use Rattle.book.specs.Books.{BookView}
+use Rattle.report.specs.declared.progress.Progress.{Progress}
+
+-- the bound of a mode, if it has one
+abbrev pub mode_bound : Mode → Option ℕ
+mode_bound (Bounded bound) = Some bound
+mode_bound Reduced = None
+
+-- the book's bound, and how many schedules are counted in it, how many of them are bad, and how many
+-- items are open and wait for the next bound
+pub record IsProgressOf (b : BookView) (p : Progress) : Type 0 where
+  pub bound : p.bound ≡ mode_bound b.mode
+  pub tried : p.tried ≡ b.finished.tried
+  pub bad : p.bad ≡ cut (b.finished.failed + b.finished.stuck)
+  pub open_items : p.open_items ≡ length b.open_items
+  pub deferred : p.deferred ≡ length b.deferred

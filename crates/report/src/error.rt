@@ -1,0 +1,82 @@
+//! Why a search has no report.
+
+ghost use Rattle.std.specs.Prelude.{◌≡◌};
+
+use guest_code::error::CheckError;
+use guest_syntax::SyntaxError;
+use std::alloc::{AllocError, AllocFailed};
+use std::fmt;
+use thiserror::Error;
+
+/// Why a search has no report. Out of memory is one error, whoever met it.
+#[derive(Clone, Copy, Debug, PartialEq, Eq, Error)]
+pub enum ExploreError {
+    /// The text spells no tree.
+    Syntax(SyntaxError),
+    /// The tree that the text spells is no program.
+    Check(CheckError),
+    /// Memory ran out.
+    OutOfMemory,
+}
+
+/// What the user is told: the number and the name of the refusal, and its place.
+impl fmt::Display for ExploreError {
+    ghost use Rattle.std.specs.Prelude.{Some};
+    ghost use Rattle.report.specs.ErrorTexts.{explore_error_text};
+
+    ghost output = { λ e. Some (explore_error_text e) };
+
+    fn fmt<W: fmt::Write>(&self, f: &mut fmt::Formatter<W>) -> fmt::Result {
+        match self {
+            ExploreError::Syntax(error) => write!(f, "{error}"),
+            ExploreError::Check(error) => write!(f, "{error}"),
+            ExploreError::OutOfMemory => write!(f, "memory"),
+        }
+    }
+}
+
+impl From<SyntaxError> for ExploreError {
+    ghost use Rattle.report.specs.Texts.{of_syntax};
+
+    ghost from_gives = { λ e error. error ≡ of_syntax e };
+
+    fn from(error: SyntaxError) -> ExploreError {
+        match error {
+            SyntaxError::OutOfMemory => ExploreError::OutOfMemory,
+            error => ExploreError::Syntax(error),
+        }
+    }
+}
+
+impl From<CheckError> for ExploreError {
+    ghost use Rattle.report.specs.Texts.{of_check};
+
+    ghost from_gives = { λ e error. error ≡ of_check e };
+
+    fn from(error: CheckError) -> ExploreError {
+        match error {
+            CheckError::OutOfMemory => ExploreError::OutOfMemory,
+            error => ExploreError::Check(error),
+        }
+    }
+}
+
+impl From<AllocError> for ExploreError {
+    ghost use Rattle.report.specs.declared.error.ExploreError.TheVariants.{OutOfMemory};
+
+    ghost from_gives = { λ _ e. e ≡ OutOfMemory };
+
+    fn from(_e: AllocError) -> ExploreError {
+        ExploreError::OutOfMemory
+    }
+}
+
+impl<T: Drop> From<AllocFailed<T>> for ExploreError {
+    ghost use Rattle.report.specs.declared.error.ExploreError.TheVariants.{OutOfMemory};
+
+    ghost from_gives = { λ _ e. e ≡ OutOfMemory };
+
+    fn from(_e: AllocFailed<T>) -> ExploreError {
+        ExploreError::OutOfMemory
+    }
+}

@@ -1,0 +1,48 @@
+//! How far a search is.
+
+ghost use Rattle.std.specs.Prelude.{◌≡◌};
+ghost use Rattle.report.specs.Progress.{IsProgressOf, mode_bound};
+
+use book::books::Book;
+use walk::mode::Mode;
+
+/// How far a search is after a round.
+#[derive(Clone, Copy, Debug)]
+pub struct Progress {
+    /// The bound that it is at, or `None` where it has no bound.
+    pub bound: Option<u32>,
+    /// How many schedules were tried, at most 2^64 - 1.
+    pub tried: u64,
+    /// How many of them failed or got stuck.
+    pub bad: u64,
+    /// How many items are open: prefixes whose schedules are still to be tried at this bound.
+    pub open_items: usize,
+    /// How many prefixes wait for the next bound.
+    pub deferred: usize,
+}
+
+/// The bound of a mode, if it has one.
+pub fn mode_bound(mode: Mode) -> Option<u32>
+    ensures { result ≡ mode_bound mode }
+{
+    match mode {
+        Mode::Bounded(bound) => Some(bound),
+        Mode::Reduced => None,
+    }
+}
+
+impl Progress {
+    /// How far the search is that has this book.
+    pub fn of(book: &Book) -> Progress
+        ensures { IsProgressOf book.now result }
+    {
+        let finished = book.finished();
+        Progress {
+            bound: mode_bound(book.mode()),
+            tried: finished.tried(),
+            bad: finished.failed().saturating_add(finished.stuck()),
+            open_items: book.open_length(),
+            deferred: book.deferred_length(),
+        }
+    }
+}

@@ -1,0 +1,74 @@
+//! What a search found.
+
+ghost use Rattle.std.specs.Prelude.{◌≡◌, Some, None, MatchOption};
+ghost use Rattle.report.specs.ReportText.{named_schedule};
+
+use semantics::view::Kind;
+use summary::Summary;
+
+/// Why a search was cut short.
+#[derive(Clone, Copy, Debug, PartialEq, Eq)]
+pub enum Cause {
+    /// As many schedules as the limit were tried.
+    Limit,
+    /// A gate stopped it.
+    Stopped,
+}
+
+/// How a search ended.
+#[derive(Debug, Drop)]
+pub enum Verdict {
+    /// No complete schedule as far as the search went is bad: none fails or gets stuck.
+    Clean {
+        /// Whether no complete schedule has more preemptions than the report's bound; always so
+        /// where the search is unbounded.
+        all: bool,
+    },
+    /// A schedule is bad. In a bounded search it is the first, by thread numbers place by place,
+    /// of those with fewest preemptions; else the first of all.
+    Bad {
+        /// Its preempting switches.
+        preemptions: u32,
+        /// The threads that take its steps, by their numbers.
+        schedule: Vec<u8>,
+        /// How it ends: failed or stuck.
+        kind: Kind,
+    },
+    /// The search was cut short.
+    Incomplete {
+        /// Why.
+        cause: Cause,
+        /// The last bound that was finished, and has no bad schedule; `None` where there is none
+        /// or the search is unbounded.
+        finished: Option<u32>,
+    },
+}
+
+/// What a search found.
+#[derive(Drop)]
+pub struct Report {
+    /// The bound of the summary; `None` where the search is unbounded.
+    pub bound: Option<u32>,
+    /// How the search ended.
+    pub verdict: Verdict,
+    /// The schedules that were tried, as one: within the bound all of them, where the search was
+    /// not cut short; in a quick search perhaps fewer, after a bad one was found.
+    pub summary: Summary,
+    /// Whether the search was a quick one.
+    pub quick: bool,
+}
+
+impl Report {
+    /// The schedule that its text names, if any: the bad one, or where the search was cut short the
+    /// first bad one of those tried.
+    pub fn schedule(&self) -> Option<&[u8]>
+        ensures { MatchOption result
+            (named_schedule self.now ≡ None) (λ w. named_schedule self.now ≡ Some w.now) }
+    {
+        match &self.verdict {
+            Verdict::Clean { .. } => None,
+            Verdict::Bad { schedule, .. } => Some(schedule.as_slice()),
+            Verdict::Incomplete { .. } => self.summary.first_bad(),
+        }
+    }
+}

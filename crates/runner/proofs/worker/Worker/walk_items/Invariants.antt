@@ -1,7 +1,0 @@
-use Rattle.runner.specs.inner.Rounds.{IsOn, AreKept}
-use Rattle.runner.proofs.worker.Worker.walk_items.Given as goal
-
-abbrev pub invariant-loop : goal.invariant-loop
-invariant-loop g l =
-    (goal.iterator-loop g).can_next l.iterator' × (goal.iterator-loop g).is_finite l.iterator'
-    × IsOn l.shared.board.id g.N.Naming.program l.self × AreKept l.round l.self.hand

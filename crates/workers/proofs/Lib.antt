@@ -1,0 +1,2 @@
+pub mod RoundItems
+pub mod Teams

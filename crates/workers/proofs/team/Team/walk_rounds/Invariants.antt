@@ -1,0 +1,9 @@
+use Rattle.workers.proofs.team.Team.walk_rounds.Given as goal
+
+-- the search that the stretch is of
+abbrev pub ghosts-walk : goal.ghosts-walk
+ghosts-walk g a = record {
+  program = a.self.book.program;
+  mode = a.self.book.mode;
+  quick = a.self.book.quick;
+}

@@ -1,0 +1,2 @@
+pub mod Teams
+pub mod inner

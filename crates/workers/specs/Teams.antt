@@ -1,0 +1,19 @@
+-- What a team of workers keeps from one stretch of rounds to the next.
+use Rattle.std.specs.Prelude.{◌≡◌, ◌≤◌, ◌<◌, Bool, All, vec_len}
+use Rattle.guest_code.specs.Program.{Program}
+use Rattle.walk.specs.declared.mode.Mode.{Mode}
+use Rattle.book.specs.Books.{BookView}
+use Rattle.workers.specs.declared.limits.TheConstants.{WORKERS}
+use Rattle.workers.specs.declared.team.Team.{Team}
+
+-- the book is of this program and mode, a quick one or not
+pub record IsOf (b : BookView) (p : Program) (m : Mode) (q : Bool) : Type 0 where
+  pub program : b.program ≡ p
+  pub mode : b.mode ≡ m
+  pub quick : b.quick ≡ q
+
+-- as many hands as a search may have workers, each with a walker of the program
+pub record IsTeam (p : Program) (t : Team) : Type 0 where
+  pub some : 0 < vec_len t.hands
+  pub few : vec_len t.hands ≤ WORKERS
+  pub of : All (λ h. h.walker ≡ p) t.hands.items

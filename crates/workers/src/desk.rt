@@ -1,0 +1,161 @@
+//! What the workers of a search share under a lock.
+
+ghost use Rattle.std.specs.Prelude.{◌≡◌, ◌≤◌, IfSome};
+ghost use Rattle.std.specs.Option.{ForSome};
+ghost use Rattle.std.specs.Arc.{arc_value};
+ghost use Rattle.walk.specs.Items.{AreOf};
+ghost use Rattle.workers.specs.Teams.{IsOf};
+ghost use Rattle.workers.specs.inner.Rounds.{IsRoundOf, AreKept};
+
+use crate::gate::Gate;
+use crate::hand::Hand;
+use crate::named::{NamedBook, Naming};
+use crate::round::Round;
+use book::books::Book;
+use report::{Options, Progress};
+use std::alloc::{AllocError, Global};
+use std::mem;
+use std::sync::Arc;
+use walk::item::Item;
+
+/// The book of a search, and its round.
+#[derive(Drop)]
+pub(crate) struct Desk<N: Naming> {
+    book: NamedBook<N>,
+    limit: Option<u64>,
+    round: Arc<Round>,
+    /// The round before, whose memory serves the next one.
+    last: Option<Arc<Round>>,
+    /// How many items of the round are neither settled nor given up.
+    left: usize,
+    /// Whether no round follows in this stretch.
+    ends: bool,
+    /// Whether the last round of the stretch has ended.
+    is_over: bool,
+    ghost of: { IsRoundOf N.program N.mode (arc_value round) },
+    ghost last_of: { ForSome last (λ r. IsRoundOf N.program N.mode (arc_value r)) },
+}
+
+impl<N: Naming> Desk<N> {
+    /// A desk with the first round of a stretch of a book's rounds.
+    ///
+    /// # Errors
+    ///
+    /// `AllocError` where memory runs out.
+    pub fn new(alloc: Global, book: Book, options: Options) -> Result<Desk<N>, AllocError>
+        requires book { IsOf book N.program N.mode N.quick }
+        requires quota { 1 ≤ options.quota }
+    {
+        let none = Round {
+            mode: book.mode(),
+            quick: book.is_quick(),
+            quota: options.quota,
+            turn: 0,
+            first: 0,
+            items: Vec::new(alloc),
+        };
+        let mut desk = Desk {
+            book: NamedBook::new(book),
+            limit: options.limit,
+            round: Arc::new(alloc, none)?,
+            last: None,
+            left: 0,
+            ends: false,
+            is_over: false,
+        };
+        desk.next_round(alloc)?;
+        Ok(desk)
+    }
+
+    /// The book.
+    pub fn into_book(self) -> Book
+        ensures { IsOf result N.program N.mode N.quick }
+    {
+        self.book.into_book()
+    }
+
+    /// The round, if the stretch is not over.
+    pub fn round(&self) -> Option<Arc<Round>>
+        ensures { IfSome result (λ r. IsRoundOf N.program N.mode (arc_value r)) }
+    {
+        if self.is_over {
+            return None;
+        }
+        Arc::try_clone(&self.round).ok()
+    }
+
+    // The items of the round before, for their memory, if no worker has that round any more.
+    fn spare_items(&mut self, alloc: Global) -> Vec<Item>
+        ensures { AreOf N.program result.items }
+    {
+        match self.last.take() {
+            Some(last) => match Arc::into_inner(last) {
+                Some(round) => round.items,
+                None => Vec::new(alloc),
+            },
+            None => Vec::new(alloc),
+        }
+    }
+
+    // Begins the next round. Where nothing is open the stretch is over.
+    fn next_round(&mut self, alloc: Global) -> Result<(), AllocError> {
+        let mut items = self.spare_items(alloc);
+        self.book.next_round(alloc, &mut items)?;
+        let before = &self.round;
+        self.left = items.len();
+        let round = Round {
+            mode: before.mode,
+            quick: before.quick,
+            quota: before.quota,
+            turn: before.turn.wrapping_add(1),
+            first: before.first.wrapping_add(before.items.len() as u64),
+            items,
+        };
+        let round = Arc::new(alloc, round)?;
+        self.last = Some(mem::replace(&mut self.round, round));
+        self.is_over = self.left == 0;
+        Ok(())
+    }
+
+    /// Settles the walks that a hand keeps of a round.
+    ///
+    /// # Errors
+    ///
+    /// `AllocError` where memory runs out; some of the walks are given up then.
+    pub fn settle(
+        &mut self,
+        alloc: Global,
+        hand: &mut Hand,
+        round: &Round,
+    ) -> Result<(), AllocError>
+        requires round { IsRoundOf N.program N.mode round.now }
+        requires kept { AreKept round.now hand.old }
+        ensures walker { hand.new.walker ≡ hand.old.walker }
+        ensures count { hand.new.count ≡ 0 }
+    {
+        hand.settle(alloc, &mut self.book, round)
+    }
+
+    /// Takes note that so many more items of the round are settled or given up, and whether the
+    /// stretch ends with the round. Answers whether all of them are.
+    pub fn note_done(&mut self, done: usize, ends: bool) -> bool {
+        self.ends |= ends;
+        self.left = self.left.saturating_sub(done);
+        self.left == 0
+    }
+
+    /// Ends the round, where all its items are done: another one begins, or the stretch is over. The
+    /// gate is told how far the search is where another one begins.
+    ///
+    /// # Errors
+    ///
+    /// `AllocError` where memory runs out. The stretch is over then.
+    pub fn end_round<G: Gate>(&mut self, alloc: Global, gate: &G) -> Result<(), AllocError> {
+        self.is_over = true;
+        if !self.ends && self.book.goes_on(self.limit) {
+            gate.round_ended(Progress::of(self.book.book()));
+            self.next_round(alloc)?;
+        }
+        Ok(())
+    }
+}

@@ -1,0 +1,15 @@
+//! The limits of a search by several workers.
+
+/// The most workers of a search.
+pub const WORKERS: u32 = 16;
+
+/// How often a worker that waits, for the book or for a round to end, looks and pauses, before it
+/// lets other threads run or sleeps.
+pub const SPINS: u32 = 1000;
+
+/// How often it looks and lets other threads run, before it sleeps.
+pub const YIELDS: u32 = 50;
+
+/// From how many walks on a worker settles those that it keeps, if the book is free. It settles all of
+/// them at the end of a round.
+pub const SETTLED_WALKS: usize = 4;

@@ -1,0 +1,143 @@
+//! A stretch of rounds: those between which nothing has to be judged. Its threads are made once.
+
+ghost use Rattle.std.specs.Prelude.{◌≡◌, ◌≤◌, true, vec_len, IfOk};
+ghost use Rattle.std.specs.List.{All};
+ghost use Rattle.workers.specs.declared.worker.Ending.TheVariants.{Stopped};
+ghost use Rattle.workers.specs.Teams.{IsOf, IsTeam};
+ghost use Rattle.workers.specs.inner.Rounds.{IsOn, IsStretch};
+
+use crate::desk::Desk;
+use crate::gate::Gate;
+use crate::hand::Hand;
+use crate::named::Naming;
+use crate::shared::Shared;
+use crate::team::Team;
+use crate::worker::{Ending, Worker, ending_of, work_all};
+use board::{Board, Seat};
+use book::books::Book;
+use guest_code::program::Program;
+use report::Options;
+use std::alloc::{AllocError, Global};
+use std::sync::{Arc, Wait};
+use std::thread::Threads;
+
+/// The book that its rounds are of, the board of its items' numbers, and a worker for each seat.
+#[derive(Drop)]
+pub(crate) struct Stretch {
+    pub book: Book,
+    pub board: Board,
+    pub workers: Vec<Worker>,
+}
+
+// A worker for each seat, with a hand each.
+fn seated(
+    alloc: Global,
+    board: &Board,
+    program: &Program,
+    seats: Vec<Seat>,
+    mut hands: Vec<Hand>,
+) -> Result<Vec<Worker>, AllocError>
+    requires count { vec_len hands ≡ vec_len seats }
+    requires seats { All (λ s. s.board ≡ board.now.id) seats.items }
+    requires hands { All (λ h. h.walker ≡ program.now) hands.items }
+    ensures seated { IfOk result (λ v. All (IsOn board.now.id program.now) v.items) }
+    ensures count { IfOk result (λ v. vec_len v ≡ vec_len seats) }
+{
+    let mut workers = Vec::new(alloc);
+    let mut number = 0u32;
+    for seat in seats {
+        let Some(hand) = hands.pop() else {
+            unreachable!()
+        };
+        workers.push(Worker {
+            number,
+            seat,
+            hand,
+            ahead: None,
+            drawn: 0,
+            ending: Ending::Drawn,
+        })?;
+        number = number.wrapping_add(1);
+    }
+    Ok(workers)
+}
+
+// The seats of workers, which go back to the board, and their hands, which are kept.
+fn disbanded<N: Naming>(
+    alloc: Global,
+    board: &Board,
+    workers: Vec<Worker>,
+) -> Result<(Vec<Seat>, Vec<Hand>), AllocError>
+    requires { All (IsOn board.now.id N.program) workers.items }
+    ensures seats { IfOk result (λ r. All (λ s. s.board ≡ board.now.id) r.0.items) }
+    ensures count { IfOk result (λ r. vec_len r.0 ≡ vec_len workers) }
+    ensures hands { IfOk result (λ r. All (λ h. h.walker ≡ N.program) r.1.items) }
+    ensures kept { IfOk result (λ r. vec_len r.1 ≡ vec_len workers) }
+{
+    let mut seats = Vec::new(alloc);
+    let mut hands = Vec::new(alloc);
+    for worker in workers {
+        let Worker { seat, hand, .. } = worker;
+        seats.push(seat)?;
+        hands.push(hand)?;
+    }
+    Ok((seats, hands))
+}
+
+impl Stretch {
+    /// A stretch of a team's rounds that begins with these seats of a board.
+    pub fn new(
+        alloc: Global,
+        team: Team,
+        board: Board,
+        seats: Vec<Seat>,
+    ) -> Result<Stretch, AllocError>
+        requires team { IsTeam team.book.program team }
+        requires seats { All (λ s. s.board ≡ board.id) seats.items }
+        requires count { vec_len seats ≡ board.seats }
+        requires hands { vec_len team.hands ≡ vec_len seats }
+        ensures book { IfOk result (λ s. s.book ≡ team.book) }
+        ensures stretch { IfOk result (λ s. IsStretch s.book.program s) }
+    {
+        let Team { book, hands } = team;
+        let program = Arc::try_clone(book.program())?;
+        let workers = seated(alloc, &board, &program, seats, hands)?;
+        Ok(Stretch {
+            book,
+            board,
+            workers,
+        })
+    }
+
+    /// Walks the rounds of the stretch, and settles the walks, by all the workers: each in a thread,
+    /// which goes from round to round. Answers the team, and how the workers ended.
+    pub fn walk<N: Naming + Send + Sync, G: Gate, R: Threads + Wait + Sync>(
+        self,
+        rt: &R,
+        alloc: Global,
+        gate: &G,
+        options: Options,
+    ) -> Result<(Team, Ending), AllocError>
+        requires quota { 1 ≤ options.quota }
+        requires stretch { IsStretch N.program self }
+        requires book { IsOf self.book N.program N.mode N.quick }
+        ensures book { IfOk result (λ r. IsOf r.0.book N.program N.mode N.quick) }
+        ensures team { IfOk result (λ r. IsTeam N.program r.0) }
+        ensures stopped { IfOk result (λ r. r.1 ≡ Stopped → G.stops gate.now ≡ true) }
+    {
+        let Stretch {
+            book,
+            board,
+            mut workers,
+        } = self;
+        let desk = Desk::<N>::new(alloc, book, options)?;
+        let shared = Shared::new(alloc, gate, board, desk);
+        work_all(rt, &shared, &mut workers);
+        let ending = ending_of(workers.as_slice());
+        let (board, desk) = shared.into_parts();
+        let (seats, hands) = disbanded::<N>(alloc, &board, workers)?;
+        let _claims = board.gather(seats);
+        let book = desk.into_book();
+        Ok((Team { book, hands }, ending))
+    }
+}

@@ -1,0 +1,131 @@
+//! The search of several workers, between the stretches of rounds that they walk together.
+
+ghost use Rattle.std.specs.Prelude.{◌≡◌, ◌<◌, ◌≤◌, true, IfOk, IfErr};
+ghost use Rattle.walk.specs.Items.{AreOf};
+ghost use Rattle.workers.specs.declared.limits.TheConstants.{WORKERS};
+ghost use Rattle.report.specs.declared.error.ExploreError.TheVariants.{OutOfMemory};
+ghost use Rattle.workers.specs.declared.worker.Ending.TheVariants.{Stopped};
+ghost use Rattle.workers.specs.Teams.{IsOf, IsTeam};
+
+use crate::gate::{Answer, Gate};
+use crate::hand::Hand;
+use crate::stretch::Stretch;
+use crate::worker::Ending;
+use board::Board;
+use book::books::Book;
+use book::errors::SettleError;
+use report::{ExploreError, Options};
+use std::alloc::{AllocError, Global};
+use std::marker::Brand;
+use std::sync::{Arc, Wait};
+use std::thread::Threads;
+use walk::item::Item;
+use walk::walker::Walker;
+
+/// The book of a search, and a hand for each of its workers: all that is kept from one stretch of
+/// rounds to the next.
+#[derive(Drop)]
+pub struct Team {
+    /// The book.
+    pub book: Book,
+    pub(crate) hands: Vec<Hand>,
+}
+
+// Walks the items of a round in their order, as the first worker.
+fn walk_in_order<G: Gate>(
+    alloc: Global,
+    gate: &G,
+    quota: u32,
+    book: &mut Book,
+    walker: &mut Walker,
+    items: &[Item],
+) -> Ending
+    requires quota { 1 ≤ quota }
+    requires items { AreOf walker.old items.now }
+    ensures walker { walker.new ≡ walker.old }
+    ensures book { IsOf book.new book.old.program book.old.mode book.old.quick }
+    ensures stopped { result ≡ Stopped → G.stops gate.now ≡ true }
+{
+    let mode = book.mode();
+    for k in 0..items.len() {
+        if gate.before(0, k as u64) == Answer::Stop {
+            return Ending::Stopped;
+        }
+        let Ok(walked) = walker.walk(alloc, &items[k], mode, quota) else {
+            return Ending::OutOfMemory;
+        };
+        gate.walked(0, k as u64);
+        if let Err(SettleError::OutOfMemory) = book.settle(alloc, walked) {
+            return Ending::OutOfMemory;
+        }
+    }
+    Ending::Drawn
+}
+
+impl Team {
+    /// A team of so many workers for the search of a book.
+    pub fn new(alloc: Global, book: Book, workers: u32) -> Result<Team, AllocError>
+        requires { (0 < workers) × (workers ≤ WORKERS) }
+        ensures book { IfOk result (λ t. t.book ≡ book) }
+        ensures team { IfOk result (IsTeam book.program) }
+    {
+        let mut hands = Vec::new(alloc);
+        for _ in 0..workers {
+            hands.push(Hand::new(alloc, Arc::try_clone(book.program())?)?)?;
+        }
+        Ok(Team { book, hands })
+    }
+
+    /// Walks a round, and settles the walks, without a board: its items in their order, as the first
+    /// worker.
+    ///
+    /// # Errors
+    ///
+    /// `AllocError` where memory for the items runs out.
+    pub fn walk_round<G: Gate>(
+        &mut self,
+        alloc: Global,
+        gate: &G,
+        quota: u32,
+    ) -> Result<Ending, AllocError>
+        requires quota { 1 ≤ quota }
+        requires team { IsTeam self.old.book.program self.old }
+        ensures book { let b = self.old.book in IsOf self.new.book b.program b.mode b.quick }
+        ensures team { IsTeam self.old.book.program self.new }
+        ensures stopped { IfOk result (λ e. e ≡ Stopped → G.stops gate.now ≡ true) }
+    {
+        let _open = self.book.open_length();
+        let mut items = Vec::new(alloc);
+        self.book.next_round(alloc, &mut items)?;
+        let walker = &mut self.hands[0].walker;
+        let ending = walk_in_order(alloc, gate, quota, &mut self.book, walker, items.as_slice());
+        Ok(ending)
+    }
+
+    /// Walks a stretch of rounds, at least one, and settles the walks, until what follows the last one
+    /// has to be judged. It is known of the book then that it is of the same search, and what its
+    /// type keeps. Where there is memory for no board, the stretch is a round that the first worker
+    /// walks.
+    pub fn walk_rounds<G: Gate, R: Threads + Wait + Sync>(
+        mut self,
+        rt: &R,
+        alloc: Global,
+        gate: &G,
+        options: Options,
+    ) -> Result<(Team, Ending), ExploreError>
+        requires quota { 1 ≤ options.quota }
+        requires team { IsTeam self.book.program self }
+        ensures book { let b = self.book in
+            IfOk result (λ r. IsOf r.0.book b.program b.mode b.quick) }
+        ensures team { IfOk result (λ r. IsTeam self.book.program r.0) }
+        ensures stopped { IfOk result (λ r. r.1 ≡ Stopped → G.stops gate.now ≡ true) }
+        ensures error { IfErr result (λ e. e ≡ OutOfMemory) }
+    {
+        let Ok((board, seats)) = Board::new(alloc, u32::MAX, self.hands.len() as u32) else {
+            let ending = self.walk_round(alloc, gate, options.quota)?;
+            return Ok((self, ending));
+        };
+        let stretch = Stretch::new(alloc, self, board, seats)?;
+        Ok(stretch.walk::<Brand, G, R>(rt, alloc, gate, options)?)
+    }
+}

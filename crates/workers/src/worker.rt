@@ -1,0 +1,335 @@
+//! Workers, each in a thread of its own, who go from round to round.
+
+ghost use Rattle.std.specs.Prelude.{◌≡◌, ◌<◌, true, vec_len, Some, IfOk, IfErr};
+ghost use Rattle.std.specs.List.{All, Any};
+ghost use Rattle.report.specs.declared.error.ExploreError.TheVariants as explore;
+ghost use Rattle.workers.specs.declared.worker.Ending.TheVariants.{Drawn, Stopped, OutOfMemory};
+ghost use Rattle.workers.specs.inner.Rounds.{IsRoundOf, IsOn, AreKept};
+
+use crate::desk::Desk;
+use crate::gate::{Answer, Gate};
+use crate::hand::Hand;
+use crate::limits::WORKERS;
+use crate::named::Naming;
+use crate::round::Round;
+use crate::shared::Shared;
+use board::{Board, Seat};
+use report::ExploreError;
+use std::alloc::AllocError;
+use std::sync::{MutexGuard, Wait};
+use std::thread::Threads;
+use std::{mem, thread};
+use walk::item::Item;
+
+/// How a worker, or all of them, ended.
+#[derive(Clone, Copy, Debug, PartialEq, Eq)]
+pub enum Ending {
+    /// The stretch of rounds is over, or the board has no number any more.
+    Drawn,
+    /// The gate stopped it.
+    Stopped,
+    /// Memory ran out.
+    OutOfMemory,
+}
+
+impl Ending {
+    /// Whether a worker was stopped.
+    ///
+    /// # Errors
+    ///
+    /// `OutOfMemory` where memory ran out.
+    pub fn is_stopped(self) -> Result<bool, ExploreError>
+        ensures stopped { IfOk result (λ b. b ≡ true → self ≡ Stopped) }
+        ensures told { IfOk result (λ b. self ≡ Stopped → b ≡ true) }
+        ensures memory { IfOk result (λ _. self ≡ OutOfMemory → ⊥) }
+        ensures refused { IfErr result (λ _. self ≡ OutOfMemory) }
+        ensures error { IfErr result (λ e. e ≡ explore.OutOfMemory) }
+    {
+        match self {
+            Ending::Drawn => Ok(false),
+            Ending::Stopped => Ok(true),
+            Ending::OutOfMemory => Err(ExploreError::OutOfMemory),
+        }
+    }
+}
+
+/// A worker of a stretch of rounds.
+#[derive(Drop)]
+pub(crate) struct Worker {
+    pub number: u32,
+    pub seat: Seat,
+    pub hand: Hand,
+    /// The number that it drew last, where the item is of a later round.
+    pub ahead: Option<u64>,
+    /// How many items of the round it drew of which the desk has not taken note yet.
+    pub drawn: usize,
+    pub ending: Ending,
+}
+
+impl Worker {
+    // The next number: the one that it drew ahead, or one from the board.
+    fn draw(&mut self, board: &Board) -> Option<u64>
+        requires { self.old.seat.board ≡ board.now.id }
+        ensures board { self.new.seat.board ≡ self.old.seat.board }
+        ensures hand { self.new.hand ≡ self.old.hand }
+    {
+        match self.ahead.take() {
+            Some(number) => Some(number),
+            None => board.claim(&mut self.seat),
+        }
+    }
+
+    // Whether a quick search leaves an item out for now.
+    fn leaves_out(&mut self, board: &Board, round: &Round, item: &Item) -> bool
+        requires { self.old.seat.board ≡ board.now.id }
+        ensures board { self.new.seat.board ≡ self.old.seat.board }
+        ensures hand { self.new.hand ≡ self.old.hand }
+    {
+        if !round.quick {
+            return false;
+        }
+        let least = board.least(&mut self.seat);
+        round.leaves_out(item, least)
+    }
+
+    // Tells the other workers that an item has a bad schedule.
+    fn tells_of(&mut self, board: &Board, round: &Round, item: &Item)
+        requires { self.old.seat.board ≡ board.now.id }
+        ensures board { self.new.seat.board ≡ self.old.seat.board }
+        ensures hand { self.new.hand ≡ self.old.hand }
+    {
+        board.tell(&mut self.seat, round.rank_of(item));
+    }
+
+    // Works from round to round, until the stretch is over, the board has no number any more, the gate
+    // stops it or memory runs out.
+    fn work<N: Naming, G: Gate, R: Wait>(&mut self, rt: &R, shared: &Shared<N, G>) -> Ending
+        requires { IsOn shared.now.board.id N.program self.old }
+        ensures on { IsOn shared.now.board.id N.program self.new }
+        ensures stopped { result ≡ Stopped → G.stops shared.now.gate.now ≡ true }
+    {
+        for _ in rt.forever() {
+            let Some(round) = shared.desk(rt).round() else {
+                return Ending::Drawn;
+            };
+            if let Some(ending) = self.work_round(rt, shared, &round) {
+                return ending;
+            }
+            shared.wait_for_end(rt, round.turn);
+        }
+        unreachable!()
+    }
+
+    // Works in a round, until all its items are drawn, and settles what it walked. Answers how it
+    // ended where it can't go on.
+    fn work_round<N: Naming, G: Gate, R: Wait>(
+        &mut self,
+        rt: &R,
+        shared: &Shared<N, G>,
+        round: &Round,
+    ) -> Option<Ending>
+        requires round { IsRoundOf N.program N.mode round.now }
+        requires on { IsOn shared.now.board.id N.program self.old }
+        ensures on { IsOn shared.now.board.id N.program self.new }
+        ensures stopped { result ≡ Some Stopped → G.stops shared.now.gate.now ≡ true }
+    {
+        self.hand.forget();
+        let ending = self.walk_items(rt, shared, round);
+        match self.settle(rt, shared, round, ending.is_some()) {
+            Ok(()) => ending,
+            Err(AllocError) => Some(Ending::OutOfMemory),
+        }
+    }
+
+    // Settles the walks that it keeps of a round, once the desk is free. The stretch ends with the
+    // round or not.
+    //
+    // # Errors
+    //
+    // `AllocError` where memory runs out; some of the walks are given up then.
+    fn settle<N: Naming, G: Gate, R: Wait>(
+        &mut self,
+        rt: &R,
+        shared: &Shared<N, G>,
+        round: &Round,
+        ends: bool,
+    ) -> Result<(), AllocError>
+        requires round { IsRoundOf N.program N.mode round.now }
+        requires on { IsOn shared.now.board.id N.program self.old }
+        requires kept { AreKept round.now self.old.hand }
+        ensures on { IsOn shared.now.board.id N.program self.new }
+        ensures kept { AreKept round.now self.new.hand }
+    {
+        if self.drawn == 0 {
+            return Ok(());
+        }
+        let desk = shared.desk(rt);
+        self.settle_at(shared, round, desk, ends)
+    }
+
+    // The same where the desk is free now, and nothing where it isn't.
+    //
+    // # Errors
+    //
+    // `AllocError` where memory runs out; some of the walks are given up then.
+    fn settle_if_free<N: Naming, G: Gate>(
+        &mut self,
+        shared: &Shared<N, G>,
+        round: &Round,
+    ) -> Result<(), AllocError>
+        requires round { IsRoundOf N.program N.mode round.now }
+        requires on { IsOn shared.now.board.id N.program self.old }
+        requires kept { AreKept round.now self.old.hand }
+        ensures on { IsOn shared.now.board.id N.program self.new }
+        ensures kept { AreKept round.now self.new.hand }
+    {
+        match shared.desk_if_free() {
+            Some(desk) => self.settle_at(shared, round, desk, false),
+            None => Ok(()),
+        }
+    }
+
+    // The same at the desk. Where the last items of the round are done then, it ends the round and
+    // tells those who wait.
+    //
+    // # Errors
+    //
+    // `AllocError` where memory runs out; some of the walks are given up then.
+    fn settle_at<N: Naming, G: Gate>(
+        &mut self,
+        shared: &Shared<N, G>,
+        round: &Round,
+        mut desk: MutexGuard<'_, Desk<N>>,
+        ends: bool,
+    ) -> Result<(), AllocError>
+        requires round { IsRoundOf N.program N.mode round.now }
+        requires on { IsOn shared.now.board.id N.program self.old }
+        requires kept { AreKept round.now self.old.hand }
+        ensures on { IsOn shared.now.board.id N.program self.new }
+        ensures kept { AreKept round.now self.new.hand }
+    {
+        let drawn = mem::replace(&mut self.drawn, 0);
+        let settled = desk.settle(shared.alloc, &mut self.hand, round);
+        if !desk.note_done(drawn, ends || settled.is_err()) {
+            return settled;
+        }
+        let ended = desk.end_round(shared.alloc, shared.gate);
+        drop(desk);
+        shared.tell_end(round.turn);
+        settled?;
+        ended
+    }
+
+    // Settles its walks where the last one, of this item, found a bad schedule in a quick search,
+    // and tells the other workers of the item: that is of this round alone, so the stretch ends with it.
+    // Else it settles some of them where the desk is free.
+    //
+    // # Errors
+    //
+    // `AllocError` where memory runs out; some of the walks are given up then.
+    fn settle_early<N: Naming, G: Gate, R: Wait>(
+        &mut self,
+        rt: &R,
+        shared: &Shared<N, G>,
+        round: &Round,
+        item: &Item,
+        is_bad: bool,
+    ) -> Result<(), AllocError>
+        requires round { IsRoundOf N.program N.mode round.now }
+        requires on { IsOn shared.now.board.id N.program self.old }
+        requires kept { AreKept round.now self.old.hand }
+        ensures on { IsOn shared.now.board.id N.program self.new }
+        ensures kept { AreKept round.now self.new.hand }
+    {
+        if round.quick && is_bad {
+            self.settle(rt, shared, round, true)?;
+            self.tells_of(&shared.board, round, item);
+            Ok(())
+        } else if self.hand.is_worth_a_lock() {
+            self.settle_if_free(shared, round)
+        } else {
+            Ok(())
+        }
+    }
+
+    // Draws items of a round and walks them, until all are drawn. Answers how it ended where it
+    // can't go on.
+    fn walk_items<N: Naming, G: Gate, R: Wait>(
+        &mut self,
+        rt: &R,
+        shared: &Shared<N, G>,
+        round: &Round,
+    ) -> Option<Ending>
+        requires round { IsRoundOf N.program N.mode round.now }
+        requires on { IsOn shared.now.board.id N.program self.old }
+        requires kept { AreKept round.now self.old.hand }
+        ensures on { IsOn shared.now.board.id N.program self.new }
+        ensures kept { AreKept round.now self.new.hand }
+        ensures stopped { result ≡ Some Stopped → G.stops shared.now.gate.now ≡ true }
+    {
+        for _ in rt.forever() {
+            let Some(number) = self.draw(&shared.board) else {
+                return Some(Ending::Drawn);
+            };
+            let Some(place) = round.place_of(number) else {
+                self.ahead = Some(number);
+                return None;
+            };
+            self.drawn = self.drawn.saturating_add(1);
+            let item = &round.items[place];
+            if self.leaves_out(&shared.board, round, item) {
+                continue;
+            }
+            if shared.gate.before(self.number, place as u64) == Answer::Stop {
+                return Some(Ending::Stopped);
+            }
+            let Ok(is_bad) = self.hand.walk(shared.alloc, round, place) else {
+                return Some(Ending::OutOfMemory);
+            };
+            shared.gate.walked(self.number, place as u64);
+            let settled = self.settle_early(rt, shared, round, item, is_bad);
+            if settled.is_err() {
+                return Some(Ending::OutOfMemory);
+            }
+        }
+        unreachable!()
+    }
+}
+
+/// Lets all workers work, each in a thread of its own. Those for which no thread can be made work one
+/// after another.
+pub(crate) fn work_all<N: Naming + Send + Sync, G: Gate, R: Threads + Wait + Sync>(
+    rt: &R,
+    shared: &Shared<N, G>,
+    workers: &mut Vec<Worker>,
+)
+    requires { All (IsOn shared.now.board.id N.program) workers.old.items }
+    ensures on { All (IsOn shared.now.board.id N.program) workers.new.items }
+    ensures stopped { All (λ w. w.ending ≡ Stopped → G.stops shared.now.gate.now ≡ true)
+        workers.new.items }
+    ensures count { vec_len workers.new ≡ vec_len workers.old }
+{
+    let one = |_: usize, w: &mut Worker|
+        requires { IsOn shared.now.board.id N.program w.old }
+        ensures { IsOn shared.entry.now.board.id N.program w.new
+            × (w.new.ending ≡ Stopped → G.stops shared.entry.now.gate.now ≡ true) }
+    { w.ending = w.work(rt, shared) };
+    thread::for_each_mut(rt, workers.as_mut_slice(), WORKERS as usize, &one);
+}
+
+/// How the workers ended together: out of memory where one of them was, else stopped where one of
+/// them was.
+pub(crate) fn ending_of(workers: &[Worker]) -> Ending
+    ensures stopped { result ≡ Stopped → Any (λ w. w.ending ≡ Stopped) workers.now }
+    ensures memory { result ≡ OutOfMemory → Any (λ w. w.ending ≡ OutOfMemory) workers.now }
+    ensures none { (result ≡ OutOfMemory → ⊥) → All (λ w. w.ending ≡ OutOfMemory → ⊥) workers.now }
+    ensures drawn { result ≡ Drawn → All (λ w. w.ending ≡ Drawn) workers.now }
+{
+    if workers.iter().any(|w| w.ending == Ending::OutOfMemory) {
+        Ending::OutOfMemory
+    } else if workers.iter().any(|w| w.ending == Ending::Stopped) {
+        Ending::Stopped
+    } else {
+        Ending::Drawn
+    }
+}
