@@ -85,27 +85,19 @@ fn step_seen(
     program: &Program,
     state: &mut State,
     seen: &mut Seen,
-    spins: &[Spin],
-    path: &[u8],
-    thread: u8,
+    stage: Stage<'_>,
 ) -> Result<Undo, AllocError>
     requires of { IsOf program.now state.old }
-    requires thread { thread < length program.now.threads }
-    requires enabled { IsTrue (is_enabled program.now state.old thread) }
+    requires thread { stage.thread < length program.now.threads }
+    requires enabled { IsTrue (is_enabled program.now state.old stage.thread) }
     ensures { IfOk result (λ u. TakesBack program.now u state.old state.new) }
 {
-    let code = program.code(thread);
+    let thread = stage.thread;
     let at = state.pc(thread);
     let locals = *state.locals(thread);
     let variable = variable_next(program, state, thread);
     let undo = state.step(program, thread);
     if goes_on(state.status(thread)) {
-        let stage = Stage {
-            spins,
-            path,
-            thread,
-            code,
-        };
         seen.see_step(stage, at, locals, variable)?;
     }
     Ok(undo)
@@ -155,7 +147,13 @@ impl Tour {
         let enabled = self.state.enabled(program);
         let asleep = sleepers_after(program, &self.state, enabled, self.asleep, thread);
         self.path.push(thread)?;
-        let undo = step_seen(program, &mut self.state, seen, spins, &self.path, thread)?;
+        let stage = Stage {
+            spins,
+            path: self.path.as_slice(),
+            thread,
+            code: program.code(thread),
+        };
+        let undo = step_seen(program, &mut self.state, seen, stage)?;
         self.frames.push(Frame {
             asleep: self.asleep,
             next: thread + 1,

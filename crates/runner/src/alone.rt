@@ -9,7 +9,7 @@ ghost use Rattle.runner.specs.inner.Judging.{IsFirstMode, IsStage, ComesAfter};
 ghost use Rattle.workers.specs.Teams.{IsOf};
 ghost use Rattle.runner.specs.inner.Shrinking.{Went, Goes};
 
-use crate::judge::{Next, judge};
+use crate::judge::{Next, Stage, judge};
 use book::books::Book;
 use book::errors::{RaiseError, SettleError};
 use book::limits::ROUND;
@@ -51,130 +51,130 @@ pub(crate) fn open_book(
     }
 }
 
-// Walks an item of a round and settles the walk; then the book drops what can't hold the first bad
-// schedule any more. An item that it drops is passed over, and one that isn't open is given up.
-fn walk_item(
-    alloc: Global,
-    book: &mut Book,
-    walker: &mut Walker,
-    found: &mut Found,
-    item: &Item,
-    quota: u32,
-) -> Result<(), ExploreError>
-    requires quota { 1 ≤ quota }
-    requires item { item.now.program ≡ walker.old }
-    requires book { book.old.program ≡ walker.old }
-    ensures walker { walker.new ≡ walker.old }
-    ensures book { Went book.old item.now result book.new }
-    ensures error { IfErr result (λ e. e ≡ OutOfMemory) }
-{
-    if book.drops(item) {
-        let _number = book.drop_later();
-        return Ok(());
-    }
-    walker.walk_into(alloc, found, item, book.mode(), quota)?;
-    match book.settle_found(alloc, item, found) {
-        Ok(()) => {
+// The only worker of a search: its walker, and memory for what a walk finds.
+#[derive(Drop)]
+struct Lone {
+    walker: Walker,
+    found: Found,
+}
+
+impl Lone {
+    // Walks an item of a round and settles the walk; then the book drops what can't hold the first
+    // bad schedule any more. An item that it drops is passed over, and one that isn't open is given
+    // up.
+    fn walk_item(
+        &mut self,
+        alloc: Global,
+        book: &mut Book,
+        item: &Item,
+        quota: u32,
+    ) -> Result<(), ExploreError>
+        requires quota { 1 ≤ quota }
+        requires item { item.now.program ≡ self.old.walker }
+        requires book { book.old.program ≡ self.old.walker }
+        ensures walker { self.new.walker ≡ self.old.walker }
+        ensures book { Went book.old item.now result book.new }
+        ensures error { IfErr result (λ e. e ≡ OutOfMemory) }
+    {
+        if book.drops(item) {
             let _number = book.drop_later();
-            Ok(())
+            return Ok(());
         }
-        Err(SettleError::OutOfMemory) => Err(ExploreError::OutOfMemory),
-        Err(SettleError::NotOpen) => Ok(()),
-        Err(SettleError::Stranger) => unreachable!(),
+        self.walker
+            .walk_into(alloc, &mut self.found, item, book.mode(), quota)?;
+        match book.settle_found(alloc, item, &mut self.found) {
+            Ok(()) => {
+                let _number = book.drop_later();
+                Ok(())
+            }
+            Err(SettleError::OutOfMemory) => Err(ExploreError::OutOfMemory),
+            Err(SettleError::NotOpen) => Ok(()),
+            Err(SettleError::Stranger) => unreachable!(),
+        }
     }
-}
 
-// Walks copies of the items of a round in their order: some items may be dropped in between.
-fn walk_copies(
-    alloc: Global,
-    book: &mut Book,
-    walker: &mut Walker,
-    found: &mut Found,
-    quota: u32,
-) -> Result<(), ExploreError>
-    requires quota { 1 ≤ quota }
-    requires book { book.old.program ≡ walker.old }
-    ensures walker { walker.new ≡ walker.old }
-    ensures book { OnOk result (Goes book.old book.new) }
-    ensures error { IfErr result (λ e. e ≡ OutOfMemory) }
-{
-    let _open = book.open_length();
-    let mut items = Vec::new(alloc);
-    book.next_round(alloc, &mut items)?;
-    for item in &items {
-        walk_item(alloc, book, walker, found, item, quota)?;
+    // Walks copies of the items of a round in their order: some items may be dropped in between.
+    fn walk_copies(
+        &mut self,
+        alloc: Global,
+        book: &mut Book,
+        quota: u32,
+    ) -> Result<(), ExploreError>
+        requires quota { 1 ≤ quota }
+        requires book { book.old.program ≡ self.old.walker }
+        ensures walker { self.new.walker ≡ self.old.walker }
+        ensures book { OnOk result (Goes book.old book.new) }
+        ensures error { IfErr result (λ e. e ≡ OutOfMemory) }
+    {
+        let _open = book.open_length();
+        let mut items = Vec::new(alloc);
+        book.next_round(alloc, &mut items)?;
+        for item in &items {
+            self.walk_item(alloc, book, item, quota)?;
+        }
+        Ok(())
     }
-    Ok(())
-}
 
-// Walks the items of a round in their order, each where it stands: those before it have left the
-// book, and what they left stands after the round.
-fn walk_in_place(
-    alloc: Global,
-    book: &mut Book,
-    walker: &mut Walker,
-    found: &mut Found,
-    quota: u32,
-) -> Result<(), ExploreError>
-    requires quota { 1 ≤ quota }
-    requires book { book.old.program ≡ walker.old }
-    ensures walker { walker.new ≡ walker.old }
-    ensures book { OnOk result (Goes book.old book.new) }
-    ensures error { IfErr result (λ e. e ≡ OutOfMemory) }
-{
-    let length = book.open_length();
-    let first = length.saturating_sub(ROUND);
-    for _ in first..length {
-        book.walk_at(alloc, walker, found, first, quota)?;
+    // Walks the items of a round in their order, each where it stands: those before it have left the
+    // book, and what they left stands after the round.
+    fn walk_in_place(
+        &mut self,
+        alloc: Global,
+        book: &mut Book,
+        quota: u32,
+    ) -> Result<(), ExploreError>
+        requires quota { 1 ≤ quota }
+        requires book { book.old.program ≡ self.old.walker }
+        ensures walker { self.new.walker ≡ self.old.walker }
+        ensures book { OnOk result (Goes book.old book.new) }
+        ensures error { IfErr result (λ e. e ≡ OutOfMemory) }
+    {
+        let length = book.open_length();
+        let first = length.saturating_sub(ROUND);
+        for _ in first..length {
+            book.walk_at(alloc, &mut self.walker, &mut self.found, first, quota)?;
+        }
+        Ok(())
     }
-    Ok(())
-}
 
-// Walks the items of a round in their order.
-fn walk_round(
-    alloc: Global,
-    book: &mut Book,
-    walker: &mut Walker,
-    found: &mut Found,
-    quota: u32,
-) -> Result<(), ExploreError>
-    requires quota { 1 ≤ quota }
-    requires book { book.old.program ≡ walker.old }
-    ensures walker { walker.new ≡ walker.old }
-    ensures book { OnOk result (Goes book.old book.new) }
-    ensures error { IfErr result (λ e. e ≡ OutOfMemory) }
-{
-    if book.is_quick() {
-        walk_copies(alloc, book, walker, found, quota)
-    } else {
-        walk_in_place(alloc, book, walker, found, quota)
+    // Walks the items of a round in their order.
+    fn walk_round(&mut self, alloc: Global, book: &mut Book, quota: u32) -> Result<(), ExploreError>
+        requires quota { 1 ≤ quota }
+        requires book { book.old.program ≡ self.old.walker }
+        ensures walker { self.new.walker ≡ self.old.walker }
+        ensures book { OnOk result (Goes book.old book.new) }
+        ensures error { IfErr result (λ e. e ≡ OutOfMemory) }
+    {
+        if book.is_quick() {
+            self.walk_copies(alloc, book, quota)
+        } else {
+            self.walk_in_place(alloc, book, quota)
+        }
     }
 }
 
 // The rounds of a search in one mode. The gate is told how far it is, and asked nothing.
 fn search_mode<G: Gate>(
     alloc: Global,
-    program: &Program,
-    options: Options,
-    mode: Mode,
+    stage: Stage<'_>,
     book: &mut Book,
-    walker: &mut Walker,
+    lone: &mut Lone,
     gate: &G,
 ) -> Result<Next, ExploreError>
-    requires quota { 1 ≤ options.quota }
-    requires stage { IsStage program.now options.search mode }
-    requires of { IsOf book.old program.now mode options.quick }
-    requires walker { walker.old ≡ program.now }
-    ensures walker { walker.new ≡ walker.old }
-    ensures next { IfOk result (ComesAfter program.now options mode book.new) }
+    requires quota { 1 ≤ stage.options.quota }
+    requires stage { IsStage stage.program.now stage.options.search stage.mode }
+    requires of { IsOf book.old stage.program.now stage.mode stage.options.quick }
+    requires walker { lone.old.walker ≡ stage.program.now }
+    ensures walker { lone.new.walker ≡ lone.old.walker }
+    ensures next { let s = stage.entry in
+        IfOk result (ComesAfter s.program.now s.options s.mode book.new) }
     ensures error { IfErr result (λ e. e ≡ OutOfMemory) }
 {
-    let mut found = Found::new(alloc);
     loop {
-        walk_round(alloc, book, walker, &mut found, options.quota)?;
+        lone.walk_round(alloc, book, stage.options.quota)?;
         let _open = book.open_length();
         gate.round_ended(Progress::of(book));
-        match judge(alloc, program, options, mode, book, false)? {
+        match judge(alloc, stage, book, false)? {
             Next::Again => {}
             Next::Raise => return Ok(Next::Raise),
             Next::Answer(report) => return Ok(Next::Answer(report)),
@@ -220,9 +220,17 @@ pub(crate) fn search_alone<G: Gate>(
 {
     let mut mode = first_mode(options.search);
     let mut book = open_book(alloc, program, mode, options.quick)?;
-    let mut walker = Walker::new(alloc, Arc::try_clone(program)?)?;
+    let mut lone = Lone {
+        walker: Walker::new(alloc, Arc::try_clone(program)?)?,
+        found: Found::new(alloc),
+    };
     loop {
-        match search_mode(alloc, program, options, mode, &mut book, &mut walker, gate)? {
+        let stage = Stage {
+            program,
+            options,
+            mode,
+        };
+        match search_mode(alloc, stage, &mut book, &mut lone, gate)? {
             Next::Answer(report) => return Ok(report),
             Next::Raise => match book.raise() {
                 Ok(()) => mode = book.mode(),

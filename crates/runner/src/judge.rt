@@ -23,6 +23,14 @@ use std::alloc::Global;
 use summary::Summary;
 use walk::mode::Mode;
 
+/// Where a search is: its program, what it is asked for, and the mode that it has come to.
+#[derive(Clone, Copy)]
+pub(crate) struct Stage<'a> {
+    pub program: &'a Program,
+    pub options: Options,
+    pub mode: Mode,
+}
+
 /// What comes next.
 #[derive(Drop)]
 pub(crate) enum Next {
@@ -135,32 +143,37 @@ fn cause_of(limit: Option<u64>, summary: &Summary, stopped: bool) -> Option<Caus
 // What comes next where nothing is open.
 fn judge_whole(
     alloc: Global,
-    program: &Program,
-    options: Options,
-    mode: Mode,
+    stage: Stage<'_>,
     summary: &Summary,
     stopped: bool,
 ) -> Result<Next, ExploreError>
-    requires stage { IsStage program.now options.search mode }
-    requires found { IsFound options.quick program.now mode summary.now }
-    requires items { HasItems program.now mode summary.now }
-    ensures next { IfOk result (λ n. (may : Bool) → (stopped ≡ true → may ≡ true) →
-        ComesWhole may program.now options mode summary.now n) }
+    requires stage { IsStage stage.program.now stage.options.search stage.mode }
+    requires found { IsFound stage.options.quick stage.program.now stage.mode summary.now }
+    requires items { HasItems stage.program.now stage.mode summary.now }
+    ensures next { let s = stage.entry in
+        IfOk result (λ n. (may : Bool) → (stopped ≡ true → may ≡ true) →
+        ComesWhole may s.program.now s.options s.mode summary.now n) }
     ensures error { IfErr result (λ e. e ≡ OutOfMemory) }
 {
     if let Some(schedule) = summary.first_bad() {
-        let verdict = verdict_on(alloc, program, schedule)?;
-        return report_in(alloc, options, mode, summary, verdict);
+        let verdict = verdict_on(alloc, stage.program, schedule)?;
+        return report_in(alloc, stage.options, stage.mode, summary, verdict);
     }
     let all = !summary.beyond();
-    if all || is_last(options.search, mode) {
-        return report_in(alloc, options, mode, summary, Verdict::Clean { all });
+    if all || is_last(stage.options.search, stage.mode) {
+        return report_in(
+            alloc,
+            stage.options,
+            stage.mode,
+            summary,
+            Verdict::Clean { all },
+        );
     }
-    match cause_of(options.limit, summary, stopped) {
+    match cause_of(stage.options.limit, summary, stopped) {
         Some(cause) => {
-            let finished = mode_bound(mode);
+            let finished = mode_bound(stage.mode);
             let verdict = Verdict::Incomplete { cause, finished };
-            report_in(alloc, options, mode, summary, verdict)
+            report_in(alloc, stage.options, stage.mode, summary, verdict)
         }
         None => Ok(Next::Raise),
     }
@@ -211,20 +224,19 @@ fn found<'a>(book: &'a Book, program: &Program, mode: Mode) -> Option<&'a Summar
 /// or not: the first that applies. The book is of the program and the mode.
 pub(crate) fn judge(
     alloc: Global,
-    program: &Program,
-    options: Options,
-    mode: Mode,
+    stage: Stage<'_>,
     book: &Book,
     stopped: bool,
 ) -> Result<Next, ExploreError>
-    requires stage { IsStage program.now options.search mode }
-    requires of { IsOf book.now program.now mode options.quick }
-    ensures next { IfOk result (λ n. (may : Bool) → (stopped ≡ true → may ≡ true) →
-        Comes may program.now options mode book.now n) }
+    requires stage { IsStage stage.program.now stage.options.search stage.mode }
+    requires of { IsOf book.now stage.program.now stage.mode stage.options.quick }
+    ensures next { let s = stage.entry in
+        IfOk result (λ n. (may : Bool) → (stopped ≡ true → may ≡ true) →
+        Comes may s.program.now s.options s.mode book.now n) }
     ensures error { IfErr result (λ e. e ≡ OutOfMemory) }
 {
-    match found(book, program, mode) {
-        Some(summary) => judge_whole(alloc, program, options, mode, summary, stopped),
-        None => judge_open(alloc, options, book, stopped),
+    match found(book, stage.program, stage.mode) {
+        Some(summary) => judge_whole(alloc, stage, summary, stopped),
+        None => judge_open(alloc, stage.options, book, stopped),
     }
 }

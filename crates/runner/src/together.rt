@@ -9,7 +9,7 @@ ghost use Rattle.runner.specs.inner.Judging.{IsStage, Follows};
 ghost use Rattle.workers.specs.Teams.{IsOf};
 
 use crate::alone::{first_mode, open_book, search_alone};
-use crate::judge::{Next, judge};
+use crate::judge::{Next, Stage, judge};
 use book::books::Book;
 use book::errors::RaiseError;
 use guest_code::program::Program;
@@ -38,7 +38,12 @@ fn after_round(
 {
     let mode = book.mode();
     let _number = book.drop_later();
-    match judge(alloc, program, options, mode, book, stopped)? {
+    let stage = Stage {
+        program,
+        options,
+        mode,
+    };
+    match judge(alloc, stage, book, stopped)? {
         Next::Answer(report) => Ok(Some(report)),
         Next::Again => Ok(None),
         Next::Raise => match book.raise() {

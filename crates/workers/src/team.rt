@@ -1,14 +1,15 @@
 //! The search of several workers, between the stretches of rounds that they walk together.
 
 ghost use Rattle.std.specs.Prelude.{◌≡◌, ◌<◌, ◌≤◌, true, IfOk, IfErr};
-ghost use Rattle.walk.specs.Items.{AreOf};
 ghost use Rattle.workers.specs.declared.limits.TheConstants.{WORKERS};
 ghost use Rattle.report.specs.declared.error.ExploreError.TheVariants.{OutOfMemory};
 ghost use Rattle.workers.specs.declared.worker.Ending.TheVariants.{Stopped};
 ghost use Rattle.workers.specs.Teams.{IsOf, IsTeam};
+ghost use Rattle.workers.specs.inner.Rounds.{IsRoundOf};
 
 use crate::gate::{Answer, Gate};
 use crate::hand::Hand;
+use crate::round::Round;
 use crate::stretch::Stretch;
 use crate::worker::Ending;
 use board::Board;
@@ -19,7 +20,6 @@ use std::alloc::{AllocError, Global};
 use std::marker::Brand;
 use std::sync::{Arc, Wait};
 use std::thread::Threads;
-use walk::item::Item;
 use walk::walker::Walker;
 
 /// The book of a search, and a hand for each of its workers: all that is kept from one stretch of
@@ -35,23 +35,20 @@ pub struct Team {
 fn walk_in_order<G: Gate>(
     alloc: Global,
     gate: &G,
-    quota: u32,
+    round: &Round,
     book: &mut Book,
     walker: &mut Walker,
-    items: &[Item],
 ) -> Ending
-    requires quota { 1 ≤ quota }
-    requires items { AreOf walker.old items.now }
+    requires round { IsRoundOf walker.old round.now.mode round.now }
     ensures walker { walker.new ≡ walker.old }
     ensures book { IsOf book.new book.old.program book.old.mode book.old.quick }
     ensures stopped { result ≡ Stopped → G.stops gate.now ≡ true }
 {
-    let mode = book.mode();
-    for k in 0..items.len() {
+    for k in 0..round.items.len() {
         if gate.before(0, k as u64) == Answer::Stop {
             return Ending::Stopped;
         }
-        let Ok(walked) = walker.walk(alloc, &items[k], mode, quota) else {
+        let Ok(walked) = walker.walk(alloc, &round.items[k], round.mode, round.quota) else {
             return Ending::OutOfMemory;
         };
         gate.walked(0, k as u64);
@@ -97,9 +94,16 @@ impl Team {
         let _open = self.book.open_length();
         let mut items = Vec::new(alloc);
         self.book.next_round(alloc, &mut items)?;
+        let round = Round {
+            mode: self.book.mode(),
+            quick: self.book.is_quick(),
+            quota,
+            turn: 1,
+            first: 0,
+            items,
+        };
         let walker = &mut self.hands[0].walker;
-        let ending = walk_in_order(alloc, gate, quota, &mut self.book, walker, items.as_slice());
-        Ok(ending)
+        Ok(walk_in_order(alloc, gate, &round, &mut self.book, walker))
     }
 
     /// Walks a stretch of rounds, at least one, and settles the walks, until what follows the last one

@@ -10,11 +10,11 @@ use Rattle.runner.specs.inner.Judging.{IsStage, ComesAfter, bounds_left}
 use Rattle.runner.proofs.Judgments.{next_stage, fewer_left}
 use Rattle.runner.proofs.alone.search_alone.Goals as goal
 
-pub loop-walker-smaller : goal.loop-walker-smaller
-loop-walker-smaller g c =
+pub loop-lone-smaller : goal.loop-lone-smaller
+loop-lone-smaller g c =
     let o = c.args.options in
     let p = c.deref.result.now in
-    let mode = c.loop-walker.mode in
+    let mode = c.loop-lone.mode in
     let b = c.search_mode.new.book in
     let comes =
     subst (λ (n : Next). ComesAfter p o mode b n) c.in-Raise.is c.in_ok-report.ensures.next in
@@ -24,11 +24,11 @@ loop-walker-smaller g c =
     subst (λ (m : Mode). bounds_left o.search m < bounds_left o.search mode) (sym is)
     (fewer_left p o.search mode comes.1.3)
 
-pub loop-walker-preserved : goal.loop-walker-preserved
-loop-walker-preserved g c =
+pub loop-lone-preserved : goal.loop-lone-preserved
+loop-lone-preserved g c =
     let o = c.args.options in
     let p = c.deref.result.now in
-    let mode = c.loop-walker.mode in
+    let mode = c.loop-lone.mode in
     let b = c.search_mode.new.book in
     let comes =
     subst (λ (n : Next). ComesAfter p o mode b n) c.in-Raise.is c.in_ok-report.ensures.next in
@@ -46,7 +46,7 @@ loop-walker-preserved g c =
       stage = subst (λ (q : Program). IsStage q o.search c.mode-mode.result) c.deref.ensures
           (subst (λ (m : Mode). IsStage p o.search m) (sym is)
           (next_stage p o.search mode comes.1.3));
-      walker = c.search_mode.ensures.walker ∙ c.loop-walker.invariant.walker;
+      walker = c.search_mode.ensures.walker ∙ c.loop-lone.invariant.walker;
     }
 
 err_is : {X E : Type 0} (r : Result X E) (P Q : E → Type 0) → ((e : E) → P e → Q e) →

@@ -1,6 +1,6 @@
 use Rattle.std.proofs.Common.{◌≡◌, ◌≤◌, ◌<◌, ◌+◌, length}
 use Rattle.runner.specs.inner.Shrinking.{HasLess}
-use Rattle.runner.proofs.alone.walk_in_place.Given as goal
+use Rattle.runner.proofs.alone.Lone.walk_in_place.Given as goal
 
 abbrev pub invariant-loop : goal.invariant-loop
 invariant-loop l = record {
@@ -9,5 +9,5 @@ invariant-loop l = record {
   less : l.first < l.counter → HasLess l.fn.book l.book;
   program : l.book.program ≡ l.fn.book.program;
   open_items : l.length + l.first ≤ length l.book.open_items + l.counter;
-  walker : l.walker ≡ l.fn.walker;
+  walker : l.self.walker ≡ l.fn.self.walker;
 }

@@ -1,6 +1,6 @@
 use Rattle.std.proofs.Common.{◌∙◌, ◌≤◌, arith, sym}
 use Rattle.runner.proofs.Shrinks.{walked_again, walked_length, round_walked}
-use Rattle.runner.proofs.alone.walk_in_place.Goals as goal
+use Rattle.runner.proofs.alone.Lone.walk_in_place.Goals as goal
 
 pub walk_at-requires-clause-place : goal.walk_at-requires-clause-place
 walk_at-requires-clause-place c =

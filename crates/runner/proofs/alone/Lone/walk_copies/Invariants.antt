@@ -1,11 +1,11 @@
 use Rattle.std.proofs.Common.{◌≡◌, ◌<◌}
 use Rattle.runner.specs.inner.Shrinking.{HasLess}
-use Rattle.runner.proofs.alone.walk_copies.Given as goal
+use Rattle.runner.proofs.alone.Lone.walk_copies.Given as goal
 
 abbrev pub invariant-loop-item : goal.invariant-loop-item
 invariant-loop-item l = record {
   start : l.item-index ≡ 0 → l.book ≡ l.fn.book;
   less : 0 < l.item-index → HasLess l.fn.book l.book;
   program : l.book.program ≡ l.fn.book.program;
-  walker : l.walker ≡ l.fn.walker;
+  walker : l.self.walker ≡ l.fn.self.walker;
 }

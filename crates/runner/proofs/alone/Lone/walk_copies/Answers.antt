@@ -2,7 +2,7 @@ use Rattle.std.proofs.Common.{rules, ◌≡◌, ◌∙◌, ◌+◌, ◌-◌, ◌
 use Rattle.walk.specs.Items.{ItemView}
 use Rattle.workers.proofs.RoundItems.{of_book}
 use Rattle.runner.proofs.Shrinks.{round_less, last_at}
-use Rattle.runner.proofs.alone.walk_copies.Goals as goal
+use Rattle.runner.proofs.alone.Lone.walk_copies.Goals as goal
 
 pub walk_item-requires-clause-item : goal.walk_item-requires-clause-item
 walk_item-requires-clause-item c =

@@ -4,7 +4,7 @@ use Rattle.walk.specs.Walks.{IsWalked, found_walk}
 use Rattle.book.specs.Books.{BookView, drops}
 use Rattle.runner.specs.inner.Shrinking.{HasLess, Went}
 use Rattle.runner.proofs.Shrinks.{walk_ends, settled_less, thinned_less, thinned_went}
-use Rattle.runner.proofs.alone.walk_item.Goals as goal
+use Rattle.runner.proofs.alone.Lone.walk_item.Goals as goal
 
 pub returns-then-drops-clause-book : goal.returns-then-drops-clause-book
 returns-then-drops-clause-book c =
