@@ -5,7 +5,8 @@ Usage: tests/docs.py BINARY
        tests/docs.py --unproved
 
 With --unproved the program is built without proofs, by `rt try`, which runs all commands over one
-build. It checks each access to memory as it runs and is slow, so each command is run once.
+build. It checks each access to memory as it runs and is slow, so each command is run once. A suite of a
+document's programs is left out: it prints their names, and `rt try` gives them others.
 
 In README.md and docs/*.md, fenced blocks are read by their first line:
 
@@ -152,6 +153,10 @@ class Asked:
     def __init__(self, place, words, expected, programs):
         self.place, self.words, self.expected, self.programs = place, words, expected, programs
 
+    def prints_names(self):
+        """Whether it prints the names of programs that a document shows."""
+        return self.words[:1] == ["suite"] and any(word in self.programs for word in self.words)
+
 
 class Reader:
     """Reads the documents: the commands that they show, and what is wrong in them."""
@@ -219,13 +224,15 @@ def main():
     unproved = sys.argv[1] == "--unproved"
     reader = Reader(workers=not unproved)
     reader.read()
+    all_asked = reader.asked
     if unproved:
-        answers = run_unproved(reader.asked)
+        all_asked = [asked for asked in all_asked if not asked.prints_names()]
+        answers = run_unproved(all_asked)
     else:
         binary = str(Path(sys.argv[1]).resolve())
-        answers = (run(binary, asked) for asked in reader.asked)
+        answers = (run(binary, asked) for asked in all_asked)
     faults, passed = reader.faults, 0
-    for asked, printed in zip(reader.asked, answers):
+    for asked, printed in zip(all_asked, answers):
         if printed == asked.expected:
             passed += 1
         else:
