@@ -165,7 +165,7 @@ fn check_operands(
     check_operand(scope, locals, second)
 }
 
-/// The same of an expression.
+/// Checks the names that are used in an expression.
 fn check_expr(scope: Scope<'_>, locals: &mut Vec<Vec<u8>>, expr: &Expr) -> Result<(), CheckError>
     ensures { Meets result scope.entry locals.old locals.new (expr_uses (expr_view expr.now)) }
 {
@@ -175,7 +175,7 @@ fn check_expr(scope: Scope<'_>, locals: &mut Vec<Vec<u8>>, expr: &Expr) -> Resul
     }
 }
 
-/// The same of a local and a variable.
+/// Checks the names of a local and a variable.
 fn check_load(
     scope: Scope<'_>,
     locals: &mut Vec<Vec<u8>>,
@@ -189,7 +189,7 @@ fn check_load(
     check_object(scope.tree, Kind::Variable, variable)
 }
 
-/// The same of a `store`.
+/// Checks the names that are used in a `store`.
 fn check_store(
     scope: Scope<'_>,
     locals: &mut Vec<Vec<u8>>,
@@ -203,7 +203,7 @@ fn check_store(
     check_operand(scope, locals, value)
 }
 
-/// The same of an `add`.
+/// Checks the names that are used in an `add`.
 fn check_add(
     scope: Scope<'_>,
     locals: &mut Vec<Vec<u8>>,
@@ -219,7 +219,7 @@ fn check_add(
     check_operand(scope, locals, value)
 }
 
-/// The same of a `set`.
+/// Checks the names that are used in a `set`.
 fn check_set(
     scope: Scope<'_>,
     locals: &mut Vec<Vec<u8>>,
@@ -233,7 +233,7 @@ fn check_set(
     check_expr(scope, locals, value)
 }
 
-/// The same of a `wait`, which uses no local.
+/// Checks the names that are used in a `wait`, which has no local.
 fn check_wait(tree: &Tree, condition: &Name, mutex: &Name) -> Result<(), CheckError>
     ensures { result ≡ passed (first (all_uses tree.now) []
         (object Kind.Condition (name_view condition.now) ∷ object Kind.Mutex (name_view mutex.now)
@@ -243,7 +243,7 @@ fn check_wait(tree: &Tree, condition: &Name, mutex: &Name) -> Result<(), CheckEr
     check_object(tree, Kind::Mutex, mutex)
 }
 
-/// The same of a statement.
+/// Checks the names that are used in a statement.
 #[cycle(body)]
 fn check_statement(
     scope: Scope<'_>,
@@ -294,7 +294,7 @@ fn check_statement(
     }
 }
 
-/// The same of an `if` with no `else`.
+/// Checks the names that are used in an `if` with no `else`.
 #[cycle(body)]
 #[tactic(auto, using(crate::proofs::CheckIsFault::walk_goes, crate::proofs::CheckIsFault::walk_stops))]
 fn check_if(
@@ -310,7 +310,7 @@ fn check_if(
     check_block(scope, locals, then)
 }
 
-/// The same of an `if` with an `else`.
+/// Checks the names that are used in an `if` with an `else`.
 #[cycle(body)]
 #[tactic(auto, using(crate::proofs::CheckIsFault::walk_goes, crate::proofs::CheckIsFault::walk_stops))]
 fn check_choice(
@@ -329,7 +329,7 @@ fn check_choice(
     check_block(scope, locals, other)
 }
 
-/// The same of the body of a `repeat`.
+/// Checks the names that are used in the body of a `repeat`.
 #[cycle(body)]
 fn check_repeat(
     scope: Scope<'_>,
@@ -347,7 +347,7 @@ fn check_repeat(
     check_block(inside, locals, body)
 }
 
-/// The same of a block.
+/// Checks the names that are used in a block.
 #[cycle(body)]
 fn check_block(
     scope: Scope<'_>,
