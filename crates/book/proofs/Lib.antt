@@ -9,3 +9,4 @@ pub mod PackedItems
 pub mod Swept
 pub mod TakenOver
 pub mod OpenItems
+pub mod Rounds

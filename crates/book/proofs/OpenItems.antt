@@ -29,13 +29,15 @@ open_run b l e h =
     (below_run (root_of b.program) b.open_items
     (all_left (IsBelow (root_of b.program)) b.open_items b.deferred (left_below b h))))
 
+pub waiting_run : (b : BookView) → Keeps b → All IsItem b.deferred
+waiting_run b h =
+    below_run (root_of b.program) b.deferred
+    (all_right (IsBelow (root_of b.program)) b.open_items b.deferred (left_below b h))
+
 pub deferred_run : (b : BookView) (l : ListView) → b.deferred ≡ all_of b.program l → Keeps b →
     All IsItem (items_at b.program l.packed)
 deferred_run b l e h =
-    all_left IsItem (items_at b.program l.packed) l.loose
-    (subst (All IsItem) e
-    (below_run (root_of b.program) b.deferred
-    (all_right (IsBelow (root_of b.program)) b.open_items b.deferred (left_below b h))))
+    all_left IsItem (items_at b.program l.packed) l.loose (subst (All IsItem) e (waiting_run b h))
 
 pub loose_own : (b : BookView) (l : ListView) → b.open_items ≡ all_of b.program l → Keeps b →
     AreOf b.program l.loose

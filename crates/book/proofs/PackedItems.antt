@@ -1,6 +1,6 @@
 -- Items of packed prefixes, read from the last on.
 use Rattle.std.proofs.Common.{◌≡◌, ℕ, zero, suc, Option, Some, None, Result, Ok, Err, IfSome, IfNone, IfOk, slice_get, ◌+◌, ◌-◌, ◌<◌, ◌≤◌, List, [], ◌∷◌, ◌++◌, length, get_or, take, drop, map, min, reverse, refl, ap, sym, ◌∙◌, subst, arith, append_assoc, length-append, length-take, ⊎_elim}
-use Rattle.std.specs.List.{All, remove}
+use Rattle.std.specs.List.{All}
 use Rattle.std.proofs.lemmas.List.Elements.{All-nil, All-cons, All-head, All-tail, All-weaker}
 use Rattle.std.proofs.Math.Seq.{take-suc}
 use Rattle.std.proofs.lemmas.Bool.{cases_lt}
@@ -163,14 +163,6 @@ unpacked p packed loose first =
     ∙ ap (λ is. is ++ loose)
     (ap (λ is. is ++ drop first (items_at p packed)) (sym (take-map (item_at p) first packed))
     ∙ take-append-drop first (items_at p packed))
-
-pub removed-loose : {X : Type 0} (xs ys : List X) (k : ℕ) → length xs ≤ k →
-    xs ++ remove ys (k - length xs) ≡ remove (xs ++ ys) k
-removed-loose [] ys k h = let e : k - 0 ≡ k = omega arith in ap (remove ys) e
-removed-loose (x ∷ xs) ys zero h = absurd (omega arith)
-removed-loose (x ∷ xs) ys (suc k) h =
-    let e : suc k - suc (length xs) ≡ k - length xs = omega arith in
-    ap (λ zs. x ∷ zs) (ap (λ m. xs ++ remove ys m) e ∙ removed-loose xs ys k (omega arith))
 
 pub cut-both : (p : Program) (packed : List (List ℕ)) (loose : List ItemView) (n : ℕ) →
     items_at p (take n packed) ++ take (n - length packed) loose

@@ -1,16 +1,16 @@
 -- Books of which it is known that they drop none of their open items.
-use Rattle.std.proofs.Common.{◌≡◌, ℕ, suc, Bool, true, false, cond, ◌&&◌, ◌||◌, not, List, [], ◌∷◌, ◌++◌, take, drop, None, refl, ap, ◌∙◌, sym, subst}
-use Rattle.std.specs.List.{filter, list_any}
+use Rattle.std.proofs.Common.{◌≡◌, ℕ, zero, suc, Bool, true, false, cond, ◌&&◌, ◌||◌, not, List}
+use Rattle.std.proofs.Common.{[], ◌∷◌, ◌++◌, take, drop, None, refl, ap, ◌∙◌, sym, subst}
+use Rattle.std.specs.List.{filter, list_any, remove_range}
 use Rattle.schedules.specs.Order.{lesser}
 use Rattle.summary.specs.Summaries.{join}
 use Rattle.walk.specs.Items.{ItemView}
-use Rattle.walk.specs.Walks.{WalkView}
+use Rattle.walk.specs.declared.found.Found.{Found}
 use Rattle.std.proofs.lemmas.List.Folds.{list_any-append}
 use Rattle.summary.proofs.LesserSchedules.{lesser_none}
 use Rattle.summary.proofs.SumsJoin.{join_first_bad}
-use Rattle.book.specs.Books.{BookView, IsSwept, IsOpenAt, settled, cannot_hold, drops}
+use Rattle.book.specs.Books.{BookView, IsSwept, taken_over, cannot_hold, drops}
 use Rattle.book.proofs.DroppedCounts.{IsDropped, after_drop, thinned_is}
-use Rattle.book.proofs.Lists.{parted}
 
 swept_filter : (f : ItemView → Bool) (xs : List ItemView) →
     list_any f (filter (λ i. not (f i)) xs) ≡ false
@@ -33,29 +33,39 @@ or_false : (b : Bool) → (b || false) ≡ b
 or_false true = refl
 or_false false = refl
 
--- a walk that found no bad schedule and left nothing leaves such a book as it is
-pub settled_swept : (s quiet : Bool) (b : BookView) (w : WalkView) (place : ℕ) → IsSwept s b →
-    (quiet ≡ true → (w.rest ≡ []) × (w.part.first_bad ≡ None)) → IsOpenAt b w.item place →
-    IsSwept (s && quiet) (settled b w place)
-settled_swept false quiet b w place h q at = tt
-settled_swept true false b w place h q at = tt
-settled_swept true true b w place h q at =
+-- walks that found no bad schedule and left nothing leave such a book as it is
+pub taken_swept : (s quiet : Bool) (b : BookView) (first end : ℕ) (found : Found) → IsSwept s b →
+    (quiet ≡ true → (found.rest.items ≡ []) × (found.part.first_bad ≡ None)) →
+    IsSwept (s && quiet) (taken_over b first end found)
+taken_swept false quiet b first end found h q = tt
+taken_swept true false b first end found h q = tt
+taken_swept true true b first end found h q =
     let r = q refl in
-    let same : (join b.finished w.part).first_bad ≡ b.finished.first_bad =
-    join_first_bad b.finished w.part
+    let same : (join b.finished found.part).first_bad ≡ b.finished.first_bad =
+    join_first_bad b.finished found.part
     ∙ (ap (lesser b.finished.first_bad) r.1 ∙ lesser_none b.finished.first_bad) in
-    let left : List ItemView = take place b.open_items in
-    let right : List ItemView = drop (suc place) b.open_items in
-    let old : (list_any (drops b) left || (drops b w.item || list_any (drops b) right)) ≡ false =
-    sym (list_any-append (drops b) left (w.item ∷ right))
-    ∙ (ap (list_any (drops b)) (sym (parted b.open_items place w.item at.0 at.1)) ∙ h) in
-    (λ k. list_any (λ i. b.quick && cannot_hold (same k) i) ((left ++ right) ++ r.0 k))
-    ∙ (list_any-append (drops b) (left ++ right) []
-    ∙ (or_false (list_any (drops b) (left ++ right))
-    ∙ (list_any-append (drops b) left right
-    ∙ go (list_any (drops b) left) (drops b w.item) (list_any (drops b) right) old)))
+    (λ k. list_any (λ i. b.quick && cannot_hold (same k) i)
+    (remove_range b.open_items first end ++ r.0 k))
+    ∙ (list_any-append (drops b) (remove_range b.open_items first end) []
+    ∙ (or_false (list_any (drops b) (remove_range b.open_items first end))
+    ∙ (list_any-append (drops b) (take first b.open_items) (drop end b.open_items)
+    ∙ (λ k. any_first first b.open_items h k || any_after end b.open_items h k))))
   where
-    go : (x y z : Bool) → (x || (y || z)) ≡ false → (x || z) ≡ false
-    go true y z e = cc
-    go false true z e = cc
-    go false false z e = e
+    both_false : (x y : Bool) → (x || y) ≡ false → (x ≡ false) × (y ≡ false)
+    both_false true y e = cc
+    both_false false y e = (refl, e)
+
+    any_first : (n : ℕ) (xs : List ItemView) → list_any (drops b) xs ≡ false →
+        list_any (drops b) (take n xs) ≡ false
+    any_first zero xs e = refl
+    any_first (suc n) [] e = refl
+    any_first (suc n) (x ∷ xs) e =
+        let f = both_false (drops b x) (list_any (drops b) xs) e in
+        λ k. f.0 k || any_first n xs f.1 k
+
+    any_after : (n : ℕ) (xs : List ItemView) → list_any (drops b) xs ≡ false →
+        list_any (drops b) (drop n xs) ≡ false
+    any_after zero xs e = e
+    any_after (suc n) [] e = refl
+    any_after (suc n) (x ∷ xs) e =
+        any_after n xs (both_false (drops b x) (list_any (drops b) xs) e).1

@@ -1,7 +1,7 @@
 -- Lists that grow by what a walk left, and shrink again where a later step is refused.
 use Rattle.std.specs.declared.alloc.AllocError.{AllocError}
-use Rattle.std.proofs.Common.{◌≡◌, ℕ, zero, suc, ◌<◌, ◌≤◌, Bool, true, false, Option, None, List, [], ◌∷◌, ◌++◌, length, take, refl, ap, sym, ◌∙◌, subst, arith, append_assoc, Result, Ok, Err, OnOk, is_ok, if◌then◌else◌}
-use Rattle.std.specs.List.{remove}
+use Rattle.std.proofs.Common.{◌≡◌, ℕ, suc, ◌≤◌, Bool, true, false, Option, None, List, [], ◌∷◌, ◌++◌, length, take, refl, ap, sym, ◌∙◌, arith, append_assoc, Result, Ok, Err, OnOk, is_ok, if◌then◌else◌}
+use Rattle.std.specs.List.{remove_range}
 use Rattle.std.proofs.lemmas.List.{take_at}
 use Rattle.schedules.specs.Order.{lesser}
 use Rattle.guest_code.specs.Program.{Program}
@@ -10,7 +10,8 @@ use Rattle.walk.specs.Items.{ItemView}
 use Rattle.walk.specs.declared.found.Found.{Found}
 use Rattle.walk.specs.Walks.{items_at, found_walk}
 use Rattle.book.specs.ItemLists.{ListView, all_of}
-use Rattle.book.specs.Books.{BookView, IsFoundAt, HasWalkedAt, settled, settled_found}
+use Rattle.book.specs.Books.{BookView, settled, taken_over}
+use Rattle.book.proofs.Lists.{range_left}
 
 pub loose_only : (p : Program) (l : ListView) → l.packed ≡ [] → all_of p l ≡ l.loose
 loose_only p l e = ap (λ ws. items_at p ws ++ l.loose) e
@@ -27,11 +28,23 @@ pub taken_back : {X : Type 0} (before rest after cut : List X) (n : ℕ) → aft
 taken_back before rest after cut n e f g =
     g ∙ (ap (take n) e ∙ take_at before rest n (sym f))
 
-pub removed-left : {X : Type 0} (xs ys : List X) (k : ℕ) → k < length xs →
-    remove (xs ++ ys) k ≡ remove xs k ++ ys
-removed-left [] ys k h = absurd (omega arith)
-removed-left (x ∷ xs) ys zero h = refl
-removed-left (x ∷ xs) ys (suc k) h = ap (λ zs. x ∷ zs) (removed-left xs ys k (omega arith))
+-- the open items are as before where those that came are cut off again
+pub given_back : (p : Program) (unpacked more cut : ListView) (items rest : List ItemView) (n : ℕ) →
+    all_of p unpacked ≡ items → more.packed ≡ unpacked.packed → more.loose ≡ unpacked.loose ++ rest →
+    n ≡ length (all_of p unpacked) → all_of p cut ≡ take n (all_of p more) → all_of p cut ≡ items
+given_back p unpacked more cut items rest n same packed loose len is =
+    taken_back (all_of p unpacked) rest (all_of p more) (all_of p cut) n
+    (grown p unpacked more rest packed loose) len is ∙ same
+
+-- those in a range are out, and those that came are in
+pub open_taken : (p : Program) (unpacked more out : ListView) (items rest : List ItemView)
+    (first end : ℕ) → all_of p unpacked ≡ items → more.packed ≡ unpacked.packed →
+    more.loose ≡ unpacked.loose ++ rest →
+    all_of p out ≡ remove_range (all_of p more) first end → first ≤ end → end ≤ length items →
+    all_of p out ≡ remove_range items first end ++ rest
+open_taken p unpacked more out items rest first end same packed loose is from to =
+    is ∙ (ap (λ xs. remove_range xs first end) (grown p unpacked more rest packed loose
+    ∙ ap (λ xs. xs ++ rest) same) ∙ range_left items rest first end from to)
 
 pub same_book : (b : BookView) (finished : SummaryView) (open_items deferred : List ItemView) →
     finished ≡ b.finished → open_items ≡ b.open_items → deferred ≡ b.deferred →
@@ -39,28 +52,13 @@ pub same_book : (b : BookView) (finished : SummaryView) (open_items deferred : L
 same_book b finished open_items deferred e f g =
     λ k. record b { finished = e k; open_items = f k; deferred = g k }
 
--- what a walk found settles it
-pub settled_by_found : (b : BookView) (found : Found) (place : ℕ) (is : IsFoundAt b found place) →
-    settled_found b found place ≡ settled b (found_walk b.mode is.item found) place
-settled_by_found b found place is = λ k. record (settled_found b found place) {
-  deferred = b.deferred ++ items_at (is.program k) found.deferred;
+-- what a walk found settles its item
+pub settled_by_found : (b : BookView) (i : ItemView) (found : Found) (place end : ℕ) →
+    b.program ≡ i.program → end ≡ suc place →
+    taken_over b place end found ≡ settled b (found_walk b.mode i found) place
+settled_by_found b i found place end of e = λ k. record (taken_over b place (e k) found) {
+  deferred = b.deferred ++ items_at (of k) found.deferred;
 }
-
--- an open item was walked where it stands, and what was found is settled
-pub walked_at : (old b new : BookView) (found : Found) (place quota : ℕ) → b ≡ old →
-    IsFoundAt b found place → found.part.tried ≤ quota →
-    (found.part.tried < quota → found.rest.items ≡ []) → new ≡ settled_found b found place →
-    HasWalkedAt old place quota new
-walked_at old b new found place quota same is tried rest e =
-    subst (λ (z : BookView). HasWalkedAt z place quota new) same (record {
-      walk = found_walk b.mode is.item found;
-      of = (refl, is.program);
-      is_open = is.is_open;
-      walked = is.walked;
-      tried = tried;
-      rest = rest;
-      book = e ∙ settled_by_found b found place is;
-    })
 
 pub on_settled : (r : Result (Unit {0}) AllocError) (new then_new else_new : BookView)
     (P : Type 0) → new ≡ (if is_ok r then then_new else else_new) → (new ≡ then_new → P) → OnOk r P

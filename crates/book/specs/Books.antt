@@ -1,9 +1,9 @@
 -- What a book keeps, and what its calls do.
-use Rattle.std.specs.Prelude.{◌≡◌, ℕ, ◌<◌, ◌≤◌, ◌+◌, Bool, true, false, not, ◌||◌, ◌&&◌, List, [], ◌∷◌, ◌++◌, length, filter, Option, Some, None, slice_get, All}
+use Rattle.std.specs.Prelude.{◌≡◌, ℕ, zero, suc, ◌<◌, ◌≤◌, ◌+◌, ◌-◌, min, Bool, true, false, not, ◌||◌, ◌&&◌, List, [], ◌∷◌, ◌++◌, length, filter, Option, Some, None, slice_get, All}
 use Rattle.std.specs.declared.alloc.Global.{Global}
 use Rattle.std.specs.declared.sync.Arc.{Arc}
 use Rattle.std.specs.Arc.{arc_value}
-use Rattle.std.specs.List.{remove, list_any}
+use Rattle.std.specs.List.{remove, remove_range, list_any}
 use Rattle.guest_code.specs.Program.{Program}
 use Rattle.schedules.specs.Order.{precedes}
 use Rattle.schedules.specs.Schedules.{begins_with}
@@ -14,6 +14,7 @@ use Rattle.summary.specs.Summaries.{SummaryView, nothing, join, with_beyond}
 use Rattle.walk.specs.Items.{ItemView, root_of, schedules_of}
 use Rattle.walk.specs.declared.found.Found.{Found}
 use Rattle.walk.specs.Walks.{WalkView, IsSplit, IsWalked, items_at, found_walk}
+use Rattle.book.specs.declared.limits.TheConstants.{ROUND}
 use Rattle.book.specs.Quick.{is_later}
 use Rattle.book.specs.ItemLists.{ListView, all_of}
 use Rattle.book.specs.declared.errors.SettleError.{SettleError}
@@ -140,6 +141,19 @@ pub record HasWalkedAt (old : BookView) (place quota : ℕ) (new : BookView) : T
   pub rest : walk.part.tried < quota → walk.rest ≡ []
   pub book : new ≡ settled old walk place
 
+-- so it was, so many times in turn
+abbrev pub HaveWalked : ℕ → BookView → ℕ → ℕ → BookView → Type 0
+HaveWalked zero old place quota new = new ≡ old
+HaveWalked (suc n) old place quota new =
+    (between : BookView) × HaveWalked n old place quota between
+    × HasWalkedAt between place quota new
+
+-- the last open items, at most as many as a round has, were walked in their order, and the walks
+-- were settled
+abbrev pub HasWalkedRound : BookView → ℕ → BookView → Type 0
+HasWalkedRound old quota new =
+    HaveWalked (min (length old.open_items) ROUND) old (length old.open_items - ROUND) quota new
+
 -- a walk of the open item at this place, in the book's mode, found this
 pub record IsFoundAt (b : BookView) (found : Found) (place : ℕ) : Type 0 where
   pub item : ItemView
@@ -147,11 +161,11 @@ pub record IsFoundAt (b : BookView) (found : Found) (place : ℕ) : Type 0 where
   pub is_open : IsOpenAt b item place
   pub walked : IsWalked (found_walk b.mode item found)
 
--- the book where such a walk is settled
-abbrev pub settled_found : BookView → Found → ℕ → BookView
-settled_found b found place = record b {
+-- the book where what walks of the open items in a range of places found is settled
+abbrev pub taken_over : BookView → ℕ → ℕ → Found → BookView
+taken_over b first end found = record b {
   finished = join b.finished found.part;
-  open_items = remove b.open_items place ++ found.rest.items;
+  open_items = remove_range b.open_items first end ++ found.rest.items;
   deferred = b.deferred ++ items_at b.program found.deferred;
 }
 

@@ -1,6 +1,6 @@
 //! Books.
 
-ghost use Rattle.std.specs.Prelude.{true, false, None, count_by, ◌≡◌, ◌<◌, ◌≤◌, ◌+◌, ◌-◌, ◌&&◌, ◌↔◌, [], length, drop, is_ok, if◌then◌else◌, IfOk, OnOk, IfErr, IfSome, IfNone, IsTrue, slice_get, Some, All};
+ghost use Rattle.std.specs.Prelude.{suc, true, false, None, count_by, ◌≡◌, ◌<◌, ◌≤◌, ◌+◌, ◌-◌, ◌&&◌, ◌↔◌, [], length, drop, is_ok, if◌then◌else◌, IfOk, OnOk, IfErr, IfSome, IfNone, IsTrue, slice_get, Some, All};
 ghost use Rattle.std.specs.Arc.{arc_value};
 ghost use Rattle.walk.specs.declared.limits.TheConstants.{BOUND};
 ghost use Rattle.walk.specs.declared.mode.Mode.TheVariants.{Bounded};
@@ -8,7 +8,7 @@ ghost use Rattle.walk.specs.Items.{whole, AreOf};
 ghost use Rattle.walk.specs.Walks.{IsWalked, found_walk};
 ghost use Rattle.book.specs.declared.limits.TheConstants.{ROUND};
 ghost use Rattle.book.specs.Quick.{IsBoundedBy};
-ghost use Rattle.book.specs.Books.{Keeps, drops, thinned, opening, IsWalkOf, IsFoundAt, HasWalkedAt, settled_found, Settles, IsRefused, Raises, IsNotRaised, IsClosed, bound_of};
+ghost use Rattle.book.specs.Books.{Keeps, drops, thinned, opening, IsWalkOf, IsFoundAt, HasWalkedRound, taken_over, Settles, IsRefused, Raises, IsNotRaised, IsClosed, bound_of};
 
 use crate::errors::{RaiseError, SettleError};
 use crate::item_list::{ItemList, is_later};
@@ -330,7 +330,7 @@ impl Book {
             return Err(SettleError::NotOpen);
         };
         let mut found = walked.into_found();
-        match self.take_over(alloc, &mut found, place) {
+        match self.settle_at(alloc, &mut found, place) {
             Ok(()) => Ok(()),
             Err(AllocError) => Err(SettleError::OutOfMemory),
         }
@@ -360,45 +360,14 @@ impl Book {
         let Some(place) = self.open_items.place_of(item) else {
             return Err(SettleError::NotOpen);
         };
-        match self.take_over(alloc, found, place) {
+        match self.settle_at(alloc, found, place) {
             Ok(()) => Ok(()),
             Err(AllocError) => Err(SettleError::OutOfMemory),
         }
     }
 
-    /// Walks the open item at a place, counted from 0, where it stands, and settles the walk: no
-    /// item is copied. What the walk found is kept in this memory, which serves one walk after
-    /// another.
-    ///
-    /// # Errors
-    ///
-    /// `AllocError` where memory runs out. The book is as before then, and the item has to be walked
-    /// again.
-    pub fn walk_at(
-        &mut self,
-        alloc: Global,
-        walker: &mut Walker,
-        found: &mut Found,
-        place: usize,
-        quota: u32,
-    ) -> Result<(), AllocError>
-        requires place { place < length self.old.open_items }
-        requires walker { walker.old ≡ self.old.program }
-        requires quota { 1 ≤ quota }
-        ensures walker { walker.new ≡ walker.old }
-        ensures ok { OnOk result (HasWalkedAt self.old place quota self.new) }
-        ensures err { IfErr result (λ _. self.new ≡ self.old) }
-    {
-        self.open_items.unpack_from(alloc, &self.program, place)?;
-        let item = self.open_items.loose_item(place);
-        walker.walk_into(alloc, found, item, self.mode, quota)?;
-        self.take_over(alloc, found, place)
-    }
-
-    // Settles a walk of the open item at a place, of which the memory is left. The lists grow
-    // first; then the part is joined, which is the last that can be refused, and the item is taken
-    // out.
-    fn take_over(
+    // Settles what a walk of the open item at a place found.
+    fn settle_at(
         &mut self,
         alloc: Global,
         found: &mut Found,
@@ -406,11 +375,63 @@ impl Book {
     ) -> Result<(), AllocError>
         requires { IsFoundAt self.old found.old place }
         ensures { self.new ≡ (if is_ok result
-            then settled_found self.old found.old place else self.old) }
+            then taken_over self.old place (suc place) found.old else self.old) }
+    {
+        let _open = self.open_length();
+        self.take_over(alloc, found, place, place + 1)
+    }
+
+    /// Walks the last open items, at most `ROUND`, in their order, each where it stands, and settles
+    /// the walks at once: no item is copied. What the walks found is kept in this memory, which
+    /// serves one round after another.
+    ///
+    /// # Errors
+    ///
+    /// `AllocError` where memory runs out. The book is as before then, and the items have to be walked
+    /// again.
+    pub fn walk_round(
+        &mut self,
+        alloc: Global,
+        walker: &mut Walker,
+        found: &mut Found,
+        quota: u32,
+    ) -> Result<(), AllocError>
+        requires walker { walker.old ≡ self.old.program }
+        requires quota { 1 ≤ quota }
+        ensures walker { walker.new ≡ walker.old }
+        ensures ok { OnOk result (HasWalkedRound self.old quota self.new) }
+        ensures err { IfErr result (λ _. self.new ≡ self.old) }
+    {
+        let end = self.open_items.length();
+        let first = end.saturating_sub(ROUND);
+        self.open_items.unpack_from(alloc, &self.program, first)?;
+        walker.clear(found);
+        for place in first..end {
+            let item = self.open_items.loose_item(place);
+            walker.walk_on(alloc, found, item, self.mode, quota)?;
+        }
+        self.take_over(alloc, found, first, end)
+    }
+
+    // Settles what walks of the open items in a range of places found, of which the memory is left.
+    // The lists grow first; then the sum is joined, which is the last that can be refused, and the
+    // items are taken out.
+    fn take_over(
+        &mut self,
+        alloc: Global,
+        found: &mut Found,
+        first: usize,
+        end: usize,
+    ) -> Result<(), AllocError>
+        requires range { first ≤ end }
+        requires end { end ≤ length self.old.open_items }
+        requires keeps { Keeps (taken_over self.old first end found.old) }
+        ensures { self.new ≡ (if is_ok result
+            then taken_over self.old first end found.old else self.old) }
     {
         let packs = is_packed(self.quick, &self.finished, &found.part);
         self.open_items
-            .unpack_from(alloc, &self.program, first_loose(packs, place))?;
+            .unpack_from(alloc, &self.program, first_loose(packs, first))?;
         let deferred_length = self.deferred.length();
         self.deferred
             .unpack_from(alloc, &self.program, first_loose(packs, deferred_length))?;
@@ -429,7 +450,7 @@ impl Book {
             self.deferred.truncate(deferred_length);
             return Err(error);
         }
-        self.open_items.remove(place);
+        self.open_items.remove(first, end);
         self.swept = both(self.swept, quiet);
         Ok(())
     }
@@ -511,7 +532,7 @@ fn both(first: bool, second: bool) -> bool
     first && second
 }
 
-// Whether a walk found no bad schedule and left nothing.
+// Whether walks found no bad schedule and left nothing.
 fn is_quiet(found: &Found) -> bool
     ensures { IsTrue result → (found.now.rest.items ≡ []) × (found.now.part.first_bad ≡ None) }
 {

@@ -2,7 +2,7 @@
 
 ghost use Rattle.std.specs.Prelude.{◌≡◌, ℕ, ◌+◌, ◌-◌, ◌<◌, ◌≤◌, ◌↔◌, [], ◌++◌, ◌∷◌, false, not, max, length, vec_len, take, drop, filter, count_by, is_ok, if◌then◌else◌, IfOk, OnOk, IfSome, IfNone, IsTrue, Some, slice_get, slice_index_or, All};
 ghost use Rattle.std.specs.Arc.{arc_value};
-ghost use Rattle.std.specs.List.{remove};
+ghost use Rattle.std.specs.List.{remove_range};
 ghost use Rattle.guest_code.specs.Program.{Program};
 ghost use Rattle.walk.specs.Items.{ItemView, AreOf, IsItem};
 ghost use Rattle.walk.specs.Walks.{items_at};
@@ -194,19 +194,18 @@ impl ItemList {
         Ok(())
     }
 
-    // Takes out an item that isn't packed.
-    pub(crate) fn remove(&mut self, place: usize)
-        requires loose { length self.old.packed ≤ place }
-        requires place { place < length self.old.packed + length self.old.loose }
+    // Takes out the items from one place to another, which aren't packed.
+    pub(crate) fn remove(&mut self, first: usize, end: usize)
+        requires loose { length self.old.packed ≤ first }
+        requires range { first ≤ end }
+        requires end { end ≤ length self.old.packed + length self.old.loose }
         ensures items { (p : Program) →
-            all_of p self.new ≡ remove (all_of p self.old) place }
+            all_of p self.new ≡ remove_range (all_of p self.old) first end }
         ensures packed { self.new.packed ≡ self.old.packed }
     {
-        let place = place - self.packed.length();
-        let Some(_item) = self.loose.remove(place) else {
-            unreachable!()
-        };
-        self.hint = place;
+        let packed = self.packed.length();
+        self.loose.drain(first - packed..end - packed);
+        self.hint = first - packed;
     }
 
     // Puts items after the others. Mostly there is none.

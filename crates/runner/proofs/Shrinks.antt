@@ -1,5 +1,5 @@
 -- A settled walk leaves less to walk.
-use Rattle.std.proofs.Common.{◌≡◌, ℕ, suc, Bool, true, false, cond, not, ◌||◌, ◌+◌, ◌-◌, ◌*◌, ◌^◌, ◌<◌, ◌≤◌}
+use Rattle.std.proofs.Common.{◌≡◌, ℕ, zero, suc, min, Bool, true, false, cond, not, ◌||◌, ◌+◌, ◌-◌, ◌*◌, ◌^◌, ◌<◌, ◌≤◌}
 use Rattle.std.proofs.Common.{◌⊎◌, inl, inr, ⊎_elim, List, [], ◌∷◌, ◌++◌, length, get_or, take, drop}
 use Rattle.std.proofs.Common.{refl, ap, sym, ◌∙◌, subst, arith, Ok, length-append, length-drop}
 use Rattle.std.specs.List.{All, remove, filter, list_any}
@@ -14,7 +14,9 @@ use Rattle.summary.specs.Summaries.{cut}
 use Rattle.walk.specs.Items.{ItemView, schedule_count, schedules_of}
 use Rattle.walk.specs.Walks.{WalkView, IsWalked, tried_by}
 use Rattle.walk.proofs.WalkedItems.{walked_counts, walked_count}
-use Rattle.book.specs.Books.{BookView, Settles, HasWalkedAt, drops, thinned}
+use Rattle.book.specs.Books.{BookView, Settles, HasWalkedAt, HaveWalked, HasWalkedRound}
+use Rattle.book.specs.Books.{drops, thinned}
+use Rattle.book.specs.declared.limits.TheConstants.{ROUND}
 use Rattle.book.proofs.DroppedCounts.{nothing_dropped}
 use Rattle.book.proofs.Lists.{parted}
 use Rattle.runner.specs.inner.Shrinking.{IsSmaller, HasLess, Went, Goes}
@@ -87,20 +89,6 @@ walked_less old new place quota some h =
     (record { of = h.of; place = place; is_open = h.is_open; book = h.book }) h.walked
     (walk_ends h.walk quota some h.walked h.rest)
 
--- as many items are open then, but for one
-pub walked_length : (old new : BookView) (place quota : ℕ) → HasWalkedAt old place quota new
-    → length old.open_items ≤ suc (length new.open_items)
-walked_length old new place quota h =
-    let is = parted old.open_items place h.walk.item h.is_open.0 h.is_open.1 in
-    let before = take place old.open_items in
-    let after = drop (suc place) old.open_items in
-    let n = ap (length {A = ItemView}) is in
-    let m = ap (λ (b : BookView). length b.open_items) h.book in
-    let x = length-append before (h.walk.item ∷ after) in
-    let y = length-append before after in
-    let z = length-append (before ++ after) h.walk.rest in
-    omega (arith, n, m, x, y, z)
-
 smaller_again : (mode : Mode) (a b c : List ItemView) → IsSmaller mode b a → IsSmaller mode c b
     → IsSmaller mode c a
 smaller_again mode a b c x y =
@@ -128,23 +116,28 @@ round_less old book new item j start less went k inside at = dite (ℕ_discrete 
     (λ n. let l : HasLess old book = less (omega arith) in
     ⊎_elim (λ q. less_again old book new l q) (λ t. subst (HasLess old) (sym t.book) l) went)
 
--- one more item of a round was walked where it stands
-pub walked_again : (old book new : BookView) (first j place quota : ℕ) → first ≤ j
-    → (j ≡ first → book ≡ old) → (first < j → HasLess old book) → 1 ≤ quota
-    → HasWalkedAt book place quota new → HasLess old new
-walked_again old book new first j place quota from start less some walked =
-    let l = walked_less book new place quota some walked in
-    dite (ℕ_discrete j first)
-    (λ e. subst (λ (b : BookView). HasLess b new) (start e) l)
-    (λ n. less_again old book new (less (omega (arith, n, from))) l)
+-- so many open items were walked, the first ones of a round
+walked_on : (n : ℕ) (old new : BookView) (place quota : ℕ) → 1 ≤ quota
+    → HaveWalked (suc n) old place quota new → HasLess old new
+walked_on zero old new place quota some (between, before, walked) =
+    subst (λ (b : BookView). HasLess b new) before (walked_less between new place quota some walked)
+walked_on (suc n) old new place quota some (between, before, walked) =
+    less_again old between new (walked_on n old between place quota some before)
+    (walked_less between new place quota some walked)
 
--- all items of a round were walked where they stand
-pub round_walked : (old book : BookView) (n first j : ℕ) → n ≡ length old.open_items
-    → first ≡ n - 64 → first ≤ j → n ≤ j → (j ≡ first → book ≡ old) → (first < j → HasLess old book)
-    → Goes old book
-round_walked old book n first j is last from all start less = dite (ℕ_discrete j first)
-    (λ e. inr (start e, nil_from_length old.open_items (omega (arith, is, last, all, e))))
-    (λ d. inl (less (omega (arith, d, from))))
+-- all items of a round were walked
+pub round_walked : (old new : BookView) (quota : ℕ) → 1 ≤ quota → HasWalkedRound old quota new
+    → Goes old new
+round_walked old new quota some h = go (min (length old.open_items) ROUND) refl h
+  where
+    go : (n : ℕ) → n ≡ min (length old.open_items) ROUND
+        → HaveWalked n old (length old.open_items - ROUND) quota new → Goes old new
+    go zero is h = inr (h, nil_from_length old.open_items (none (length old.open_items) is))
+      where
+        none : (k : ℕ) → 0 ≡ min k 64 → k ≡ 0
+        none k e = grind (arith, e)
+    go (suc n) is h =
+        inl (walked_on n old new (length old.open_items - ROUND) quota some h)
 
 -- an item of the last ones is at a place among all
 pub last_at : (open_items items : List ItemView) (first j : ℕ) (item : ItemView)

@@ -12,7 +12,6 @@ ghost use Rattle.runner.specs.inner.Shrinking.{Went, Goes};
 use crate::judge::{Next, Stage, judge};
 use book::books::Book;
 use book::errors::{RaiseError, SettleError};
-use book::limits::ROUND;
 use guest_code::program::Program;
 use report::{ExploreError, Options, Progress, Report, Search};
 use std::alloc::Global;
@@ -115,28 +114,6 @@ impl Lone {
         Ok(())
     }
 
-    // Walks the items of a round in their order, each where it stands: those before it have left the
-    // book, and what they left stands after the round.
-    fn walk_in_place(
-        &mut self,
-        alloc: Global,
-        book: &mut Book,
-        quota: u32,
-    ) -> Result<(), ExploreError>
-        requires quota { 1 ≤ quota }
-        requires book { book.old.program ≡ self.old.walker }
-        ensures walker { self.new.walker ≡ self.old.walker }
-        ensures book { OnOk result (Goes book.old book.new) }
-        ensures error { IfErr result (λ e. e ≡ OutOfMemory) }
-    {
-        let length = book.open_length();
-        let first = length.saturating_sub(ROUND);
-        for _ in first..length {
-            book.walk_at(alloc, &mut self.walker, &mut self.found, first, quota)?;
-        }
-        Ok(())
-    }
-
     // Walks the items of a round in their order.
     fn walk_round(&mut self, alloc: Global, book: &mut Book, quota: u32) -> Result<(), ExploreError>
         requires quota { 1 ≤ quota }
@@ -148,7 +125,8 @@ impl Lone {
         if book.is_quick() {
             self.walk_copies(alloc, book, quota)
         } else {
-            self.walk_in_place(alloc, book, quota)
+            book.walk_round(alloc, &mut self.walker, &mut self.found, quota)?;
+            Ok(())
         }
     }
 }
@@ -218,19 +196,40 @@ pub(crate) fn search_alone<G: Gate>(
     ensures report { IfOk result (IsReport false (arc_value program.now) options) }
     ensures error { IfErr result (λ e. e ≡ OutOfMemory) }
 {
-    let mut mode = first_mode(options.search);
+    let mode = first_mode(options.search);
     let mut book = open_book(alloc, program, mode, options.quick)?;
     let mut lone = Lone {
         walker: Walker::new(alloc, Arc::try_clone(program)?)?,
         found: Found::new(alloc),
     };
+    let stage = Stage {
+        program,
+        options,
+        mode,
+    };
+    search_bounds(alloc, stage, &mut book, &mut lone, gate)
+}
+
+// The search from a stage on, bound after bound.
+fn search_bounds<G: Gate>(
+    alloc: Global,
+    stage: Stage<'_>,
+    book: &mut Book,
+    lone: &mut Lone,
+    gate: &G,
+) -> Result<Report, ExploreError>
+    requires search { IsSearch stage.options.search }
+    requires quota { 1 ≤ stage.options.quota }
+    requires stage { IsStage stage.program.now stage.options.search stage.mode }
+    requires of { IsOf book.old stage.program.now stage.mode stage.options.quick }
+    requires walker { lone.old.walker ≡ stage.program.now }
+    ensures report { let s = stage.entry in
+        IfOk result (IsReport false s.program.now s.options) }
+    ensures error { IfErr result (λ e. e ≡ OutOfMemory) }
+{
+    let mut mode = stage.mode;
     loop {
-        let stage = Stage {
-            program,
-            options,
-            mode,
-        };
-        match search_mode(alloc, stage, &mut book, &mut lone, gate)? {
+        match search_mode(alloc, Stage { mode, ..stage }, book, lone, gate)? {
             Next::Answer(report) => return Ok(report),
             Next::Raise => match book.raise() {
                 Ok(()) => mode = book.mode(),

@@ -1,13 +1,12 @@
 -- What arriving at a node does to a walk: the node gives way to its children, or is tried.
-use Rattle.std.proofs.Common.{◌≡◌, ℕ, ◌+◌, ◌-◌, ◌<◌, ◌≤◌, Bool, true, false, ◌&&◌, ◌||◌, not}
-use Rattle.std.proofs.Common.{nat_eq, List, [], ◌∷◌, ◌++◌, length, take, map, ap, refl, ◌∙◌, sym}
-use Rattle.std.proofs.Common.{arith, subst, min, Some}
+use Rattle.std.proofs.Common.{◌≡◌, ℕ, ◌+◌, ◌-◌, ◌≤◌, true, false, ◌&&◌, ◌||◌, not}
+use Rattle.std.proofs.Common.{List, [], ◌∷◌, ◌++◌, length, take, map, ap, refl, ◌∙◌, sym}
+use Rattle.std.proofs.Common.{arith, subst, min, append_assoc}
 use Rattle.std.specs.List.{filter}
 use Rattle.guest_code.specs.Program.{Program}
 use Rattle.semantics.specs.Reachable.{IsOf}
-use Rattle.semantics.specs.Machine.{Snapshot, is_enabled}
+use Rattle.semantics.specs.Machine.{is_enabled}
 use Rattle.semantics.specs.Ends.{is_terminal, is_empty, view_at}
-use Rattle.schedules.specs.Order.{end_of}
 use Rattle.semantics.specs.View.{View}
 use Rattle.semantics.specs.Mask.{has, members_from, no_threads, HasEnabled}
 use Rattle.semantics.specs.declared.mask.Mask.{Mask}
@@ -17,16 +16,17 @@ use Rattle.walk.specs.declared.path.Node.{Node}
 use Rattle.walk.specs.declared.path.Path.{Path}
 use Rattle.walk.specs.declared.found.Found.{Found}
 use Rattle.summary.specs.Summaries.{SummaryView, with_beyond, greatest_count, added}
-use Rattle.walk.specs.Items.{ItemView, IsItem, item_at}
-use Rattle.walk.specs.Walks.{IsWalked}
+use Rattle.walk.specs.Items.{ItemView, IsItem}
+use Rattle.walk.specs.Walks.{IsWalked, items_at}
 use Rattle.walk.specs.inner.Children.{state_of, IsWithin, is_kept_step, kept_steps, past_steps}
-use Rattle.walk.specs.inner.Children.{passes_bound, child_of, children_of, children, past_children}
+use Rattle.walk.specs.inner.Children.{passes_bound, child_of, children_of, children}
 use Rattle.walk.specs.inner.Children.{mask_after, cost_of, costs}
 use Rattle.walk.specs.inner.Paths.{used_frames, IsNode, IsPath, state_at}
 use Rattle.walk.specs.inner.WalkerInvariant.{item_of, here, left_above, still_open, turns_left}
 use Rattle.walk.specs.inner.WalkerInvariant.{turns_from, turns_into, is_kept_at, is_past_at}
 use Rattle.walk.specs.inner.WalkerInvariant.{IsWithinAt, IsSpent, IsAwake, open_from, IsPlace}
-use Rattle.walk.specs.inner.WalkerInvariant.{IsSearch, IsShared, IsGone, IsKept, IsOpened}
+use Rattle.walk.specs.inner.WalkerInvariant.{IsWalkedOn, IsSearch, IsGone, IsKept, IsOpened}
+use Rattle.walk.specs.inner.WalkerInvariant.{open_here, open_below}
 use Rattle.std.proofs.lemmas.List.{append-nil}
 use Rattle.std.proofs.Math.Bool.{or-false}
 use Rattle.semantics.proofs.Masks.{empty_has, members_over}
@@ -34,8 +34,8 @@ use Rattle.walk.proofs.SharedSteps.{shared_same, shared_kept, shared_entered, sh
 use Rattle.walk.proofs.PathSteps.{path_same}
 use Rattle.walk.proofs.WalkTurns.{step_enabled, kept_members, past_members, node_enabled}
 use Rattle.walk.proofs.WalkTurns.{deferred_are}
-use Rattle.walk.proofs.WalkSteps.{walk_of, first_open, walked_leaf, walked_node, over_none}
-use Rattle.walk.proofs.WalkSteps.{over_some}
+use Rattle.walk.proofs.WalkSteps.{walk_of, first_on, own_kept, join_beyond_on, leaf_on}
+use Rattle.walk.proofs.WalkSteps.{walked_node, over_none, over_some}
 use Rattle.walk.proofs.Turns.{costs-append, cost_two, children_cost, child_less}
 
 -- these are enabled where it stands
@@ -132,115 +132,112 @@ none_kept mode p t e h on none =
     ap (λ (ts : List ℕ). children_of mode (here p t) (filter (is_kept_step mode (here p t)) ts))
     (sym (node_enabled p t.steps.items e on (of_here p t h)) ∙ none)
 
+-- other threads are still to be tried
+pub search_turned : {b : Found} (mode : Mode) (i : ItemView) (old new : Path) (f : Found)
+    (rest others : List ItemView) → IsSearch b mode i old f rest → IsTurned old new
+    → new.depth ≤ length new.frames.items → rest ≡ others → IsSearch b mode i new f others
+search_turned {b} mode i old new f rest others h o room same = record {
+  place = place_turned i.program old new h.place o room;
+  walked = subst (IsWalkedOn b mode i f) same h.walked;
+  shared = shared_same old.steps.items new.steps.items f h.shared o.steps;
+}
+
 -- a node where something is enabled gives way to its children
-pub put_off : (mode : Mode) (i : ItemView) (t : Path) (f g : Found) (e past : Mask) →
-    IsSearch mode i t f (here i.program t ∷ left_above mode i.program t) → AreOn i.program t e →
+pub put_off : {b : Found} (mode : Mode) (i : ItemView) (t : Path) (f g : Found) (e past : Mask) →
+    IsWalkedOn b mode i f (open_here mode i.program t) → IsPath i.program t → AreOn i.program t e →
     is_terminal i.program (state_of (here i.program t)) ≡ false →
     ((u : ℕ) → has past u ≡ (has e u && is_past_at mode e t.node u)) →
     g.part ≡ with_beyond f.part (f.part.beyond || not (is_empty (members_from past 0))) →
+    g.rest.items ≡ f.rest.items →
     g.deferred ≡ f.deferred ++ map (λ u. t.steps.items ++ u ∷ []) (members_from past 0) →
-    IsWalked (walk_of mode i g.part
-    (children mode (here i.program t) ++ left_above mode i.program t)
-    (map (item_at i.program) g.deferred))
-put_off mode i t f g e past h on more passed part deferred =
-    let p : Program = i.program in
-    let c : ItemView = here p t in
-    let members : members_from past 0 ≡ past_steps mode c =
-    past_members mode p t.steps.items e t.node past (node_of p t e h.place.path on)
-    (of_here p t h.place.path) passed in
-    let walked = walked_node mode i c f.part (left_above mode p t) (map (item_at p) f.deferred)
-    (of_here p t h.place.path) more h.walked in
-    let part_is : g.part ≡ with_beyond f.part (f.part.beyond || passes_bound mode c) =
-    part ∙ ap (λ (ts : List ℕ). with_beyond f.part (f.part.beyond || not (is_empty ts))) members in
-    let deferred_is : map (item_at p) g.deferred
-    ≡ map (item_at p) f.deferred ++ past_children mode c =
-    ap (map (item_at p)) (deferred ∙ ap (λ (ts : List ℕ). f.deferred
-    ++ map (λ u. t.steps.items ++ u ∷ []) ts) members)
-    ∙ deferred_are mode c f.deferred in
-    subst (λ (s : SummaryView). IsWalked
-    (walk_of mode i s (children mode c ++ left_above mode p t) (map (item_at p) g.deferred)))
-    (sym part_is)
-    (subst (λ (ds : List ItemView). IsWalked
-    (walk_of mode i (with_beyond f.part (f.part.beyond || passes_bound mode c))
-    (children mode c ++ left_above mode p t) ds))
-    (sym deferred_is) walked)
+    IsWalkedOn b mode i g (children mode (here i.program t) ++ left_above mode i.program t)
+put_off {b} mode i t f g e past h path on more passed part rest deferred = record {
+  own = with_beyond h.own (h.own.beyond || passes_bound mode c);
+  put = h.put ++ beside (past_steps mode c);
+  walked = subst (λ (ds : List ItemView). IsWalked (walk_of mode i
+      (with_beyond h.own (h.own.beyond || passes_bound mode c))
+      (children mode c ++ left_above mode p t) ds))
+      (sym (deferred_are mode c h.put))
+      (walked_node mode i c h.own (left_above mode p t) (items_at p h.put) (of_here p t path) more
+      h.walked);
+  sound = h.sound;
+  part = part
+      ∙ (ap (λ (ts : List ℕ). with_beyond f.part (f.part.beyond || not (is_empty ts))) members
+      ∙ (ap (λ (s : SummaryView). with_beyond s (s.beyond || passes_bound mode c)) h.part
+      ∙ join_beyond_on b.part h.own (passes_bound mode c) h.sound
+      (own_kept mode i f (open_here mode p t) h)));
+  rest = rest ∙ h.rest;
+  deferred = deferred ∙ ((λ k. h.deferred k ++ beside (members k))
+      ∙ append_assoc b.deferred h.put (beside (past_steps mode c)));
+}
+  where
+    p : Program
+    p = i.program
 
-pub arrived_node : (mode : Mode) (i : ItemView) (old new : Path) (f g : Found) (e past : Mask)
-    (u : ℕ) (us : List ℕ) →
-    IsSearch mode i old f (here i.program old ∷ left_above mode i.program old)
-    → AreOn i.program old e → IsTurned old new →
-    ((t : ℕ) → has new.node.todo t ≡ (has e t && is_kept_at mode e old.node t)) →
-    ((t : ℕ) → has past t ≡ (has e t && is_past_at mode e old.node t)) →
-    members_from e 0 ≡ u ∷ us →
-    g.part ≡ with_beyond f.part (f.part.beyond || not (is_empty (members_from past 0))) →
-    g.deferred ≡ f.deferred ++ map (λ t. old.steps.items ++ t ∷ []) (members_from past 0) →
-    IsShared old.steps.items g → new.depth ≤ length new.frames.items
-    → IsSearch mode i new g (still_open mode i.program new)
-arrived_node mode i old new f g e past u us h on o kept passed some part deferred shared room =
-    let p : Program = i.program in
-    record {
-      place = place_turned p old new h.place o room;
-      walked = subst (λ (rs : List ItemView). IsWalked
-          (walk_of mode i g.part rs (map (item_at p) g.deferred)))
-          (sym (open_opened mode p old new e h.place on o kept))
-          (put_off mode i old f g e past h on (here_goes_on p old e u us h.place.path on some)
-          passed part deferred);
-      shared = shared_same old.steps.items new.steps.items g shared o.steps;
-    }
+    c : ItemView
+    c = here p t
 
--- where no step of it passes the bound
-pub arrived_free : (mode : Mode) (i : ItemView) (old new : Path) (f : Found) (e : Mask)
-    (u : ℕ) (us : List ℕ) →
-    IsSearch mode i old f (here i.program old ∷ left_above mode i.program old)
-    → AreOn i.program old e → IsTurned old new →
+    members : members_from past 0 ≡ past_steps mode c
+    members = past_members mode p t.steps.items e t.node past (node_of p t e path on)
+        (of_here p t path) passed
+
+    beside : List ℕ → List (List ℕ)
+    beside ts = map (λ u. t.steps.items ++ u ∷ []) ts
+
+-- so the walk stands at its first child
+pub arrived_free : {b : Found} (mode : Mode) (i : ItemView) (old new : Path) (f : Found) (e : Mask)
+    (u : ℕ) (us : List ℕ) → IsSearch b mode i old f (open_here mode i.program old) →
+    AreOn i.program old e → IsTurned old new →
     ((t : ℕ) → has new.node.todo t ≡ (has e t && is_kept_at mode e old.node t)) →
     ((t : ℕ) → (has e t && is_past_at mode e old.node t) ≡ false) →
     members_from e 0 ≡ u ∷ us → new.depth ≤ length new.frames.items
-    → IsSearch mode i new f (still_open mode i.program new)
+    → IsSearch b mode i new f (still_open mode i.program new)
 unfolding members_from
-arrived_free mode i old new f e u us h on o kept free some room =
-    arrived_node mode i old new f f e no_threads u us h on o kept
-    (λ t. empty_has t ∙ sym (free t)) some
-    (ap (with_beyond f.part) (sym (ap (λ (ts : List ℕ). f.part.beyond || not (is_empty ts)) none
-    ∙ or-false f.part.beyond)))
-    (sym (ap (λ (ts : List ℕ). f.deferred ++ map (λ t. old.steps.items ++ t ∷ []) ts) none
-    ∙ append-nil f.deferred)) h.shared room
+arrived_free {b} mode i old new f e u us h on o kept free some room =
+    let p : Program = i.program in
+    record {
+      place = place_turned p old new h.place o room;
+      walked = subst (IsWalkedOn b mode i f) (sym (open_opened mode p old new e h.place on o kept))
+          (put_off mode i old f f e no_threads h.walked h.place.path on
+          (here_goes_on p old e u us h.place.path on some)
+          (λ t. empty_has t ∙ sym (free t))
+          (ap (with_beyond f.part) (sym (ap (λ (ts : List ℕ). f.part.beyond || not (is_empty ts))
+          none ∙ or-false f.part.beyond)))
+          refl
+          (sym (ap (λ (ts : List ℕ). f.deferred ++ map (λ t. old.steps.items ++ t ∷ []) ts) none
+          ∙ append-nil f.deferred)));
+      shared = shared_same old.steps.items new.steps.items f h.shared o.steps;
+    }
   where
     none : members_from no_threads 0 ≡ []
     none = members_over no_threads 0 16 (omega arith) (λ k l. empty_has (0 + k))
 
 -- a complete schedule
-pub arrived_leaf : (mode : Mode) (i : ItemView) (old new : Path) (f g : Found) (e : Mask)
-    (w : List ℕ) (v : View) →
-    IsSearch mode i old f (here i.program old ∷ left_above mode i.program old)
-    → AreOn i.program old e → IsTurned old new →
+pub arrived_leaf : {b : Found} (mode : Mode) (i : ItemView) (old new : Path) (f g : Found)
+    (e : Mask) (w : List ℕ) (v : View) → IsSearch b mode i old f (open_here mode i.program old) →
+    AreOn i.program old e → IsTurned old new →
     ((t : ℕ) → has new.node.todo t ≡ (has e t && is_kept_at mode e old.node t)) →
     members_from e 0 ≡ [] → w ≡ old.steps.items
     → v ≡ view_at (state_at i.program old.steps.items) →
-    g.part ≡ added f.part w v → g.deferred ≡ f.deferred → g.shared ≡ f.shared →
-    new.depth ≤ length new.frames.items → IsSearch mode i new g (still_open mode i.program new)
-arrived_leaf mode i old new f g e w v h on o kept none schedule view part deferred shared room =
+    g ≡ record f { part = g.part } → g.part ≡ added f.part w v →
+    new.depth ≤ length new.frames.items → IsSearch b mode i new g (still_open mode i.program new)
+arrived_leaf {b} mode i old new f g e w v h on o kept none schedule view same part room =
     let p : Program = i.program in
     let c : ItemView = here p old in
-    let walked = walked_leaf mode i c f.part (left_above mode p old) (map (item_at p) f.deferred)
-    (here_is_over p old e h.place.path on none) h.walked in
-    let part_is : g.part ≡ added f.part old.steps.items (end_of p old.steps.items) =
-    part ∙ (λ k. added f.part (schedule k) (view k)) in
+    let deferred = ap (λ (x : Found). x.deferred) same in
     let open_is : still_open mode p new ≡ left_above mode p old =
     open_opened mode p old new e h.place on o kept ∙
     ap (λ (cs : List ItemView). cs ++ left_above mode p old)
     (none_kept mode p old e h.place.path on none) in
     record {
       place = place_turned p old new h.place o room;
-      walked = subst (λ (s : SummaryView). IsWalked
-          (walk_of mode i s (still_open mode p new) (map (item_at p) g.deferred))) (sym part_is)
-          (subst (λ (rs : List ItemView). IsWalked
-          (walk_of mode i (added f.part old.steps.items (end_of p old.steps.items)) rs
-          (map (item_at p) g.deferred))) (sym open_is)
-          (subst (λ (ds : List ItemView). IsWalked
-          (walk_of mode i (added f.part old.steps.items (end_of p old.steps.items))
-          (left_above mode p old) ds)) (ap (map (item_at p)) (sym deferred)) walked));
-      shared = shared_kept old.steps.items new.steps.items f g h.shared o.steps deferred shared;
+      walked = subst (IsWalkedOn b mode i g) (sym open_is)
+          (leaf_on mode i c f g (left_above mode p old)
+          (here_is_over p old e h.place.path on none) h.walked
+          (part ∙ (λ k. added f.part (schedule k) (view k)))
+          (ap (λ (x : Found). x.rest.items) same) deferred);
+      shared = shared_kept old.steps.items new.steps.items f g h.shared o.steps deferred
+          (ap (λ (x : Found). x.shared) same);
     }
 
 -- how far there is to go then
@@ -285,11 +282,11 @@ pub child_enabled : (mode : Mode) (p : Program) (t : Path) (u : ℕ)
     → IsItem (child_of mode (here p t) u) → is_enabled p (state_at p t.steps.items) u ≡ true
 child_enabled mode p t u i = step_enabled p t.steps.items u i
 
-pub search_enabled : (mode : Mode) (i : ItemView) (t : Path) (f : Found) (u : ℕ)
-    (rs : List ItemView) → IsSearch mode i t f (child_of mode (here i.program t) u ∷ rs) →
+pub search_enabled : {b : Found} (mode : Mode) (i : ItemView) (t : Path) (f : Found) (u : ℕ)
+    (rs : List ItemView) → IsSearch b mode i t f (child_of mode (here i.program t) u ∷ rs) →
     is_enabled i.program (state_at i.program t.steps.items) u ≡ true
 search_enabled mode i t f u rs h = child_enabled mode i.program t u
-    (first_open mode i (child_of mode (here i.program t) u) f.part rs _ h.walked).item
+    (first_on mode i (child_of mode (here i.program t) u) f rs h.walked).item
 
 -- the walk stands at it then
 here_gone : (mode : Mode) (p : Program) (old new : Path) (u : ℕ) (asleep : Mask)
@@ -298,13 +295,12 @@ here_gone : (mode : Mode) (p : Program) (old new : Path) (u : ℕ) (asleep : Mas
 here_gone mode p old new u asleep e mask =
     λ k. record { program = p; prefix = e.steps k; mask = (e.asleep ∙ mask) k }
 
-pub gone_search : (mode : Mode) (i : ItemView) (old new : Path) (f : Found) (u : ℕ)
-    (asleep : Mask) →
-    IsSearch mode i old f (child_of mode (here i.program old) u ∷ left_above mode i.program old) →
+pub gone_search : {b : Found} (mode : Mode) (i : ItemView) (old new : Path) (f : Found) (u : ℕ)
+    (asleep : Mask) → IsSearch b mode i old f (open_below mode i.program old u) →
     IsPath i.program new → IsGone i.program old new u asleep
     → asleep ≡ mask_after mode (here i.program old) u →
-    IsSearch mode i new f (here i.program new ∷ left_above mode i.program new)
-gone_search mode i old new f u asleep h path e mask =
+    IsSearch b mode i new f (open_here mode i.program new)
+gone_search {b} mode i old new f u asleep h path e mask =
     let p : Program = i.program in
     record {
       place = record {
@@ -313,13 +309,9 @@ gone_search mode i old new f u asleep h path e mask =
         base = let b = h.place.base in let k = e.base in let d = ap (λ fs. length fs) e.frames in
             omega (arith, b, k, d);
       };
-      walked = subst (λ (c : ItemView). IsWalked
-          (walk_of mode i f.part (c ∷ left_above mode p new) (map (item_at p) f.deferred)))
-          (sym (here_gone mode p old new u asleep e mask))
-          (subst (λ (rs : List ItemView). IsWalked
-          (walk_of mode i f.part (child_of mode (here p old) u ∷ rs)
-          (map (item_at p) f.deferred)))
-          (sym (e.left mode h.place.base)) h.walked);
+      walked = subst (IsWalkedOn b mode i f)
+          (λ k. sym (here_gone mode p old new u asleep e mask) k
+          ∷ sym (e.left mode h.place.base) k) h.walked;
       shared = shared_entered old.steps.items new.steps.items u f h.shared e.steps;
     }
 
@@ -350,23 +342,18 @@ opened_kept p old new h o = record {
   left = λ mode. o.left mode h.base;
 }
 
-pub kept_search : (mode : Mode) (i : ItemView) (old new : Path) (f : Found) (u : ℕ) →
-    IsSearch mode i old f (child_of mode (here i.program old) u ∷ still_open mode i.program old) →
+pub kept_search : {b : Found} (mode : Mode) (i : ItemView) (old new : Path) (f : Found) (u : ℕ) →
+    IsSearch b mode i old f
+    (child_of mode (here i.program old) u ∷ still_open mode i.program old) →
     IsPlace i.program new → IsKept i.program old new
-    → IsSearch mode i new f (child_of mode (here i.program new) u ∷ left_above mode i.program new)
-kept_search mode i old new f u h place e =
+    → IsSearch b mode i new f (open_below mode i.program new u)
+kept_search {b} mode i old new f u h place e =
     let p : Program = i.program in
     record {
       place = place;
-      walked = subst (λ (w : List ℕ). IsWalked (walk_of mode i f.part
-          (child_of mode (item_of p w new.node) u ∷ left_above mode p new)
-          (map (item_at p) f.deferred))) (sym e.steps)
-          (subst (λ (n : Node). IsWalked (walk_of mode i f.part
-          (child_of mode (item_of p old.steps.items n) u ∷ left_above mode p new)
-          (map (item_at p) f.deferred))) (sym e.node)
-          (subst (λ (rs : List ItemView). IsWalked
-          (walk_of mode i f.part (child_of mode (here p old) u ∷ rs) (map (item_at p) f.deferred)))
-          (sym (e.left mode)) h.walked));
+      walked = subst (IsWalkedOn b mode i f)
+          (λ k. child_of mode (item_of p (sym e.steps k) (sym e.node k)) u
+          ∷ sym (e.left mode) k) h.walked;
       shared = shared_same old.steps.items new.steps.items f h.shared e.steps;
     }
 
@@ -394,19 +381,17 @@ alone_turns mode p old new u o on =
     omega (arith, a, b, k, less)
 
 -- it goes back to a node above
-pub retreated_search : (mode : Mode) (i : ItemView) (old new : Path) (f g : Found) (n : ℕ) →
-    IsSearch mode i old f (still_open mode i.program old) → IsPlace i.program new
+pub retreated_search : {b : Found} (mode : Mode) (i : ItemView) (old new : Path) (f g : Found)
+    (n : ℕ) → IsSearch b mode i old f (still_open mode i.program old) → IsPlace i.program new
     → still_open mode i.program new ≡ still_open mode i.program old
     → new.steps.items ≡ take (length new.steps.items) old.steps.items → n ≡ length new.steps.items
     → g ≡ record f { shared = min f.shared n }
-    → IsSearch mode i new g (still_open mode i.program new)
-retreated_search mode i old new f g n h place same steps long found =
-    subst (λ (x : Found). IsSearch mode i new x (still_open mode i.program new)) (sym found)
+    → IsSearch b mode i new g (still_open mode i.program new)
+retreated_search {b} mode i old new f g n h place same steps long found =
+    subst (λ (x : Found). IsSearch b mode i new x (still_open mode i.program new)) (sym found)
     (record {
       place = place;
-      walked = subst (λ (rs : List ItemView). IsWalked
-          (walk_of mode i f.part rs (map (item_at i.program) f.deferred)))
-          (sym same) h.walked;
+      walked = moved (subst (IsWalkedOn b mode i f) (sym same) h.walked);
       shared = record {
         fits = let m : min f.shared n ≤ n = right f.shared n in omega (arith, m, long);
         same = shared_back old.steps.items new.steps.items f (min f.shared n) h.shared steps
@@ -415,6 +400,18 @@ retreated_search mode i old new f g n h place same steps long found =
       };
     })
   where
+    moved : {rest : List ItemView} → IsWalkedOn b mode i f rest
+        → IsWalkedOn b mode i (record f { shared = min f.shared n }) rest
+    moved w = record {
+      own = w.own;
+      put = w.put;
+      walked = w.walked;
+      sound = w.sound;
+      part = w.part;
+      rest = w.rest;
+      deferred = w.deferred;
+    }
+
     left : (a b : ℕ) → min a b ≤ a
     left a b = grind arith
 

@@ -1,6 +1,6 @@
 -- A thread that goes on alone: the bound is used up, so that a step of another passes it.
-use Rattle.std.proofs.Common.{◌≡◌, ◌≢◌, ℕ, zero, suc, ◌+◌, ◌-◌, ◌<◌, ◌≤◌, Bool, true, false, ◌&&◌}
-use Rattle.std.proofs.Common.{◌||◌, ◌⊎◌, nat_eq, nat_le, nat_lt, not, List, [], ◌∷◌, ◌++◌, length}
+use Rattle.std.proofs.Common.{◌≡◌, ◌≢◌, ℕ, zero, suc, ◌+◌, ◌<◌, ◌≤◌, Bool, true, false, ◌&&◌}
+use Rattle.std.proofs.Common.{◌||◌, nat_eq, nat_le, nat_lt, not, List, [], ◌∷◌, ◌++◌, length}
 use Rattle.std.proofs.Common.{map, refl, ap, ◌∙◌, sym, arith, subst, inl, inr, Some, None, Option}
 use Rattle.std.specs.List.{filter}
 use Rattle.std.proofs.lemmas.Bool.{cases_lt, cases_order, false≢true}
@@ -18,17 +18,17 @@ use Rattle.walk.specs.declared.mode.Mode.TheVariants.{Bounded, Reduced}
 use Rattle.walk.specs.declared.path.Node.{Node}
 use Rattle.walk.specs.declared.path.Path.{Path}
 use Rattle.walk.specs.declared.found.Found.{Found}
+use Rattle.std.specs.declared.alloc.Global.{Global}
+use Rattle.std.specs.declared.vec.Vec.{Vec}
 use Rattle.summary.specs.Summaries.{with_beyond}
-use Rattle.walk.specs.Items.{ItemView, item_at}
-use Rattle.walk.specs.Walks.{IsWalked}
+use Rattle.walk.specs.Items.{ItemView}
 use Rattle.walk.specs.inner.Children.{is_kept_step, kept_steps, child_of, children_of, children}
-use Rattle.walk.specs.inner.Paths.{leaves, leaves_last, state_at, IsNode, IsPath}
+use Rattle.walk.specs.inner.Paths.{leaves, leaves_last, state_at, IsNode}
 use Rattle.walk.specs.inner.WalkerInvariant.{item_of, here, left_above, is_kept_at, is_past_at}
 use Rattle.walk.specs.inner.WalkerInvariant.{IsWithinAt, IsFree, is_spent_at, IsSpent, IsSearch}
-use Rattle.walk.specs.inner.WalkerInvariant.{IsShared}
+use Rattle.walk.specs.inner.WalkerInvariant.{IsShared, IsWalkedOn, open_here, open_below}
 use Rattle.walk.proofs.Filters.{filter_twice}
 use Rattle.walk.proofs.SharedSteps.{shared_same}
-use Rattle.walk.proofs.WalkSteps.{walk_of}
 use Rattle.walk.proofs.WalkTurns.{filter_alike, kept_alike}
 use Rattle.walk.proofs.Arrivals.{AreOn, node_of, put_off, IsTurned, place_turned, left_turned}
 use Rattle.walk.proofs.Arrivals.{here_turned}
@@ -139,31 +139,28 @@ module _ (bound : ℕ) (p : Program) (w : List ℕ) (e : Mask) (n : Node) (t : �
       ∙ only_here t 0 (length z.threads) (omega arith) (omega (arith, below)))
 
 -- it gives way to it, and the steps of the others are put off
-pub lone_search : (mode : Mode) (i : ItemView) (old new : Path) (f g : Found) (e past : Mask)
-    (t : ℕ) →
-    IsSearch mode i old f (here i.program old ∷ left_above mode i.program old) →
+pub lone_search : {b : Found} (mode : Mode) (i : ItemView) (old new : Path) (f g : Found)
+    (e past : Mask) (t : ℕ) → IsSearch b mode i old f (open_here mode i.program old) →
     AreOn i.program old e →
     IsTurned old new → old.node.last ≡ Some t → IsSpent mode old.node → has e t ≡ true →
     has past t ≡ false → ((u : ℕ) → u ≢ t → has past u ≡ has e u) →
     g.part ≡ with_beyond f.part (f.part.beyond || not (is_empty (members_from past 0))) →
+    g.rest ≡ f.rest →
     g.deferred ≡ f.deferred ++ map (λ u. old.steps.items ++ u ∷ []) (members_from past 0) →
     IsShared old.steps.items g → new.depth ≤ length new.frames.items →
-    IsSearch mode i new g (child_of mode (here i.program new) t ∷ left_above mode i.program new)
-lone_search Reduced i old new f g e past t h are o last spent on out same part deferred shared
+    IsSearch b mode i new g (open_below mode i.program new t)
+lone_search Reduced i old new f g e past t h are o last spent on out same part rest deferred shared
     room = absurd spent
-lone_search (Bounded bound) i old new f g e past t h are o last spent on out same part deferred
-    shared room = record {
+lone_search {b} (Bounded bound) i old new f g e past t h are o last spent on out same part rest
+    deferred shared room = record {
       place = place_turned p old new h.place o room;
-      walked = subst (λ (c : ItemView). IsWalked (walk_of mode i g.part
-          (child_of mode c t ∷ left_above mode p new) (map (item_at p) g.deferred)))
-          (sym (here_turned p old new o))
-          (subst (λ (ls : List ItemView). IsWalked (walk_of mode i g.part
-          (child_of mode (here p old) t ∷ ls) (map (item_at p) g.deferred)))
-          (sym (left_turned mode p old new o))
-          (subst (λ (cs : List ItemView). IsWalked (walk_of mode i g.part
-          (cs ++ left_above mode p old) (map (item_at p) g.deferred))) kids
-          (put_off mode i old f g e past h are more
-          (lone_past bound e past old.node t last spent on out same) part deferred)));
+      walked = subst (IsWalkedOn b mode i g)
+          (λ k. child_of mode (sym (here_turned p old new o) k) t
+          ∷ sym (left_turned mode p old new o) k)
+          (subst (λ (cs : List ItemView). IsWalkedOn b mode i g (cs ++ left_above mode p old)) kids
+          (put_off mode i old f g e past h.walked h.place.path are more
+          (lone_past bound e past old.node t last spent on out same) part
+          (ap (λ (r : Vec ItemView Global). r.items) rest) deferred));
       shared = shared_same old.steps.items new.steps.items g shared o.steps;
     }
   where

@@ -1,8 +1,8 @@
 -- The h from the start of a program to where a walk stands, as it opens a frame, goes back to
 -- one and takes a step.
-use Rattle.std.proofs.Common.{◌≡◌, ◌≢◌, ℕ, ℤ, zero, suc, ◌+◌, ◌-◌, ◌*◌, ◌<◌, ◌≤◌, Bool, true, false}
-use Rattle.std.proofs.Common.{not, ◌&&◌, nat_eq, ◌⊎◌, List, [], ◌∷◌, ◌++◌, length, take, drop}
-use Rattle.std.proofs.Common.{replicate, Some, None, Option, get_or, refl, ap, ◌∙◌, sym, subst}
+use Rattle.std.proofs.Common.{◌≡◌, ℕ, ℤ, zero, suc, ◌+◌, ◌-◌, ◌*◌, ◌<◌, ◌≤◌, Bool, true, false}
+use Rattle.std.proofs.Common.{not, ◌&&◌, nat_eq, List, [], ◌∷◌, ◌++◌, length, take, drop}
+use Rattle.std.proofs.Common.{Some, None, Option, refl, ap, ◌∙◌, sym, subst}
 use Rattle.std.proofs.Common.{arith, inl, inr}
 use Rattle.std.proofs.Math.Nat.{mul-le-mul_right}
 use Rattle.std.proofs.lemmas.Bool.{cases_order}
@@ -14,9 +14,9 @@ use Rattle.guest_code.specs.Program.{Program}
 use Rattle.semantics.specs.declared.mask.Mask.{Mask}
 use Rattle.machine.specs.declared.machine.Machine.{Machine}
 use Rattle.semantics.specs.Machine.{Snapshot, start, step, is_enabled}
-use Rattle.semantics.specs.Mask.{no_threads, HasEnabled, members_from, one_if}
+use Rattle.semantics.specs.Mask.{HasEnabled, members_from, one_if}
 use Rattle.machine.specs.Refinement.{Shows, IsState}
-use Rattle.schedules.specs.Schedules.{state_after, preempts}
+use Rattle.schedules.specs.Schedules.{preempts}
 use Rattle.schedules.specs.Execution.{Reaches}
 use Rattle.walk.proofs.Words.{chunk_inside, Rewrites}
 use Rattle.schedules.proofs.Executions.{reaches_parts}
@@ -26,7 +26,7 @@ use Rattle.walk.specs.declared.path.Path.{Path}
 use Rattle.walk.specs.declared.path.Node.{Node}
 use Rattle.walk.specs.declared.mode.Mode.{Mode}
 use Rattle.walk.specs.inner.Paths.{used_frames, words_at, state_at, ReachesNode, leaves_last}
-use Rattle.walk.specs.inner.Paths.{leaves, IsPath, IsCopy, AreCopies, frame_at, no_frame}
+use Rattle.walk.specs.inner.Paths.{IsPath, IsCopy, AreCopies, frame_at, no_frame}
 use Rattle.walk.specs.inner.WalkerInvariant.{open_at, open_from, left_above, still_open, here}
 use Rattle.walk.specs.inner.Children.{children_of}
 

@@ -1,6 +1,7 @@
 -- What a turn does to the walk of an item: the first open item gives way to its children, or is
 -- tried.
-use Rattle.std.proofs.Common.{◌≡◌, ℕ, ◌≤◌, true, false, ◌||◌, List, [], ◌∷◌, ◌++◌, ap, subst}
+use Rattle.std.proofs.Common.{◌≡◌, ℕ, ◌≤◌, Bool, true, false, ◌||◌, List, [], ◌∷◌, ◌++◌, ap, ◌∙◌}
+use Rattle.std.proofs.Common.{sym, subst}
 use Rattle.std.proofs.lemmas.List.{append-nil}
 use Rattle.std.proofs.lemmas.List.Elements.{All-head}
 use Rattle.guest_code.specs.Program.{Program}
@@ -16,10 +17,14 @@ use Rattle.summary.specs.Summaries.{added}
 use Rattle.walk.specs.Items.{ItemView, IsItem}
 use Rattle.walk.specs.Walks.{WalkView, IsWalked, IsBelow, IsCut}
 use Rattle.walk.specs.inner.Children.{state_of, IsWithin, passes_bound, children, past_children}
+use Rattle.walk.specs.declared.found.Found.{Found}
+use Rattle.walk.specs.Walks.{items_at}
+use Rattle.walk.specs.inner.WalkerInvariant.{IsWalkedOn}
 use Rattle.walk.proofs.Splits.{split_kept}
 use Rattle.walk.proofs.WalkedFurther.{walked_further}
 use Rattle.walk.proofs.ItemsWalked.{leaf_walked, node_walked}
 use Rattle.summary.proofs.PartsJoin.{join_past, join_leaf}
+use Rattle.summary.proofs.SumsJoin.{join_assoc, join_kept}
 
 -- a walk of these parts
 abbrev pub walk_of : Mode → ItemView → SummaryView → List ItemView → List ItemView → WalkView
@@ -86,6 +91,45 @@ walked_node mode i c part rest deferred of' more h =
     (join_past part (passes_bound mode c) kept)
     (walked_further mode i c part (with_beyond nothing (passes_bound mode c)) rest deferred
     (children mode c) (past_children mode c) h (node_walked mode c f.item of' more f.within))
+
+-- the same, where what is found is added to what was found before
+
+pub first_on : {b : Found} (mode : Mode) (i c : ItemView) (f : Found) (rest : List ItemView) →
+    IsWalkedOn b mode i f (c ∷ rest) → IsFirst mode i.program c
+first_on mode i c f rest h = first_open mode i c h.own rest (items_at i.program h.put) h.walked
+
+pub own_kept : {b : Found} (mode : Mode) (i : ItemView) (f : Found) (rest : List ItemView)
+    (h : IsWalkedOn b mode i f rest) → IsSummary h.own
+own_kept mode i f rest h =
+    split_kept mode i h.own rest (items_at i.program h.put) h.walked.split
+
+join_added : (p : Program) (a s : SummaryView) (w : List ℕ) → IsSummary a → IsSummary s →
+    added (join a s) w (end_of p w) ≡ join a (added s w (end_of p w))
+join_added p a s w h k =
+    sym (join_leaf p (join a s) w (join_kept a s h k))
+    ∙ (join_assoc a s (sum_of p (w ∷ [])) ∙ ap (join a) (join_leaf p s w k))
+
+pub join_beyond_on : (a s : SummaryView) (past : Bool) → IsSummary a → IsSummary s →
+    with_beyond (join a s) ((join a s).beyond || past)
+    ≡ join a (with_beyond s (s.beyond || past))
+join_beyond_on a s past h k =
+    sym (join_past (join a s) past (join_kept a s h k))
+    ∙ (join_assoc a s (with_beyond nothing past) ∙ ap (join a) (join_past s past k))
+
+pub leaf_on : {b : Found} (mode : Mode) (i c : ItemView) (f g : Found) (rest : List ItemView) →
+    is_terminal c.program (state_of c) ≡ true → IsWalkedOn b mode i f (c ∷ rest) →
+    g.part ≡ added f.part c.prefix (end_of c.program c.prefix) →
+    g.rest.items ≡ f.rest.items → g.deferred ≡ f.deferred → IsWalkedOn b mode i g rest
+leaf_on {b} mode i c f g rest over h part left deferred = record {
+  own = added h.own c.prefix (end_of c.program c.prefix);
+  put = h.put;
+  walked = walked_leaf mode i c h.own rest (items_at i.program h.put) over h.walked;
+  sound = h.sound;
+  part = part ∙ (ap (λ s. added s c.prefix (end_of c.program c.prefix)) h.part
+      ∙ join_added c.program b.part h.own c.prefix h.sound (own_kept mode i f (c ∷ rest) h));
+  rest = left ∙ h.rest;
+  deferred = deferred ∙ h.deferred;
+}
 
 -- nothing is enabled, or something is
 pub over_none : (p : Program) (s : Snapshot) → enabled p s ≡ [] → is_terminal p s ≡ true

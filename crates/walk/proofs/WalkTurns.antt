@@ -4,7 +4,7 @@ use Rattle.std.proofs.Common.{map, refl, ap, ◌∙◌, sym, arith, subst, cond,
 use Rattle.std.specs.List.{filter}
 use Rattle.std.proofs.lemmas.List.{length_push, take_at, get_or_at, map-append}
 use Rattle.guest_code.specs.Program.{Program}
-use Rattle.semantics.specs.Machine.{Snapshot, is_enabled, start}
+use Rattle.semantics.specs.Machine.{is_enabled, start}
 use Rattle.semantics.specs.Mask.{has, members_from, HasEnabled, one_if}
 use Rattle.guest_code.specs.declared.limits.TheConstants.{THREADS}
 use Rattle.semantics.specs.Reachable.{IsOf}

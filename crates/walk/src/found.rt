@@ -2,13 +2,14 @@
 
 ghost use Rattle.std.specs.Prelude.{◌≡◌, []};
 ghost use Rattle.summary.specs.Summaries.{nothing};
+ghost use Rattle.walk.specs.inner.WalkerInvariant.{IsShared};
 
 use crate::item::Item;
-use prefix_list::Prefixes;
+use prefix_list::{Prefixes, shared_length};
 use std::alloc::Global;
 use summary::{EndMemory, Summary};
 
-/// What a walk of an item found. Its memory serves one walk after another.
+/// What a walk of an item found, or one walk after another. Its memory serves other walks later.
 #[derive(Drop)]
 pub struct Found {
     /// The summary of the schedules that were tried.
@@ -35,6 +36,17 @@ impl Found {
             deferred: Prefixes::new(alloc),
             shared: 0,
         }
+    }
+
+    // A walk begins at the node to which these steps lead.
+    pub(crate) fn begin(&mut self, steps: &Vec<u8>)
+        ensures same { self.new ≡ record self.old { shared = self.new.shared } }
+        ensures shared { IsShared steps.now.items self.new }
+    {
+        self.shared = match self.deferred.last() {
+            Some(last) => shared_length(last, steps.as_slice()),
+            None => 0,
+        };
     }
 
     // Forgets what was found. End views go to this memory, all else is kept.

@@ -6,11 +6,11 @@ ghost use Rattle.semantics.specs.Ends.{is_empty};
 ghost use Rattle.semantics.specs.Machine.{is_enabled};
 ghost use Rattle.semantics.specs.Mask.{has, members_from, no_threads};
 ghost use Rattle.walk.specs.Items.{IsItem};
-ghost use Rattle.summary.specs.Summaries.{with_beyond};
+ghost use Rattle.summary.specs.Summaries.{with_beyond, greatest_count};
 ghost use Rattle.walk.specs.inner.Children.{child_of, mask_after, cost_of};
 ghost use Rattle.walk.specs.inner.Paths.{IsPath, used_frames, state_at};
-ghost use Rattle.walk.specs.Walks.{IsWalked, IsPastBound, found_walk, walk_past_bound};
-ghost use Rattle.walk.specs.inner.WalkerInvariant.{IsPlace, IsSearch, IsKept, here, left_above, still_open, turns_left, turns_from, turns_into, is_kept_at, is_past_at, is_past_here, IsFree, IsSpent, is_spent_at, IsNew, IsShared};
+ghost use Rattle.walk.specs.Walks.{HasAdded};
+ghost use Rattle.walk.specs.inner.WalkerInvariant.{IsPlace, Searches, GoesOn, IsKept, here, left_above, open_here, open_below, still_open, turns_left, turns_from, turns_into, is_kept_at, is_past_at, is_past_here, IsFree, IsSpent, is_spent_at, IsShared};
 
 use crate::found::Found;
 use crate::item::Item;
@@ -42,6 +42,7 @@ impl Found {
     fn put_off(&mut self, steps: &mut Vec<u8>, thread: u8) -> Result<(), AllocError>
         requires { IsShared steps.old.items self.old }
         ensures steps { steps.new.items ≡ steps.old.items }
+        ensures rest { self.new.rest ≡ self.old.rest }
         ensures part { OnOk result (self.new.part ≡ with_beyond self.old.part true) }
         ensures deferred { OnOk result (self.new.deferred
             ≡ self.old.deferred ++ (steps.old.items ++ thread ∷ []) ∷ []) }
@@ -86,6 +87,7 @@ impl Found {
         requires least { (u : ℕ) → u < first → has past u ≡ false }
         requires fits { first < THREADS }
         ensures steps { steps.new.items ≡ steps.old.items }
+        ensures rest { self.new.rest ≡ self.old.rest }
         ensures part { OnOk result (self.new.part ≡ with_beyond self.old.part true) }
         ensures deferred { OnOk result (self.new.deferred ≡ self.old.deferred
             ++ map (λ t. steps.old.items ++ t ∷ []) (members_from past 0)) }
@@ -100,6 +102,7 @@ impl Found {
     pub(crate) fn defer(&mut self, steps: &mut Vec<u8>, past: Mask) -> Result<(), AllocError>
         requires { IsShared steps.old.items self.old }
         ensures steps { steps.new.items ≡ steps.old.items }
+        ensures rest { self.new.rest ≡ self.old.rest }
         ensures part { OnOk result (self.new.part ≡ with_beyond self.old.part
             (self.old.part.beyond || not (is_empty (members_from past 0)))) }
         ensures deferred { OnOk result (self.new.deferred ≡ self.old.deferred
@@ -112,12 +115,12 @@ impl Found {
         }
     }
 
-    // Whether fewer than a quota were tried.
-    fn is_below(&self, quota: u32) -> bool
-        ensures below { IsTrue result → self.now.part.tried < quota }
-        ensures full { IsFalse result → quota ≤ self.now.part.tried }
+    // Whether fewer than so many were tried.
+    fn is_below(&self, limit: u64) -> bool
+        ensures below { IsTrue result → self.now.part.tried < limit }
+        ensures full { IsFalse result → limit ≤ self.now.part.tried }
     {
-        self.part.tried() < quota as u64
+        self.part.tried() < limit
     }
 
     // Goes back with the walk to a node above, so many steps from the start.
@@ -188,12 +191,13 @@ impl Path {
         item: &Item,
         mode: Mode,
     ) -> Result<(), AllocError>
-        requires search { IsSearch mode item.now self.old found.old
-            (here item.now.program self.old ∷ left_above mode item.now.program self.old) }
+        requires search { Searches mode item.now self.old found.old
+            (open_here mode item.now.program self.old) }
         requires free { IsFree mode item.now.program self.old }
         ensures place { IsPlace item.now.program self.new }
-        ensures search { OnOk result (IsSearch mode item.now self.new found.new
-            (still_open mode item.now.program self.new)) }
+        ensures search { let p = item.now.program in OnOk result (GoesOn mode item.now
+            self.old found.old (open_here mode p self.old)
+            self.new found.new (still_open mode p self.new)) }
         ensures falls { OnOk result (turns_left mode item.now.program self.new + 2
             ≤ turns_from mode item.now.program self.old) }
         ensures tried { OnOk result (found.new.part.tried ≤ found.old.part.tried + 1) }
@@ -228,8 +232,8 @@ impl Path {
         mode: Mode,
         thread: u8,
     ) -> Result<bool, AllocError>
-        requires search { IsSearch mode _item.now self.old found.old
-            (here _item.now.program self.old ∷ left_above mode _item.now.program self.old) }
+        requires search { Searches mode _item.now self.old found.old
+            (open_here mode _item.now.program self.old) }
         requires last { self.old.node.last ≡ Some thread }
         ensures place { IsPlace _item.now.program self.new }
         ensures same { self.new ≡ record self.old { steps = self.new.steps } }
@@ -238,13 +242,14 @@ impl Path {
         ensures spent { IfOk result (λ alone. IsTrue alone → IsSpent mode self.new.node) }
         ensures free { IfOk result (λ alone. IsFalse alone
             → IsFree mode _item.now.program self.new) }
-        ensures alone { IfOk result (λ alone. IsTrue alone
-            → IsSearch mode _item.now self.new found.new
-            (child_of mode (here _item.now.program self.new) thread
-            ∷ left_above mode _item.now.program self.new)) }
-        ensures over { IfOk result (λ alone. IsFalse alone
-            → IsSearch mode _item.now self.new found.new
-            (here _item.now.program self.new ∷ left_above mode _item.now.program self.new)) }
+        ensures alone { let p = _item.now.program in
+            IfOk result (λ alone. IsTrue alone → GoesOn mode _item.now
+            self.old found.old (open_here mode p self.old)
+            self.new found.new (open_below mode p self.new thread)) }
+        ensures over { let p = _item.now.program in
+            IfOk result (λ alone. IsFalse alone → GoesOn mode _item.now
+            self.old found.old (open_here mode p self.old)
+            self.new found.new (open_here mode p self.new)) }
     {
         let enabled = self.machine.enabled();
         if self.node.is_alone(enabled, mode, thread) {
@@ -263,12 +268,12 @@ impl Path {
         mode: Mode,
         thread: u8,
     ) -> Result<(), AllocError>
-        requires search { IsSearch mode item.now self.old found.old
-            (child_of mode (here item.now.program self.old) thread
-            ∷ left_above mode item.now.program self.old) }
+        requires search { Searches mode item.now self.old found.old
+            (open_below mode item.now.program self.old thread) }
         ensures path { IsPath item.now.program self.new }
-        ensures search { OnOk result (IsSearch mode item.now self.new found.new
-            (here item.now.program self.new ∷ left_above mode item.now.program self.new)) }
+        ensures search { let p = item.now.program in OnOk result (GoesOn mode item.now
+            self.old found.old (open_below mode p self.old thread)
+            self.new found.new (open_here mode p self.new)) }
         ensures free { OnOk result (IsFree mode item.now.program self.new) }
         ensures falls { OnOk result (turns_from mode item.now.program self.new
             ≤ turns_into mode item.now.program self.old thread) }
@@ -291,12 +296,13 @@ impl Path {
         mode: Mode,
         thread: u8,
     ) -> Result<(), AllocError>
-        requires search { IsSearch mode item.now self.old found.old
-            (here item.now.program self.old ∷ left_above mode item.now.program self.old) }
+        requires search { Searches mode item.now self.old found.old
+            (open_here mode item.now.program self.old) }
         requires last { self.old.node.last ≡ Some thread }
         ensures path { IsPath item.now.program self.new }
-        ensures search { OnOk result (IsSearch mode item.now self.new found.new
-            (here item.now.program self.new ∷ left_above mode item.now.program self.new)) }
+        ensures search { let p = item.now.program in OnOk result (GoesOn mode item.now
+            self.old found.old (open_here mode p self.old)
+            self.new found.new (open_here mode p self.new)) }
         ensures free { OnOk result (IsFree mode item.now.program self.new) }
         ensures tried { OnOk result (found.new.part.tried ≡ found.old.part.tried) }
     {
@@ -309,11 +315,12 @@ impl Path {
 
     // Sets out from an item's own node: where only the thread of the last step may go on, it does.
     fn set_out(&mut self, found: &mut Found, item: &Item, mode: Mode) -> Result<(), AllocError>
-        requires search { IsSearch mode item.now self.old found.old
-            (here item.now.program self.old ∷ left_above mode item.now.program self.old) }
+        requires search { Searches mode item.now self.old found.old
+            (open_here mode item.now.program self.old) }
         ensures path { IsPath item.now.program self.new }
-        ensures search { OnOk result (IsSearch mode item.now self.new found.new
-            (here item.now.program self.new ∷ left_above mode item.now.program self.new)) }
+        ensures search { let p = item.now.program in OnOk result (GoesOn mode item.now
+            self.old found.old (open_here mode p self.old)
+            self.new found.new (open_here mode p self.new)) }
         ensures free { OnOk result (IsFree mode item.now.program self.new) }
         ensures tried { OnOk result (found.new.part.tried ≡ found.old.part.tried) }
     {
@@ -347,12 +354,13 @@ impl Path {
         mode: Mode,
         thread: u8,
     ) -> Result<(), AllocError>
-        requires search { IsSearch mode item.now self.old found.old
-            (child_of mode (here item.now.program self.old) thread
-            ∷ still_open mode item.now.program self.old) }
+        requires search { let p = item.now.program in Searches mode item.now self.old found.old
+            (child_of mode (here p self.old) thread ∷ still_open mode p self.old) }
         ensures path { IsPath item.now.program self.new }
-        ensures search { OnOk result (IsSearch mode item.now self.new found.new
-            (still_open mode item.now.program self.new)) }
+        ensures search { let p = item.now.program in OnOk result (GoesOn mode item.now
+            self.old found.old
+            (child_of mode (here p self.old) thread ∷ still_open mode p self.old)
+            self.new found.new (still_open mode p self.new)) }
         ensures further { OnOk result (turns_left mode item.now.program self.new
             < cost_of (child_of mode (here item.now.program self.old) thread)
             + turns_left mode item.now.program self.old) }
@@ -392,11 +400,12 @@ impl Path {
     // Goes back, and what was found with it.
     #[inline(always)]
     fn climb(&mut self, found: &mut Found, item: &Item, mode: Mode) -> bool
-        requires search { IsSearch mode item.now self.old found.old
+        requires search { Searches mode item.now self.old found.old
             (still_open mode item.now.program self.old) }
         requires done { members_from self.old.node.todo 0 ≡ [] }
-        ensures search { IsSearch mode item.now self.new found.new
-            (still_open mode item.now.program self.new) }
+        ensures search { let p = item.now.program in GoesOn mode item.now
+            self.old found.old (still_open mode p self.old)
+            self.new found.new (still_open mode p self.new) }
         ensures further { IsTrue result →
             turns_left mode item.now.program self.new < turns_left mode item.now.program self.old }
         ensures over { IsFalse result → still_open mode item.now.program self.new ≡ [] }
@@ -418,20 +427,21 @@ impl Path {
         found: &mut Found,
         item: &Item,
         mode: Mode,
-        quota: u32,
+        limit: u64,
     ) -> Result<(), AllocError>
-        requires search { IsSearch mode item.now self.old found.old
+        requires search { Searches mode item.now self.old found.old
             (still_open mode item.now.program self.old) }
-        requires few { found.old.part.tried ≤ quota }
+        requires few { found.old.part.tried ≤ limit }
         ensures path { IsPath item.now.program self.new }
-        ensures search { OnOk result (IsSearch mode item.now self.new found.new
-            (still_open mode item.now.program self.new)) }
-        ensures few { OnOk result (found.new.part.tried ≤ quota) }
-        ensures all { OnOk result (found.new.part.tried < quota
+        ensures search { let p = item.now.program in OnOk result (GoesOn mode item.now
+            self.old found.old (still_open mode p self.old)
+            self.new found.new (still_open mode p self.new)) }
+        ensures few { OnOk result (found.new.part.tried ≤ limit) }
+        ensures all { OnOk result (found.new.part.tried < limit
             → still_open mode item.now.program self.new ≡ []) }
     {
         let mut going = true;
-        while going && found.is_below(quota) {
+        while going && found.is_below(limit) {
             match self.node.todo.first_from(0) {
                 Some(thread) => {
                     self.node.todo = without_first(self.node.todo, thread);
@@ -451,23 +461,24 @@ impl Path {
         found: &mut Found,
         item: &Item,
         mode: Mode,
-        quota: u32,
+        limit: u64,
     ) -> Result<(), AllocError>
-        requires search { IsSearch mode item.now self.old found.old
+        requires search { Searches mode item.now self.old found.old
             (still_open mode item.now.program self.old) }
-        requires few { found.old.part.tried ≤ quota }
+        requires few { found.old.part.tried ≤ limit }
         ensures path { IsPath item.now.program self.new }
-        ensures search { OnOk result (IsSearch mode item.now self.new found.new
-            (still_open mode item.now.program self.new)) }
-        ensures few { OnOk result (found.new.part.tried ≤ quota) }
-        ensures all { OnOk result (found.new.part.tried < quota
+        ensures search { let p = item.now.program in OnOk result (GoesOn mode item.now
+            self.old found.old (still_open mode p self.old)
+            self.new found.new (still_open mode p self.new)) }
+        ensures few { OnOk result (found.new.part.tried ≤ limit) }
+        ensures all { OnOk result (found.new.part.tried < limit
             → still_open mode item.now.program self.new ≡ []) }
     {
         match mode {
             Mode::Bounded(bound) => {
-                self.search_in(alloc, found, item, Mode::Bounded(bound), quota)
+                self.search_in(alloc, found, item, Mode::Bounded(bound), limit)
             }
-            Mode::Reduced => self.search_in(alloc, found, item, Mode::Reduced, quota),
+            Mode::Reduced => self.search_in(alloc, found, item, Mode::Reduced, limit),
         }
     }
 
@@ -504,25 +515,25 @@ impl Path {
         }
     }
 
-    // Makes items of all that is open.
+    // Makes items of all that is open, and puts them after others.
     fn give_all_back(
         &mut self,
         alloc: Global,
         item: &Item,
         mode: Mode,
-    ) -> Result<Vec<Item>, AllocError>
+        rest: &mut Vec<Item>,
+    ) -> Result<(), AllocError>
         requires place { IsPlace item.now.program self.old }
         requires items { All IsItem (still_open mode item.now.program self.old) }
         ensures place { IsPlace item.now.program self.new }
-        ensures rest { IfOk result (λ rest.
-            rest.items ≡ still_open mode item.now.program self.old) }
+        ensures rest { OnOk result (rest.new.items
+            ≡ rest.old.items ++ still_open mode item.now.program self.old) }
     {
-        let mut rest = Vec::new(alloc);
         let mut going = true;
         while going {
-            going = self.give_back(alloc, item, mode, &mut rest)?;
+            going = self.give_back(alloc, item, mode, rest)?;
         }
-        Ok(rest)
+        Ok(())
     }
 
     // Goes to an item's prefix.
@@ -554,7 +565,7 @@ impl Path {
         }
     }
 
-    /// Tries the first schedules of an item, up to a quota.
+    /// Tries the first schedules of an item, up to a quota, and adds them to what was found before.
     pub fn walk(
         &mut self,
         alloc: Global,
@@ -564,24 +575,22 @@ impl Path {
         quota: u32,
     ) -> Result<(), AllocError>
         requires path { IsPath item.now.program self.old }
-        requires found { IsNew found.old }
         requires quota { 1 ≤ quota }
+        requires room { found.old.part.tried + quota < greatest_count }
         ensures path { IsPath item.now.program self.new }
-        ensures tried { OnOk result (found.new.part.tried ≤ quota) }
-        ensures rest { OnOk result (found.new.part.tried < quota → found.new.rest.items ≡ []) }
-        ensures past { OnOk result (IsPastBound mode item.now →
-            found_walk mode item.now found.new ≡ walk_past_bound mode item.now) }
-        ensures walked { OnOk result (IsWalked (found_walk mode item.now found.new)) }
+        ensures added { OnOk result (HasAdded mode item.now quota found.old found.new) }
     {
+        let _ends = found.part.ends();
+        let limit = found.part.tried() + u64::from(quota);
         self.stand_at(item)?;
         if self.is_past(mode) {
             found.part.set_beyond();
             return Ok(());
         }
+        found.begin(&self.steps);
         self.set_out(found, item, mode)?;
         self.arrive(alloc, found, item, mode)?;
-        self.search(alloc, found, item, mode, quota)?;
-        found.rest = self.give_all_back(alloc, item, mode)?;
-        Ok(())
+        self.search(alloc, found, item, mode, limit)?;
+        self.give_all_back(alloc, item, mode, &mut found.rest)
     }
 }

@@ -1,8 +1,9 @@
 //! The walk of an item's schedules.
 
-ghost use Rattle.std.specs.Prelude.{◌≡◌, ◌<◌, ◌≤◌, [], IfOk, OnOk};
+ghost use Rattle.std.specs.Prelude.{◌≡◌, ◌+◌, ◌<◌, ◌≤◌, [], IfOk, OnOk};
 ghost use Rattle.std.specs.Arc.{arc_value};
-ghost use Rattle.walk.specs.Walks.{IsWalked, IsPastBound, found_walk, walk_past_bound};
+ghost use Rattle.summary.specs.Summaries.{nothing, greatest_count};
+ghost use Rattle.walk.specs.Walks.{IsWalked, IsPastBound, HasAdded, found_walk, walk_past_bound};
 
 use crate::found::Found;
 use crate::item::Item;
@@ -116,7 +117,40 @@ impl Walker {
             found_walk mode item.now found.new ≡ walk_past_bound mode item.now) }
         ensures walked { OnOk result (IsWalked (found_walk mode item.now found.new)) }
     {
+        self.clear(found);
+        self.walk_on(alloc, found, item, mode, quota)
+    }
+
+    /// Forgets what walks found. Its memory serves other walks.
+    pub fn clear(&mut self, found: &mut Found)
+        ensures program { self.new ≡ self.old }
+        ensures part { found.new.part ≡ nothing }
+        ensures rest { found.new.rest.items ≡ [] }
+        ensures deferred { found.new.deferred ≡ [] }
+    {
         found.clear(&mut self.path.ends);
+    }
+
+    /// The same as [`Walker::walk_into`], but what is found is added to what other walks found.
+    ///
+    /// # Errors
+    ///
+    /// `AllocError` where memory runs out. The walker can be used again then; of what was found some
+    /// may be lost.
+    pub fn walk_on(
+        &mut self,
+        alloc: Global,
+        found: &mut Found,
+        item: &Item,
+        mode: Mode,
+        quota: u32,
+    ) -> Result<(), AllocError>
+        requires program { item.now.program ≡ self.old }
+        requires quota { 1 ≤ quota }
+        requires room { found.old.part.tried + quota < greatest_count }
+        ensures program { self.new ≡ self.old }
+        ensures added { OnOk result (HasAdded mode item.now quota found.old found.new) }
+    {
         self.path.walk(alloc, found, item, mode, quota)
     }
 }

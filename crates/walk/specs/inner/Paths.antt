@@ -1,11 +1,11 @@
 -- The way from the start of a program to where a walk stands, with copies of states on it.
-use Rattle.std.specs.Prelude.{◌≡◌, ℕ, ◌+◌, ◌*◌, ◌≤◌, ◌<◌, ℤ, Bool, false, not, ◌&&◌, nat_eq, List}
-use Rattle.std.specs.Prelude.{[], length, take, drop, get_or, Option, Some, None, ◌++◌}
+use Rattle.std.specs.Prelude.{◌≡◌, ℕ, ◌*◌, ◌≤◌, ◌<◌, ℤ, Bool, false, not, ◌&&◌, nat_eq, List}
+use Rattle.std.specs.Prelude.{[], length, take, drop, get_or, Option, Some, None}
 use Rattle.guest_code.specs.Program.{Program, IsWellFormed}
 use Rattle.semantics.specs.Machine.{Snapshot, start}
 use Rattle.machine.specs.Refinement.{Shows, IsState}
 use Rattle.semantics.specs.declared.mask.Mask.{Mask}
-use Rattle.semantics.specs.Mask.{has, no_threads, HasEnabled, one_if}
+use Rattle.semantics.specs.Mask.{has, no_threads, HasEnabled}
 use Rattle.schedules.specs.Schedules.{state_after}
 use Rattle.schedules.specs.Execution.{Reaches}
 use Rattle.walk.specs.declared.path.Node.{Node}

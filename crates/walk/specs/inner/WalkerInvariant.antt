@@ -1,6 +1,6 @@
 -- What holds while a walk goes over the schedules of an item.
 use Rattle.std.specs.Prelude.{◌≡◌, ℕ, zero, suc, ◌+◌, ◌-◌, ◌<◌, ◌≤◌, Bool, false, not, ◌&&◌, nat_eq}
-use Rattle.std.specs.Prelude.{nat_le, nat_lt, List, [], ◌∷◌, ◌++◌, length, take, map, Some}
+use Rattle.std.specs.Prelude.{nat_le, nat_lt, List, [], ◌∷◌, ◌++◌, length, take, Some}
 use Rattle.guest_code.specs.Program.{Program}
 use Rattle.semantics.specs.Mask.{has, no_threads, HasEnabled, members_from, one_if}
 use Rattle.semantics.specs.declared.mask.Mask.{Mask}
@@ -10,10 +10,10 @@ use Rattle.walk.specs.declared.path.Node.{Node}
 use Rattle.walk.specs.declared.path.Frame.{Frame}
 use Rattle.walk.specs.declared.path.Path.{Path}
 use Rattle.walk.specs.declared.found.Found.{Found}
-use Rattle.walk.specs.Items.{ItemView, item_at}
+use Rattle.walk.specs.Items.{ItemView}
 use Rattle.prefix_list.specs.PrefixLists.{last_of}
-use Rattle.summary.specs.Summaries.{nothing}
-use Rattle.walk.specs.Walks.{IsWalked}
+use Rattle.summary.specs.Summaries.{SummaryView, IsSummary, join}
+use Rattle.walk.specs.Walks.{IsWalked, items_at}
 use Rattle.walk.specs.inner.Children.{child_of, children_of, cost_of, costs}
 use Rattle.walk.specs.inner.Paths.{used_frames, leaves, frame_at, state_at, IsPath}
 
@@ -46,12 +46,13 @@ left_above mode p t =
 abbrev pub still_open : Mode → Program → Path → List ItemView
 still_open mode p t = open_at mode p t.steps.items t.node ++ left_above mode p t
 
--- nothing was found yet
-pub record IsNew (f : Found) : Type 0 where
-  pub part : f.part ≡ nothing
-  pub rest : f.rest.items ≡ []
-  pub deferred : f.deferred ≡ []
-  pub shared : f.shared ≡ 0
+-- what is open: the node where a walk stands, and what is open above it
+abbrev pub open_here : Mode → Program → Path → List ItemView
+open_here mode p t = here p t ∷ left_above mode p t
+
+-- or a child of it, and what is open above
+abbrev pub open_below : Mode → Program → Path → ℕ → List ItemView
+open_below mode p t u = child_of mode (here p t) u ∷ left_above mode p t
 
 -- the steps lead from the start to a node that is under the item's
 pub record IsPlace (p : Program) (t : Path) : Type 0 where
@@ -64,19 +65,40 @@ pub record IsShared (steps : List ℕ) (f : Found) : Type 0 where
   pub fits : f.shared ≤ length steps
   pub same : take f.shared (last_of f.deferred) ≡ take f.shared steps
 
--- what was found, what these items have, and what was put off make a walk of the item
-pub record IsSearch (mode : Mode) (i : ItemView) (t : Path) (f : Found)
-    (open_items : List ItemView) :
-    Type 0 where
-  pub place : IsPlace i.program t
+-- what is found of an item is added to what was found before: a sum of its own and what is put off
+-- make a walk of the item that leaves these
+pub record IsWalkedOn (before : Found) (mode : Mode) (i : ItemView) (f : Found)
+    (open_items : List ItemView) : Type 0 where
+  pub own : SummaryView
+  pub put : List (List ℕ)
   pub walked : IsWalked (record {
     mode = mode;
     item = i;
-    part = f.part;
+    part = own;
     rest = open_items;
-    deferred = map (item_at i.program) f.deferred;
+    deferred = items_at i.program put;
   })
+  pub sound : IsSummary before.part
+  pub part : f.part ≡ join before.part own
+  pub rest : f.rest.items ≡ before.rest.items
+  pub deferred : f.deferred ≡ before.deferred ++ put
+
+-- a walk of the item stands at a place where these items are open
+pub record IsSearch (before : Found) (mode : Mode) (i : ItemView) (t : Path) (f : Found)
+    (open_items : List ItemView) : Type 0 where
+  pub place : IsPlace i.program t
+  pub walked : IsWalkedOn before mode i f open_items
   pub shared : IsShared t.steps.items f
+
+-- so it does, whatever was found before
+abbrev pub Searches : Mode → ItemView → Path → Found → List ItemView → Type 0
+Searches mode i t f open_items = (before : Found) × IsSearch before mode i t f open_items
+
+-- and goes on from there to another place, where those are open
+abbrev pub GoesOn : Mode → ItemView → Path → Found → List ItemView → Path → Found → List ItemView →
+    Type 0
+GoesOn mode i t f open_items u g others =
+    (before : Found) → IsSearch before mode i t f open_items → IsSearch before mode i u g others
 
 -- more turns than are still to be taken
 unfoldable pub turns_left : Mode → Program → Path → ℕ

@@ -1,10 +1,10 @@
 use Rattle.std.proofs.Common.{◌≡◌, ◌-◌, ◌∙◌, ◌++◌, ap, arith, length}
-use Rattle.std.specs.List.{remove}
+use Rattle.std.specs.List.{remove_range}
 use Rattle.std.proofs.lemmas.List.{length-map}
 use Rattle.walk.specs.Items.{item_at}
 use Rattle.walk.specs.Walks.{items_at}
 use Rattle.book.specs.ItemLists.{all_of}
-use Rattle.book.proofs.PackedItems.{removed-loose}
+use Rattle.book.proofs.Lists.{range_right}
 use Rattle.book.proofs.item_list.ItemList.remove.Goals as goal
 
 pub returns-clause-items : goal.returns-clause-items
@@ -12,9 +12,12 @@ returns-clause-items c = λ p.
     let i = c.self.inside in
     let n = length-map i.packed (item_at p) in
     let v = ap (λ l. length l.packed) c.self.view_is in
-    let e : c.args.place - c.length.result ≡ c.args.place - length (items_at p i.packed) =
-    omega (arith, n, c.length.ensures.length) in
-    ap (λ is. items_at p i.packed ++ is) (c.in-Some.ensures.items ∙ ap (remove i.loose.items) e)
-    ∙ (removed-loose (items_at p i.packed) i.loose.items c.args.place
-    (omega (arith, n, v, c.requires.loose))
-    ∙ ap (λ l. remove (all_of p l) c.args.place) c.self.view_is)
+    let a : c.args.first - c.length-packed.result ≡ c.args.first - length (items_at p i.packed) =
+    omega (arith, n, c.length-packed.ensures.length) in
+    let b : c.args.end - c.length-packed.result ≡ c.args.end - length (items_at p i.packed) =
+    omega (arith, n, c.length-packed.ensures.length) in
+    ap (λ is. items_at p i.packed ++ is) (c.drop-drain.ensures.items ∙ (c.drain.ensures.kept
+    ∙ (λ k. remove_range i.loose.items (a k) (b k))))
+    ∙ (range_right (items_at p i.packed) i.loose.items c.args.first c.args.end
+    (omega (arith, n, v, c.requires.loose)) c.requires.range
+    ∙ ap (λ l. remove_range (all_of p l) c.args.first c.args.end) c.self.view_is)

@@ -4,7 +4,7 @@ use Rattle.std.proofs.lemmas.Bool.{false≢true}
 use Rattle.semantics.specs.Ends.{is_empty}
 use Rattle.semantics.specs.Mask.{members_from}
 use Rattle.walk.specs.inner.Paths.{state_at}
-use Rattle.walk.specs.inner.WalkerInvariant.{here, is_kept_at, left_above}
+use Rattle.walk.specs.inner.WalkerInvariant.{is_kept_at}
 use Rattle.walk.proofs.WalkTurns.{members_chosen}
 use Rattle.walk.proofs.Arrivals.{turned_here, arrived_free, arrived_leaf, falls_node, falls_leaf}
 use Rattle.walk.proofs.Arrivals.{tried_added}
@@ -15,26 +15,26 @@ open-requires c =
     let p = c.args.item.now.program in
     let t = c.args.self.now in
     c.requires.free c.enabled-enabled.result
-    (c.enabled-enabled.ensures p (state_at p t.steps.items) c.requires.search.place.path.shows)
+    (c.enabled-enabled.ensures p (state_at p t.steps.items) c.requires.search.1.place.path.shows)
 
 pub returns-in-Some-clause-search : goal.returns-in-Some-clause-search
 returns-in-Some-clause-search c =
     let p = c.args.item.now.program in
     let t = c.args.self.now in
     let on = c.enabled-enabled.ensures p (state_at p t.steps.items)
-    c.requires.search.place.path.shows in
-    arrived_free c.args.mode c.args.item.now t _ c.args.found.now c.enabled-enabled.result _ _
-    c.requires.search on (turned_here t _ refl c.open.ensures.same refl refl refl refl refl)
+    c.requires.search.1.place.path.shows in
+    λ b h. arrived_free c.args.mode c.args.item.now t _ c.args.found.now
+    c.enabled-enabled.result _ _ h on (turned_here t _ refl c.open.ensures.same refl refl refl refl refl)
     c.open.ensures.kept (c.requires.free c.enabled-enabled.result on) c.in-Some.ensures.list
-    c.requires.search.place.path.room
+    c.requires.search.1.place.path.room
 
 pub returns-in-Some-clause-falls : goal.returns-in-Some-clause-falls
 returns-in-Some-clause-falls c =
     let p = c.args.item.now.program in
     let t = c.args.self.now in
     falls_node c.args.mode p t (record t { node = c.open.new.self })
-    c.enabled-enabled.result _ _ c.requires.search.place
-    (c.enabled-enabled.ensures p (state_at p t.steps.items) c.requires.search.place.path.shows)
+    c.enabled-enabled.result _ _ c.requires.search.1.place
+    (c.enabled-enabled.ensures p (state_at p t.steps.items) c.requires.search.1.place.path.shows)
     (turned_here t _ refl c.open.ensures.same refl refl refl refl refl)
     c.open.ensures.kept c.in-Some.ensures.list
 
@@ -42,25 +42,25 @@ pub returns-in_ok-add-in-None-clause-search : goal.returns-in_ok-add-in-None-cla
 returns-in_ok-add-in-None-clause-search c =
     let p = c.args.item.now.program in
     let t = c.args.self.now in
-    let shows = c.requires.search.place.path.shows in
-    arrived_leaf c.args.mode c.args.item.now t _ c.args.found.now _ c.enabled-enabled.result _ _
-    c.requires.search (c.enabled-enabled.ensures p (state_at p t.steps.items) shows)
+    let shows = c.requires.search.1.place.path.shows in
+    λ b h. arrived_leaf c.args.mode c.args.item.now t _ c.args.found.now _
+    c.enabled-enabled.result _ _ h (c.enabled-enabled.ensures p (state_at p t.steps.items) shows)
     (turned_here t _ refl c.open.ensures.same refl refl refl refl refl)
     c.open.ensures.kept c.in-None.ensures.list c.as_slice.ensures.value
     (λ i. record {
       kind = c.kind-kind.ensures p (state_at p t.steps.items) shows i;
       vars = c.variables.ensures p (state_at p t.steps.items) shows i;
     })
-    c.in_ok-add-in-None.ensures refl refl c.requires.search.place.path.room
+    refl c.in_ok-add-in-None.ensures c.requires.search.1.place.path.room
 
 pub returns-in_ok-add-in-None-clause-falls : goal.returns-in_ok-add-in-None-clause-falls
 returns-in_ok-add-in-None-clause-falls c =
     falls_leaf c.args.mode c.args.item.now.program c.args.self.now
     (record c.args.self.now { node = c.open.new.self; ends = c.add.new.memory })
     c.enabled-enabled.result
-    c.requires.search.place (c.enabled-enabled.ensures c.args.item.now.program
+    c.requires.search.1.place (c.enabled-enabled.ensures c.args.item.now.program
     (state_at c.args.item.now.program c.args.self.now.steps.items)
-    c.requires.search.place.path.shows)
+    c.requires.search.1.place.path.shows)
     (turned_here c.args.self.now _ refl c.open.ensures.same refl refl refl refl refl)
     c.open.ensures.kept c.in-None.ensures.list
 

@@ -1,4 +1,4 @@
-use Rattle.std.proofs.Common.{◌≡◌, arith, ap, sym, subst, ◌∙◌, length}
+use Rattle.std.proofs.Common.{◌≡◌, arith, subst}
 use Rattle.guest_code.specs.Program.{Program}
 use Rattle.walk.specs.inner.WalkerInvariant.{IsPlace, still_open}
 use Rattle.walk.proofs.Arrivals.{retreated_search}
@@ -8,8 +8,8 @@ pub returns-clause-search : goal.returns-clause-search
 returns-clause-search c =
     let program = c.program.ensures in
     let t = c.retreat-more.new.self in
-    retreated_search c.args.mode c.args.item.now c.args.self.now t c.args.found.now
-    c.go_back.new.self c.len.result c.requires.search
+    λ b h. retreated_search c.args.mode c.args.item.now c.args.self.now t c.args.found.now
+    c.go_back.new.self c.len.result h
     (subst (λ (q : Program). IsPlace q t) program c.retreat-more.ensures.place)
     (subst (λ (q : Program). still_open c.args.mode q t
     ≡ still_open c.args.mode q c.args.self.now) program

@@ -1,4 +1,4 @@
-use Rattle.std.proofs.Common.{◌≡◌, ◌∙◌, ap, sym, subst, arith}
+use Rattle.std.proofs.Common.{subst, arith}
 use Rattle.std.proofs.lemmas.Result.{on_ok_weaker}
 use Rattle.guest_code.specs.Program.{Program}
 use Rattle.walk.specs.inner.WalkerInvariant.{IsPlace, IsKept}
@@ -9,12 +9,38 @@ pub run-requires : goal.run-requires
 run-requires c =
     let program = c.program.ensures in
     record {
-      search = kept_search c.args.mode c.args.item.now c.args.self.now c.keep.new.self
-          c.args.found.now c.args.thread c.requires.search
+      search = (
+        c.requires.search.0,
+        kept_search c.args.mode c.args.item.now c.args.self.now c.keep.new.self
+            c.args.found.now c.args.thread c.requires.search.1
+            (subst (λ (q : Program). IsPlace q c.keep.new.self) program c.in_ok-keep.ensures.place)
+            (subst (λ (q : Program). IsKept q c.args.self.now c.keep.new.self) program
+            c.in_ok-keep.ensures.kept),
+      );
+    }
+
+pub arrive-requires-clause-search : goal.arrive-requires-clause-search
+arrive-requires-clause-search c =
+    let program = c.program.ensures in
+    let h = c.requires.search in (
+      h.0,
+      c.in_ok-run.ensures.search h.0
+          (kept_search c.args.mode c.args.item.now c.args.self.now c.keep.new.self
+          c.args.found.now c.args.thread h.1
           (subst (λ (q : Program). IsPlace q c.keep.new.self) program c.in_ok-keep.ensures.place)
           (subst (λ (q : Program). IsKept q c.args.self.now c.keep.new.self) program
-          c.in_ok-keep.ensures.kept);
-    }
+          c.in_ok-keep.ensures.kept)),
+    )
+
+pub returns-clause-search : goal.returns-clause-search
+returns-clause-search c =
+    let program = c.program.ensures in
+    on_ok_weaker c.arrive.result (λ arrived b h. arrived b (c.in_ok-run.ensures.search b
+    (kept_search c.args.mode c.args.item.now c.args.self.now c.keep.new.self
+    c.args.found.now c.args.thread h
+    (subst (λ (q : Program). IsPlace q c.keep.new.self) program c.in_ok-keep.ensures.place)
+    (subst (λ (q : Program). IsKept q c.args.self.now c.keep.new.self) program
+    c.in_ok-keep.ensures.kept)))) c.arrive.ensures.search
 
 pub returns-clause-further : goal.returns-clause-further
 returns-clause-further c =

@@ -9,7 +9,7 @@ invariant-loop-going l = record {
   place : IsPlace l.item.program l.self;
   items : All IsItem (still_open l.mode l.item.program l.self);
   rest : (l.rest.items ++ still_open l.mode l.item.program l.self)
-      ≡ still_open l.mode l.item.program l.initial.self;
+      ≡ (l.initial.rest.items ++ still_open l.mode l.item.program l.initial.self);
   over : l.going ≡ false → still_open l.mode l.item.program l.self ≡ [];
 }
 

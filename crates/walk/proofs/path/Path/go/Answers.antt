@@ -1,4 +1,4 @@
-use Rattle.std.proofs.Common.{arith, ◌≡◌, ◌+◌, ◌∙◌, refl, ap, sym, length}
+use Rattle.std.proofs.Common.{arith, ◌+◌, ◌∙◌, refl, ap}
 use Rattle.semantics.specs.Mask.{one_if}
 use Rattle.schedules.proofs.Executions.{reaches_few}
 use Rattle.schedules.proofs.ScheduleLengths.{schedule_within}

@@ -1,4 +1,4 @@
-use Rattle.std.proofs.Common.{◌≡◌, ◌<◌, length}
+use Rattle.std.proofs.Common.{◌<◌}
 use Rattle.walk.proofs.path.Path.go_back.Given as goal
 
 abbrev pub invariant-loop-depth : goal.invariant-loop-depth

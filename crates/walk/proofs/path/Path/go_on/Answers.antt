@@ -1,4 +1,4 @@
-use Rattle.std.proofs.Common.{arith, ◌≡◌, ◌+◌, ◌∙◌, Some, Option, ℕ, refl, ap, sym, subst, length}
+use Rattle.std.proofs.Common.{◌≡◌, ◌+◌, Option, ℕ, refl, sym, subst}
 use Rattle.semantics.specs.Mask.{one_if}
 use Rattle.schedules.specs.Schedules.{preempts}
 use Rattle.walk.specs.inner.Paths.{state_at}

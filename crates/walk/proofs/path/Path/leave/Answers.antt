@@ -1,6 +1,6 @@
-use Rattle.std.proofs.Common.{arith, ◌≡◌, ◌∙◌, ◌+◌, ◌-◌, ◌*◌, ◌<◌, ◌≤◌, length, refl, ap, sym}
+use Rattle.std.proofs.Common.{arith, ◌≡◌, ◌∙◌, ◌+◌, ◌-◌, ◌*◌, ◌<◌, length, refl, ap, sym}
 use Rattle.std.proofs.Common.{subst, take, drop}
-use Rattle.std.proofs.lemmas.List.{get_or_default, length-take-le, take-take, get_or-take}
+use Rattle.std.proofs.lemmas.List.{get_or_default, take-take, get_or-take}
 use Rattle.machine.specs.Refinement.{Shows, IsState}
 use Rattle.walk.specs.declared.path.Frame.{Frame}
 use Rattle.walk.specs.inner.Paths.{used_frames, words_at, state_at, frame_at, no_frame}

@@ -1,4 +1,4 @@
-use Rattle.std.proofs.Common.{◌<◌, ◌≤◌, ◌+◌, ◌-◌, ◌≡◌, ◌∙◌, arith, ap, sym}
+use Rattle.std.proofs.Common.{◌≤◌, ◌+◌, ◌-◌, ◌≡◌, ◌∙◌, arith, ap, sym}
 use Rattle.walk.specs.inner.Children.{costs}
 use Rattle.walk.specs.inner.WalkerInvariant.{turns_left}
 use Rattle.walk.proofs.PathSteps.{open_done}

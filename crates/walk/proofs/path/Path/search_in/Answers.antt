@@ -1,7 +1,58 @@
-use Rattle.std.proofs.Common.{◌++◌, ℕ, List, arith, ap}
+use Rattle.std.proofs.Common.{◌++◌, ℕ, List, arith, ap, refl, rules}
 use Rattle.walk.specs.inner.Children.{children_of, costs}
 use Rattle.walk.specs.inner.WalkerInvariant.{here, left_above, turns_left}
+use Rattle.walk.proofs.Arrivals.{turned_here, search_turned}
 use Rattle.walk.proofs.path.Path.search_in.Goals as goal
+
+pub descend-requires : goal.descend-requires
+descend-requires c =
+    let p = c.args.item.now.program in
+    let t = c.loop-going.self in
+    let b = c.requires.search.0 in
+    let h = c.loop-going.invariant.search b c.requires.search.1 in
+    record {
+      search = (
+        b,
+        search_turned c.args.mode c.args.item.now t _ c.loop-going.found _ _ h
+            (turned_here t _ refl refl refl refl refl refl refl) h.place.path.room
+            (ap (λ (ts : List ℕ). children_of c.args.mode (here p t) ts
+            ++ left_above c.args.mode p t) c.without_first-self.ensures),
+      );
+    }
+
+pub loop-going-preserved-in-Continue-1 : goal.loop-going-preserved-in-Continue-1
+loop-going-preserved-in-Continue-1 c =
+    let p = c.args.item.now.program in
+    let t = c.loop-going.self in
+    record {
+      search = λ b k. let h = c.loop-going.invariant.search b k in
+          c.in_ok-descend-in-Some.ensures.search b
+          (search_turned c.args.mode c.args.item.now t _ c.loop-going.found _ _ h
+          (turned_here t _ refl refl refl refl refl refl refl) h.place.path.room
+          (ap (λ (ts : List ℕ). children_of c.args.mode (here p t) ts
+          ++ left_above c.args.mode p t) c.without_first-self.ensures));
+      few = search rules;
+      over = search rules;
+    }
+
+pub climb-going-requires-clause-search : goal.climb-going-requires-clause-search
+climb-going-requires-clause-search c =
+    let h = c.requires.search in (h.0, c.loop-going.invariant.search h.0 h.1)
+
+pub loop-going-preserved : goal.loop-going-preserved
+loop-going-preserved c = record {
+  search = λ b h. c.climb-going.ensures.search b (c.loop-going.invariant.search b h);
+  few = search rules;
+  over = search rules;
+}
+
+pub returns-else-is_below-clause-path : goal.returns-else-is_below-clause-path
+returns-else-is_below-clause-path c =
+    let h = c.requires.search in (c.loop-going.invariant.search h.0 h.1).place.path
+
+pub returns-after-loop-going-clause-path : goal.returns-after-loop-going-clause-path
+returns-after-loop-going-clause-path c =
+    let h = c.requires.search in (c.loop-going.invariant.search h.0 h.1).place.path
 
 pub loop-going-smaller-in-Continue-1 : goal.loop-going-smaller-in-Continue-1
 unfolding turns_left

@@ -1,12 +1,14 @@
 use Rattle.std.proofs.Common.{◌≡◌, ◌≤◌, ◌+◌, false, []}
 use Rattle.semantics.specs.Mask.{one_if}
-use Rattle.walk.specs.inner.WalkerInvariant.{IsSearch, still_open, turns_left}
+use Rattle.walk.specs.inner.WalkerInvariant.{GoesOn, still_open, turns_left}
 use Rattle.walk.proofs.path.Path.search_in.Given as goal
 
 abbrev pub invariant-loop-going : goal.invariant-loop-going
 invariant-loop-going l = record {
-  search : IsSearch l.mode l.item l.self l.found (still_open l.mode l.item.program l.self);
-  few : l.found.part.tried ≤ l.quota;
+  search : GoesOn l.mode l.item
+      l.fn.self l.fn.found (still_open l.mode l.item.program l.fn.self)
+      l.self l.found (still_open l.mode l.item.program l.self);
+  few : l.found.part.tried ≤ l.limit;
   over : l.going ≡ false → still_open l.mode l.item.program l.self ≡ [];
 }
 

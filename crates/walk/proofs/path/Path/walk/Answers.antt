@@ -1,34 +1,85 @@
-use Rattle.std.proofs.Common.{◌∙◌, ap, sym, subst, map, true}
-use Rattle.walk.specs.Items.{item_at}
-use Rattle.summary.specs.Summaries.{SummaryView, with_beyond}
-use Rattle.walk.specs.Walks.{IsWalked}
-use Rattle.walk.proofs.Walks.{walked_past, search_begun, items_run}
+use Rattle.std.proofs.Common.{◌∙◌, refl, sym, arith}
+use Rattle.std.proofs.lemmas.Result.{on_ok_weaker}
+use Rattle.walk.proofs.Walks.{past_added, search_begun, search_added, items_run}
 use Rattle.walk.proofs.path.Path.walk.Goals as goal
 
-pub returns-then-is_past-clause-walked : goal.returns-then-is_past-clause-walked
-returns-then-is_past-clause-walked c =
+pub returns-then-is_past-clause-added : goal.returns-then-is_past-clause-added
+returns-then-is_past-clause-added c =
     let i = c.args.item.now in
     let t = c.stand_at.new.self in
-    let w = walked_past c.args.mode i.program t.steps.items t.node i
+    past_added c.args.mode i.program t.steps.items t.node i c.args.found.now _ c.args.quota
     c.stand_at.ensures.path.reaches c.in_ok-stand_at.ensures.item
-    (sym c.is_past.ensures ∙ c.if-is_past.true) in
-    subst IsWalked (λ k. record {
-      mode = c.args.mode;
-      item = i;
-      part = sym (c.set_beyond.ensures ∙ ap (λ (s : SummaryView). with_beyond s true)
-          c.requires.found.part) k;
-      rest = sym c.requires.found.rest k;
-      deferred = map (item_at i.program) (sym c.requires.found.deferred k);
-    }) w
+    (sym c.is_past.ensures ∙ c.if-is_past.true) c.ends-ends.ensures.kept
+    (λ k. record c.args.found.now { part = c.set_beyond.ensures k })
 
 pub set_out-requires : goal.set_out-requires
 set_out-requires c = record {
-  search = search_begun c.args.mode c.args.item.now c.stand_at.new.self c.args.found.now
-      c.in_ok-stand_at.ensures.place c.in_ok-stand_at.ensures.item c.in_ok-stand_at.ensures.base
-      (sym c.is_past.ensures ∙ c.if-is_past.false) c.requires.found.part
-      c.requires.found.deferred c.requires.found.shared;
+  search = (
+    c.args.found.now,
+    search_begun c.args.mode c.args.item.now c.stand_at.new.self c.args.found.now c.begin.new.self
+        c.in_ok-stand_at.ensures.place c.in_ok-stand_at.ensures.item c.in_ok-stand_at.ensures.base
+        (sym c.is_past.ensures ∙ c.if-is_past.false) c.ends-ends.ensures.kept
+        c.begin.ensures.same c.begin.ensures.shared,
+  );
 }
 
+pub arrive-requires-clause-search : goal.arrive-requires-clause-search
+arrive-requires-clause-search c = (
+  c.args.found.now,
+  c.in_ok-set_out.ensures.search c.args.found.now
+      (search_begun c.args.mode c.args.item.now c.stand_at.new.self c.args.found.now
+      c.begin.new.self c.in_ok-stand_at.ensures.place c.in_ok-stand_at.ensures.item
+      c.in_ok-stand_at.ensures.base (sym c.is_past.ensures ∙ c.if-is_past.false)
+      c.ends-ends.ensures.kept c.begin.ensures.same c.begin.ensures.shared),
+)
+
+pub search-requires-clause-search : goal.search-requires-clause-search
+search-requires-clause-search c = (
+  c.args.found.now,
+  c.in_ok-arrive.ensures.search c.args.found.now (c.in_ok-set_out.ensures.search c.args.found.now
+      (search_begun c.args.mode c.args.item.now c.stand_at.new.self c.args.found.now
+      c.begin.new.self c.in_ok-stand_at.ensures.place c.in_ok-stand_at.ensures.item
+      c.in_ok-stand_at.ensures.base (sym c.is_past.ensures ∙ c.if-is_past.false)
+      c.ends-ends.ensures.kept c.begin.ensures.same c.begin.ensures.shared)),
+)
+
+pub give_all_back-requires-clause-place : goal.give_all_back-requires-clause-place
+give_all_back-requires-clause-place c =
+    (c.in_ok-search.ensures.search c.args.found.now
+    (c.in_ok-arrive.ensures.search c.args.found.now (c.in_ok-set_out.ensures.search c.args.found.now
+    (search_begun c.args.mode c.args.item.now c.stand_at.new.self c.args.found.now
+    c.begin.new.self c.in_ok-stand_at.ensures.place c.in_ok-stand_at.ensures.item
+    c.in_ok-stand_at.ensures.base (sym c.is_past.ensures ∙ c.if-is_past.false)
+    c.ends-ends.ensures.kept c.begin.ensures.same c.begin.ensures.shared)))).place
+
 pub give_all_back-requires-clause-items : goal.give_all_back-requires-clause-items
-give_all_back-requires-clause-items c = items_run c.args.mode c.args.item.now _ _ _
-    c.in_ok-search.ensures.search.walked
+give_all_back-requires-clause-items c =
+    items_run c.args.mode c.args.item.now c.search.new.found _
+    (c.in_ok-search.ensures.search c.args.found.now
+    (c.in_ok-arrive.ensures.search c.args.found.now (c.in_ok-set_out.ensures.search c.args.found.now
+    (search_begun c.args.mode c.args.item.now c.stand_at.new.self c.args.found.now
+    c.begin.new.self c.in_ok-stand_at.ensures.place c.in_ok-stand_at.ensures.item
+    c.in_ok-stand_at.ensures.base (sym c.is_past.ensures ∙ c.if-is_past.false)
+    c.ends-ends.ensures.kept c.begin.ensures.same c.begin.ensures.shared)))).walked
+
+pub returns-clause-added : goal.returns-clause-added
+returns-clause-added c =
+    let i = c.args.item.now in
+    let f = c.args.found.now in
+    let t = c.stand_at.new.self in
+    let g = c.search.new.found in
+    let past = sym c.is_past.ensures ∙ c.if-is_past.false in
+    let begun = search_begun c.args.mode i t f c.begin.new.self
+    c.in_ok-stand_at.ensures.place c.in_ok-stand_at.ensures.item c.in_ok-stand_at.ensures.base
+    past c.ends-ends.ensures.kept c.begin.ensures.same c.begin.ensures.shared in
+    let few = c.in_ok-search.ensures.few in
+    let tried = c.tried.ensures in
+    let quota = c.from.ensures in
+    on_ok_weaker c.give_all_back.result
+    (search_added c.args.mode i t.node t.steps.items c.search.new.self f g _ c.args.quota
+    c.stand_at.ensures.path.reaches c.in_ok-stand_at.ensures.item past
+    (c.in_ok-search.ensures.search f (c.in_ok-arrive.ensures.search f
+    (c.in_ok-set_out.ensures.search f begun)))
+    c.requires.room (omega (arith, few, tried, quota))
+    (λ l. c.in_ok-search.ensures.all (omega (arith, l, tried, quota))) refl)
+    c.give_all_back.ensures.rest

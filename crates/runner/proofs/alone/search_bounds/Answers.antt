@@ -8,13 +8,13 @@ use Rattle.report.specs.declared.error.ExploreError.TheVariants.{OutOfMemory}
 use Rattle.runner.specs.declared.judge.Next.{Next}
 use Rattle.runner.specs.inner.Judging.{IsStage, ComesAfter, bounds_left}
 use Rattle.runner.proofs.Judgments.{next_stage, fewer_left}
-use Rattle.runner.proofs.alone.search_alone.Goals as goal
+use Rattle.runner.proofs.alone.search_bounds.Goals as goal
 
-pub loop-lone-smaller : goal.loop-lone-smaller
-loop-lone-smaller g c =
-    let o = c.args.options in
-    let p = c.deref.result.now in
-    let mode = c.loop-lone.mode in
+pub loop-report-smaller : goal.loop-report-smaller
+loop-report-smaller g c =
+    let o = c.args.stage.options in
+    let p = c.args.stage.program.now in
+    let mode = c.loop-report.mode in
     let b = c.search_mode.new.book in
     let comes =
     subst (λ (n : Next). ComesAfter p o mode b n) c.in-Raise.is c.in_ok-report.ensures.next in
@@ -24,11 +24,11 @@ loop-lone-smaller g c =
     subst (λ (m : Mode). bounds_left o.search m < bounds_left o.search mode) (sym is)
     (fewer_left p o.search mode comes.1.3)
 
-pub loop-lone-preserved : goal.loop-lone-preserved
-loop-lone-preserved g c =
-    let o = c.args.options in
-    let p = c.deref.result.now in
-    let mode = c.loop-lone.mode in
+pub loop-report-preserved : goal.loop-report-preserved
+loop-report-preserved g c =
+    let o = c.args.stage.options in
+    let p = c.args.stage.program.now in
+    let mode = c.loop-report.mode in
     let b = c.search_mode.new.book in
     let comes =
     subst (λ (n : Next). ComesAfter p o mode b n) c.in-Raise.is c.in_ok-report.ensures.next in
@@ -38,15 +38,13 @@ loop-lone-preserved g c =
     ∙ ap (λ (m : Mode). Bounded (bound_of m + 1)) comes.0.mode in
     record {
       of = record {
-        program =
-            ap (λ (x : BookView). x.program) raise ∙ comes.0.program ∙ c.deref.ensures;
+        program = ap (λ (x : BookView). x.program) raise ∙ comes.0.program;
         mode = sym c.mode-mode.ensures;
         quick = ap (λ (x : BookView). x.quick) raise ∙ comes.0.quick;
       };
-      stage = subst (λ (q : Program). IsStage q o.search c.mode-mode.result) c.deref.ensures
-          (subst (λ (m : Mode). IsStage p o.search m) (sym is)
-          (next_stage p o.search mode comes.1.3));
-      walker = c.search_mode.ensures.walker ∙ c.loop-lone.invariant.walker;
+      stage = subst (λ (m : Mode). IsStage p o.search m) (sym is)
+          (next_stage p o.search mode comes.1.3);
+      walker = c.search_mode.ensures.walker ∙ c.loop-report.invariant.walker;
     }
 
 err_is : {X E : Type 0} (r : Result X E) (P Q : E → Type 0) → ((e : E) → P e → Q e) →
@@ -56,5 +54,5 @@ err_is (Err e) P Q f h = f e h
 
 pub returns-in_err-report-clause-error : goal.returns-in_err-report-clause-error
 returns-in_err-report-clause-error g c =
-    err_is c.from_residual-in_err-report.result _ (λ e. e ≡ OutOfMemory)
-    (λ e p. p ∙ c.in_err-report.ensures.error) c.from_residual-in_err-report.ensures.1
+    err_is c.from_residual.result _ (λ e. e ≡ OutOfMemory)
+    (λ e p. p ∙ c.in_err-report.ensures.error) c.from_residual.ensures.1

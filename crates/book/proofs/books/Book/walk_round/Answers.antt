@@ -1,0 +1,100 @@
+use Rattle.std.proofs.Common.{◌≡◌, ◌<◌, ◌≤◌, ◌-◌, ◌∙◌, ap, sym, subst, arith, length, slice_get, Some}
+use Rattle.std.specs.Arc.{arc_value}
+use Rattle.walk.specs.Items.{ItemView}
+use Rattle.book.specs.ItemLists.{all_of}
+use Rattle.book.specs.Books.{BookView, book_view, Keeps, HaveWalked, HasWalkedRound, taken_over}
+use Rattle.book.proofs.OpenItems.{open_own}
+use Rattle.book.proofs.TakenOver.{on_settled}
+use Rattle.book.proofs.Rounds.{none_walked, walked_kept, added_tried, round_goes_on, round_settled}
+use Rattle.book.proofs.books.Book.walk_round.Goals as goal
+
+pub loop-place-init : goal.loop-place-init
+loop-place-init c =
+    let first = c.saturating_sub-first.result in
+    let none = ap (λ s. s.tried) c.clear.ensures.part in
+    let count : 0 ≡ first - first = omega arith in
+    record {
+      walker = c.clear.ensures.program;
+      tried = omega (arith, none);
+      walked = subst (λ n. HaveWalked n c.args.self.now first c.args.quota
+          (taken_over c.args.self.now first first c.clear.new.found)) count
+          (none_walked c.args.self.now first c.clear.new.found
+          (subst Keeps c.self.view_is c.self.invariant.0)
+          c.clear.ensures.part c.clear.ensures.rest c.clear.ensures.deferred);
+    }
+
+pub walk_on-requires-clause-program : goal.walk_on-requires-clause-program
+walk_on-requires-clause-program c =
+    let b : BookView = book_view c.self.inside.program c.self.inside.mode c.self.inside.finished
+    c.self.inside.open_items c.self.inside.deferred c.self.inside.quick c.self.inside.dropped in
+    let p = arc_value c.self.inside.program in
+    let place = c.loop-place.place in
+    let item : ItemView = c.loose_item-item.result.now in
+    let lt : place < length b.open_items =
+    omega (arith, c.length-end.ensures p, c.loop-place-test.true) in
+    let at : slice_get b.open_items place ≡ Some item =
+    ap (λ is. slice_get is place) (sym c.unpack_from.ensures.same) ∙ c.loose_item-item.ensures p in
+    sym (open_own b c.self.invariant.0 place item lt at)
+    ∙ (ap (λ (z : BookView). z.program) c.self.view_is ∙ (sym c.requires.walker
+    ∙ sym c.loop-place.invariant.walker))
+
+pub loop-place-preserved : goal.loop-place-preserved
+loop-place-preserved c =
+    let b : BookView = book_view c.self.inside.program c.self.inside.mode c.self.inside.finished
+    c.self.inside.open_items c.self.inside.deferred c.self.inside.quick c.self.inside.dropped in
+    let p = arc_value c.self.inside.program in
+    let place = c.loop-place.place in
+    let item : ItemView = c.loose_item-item.result.now in
+    let from = c.loop-place.auto.place in
+    let tried = c.loop-place.invariant.tried in
+    let quota = c.ranges.quota.fits in
+    let lt : place < length b.open_items =
+    omega (arith, c.length-end.ensures p, c.loop-place-test.true) in
+    let at : slice_get b.open_items place ≡ Some item =
+    ap (λ is. slice_get is place) (sym c.unpack_from.ensures.same) ∙ c.loose_item-item.ensures p in
+    let more = added_tried c.self.inside.mode item c.args.quota c.loop-place.found
+    c.walk_on.new.found c.in_ok-walk_on.ensures.added in
+    record {
+      walker = c.walk_on.ensures.program ∙ c.loop-place.invariant.walker;
+      tried = omega (arith, tried, more, quota);
+      walked = round_goes_on c.args.self.now b item c.saturating_sub-first.result place c.args.quota
+          c.loop-place.found c.walk_on.new.found c.self.view_is from (lt, at)
+          (open_own b c.self.invariant.0 place item lt at) c.in_ok-walk_on.ensures.added
+          c.loop-place.invariant.walked;
+    }
+
+pub take_over-requires-clause-keeps : goal.take_over-requires-clause-keeps
+take_over-requires-clause-keeps c =
+    let b : BookView = book_view c.self.inside.program c.self.inside.mode c.self.inside.finished
+    c.self.inside.open_items c.self.inside.deferred c.self.inside.quick c.self.inside.dropped in
+    let first = c.saturating_sub-first.result in
+    let place = c.loop-place.place in
+    let start = c.saturating_sub-first.ensures in
+    let least : first ≤ c.length-end.result = omega (arith, start) in
+    let most = c.loop-place.auto.place-end least in
+    let over : place ≡ c.length-end.result = omega (arith, most, c.loop-place-test.false) in
+    subst Keeps (sym (λ k. taken_over (((λ j. record b { open_items = c.unpack_from.ensures.same j })
+    ∙ c.self.view_is) k) first (sym over k) c.loop-place.found))
+    (walked_kept (place - first) c.args.self.now first c.args.quota
+    (taken_over c.args.self.now first place c.loop-place.found)
+    (subst Keeps c.self.view_is c.self.invariant.0) c.loop-place.invariant.walked)
+
+pub returns-clause-ok : goal.returns-clause-ok
+returns-clause-ok c =
+    let b : BookView = book_view c.self.inside.program c.self.inside.mode c.self.inside.finished
+    c.self.inside.open_items c.self.inside.deferred c.self.inside.quick c.self.inside.dropped in
+    let p = arc_value c.self.inside.program in
+    let first = c.saturating_sub-first.result in
+    let end = c.length-end.result in
+    let place = c.loop-place.place in
+    let start = c.saturating_sub-first.ensures in
+    let least : first ≤ end = omega (arith, start) in
+    let most = c.loop-place.auto.place-end least in
+    let unpacked : BookView = record b { open_items = all_of p c.unpack_from.new.self } in
+    on_settled c.take_over.result c.take_over.new.self _ _
+    (HasWalkedRound c.args.self.now c.args.quota c.take_over.new.self) c.take_over.ensures
+    (round_settled c.args.self.now unpacked c.take_over.new.self first end place c.args.quota
+    c.loop-place.found ((λ j. record b { open_items = c.unpack_from.ensures.same j })
+    ∙ c.self.view_is)
+    (c.length-end.ensures p ∙ ap (λ (z : BookView). length z.open_items) c.self.view_is)
+    start (omega (arith, most, c.loop-place-test.false)) c.loop-place.invariant.walked)
