@@ -201,22 +201,20 @@ fn items_are_settled_one_by_one(rt: HostRuntime) -> Result<(), Fail> {
     Ok(())
 }
 
-/// Walks the first open item of a book where it stands.
-fn walk_first(alloc: Global, book: &mut Book, quota: u32) -> Result<(), Fail>
+/// Walks the last open items of a book where they stand.
+fn walk_in_place(alloc: Global, book: &mut Book, quota: u32) -> Result<(), Fail>
     requires { 1 ≤ quota }
 {
     let mut walker = Walker::new(alloc, Arc::try_clone(book.program())?)?;
-    if book.open_length() > 0 {
-        book.walk_at(alloc, &mut walker, &mut Found::new(alloc), 0, quota)?;
-    }
+    book.walk_round(alloc, &mut walker, &mut Found::new(alloc), quota)?;
     Ok(())
 }
 
 /// Walks the counters' root where it stands, and then what the first walk left.
 fn walk_both(rt: &(impl Abort + Alloc<A = Global>), book: &mut Book) -> Result<(), Fail> {
-    walk_first(rt.alloc(), book, 1)?;
+    walk_in_place(rt.alloc(), book, 1)?;
     shows(rt, book, "1 true open [1] deferred [0, 1]")?;
-    walk_first(rt.alloc(), book, 256)?;
+    walk_in_place(rt.alloc(), book, 256)?;
     shows(rt, book, "2 true deferred [0, 1] deferred [1, 0]")?;
     Ok(())
 }
@@ -225,6 +223,29 @@ fn walk_both(rt: &(impl Abort + Alloc<A = Global>), book: &mut Book) -> Result<(
 fn items_are_walked_where_they_stand(rt: HostRuntime) -> Result<(), Fail> {
     let mut book = book_of(rt.alloc(), COUNTERS, FIRST)?;
     walk_both(&rt, &mut book)
+}
+
+/// Walks the rounds of two books, one schedule a walk: those of the first where its items stand, and
+/// the items of the second one by one. They show the same after each.
+fn walk_rounds(
+    rt: &(impl Abort + Alloc<A = Global>),
+    first: &mut Book,
+    second: &mut Book,
+) -> Result<(), Fail> {
+    for _ in 0..ROUNDS {
+        walk_in_place(rt.alloc(), first, 1)?;
+        walk_round(rt.alloc(), second, 1)?;
+        let line = shown(rt.alloc(), second)?;
+        shows(rt, first, line.as_str())?;
+    }
+    Ok(())
+}
+
+#[test]
+fn rounds_are_settled_as_their_items_are(rt: HostRuntime) -> Result<(), Fail> {
+    let mut first = book_of(rt.alloc(), COUNTERS, Mode::Bounded(1))?;
+    let mut second = book_of(rt.alloc(), COUNTERS, Mode::Bounded(1))?;
+    walk_rounds(&rt, &mut first, &mut second)
 }
 
 /// The prefixes of items, in one line.

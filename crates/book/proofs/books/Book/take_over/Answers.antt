@@ -137,7 +137,7 @@ remove-requires-clause-end c =
       arith,
       length-all p c.append.new.self,
       ap length (grown p c.unpack_from.new.self c.append.new.self rest
-      c.in_ok-append.ensures.packed c.in_ok-append.ensures.loose),
+          c.in_ok-append.ensures.packed c.in_ok-append.ensures.loose),
       length-append (all_of p c.unpack_from.new.self) rest,
       ap length c.unpack_from.ensures.same,
       ap (λ z. length z.open_items) c.self.view_is,
@@ -168,8 +168,7 @@ invariant_of-self-2 c =
       finished = c.in_default-join_in_by.ensures k;
       open_items = items k;
       deferred = later k;
-    } in
-    (
+    } in (
       subst Keeps (sym (same ∙ ap (λ z. taken_over z c.args.first c.args.end found) c.self.view_is))
           c.requires.keeps,
       subst (λ (z : BookView). IsSwept c.both-self-inside.result z) (sym same)
