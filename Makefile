@@ -11,10 +11,10 @@ export GUEST SCHEDULE
 
 define HELP
   make run        searches an example for a deadlock and shows how it comes about; nothing is proved
-                    one to three minutes, 2 GB of memory
+                    half a minute to a minute, 2 GB of memory
   make try GUEST=file [SCHEDULE=0,1,0]
                   the same with a guest of yours; with SCHEDULE it only replays that
-                    one to three minutes, 2 GB
+                    half a minute to a minute, 2 GB
   make quick      all that needs no proof: the tests, the commands that the documents show,
                   the table of wrong bodies
                     some seven minutes on four processors, 5 GB
@@ -44,10 +44,11 @@ export HELP
 help:
 	@echo "$$HELP"
 
-# `rt try` runs the program without proofs, on a copy of the guest. Standard error, kept in
-# build/log, has what the program writes there and then, from `checked: ` on, what `rt try` says of
-# itself. The status is the program's own, which is 1 where a schedule is bad.
-TRY = mkdir -p build && cd crates/ctxbound && rt try --data program.guest="$$guest" \
+# `rt try` runs a program without proofs, on a copy of the guest: `first`, which answers these words
+# as `ctxbound` does and compiles in half the time. Standard error, kept in build/log, has what the
+# program writes there and then, from `checked: ` on, what `rt try` says of itself. The status is the
+# program's own, which is 1 where a schedule is bad.
+TRY = mkdir -p build && cd crates/first && rt try --data program.guest="$$guest" \
 		-- $$words 2> ../../build/log; status=$$?; \
 	grep -q '^run=ended ' ../../build/log || { cat ../../build/log >&2; exit 2; }; \
 	sed '/^checked: /,$$d' ../../build/log; \
@@ -56,7 +57,7 @@ TRY = mkdir -p build && cd crates/ctxbound && rt try --data program.guest="$$gue
 # One run: the report, and then the trace of the schedule that it names, if any.
 SEARCH = words="explore program.guest --trace"; $(TRY)
 
-COMPILING = echo "Compiling the program, without proofs, which takes a minute or two .."
+COMPILING = echo "Compiling without proofs, which takes half a minute to a minute .."
 
 NEEDS_PROGRAM = test -x $(PROGRAM) || \
 	{ echo "$(PROGRAM) isn't there: run \`make build\` first" >&2; exit 2; }
@@ -147,7 +148,7 @@ test:
 shown:
 	@$(NEEDS_PROGRAM)
 	python3 tests/docs.py $(PROGRAM)
-	python3 tests/commands.py $(PROGRAM)
+	python3 tests/commands.py $(PROGRAM) $(wildcard crates/first/out/first)
 	python3 tests/check.py $(PROGRAM)
 	python3 tests/explain.py $(PROGRAM)
 	python3 tests/page.py $(PROGRAM)

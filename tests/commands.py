@@ -1,9 +1,9 @@
 #!/usr/bin/env python3
 """Runs the program's commands where no document shows them, and compares what they print.
 
-Usage: tests/commands.py BINARY
+Usage: tests/commands.py BINARY [FIRST]
 
-What is expected was worked out by hand from docs/LANGUAGE.md and docs/FORMATS.md, or is what another
+FIRST is the program of the crate `first`. What is expected was worked out by hand from docs/LANGUAGE.md and docs/FORMATS.md, or is what another
 command has to print. `make shown` runs it.
 """
 import json
@@ -288,10 +288,22 @@ file  verdict  bound  preemptions  schedule  tried  note
                                       stderr=subprocess.PIPE, timeout=SECONDS)
             self.compare(words, (done.stderr.decode(), done.returncode), (line, 4))
 
+    def first(self, first):
+        """The two commands of `first` print what they print here; it refuses all other words."""
+        run = Checker(first, self.folder).run
+        for words in (*(["explore", name, "--trace"] for name in FILES if name.endswith(".guest")),
+                      *(["replay", "race.guest", text] for text in ("0,1,0", "0x2,1", "-", "0", "0,", "7", "0x3")),
+                      ["replay", "refused.guest", "0"], ["replay", "gone.guest", "0"], ["explore", "folder", "--trace"]):
+            self.compare(words, run(words), self.run(words))
+        usage = "usage: first explore FILE --trace, or: first replay FILE SCHEDULE\n"
+        for words in ([], ["explore", "race.guest"], ["replay", "race.guest"], ["unbounded", "race.guest", "--trace"],
+                      ["explore", "race.guest", "--quick"], ["explore", "race.guest", "--trace", "--quick"]):
+            self.compare(["first"] + words, run(words), ("", usage, 2))
+
 
 def main():
-    if len(sys.argv) != 2 or not Path(sys.argv[1]).is_file():
-        raise SystemExit("usage: tests/commands.py BINARY")
+    if len(sys.argv) not in (2, 3) or not all(Path(name).is_file() for name in sys.argv[1:]):
+        raise SystemExit("usage: tests/commands.py BINARY [FIRST]")
     with tempfile.TemporaryDirectory() as folder:
         for name, text in FILES.items():
             path = Path(folder) / name
@@ -308,6 +320,8 @@ def main():
         checker.checks()
         checker.standard_input()
         checker.full_device()
+        for first in sys.argv[2:]:
+            checker.first(str(Path(first).resolve()))
     print("%d passed, %d failed" % (checker.passed, checker.failed))
     raise SystemExit(1 if checker.failed else 0)
 

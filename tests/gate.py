@@ -21,11 +21,12 @@ CLOSING = re.compile(r"(\d+) passed, (\d+) failed$")
 PROGRAM = "build/ctxbound"
 BENCHMARK = "crates/walk_bench/out/walk_bench"
 LISTENER = "crates/rounds/out/rounds"
+FIRST = "crates/first/out/first"
 AGAIN = "crates/again/out/again"
 LEFT_OUT = re.compile(r"\w+ \S+: proved$")
 # What is tried of the built program after the commands that the documents show.
 TRIED = {
-    "commands": [sys.executable, "tests/commands.py", PROGRAM],
+    "commands": [sys.executable, "tests/commands.py", PROGRAM, FIRST],
     "refusals and warnings": [sys.executable, "tests/check.py", PROGRAM],
     "explanations": [sys.executable, "tests/explain.py", PROGRAM],
     "pages": [sys.executable, "tests/page.py", PROGRAM],

@@ -2,7 +2,7 @@
 use Rattle.std.specs.Prelude.{◌≡◌, ℕ, List, Bool}
 use Rattle.advice.specs.declared.Checked.{Checked}
 use Rattle.advice.specs.Told.{Tells, checked_lines}
-use Rattle.ctxbound.specs.declared.answer.Printed.{Printed}
+use Rattle.answering.specs.declared.answer.Printed.{Printed}
 use Rattle.ctxbound.specs.Status.{checked_status}
 
 -- why the text is refused, or what is odd about its program: its lines are printed, and the status is

@@ -1,11 +1,6 @@
 //! What the program can be asked for.
 
-ghost use Rattle.std.specs.Prelude.{◌≤◌};
-ghost use Rattle.report.specs.Promises.{IsSearch};
-ghost use Rattle.workers.specs.declared.limits.TheConstants.{WORKERS};
-ghost use Rattle.ctxbound.specs.inner.Asked.{IsSearch-prop};
-
-use runner::Options;
+use answering::{Asked, Exploration};
 use suite::Limits;
 
 /// What the command words ask for.
@@ -13,6 +8,8 @@ use suite::Limits;
 pub enum Request {
     /// Something of the guest program in this file.
     One { file: String, asked: Asked },
+    /// To explain a schedule.
+    Explain(ExplainRequest),
     /// A suite.
     Suite(SuiteRequest),
     /// To check guest programs and search nothing.
@@ -39,20 +36,7 @@ pub struct SuiteRequest {
     pub json: bool,
 }
 
-/// What the program is asked to do with a guest program.
-#[derive(Debug, Drop)]
-pub enum Asked {
-    /// To replay one schedule, in schedule text, and print its trace.
-    Replay { schedule: String },
-    /// To search for a bad schedule, and print the report.
-    Explore(Exploration),
-    /// To search, and print the report and the trace of the schedule that it names, if any.
-    Trace(Exploration),
-    /// To explain a schedule.
-    Explain(ExplainRequest),
-}
-
-/// To explain a schedule, or the one that a search finds.
+/// To explain a schedule of the guest program in a file, or the schedule that a search finds.
 #[derive(Debug, Drop)]
 pub struct ExplainRequest {
     /// The file, by the name that it is told with.
@@ -72,18 +56,4 @@ pub enum Form {
     Json,
     /// As a page.
     Html,
-}
-
-/// A search, and by how many workers. Its report doesn't depend on them, unless it is incomplete.
-#[derive(Clone, Copy, Debug)]
-pub struct Exploration {
-    pub options: Options,
-    /// At least 1, at most [`WORKERS`](runner::WORKERS).
-    pub workers: u32,
-    /// Whether it is told on standard error how far the search is.
-    pub progress: bool,
-    ghost search: { IsSearch options.search } by { IsSearch-prop options.search },
-    ghost quota: { 1 ≤ options.quota },
-    ghost some_worker: { 1 ≤ workers },
-    ghost few_workers: { workers ≤ WORKERS },
 }

@@ -2,12 +2,10 @@
 
 ghost use Rattle.std.specs.Prelude.{◌≡◌, IfErr};
 ghost use Rattle.ctxbound.specs.Status.{explained_status};
-ghost use Rattle.ctxbound.specs.declared.fault.Fault.TheVariants.{Memory};
+ghost use Rattle.answering.specs.declared.fault.Fault.TheVariants.{Memory};
 
-use crate::answer::{Printed, replay_status, verdict_status};
 use crate::asked::{ExplainRequest, Form};
-use crate::fault::Fault;
-use crate::progress::Teller;
+use answering::{Fault, Printed, Teller, replay_status, verdict_status};
 use explain::{Explanation, Source};
 use explain_page::{explanation_html, explanation_json};
 use explain_text::{Shape, explanation_text};

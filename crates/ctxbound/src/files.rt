@@ -1,7 +1,7 @@
 //! The files that the command words name, and what a device's failure is told as where they are
 //! named.
 
-use crate::fault::Fault;
+use answering::{Fault, is_standard_input};
 use guest_syntax::TEXT_BYTES;
 use std::alloc::{Alloc, Global};
 use std::fs::Files;
@@ -13,11 +13,6 @@ const ENDING: &str = ".guest";
 
 /// What is said of a folder that has none.
 const NO_GUESTS: &str = "no file in it ends in .guest";
-
-/// Whether this word in the place of a file stands for standard input.
-pub fn is_standard_input(file: &str) -> bool {
-    file == "-"
-}
 
 /// The text of a file or of standard input, or one byte more than a program may have where it is
 /// too long.

@@ -1,19 +1,15 @@
 //! The program `ctxbound`: what the command words ask for, done on a guest program.
 //!
-//! `words` reads the words, `serve` does the work over a reader and two writers, `suites` that of
-//! many files, and `main` joins them to the system. What is answered for the bytes of a text is `explore_text`, and for those of
-//! a text and a schedule `replay_text`; their contracts speak of nothing else.
+//! `words` reads the words, `program` does what they ask for, and `main` joins both to the system.
+//! What is answered to a replay or a search is in the crate `answering`. The other commands are in
+//! `explained`, `checks` and `suites`.
 #![tactic(auto)]
 
-mod answer;
 mod asked;
 mod checks;
 mod explained;
-mod fault;
 mod files;
 mod program;
-mod progress;
-mod serve;
 mod suites;
 #[cfg(test)]
 mod tests;

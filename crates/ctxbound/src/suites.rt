@@ -2,12 +2,11 @@
 
 ghost use Rattle.std.specs.Prelude.{◌≡◌, IfOk, IfErr};
 ghost use Rattle.suite.specs.Statuses.{IsWorst};
-ghost use Rattle.ctxbound.specs.declared.fault.Fault.TheVariants.{Memory};
+ghost use Rattle.answering.specs.declared.fault.Fault.TheVariants.{Memory};
 
-use crate::answer::Printed;
 use crate::asked::SuiteRequest;
-use crate::fault::Fault;
 use crate::files::{files_of, read_file, write_named};
+use answering::{Fault, Printed};
 use runner::ExploreError;
 use std::alloc::{Alloc, Global};
 use std::fs::Files;

@@ -7,12 +7,11 @@ mod reports;
 mod rows;
 mod words;
 
-use crate::asked::{Asked, Request};
-use crate::fault::Fault;
-use crate::serve::serve;
+use crate::asked::Request;
 use crate::tests::devices::{FailingReader, FailingWriter};
 use crate::tests::reports::{ASKED_FOR_MORE, BOUNDED, CUT_SHORT, EIGHT_STORES, UNBOUNDED};
 use crate::tests::rows::{RACE, REFUSALS, TRACES};
+use answering::{Asked, Fault, serve};
 use std::alloc::{Alloc, Global};
 use std::io::Eprint;
 use std::process::Abort;

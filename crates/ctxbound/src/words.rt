@@ -5,8 +5,8 @@ ghost use Rattle.report.specs.declared.options.Search.TheVariants.{Unbounded};
 ghost use Rattle.report.specs.Promises.{IsSearch};
 ghost use Rattle.ctxbound.specs.Words.{words_status};
 
-use crate::asked::{Asked, CheckRequest, ExplainRequest, Exploration, Form, Request, SuiteRequest};
-use crate::fault::Fault;
+use crate::asked::{CheckRequest, ExplainRequest, Form, Request, SuiteRequest};
+use answering::{Asked, DEFAULT_BOUND, Exploration, Fault};
 use clap::error::ErrorKind;
 use clap::{Arg, ArgAction, ArgMatches, Command, Error, value_parser};
 use runner::{BOUND, Options, QUOTA, Search, WORKERS};
@@ -18,9 +18,6 @@ use suite::{LIMIT, Limits};
 
 /// The version that `--version` shows.
 pub const VERSION: &str = "0.1.0";
-
-/// The bound of a search that asks for none.
-pub const DEFAULT_BOUND: u32 = 2;
 
 /// How many schedules a deep check goes through at most, where no number is asked for.
 const DEFAULT_DEPTH: u64 = 100_000;
@@ -372,11 +369,8 @@ fn exploration_of(name: &str, given: &ArgMatches<'_>) -> Exploration {
     }
 }
 
-/// What the words of a command ask for of a guest program.
+/// The replay or the search that the words of a command ask for.
 fn asked_of(alloc: Global, name: &str, given: &ArgMatches<'_>) -> Result<Asked, AllocError> {
-    if name == "explain" {
-        return Ok(Asked::Explain(explain_of(alloc, given)?));
-    }
     if name != "replay" {
         let search = exploration_of(name, given);
         return Ok(if given.get_flag("trace") {
@@ -472,6 +466,9 @@ pub fn request(alloc: Global, words: &[String]) -> Result<Request, WordsFault> {
     }
     if name == "suite" {
         return Ok(Request::Suite(suite_of(alloc, given)?));
+    }
+    if name == "explain" {
+        return Ok(Request::Explain(explain_of(alloc, given)?));
     }
     let file = String::from_str(alloc, given.get_str("FILE").unwrap_or(""))?;
     let asked = asked_of(alloc, name, given)?;

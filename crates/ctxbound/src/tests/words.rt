@@ -1,10 +1,11 @@
 //! The command words: what they ask for, and what is said of those that ask for nothing.
 
-use crate::asked::{Asked, Request};
+use crate::asked::Request;
 use crate::program::serve_words;
 use crate::tests::devices::Words;
 use crate::tests::{Written, compare, search, words_of};
 use crate::words::{HELP_END, VERSION, command_words, request};
+use answering::Asked;
 use runner::{Options, Search};
 use std::alloc::{Alloc, Global};
 use std::fs::Files;

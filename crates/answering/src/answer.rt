@@ -1,12 +1,11 @@
-//! What the program answers to a request, as a value: the bytes for each stream, and the status.
+//! What is answered to what was asked, as a value: the bytes for each stream, and the status.
 
 ghost use Rattle.std.specs.Prelude.{◌≡◌};
-ghost use Rattle.ctxbound.specs.Answer.{ReplayMeans, ExplorationMeans, TracedMeans, IsAnswerTo};
-ghost use Rattle.ctxbound.specs.Status.{replay_status, verdict_status};
-ghost use Rattle.ctxbound.specs.Serve.{IsWritten};
+ghost use Rattle.answering.specs.Answer.{ReplayMeans, ExplorationMeans, TracedMeans, IsAnswerTo};
+ghost use Rattle.answering.specs.Status.{replay_status, verdict_status};
+ghost use Rattle.answering.specs.Serve.{IsWritten};
 
 use crate::asked::{Asked, Exploration};
-use crate::explained::explain_text;
 use crate::fault::Fault;
 use crate::progress::Teller;
 use guest_code::lowering::lower;
@@ -140,7 +139,7 @@ pub struct Answer {
 }
 
 impl Model for Answer {
-    ghost use Rattle.ctxbound.specs.Answer.{AnswerView, answer_of};
+    ghost use Rattle.answering.specs.Answer.{AnswerView, answer_of};
 
     ghost Value = { AnswerView };
 
@@ -167,7 +166,6 @@ impl Answer {
             (Ok(text), Asked::Trace(asked)) => {
                 explore_and_trace(rt, alloc, text.as_slice(), *asked)
             }
-            (Ok(text), Asked::Explain(asked)) => { explain_text(rt, alloc, text.as_slice(), asked) }
             (Err(fault), _) => Err(fault),
         };
         Answer { result }
@@ -210,7 +208,7 @@ impl Answer {
 
 impl From<Fault> for Answer {
     ghost use Rattle.std.specs.Prelude.{◌≡◌, Err};
-    ghost use Rattle.ctxbound.specs.Answer.{answer_of};
+    ghost use Rattle.answering.specs.Answer.{answer_of};
 
     ghost from_gives = { λ fault a. a ≡ answer_of (Err fault) };
 

@@ -3,9 +3,9 @@ use Rattle.std.proofs.lemmas.Result.{err_from_is_err_and}
 use Rattle.guest_syntax.specs.Tree.{tree_view}
 use Rattle.replay.specs.Run.{Run, IsRunOf}
 use Rattle.replay.specs.Trace.{trace}
-use Rattle.ctxbound.specs.Status.{replay_status}
-use Rattle.ctxbound.proofs.Faults.{syntax_tells}
-use Rattle.ctxbound.proofs.answer.replay_text.Goals as goal
+use Rattle.answering.specs.Status.{replay_status}
+use Rattle.answering.proofs.Faults.{syntax_tells}
+use Rattle.answering.proofs.answer.replay_text.Goals as goal
 
 pub returns-in_err-tree : goal.returns-in_err-tree
 returns-in_err-tree c =

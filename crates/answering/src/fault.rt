@@ -1,9 +1,9 @@
 //! Why a run of the program has no answer.
 
 ghost use Rattle.std.specs.Prelude.{◌≡◌};
-ghost use Rattle.ctxbound.specs.Status.{fault_status};
-ghost use Rattle.ctxbound.specs.Lines.{fault_line};
-ghost use Rattle.ctxbound.specs.Serve.{IsWritten};
+ghost use Rattle.answering.specs.Status.{fault_status};
+ghost use Rattle.answering.specs.Lines.{fault_line};
+ghost use Rattle.answering.specs.Serve.{IsWritten};
 
 use guest_code::error::CheckError;
 use guest_syntax::SyntaxError;
@@ -65,7 +65,7 @@ impl Fault {
 /// of a refusal, and its place.
 impl fmt::Display for Fault {
     ghost use Rattle.std.specs.Prelude.{Some};
-    ghost use Rattle.ctxbound.specs.Lines.{fault_text};
+    ghost use Rattle.answering.specs.Lines.{fault_text};
 
     ghost output = { λ fault. Some (fault_text fault) };
 
@@ -85,7 +85,7 @@ impl std::error::Error for Fault {}
 
 impl From<SyntaxError> for Fault {
     ghost use Rattle.std.specs.Prelude.{◌≡◌};
-    ghost use Rattle.ctxbound.specs.Answer.{of_syntax};
+    ghost use Rattle.answering.specs.Answer.{of_syntax};
 
     ghost from_gives = { λ e fault. fault ≡ of_syntax e };
 
@@ -99,7 +99,7 @@ impl From<SyntaxError> for Fault {
 
 impl From<CheckError> for Fault {
     ghost use Rattle.std.specs.Prelude.{◌≡◌};
-    ghost use Rattle.ctxbound.specs.Answer.{of_check};
+    ghost use Rattle.answering.specs.Answer.{of_check};
 
     ghost from_gives = { λ e fault. fault ≡ of_check e };
 
@@ -113,7 +113,7 @@ impl From<CheckError> for Fault {
 
 impl From<ScheduleError> for Fault {
     ghost use Rattle.std.specs.Prelude.{◌≡◌};
-    ghost use Rattle.ctxbound.specs.Answer.{of_schedule};
+    ghost use Rattle.answering.specs.Answer.{of_schedule};
 
     ghost from_gives = { λ e fault. fault ≡ of_schedule e };
 
@@ -127,7 +127,7 @@ impl From<ScheduleError> for Fault {
 
 impl From<ReplayError> for Fault {
     ghost use Rattle.std.specs.Prelude.{◌≡◌};
-    ghost use Rattle.ctxbound.specs.Answer.{of_replay};
+    ghost use Rattle.answering.specs.Answer.{of_replay};
 
     ghost from_gives = { λ e fault. fault ≡ of_replay e };
 
@@ -141,7 +141,7 @@ impl From<ReplayError> for Fault {
 
 impl From<ExploreError> for Fault {
     ghost use Rattle.std.specs.Prelude.{◌≡◌};
-    ghost use Rattle.ctxbound.specs.Answer.{of_explore};
+    ghost use Rattle.answering.specs.Answer.{of_explore};
 
     ghost from_gives = { λ e fault. fault ≡ of_explore e };
 
@@ -156,7 +156,7 @@ impl From<ExploreError> for Fault {
 
 impl From<AllocError> for Fault {
     ghost use Rattle.std.specs.Prelude.{◌≡◌};
-    ghost use Rattle.ctxbound.specs.declared.fault.Fault.TheVariants.{Memory};
+    ghost use Rattle.answering.specs.declared.fault.Fault.TheVariants.{Memory};
 
     ghost from_gives = { λ _ fault. fault ≡ Memory };
 
@@ -167,7 +167,7 @@ impl From<AllocError> for Fault {
 
 impl<T: Drop> From<AllocFailed<T>> for Fault {
     ghost use Rattle.std.specs.Prelude.{◌≡◌};
-    ghost use Rattle.ctxbound.specs.declared.fault.Fault.TheVariants.{Memory};
+    ghost use Rattle.answering.specs.declared.fault.Fault.TheVariants.{Memory};
 
     ghost from_gives = { λ _ fault. fault ≡ Memory };
 
@@ -178,7 +178,7 @@ impl<T: Drop> From<AllocFailed<T>> for Fault {
 
 impl From<io::Error> for Fault {
     ghost use Rattle.std.specs.IoError.{error_kind};
-    ghost use Rattle.ctxbound.specs.Answer.{IsDeviceFault};
+    ghost use Rattle.answering.specs.Answer.{IsDeviceFault};
 
     ghost from_gives = { λ e fault. IsDeviceFault (error_kind e) fault };
 

@@ -1,6 +1,6 @@
 -- What the program answers to a request, in terms of the bytes of its texts.
 use Rattle.std.specs.Prelude.{◌≡◌, ◌≢◌, ◌⊎◌, ℕ, List, [], ◌++◌, true, false, codes}
-use Rattle.std.specs.Prelude.{Option, Some, None, MatchOption, Result, Ok, Err, MatchResult, Vec}
+use Rattle.std.specs.Prelude.{Option, Some, None, Result, Ok, Err, MatchResult, Vec}
 use Rattle.std.specs.Prelude.{string_bytes}
 use Rattle.std.specs.declared.alloc.Global.{Global}
 use Rattle.std.specs.declared.io.ErrorKind.{ErrorKind}
@@ -28,14 +28,14 @@ use Rattle.report.specs.declared.options.Options.{Options}
 use Rattle.report.specs.declared.report.Report.{Report}
 use Rattle.report.specs.ReportText.{report_text, named_schedule}
 use Rattle.report.specs.Texts.{IsProgramOf, IsFaultOf, IsReportOfText}
-use Rattle.ctxbound.specs.declared.answer.Printed.{Printed}
-use Rattle.ctxbound.specs.declared.asked.Asked.{Asked}
-use Rattle.ctxbound.specs.declared.asked.Asked.TheVariants as asked
-use Rattle.ctxbound.specs.declared.fault.Fault.{Fault}
-use Rattle.ctxbound.specs.declared.fault.Fault.TheVariants.{File, Syntax, Check, Schedule}
-use Rattle.ctxbound.specs.declared.fault.Fault.TheVariants.{Replay, Memory}
-use Rattle.ctxbound.specs.Lines.{fault_line}
-use Rattle.ctxbound.specs.Status.{replay_status, verdict_status, fault_status}
+use Rattle.answering.specs.declared.answer.Printed.{Printed}
+use Rattle.answering.specs.declared.asked.Asked.{Asked}
+use Rattle.answering.specs.declared.asked.Asked.TheVariants as asked
+use Rattle.answering.specs.declared.fault.Fault.{Fault}
+use Rattle.answering.specs.declared.fault.Fault.TheVariants.{File, Syntax, Check, Schedule}
+use Rattle.answering.specs.declared.fault.Fault.TheVariants.{Replay, Memory}
+use Rattle.answering.specs.Lines.{fault_line}
+use Rattle.answering.specs.Status.{replay_status, verdict_status, fault_status}
 
 -- the text spells a program, the schedule's text a schedule that runs in it; its trace is printed,
 -- and the status is that of how it ends
@@ -181,13 +181,11 @@ answer_of (Err fault) = record {
   status = fault_status fault;
 }
 
--- what is answered to a request for this text; what an explanation says of a schedule is in the
--- contracts of `explain`, and the way to it is only tested
+-- what is answered to a request for this text
 abbrev pub Means : Asked → List ℕ → Result Printed Fault → Type 0
 Means (asked.Replay schedule) text result = ReplayMeans text (string_bytes schedule) result
 Means (asked.Explore exploration) text result = ExplorationMeans text exploration.options result
 Means (asked.Trace exploration) text result = TracedMeans text exploration.options result
-Means (asked.Explain request) text result = Unit {0}
 
 -- the answer to a request for this text: what was done, or what is wrong
 pub record IsAnswerOf (request : Asked) (text : List ℕ) (a : AnswerView) : Type 0 where

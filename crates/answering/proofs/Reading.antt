@@ -4,12 +4,12 @@ use Rattle.std.proofs.Common.{Option, Some, None, IfSome, option_map, Vec, Globa
 use Rattle.std.proofs.Common.{Result, Ok, Err, IfOk, IfErr}
 use Rattle.std.specs.Io.KnownBytes.{Appends}
 use Rattle.guest_syntax.specs.declared.limits.TheConstants.{TEXT_BYTES}
-use Rattle.ctxbound.specs.declared.asked.Asked.{Asked}
-use Rattle.ctxbound.specs.declared.fault.Fault.{Fault}
-use Rattle.ctxbound.specs.Answer.{AnswerView, IsAnswerOf, IsAnswerTo}
-use Rattle.ctxbound.specs.Answer.{IsOfDevice}
-use Rattle.ctxbound.specs.Status.{fault_status}
-use Rattle.ctxbound.specs.Serve.{IsPartRead, IsServed}
+use Rattle.answering.specs.declared.asked.Asked.{Asked}
+use Rattle.answering.specs.declared.fault.Fault.{Fault}
+use Rattle.answering.specs.Answer.{AnswerView, IsAnswerOf, IsAnswerTo}
+use Rattle.answering.specs.Answer.{IsOfDevice}
+use Rattle.answering.specs.Status.{fault_status}
+use Rattle.answering.specs.Serve.{IsPartRead, IsServed}
 
 -- what an empty buffer holds after it was filled up to the limit
 pub filled_is_part : (inner known : Option (List ℕ)) (limit : ℕ) (old new : List ℕ)

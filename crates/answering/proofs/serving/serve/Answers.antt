@@ -1,7 +1,7 @@
 use Rattle.std.proofs.Common.{ℕ, List, subst}
 use Rattle.std.specs.Io.KnownBytes.{Appends}
-use Rattle.ctxbound.proofs.Reading.{served}
-use Rattle.ctxbound.proofs.serve.serve.Goals as goal
+use Rattle.answering.proofs.Reading.{served}
+use Rattle.answering.proofs.serving.serve.Goals as goal
 
 pub returns-in-Ok : goal.returns-in-Ok
 returns-in-Ok g c =

@@ -1,6 +1,6 @@
 use Rattle.std.proofs.Common.{ap}
-use Rattle.ctxbound.proofs.Reading.{filled_is_part}
-use Rattle.ctxbound.proofs.serve.read_text.Goals as goal
+use Rattle.answering.proofs.Reading.{filled_is_part}
+use Rattle.answering.proofs.serving.read_text.Goals as goal
 
 pub returns-clause-text : goal.returns-clause-text
 returns-clause-text g c =

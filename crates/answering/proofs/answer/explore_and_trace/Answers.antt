@@ -1,9 +1,9 @@
 use Rattle.std.proofs.Common.{◌≡◌, ◌∙◌, ap, subst, sym, refl, ℕ, List, [], ◌∷◌, ◌++◌, Option}
 use Rattle.std.proofs.Common.{Vec, Global, append-nil}
 use Rattle.report.specs.ReportText.{report_text}
-use Rattle.ctxbound.specs.Answer.{IsTraceOf, IsReplayOf}
-use Rattle.ctxbound.proofs.answer.explore_and_trace.Goals as goal
-use Rattle.ctxbound.proofs.answer.explore_and_trace.Goals.{in-Some+in_ok-schedule+in_ok-trace+in_ok-extend_from_slice, in_default}
+use Rattle.answering.specs.Answer.{IsTraceOf, IsReplayOf}
+use Rattle.answering.proofs.answer.explore_and_trace.Goals as goal
+use Rattle.answering.proofs.answer.explore_and_trace.Goals.{in-Some+in_ok-schedule+in_ok-trace+in_ok-extend_from_slice, in_default}
 
 pub returns : goal.returns
 returns g c =

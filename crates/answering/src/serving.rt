@@ -1,15 +1,17 @@
-//! One run of the program over a reader and two writers.
+//! One run of a program: a reader or a file, what is answered to its text, and two writers.
 
 ghost use Rattle.std.specs.Prelude.{◌≡◌, ◌⊎◌, IfSome, IfOk, IfErr};
-ghost use Rattle.ctxbound.specs.Answer.{IsOfDevice};
-ghost use Rattle.ctxbound.specs.Serve.{IsPartRead, IsServed, IsWritten};
+ghost use Rattle.answering.specs.Answer.{IsOfDevice};
+ghost use Rattle.answering.specs.Serve.{IsPartRead, IsServed, IsWritten};
 
 use crate::answer::Answer;
 use crate::asked::Asked;
 use crate::fault::Fault;
 use guest_syntax::TEXT_BYTES;
-use std::alloc::Global;
-use std::io::{Eprint, Read, Write};
+use std::alloc::{Alloc, Global};
+use std::fs;
+use std::fs::Files;
+use std::io::{Eprint, Input, Read, Write};
 use std::sync::Wait;
 use std::thread::Threads;
 
@@ -56,5 +58,30 @@ pub fn serve<H: Threads + Wait + Sync + Eprint, R: Read, W: Write, E: Write>(
             answer.status()
         }
         Err(fault) => fault.report(err),
+    }
+}
+
+/// Whether this word in the place of a file stands for standard input.
+pub fn is_standard_input(file: &str) -> bool {
+    file == "-"
+}
+
+/// Does what is asked with the guest program in a file, as [`serve`] does.
+pub fn serve_file<H, W: Write, E: Write>(
+    rt: &H,
+    file: &str,
+    asked: &Asked,
+    out: &mut W,
+    err: &mut E,
+) -> u8
+where
+    H: Threads + Wait + Sync + Eprint + Files + Input + Alloc<A = Global>,
+{
+    if is_standard_input(file) {
+        return serve(rt, rt.alloc(), asked, &mut rt.reader(), out, err);
+    }
+    match fs::open(rt, file) {
+        Ok(mut input) => serve(rt, rt.alloc(), asked, &mut input, out, err),
+        Err(error) => Fault::from(error).report(err),
     }
 }

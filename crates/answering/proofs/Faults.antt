@@ -6,7 +6,7 @@ use Rattle.guest_syntax.specs.declared.error.SyntaxError.TheVariants.{NumberTooB
 use Rattle.guest_syntax.specs.declared.error.SyntaxError.TheVariants.{OutOfMemory}
 use Rattle.guest_syntax.specs.Tree.{Tree}
 use Rattle.guest_syntax.specs.Grammar.{Spells}
-use Rattle.ctxbound.specs.Answer.{FaultMeans, of_syntax}
+use Rattle.answering.specs.Answer.{FaultMeans, of_syntax}
 
 pub syntax_tells : (text schedule : List ℕ) (e : SyntaxError)
     → (e ≢ OutOfMemory → (t : Tree) → Spells text t → ⊥) → FaultMeans text schedule (of_syntax e)

@@ -3,9 +3,9 @@ use Rattle.std.specs.Prelude.{ℕ, List, ◌++◌, codes}
 use Rattle.guest_syntax.specs.ErrorTexts.{syntax_error_text}
 use Rattle.guest_code.specs.ErrorTexts.{check_error_text}
 use Rattle.replay.specs.ErrorTexts.{replay_error_text, schedule_error_text}
-use Rattle.ctxbound.specs.declared.fault.Fault.{Fault}
-use Rattle.ctxbound.specs.declared.fault.Fault.TheVariants.{File, Syntax, Check, Schedule}
-use Rattle.ctxbound.specs.declared.fault.Fault.TheVariants.{Replay, Memory}
+use Rattle.answering.specs.declared.fault.Fault.{Fault}
+use Rattle.answering.specs.declared.fault.Fault.TheVariants.{File, Syntax, Check, Schedule}
+use Rattle.answering.specs.declared.fault.Fault.TheVariants.{Replay, Memory}
 
 -- what a fault is told as: the kind of fault, the number and the name of a refusal, and its place
 abbrev pub fault_text : Fault → List ℕ

@@ -1,0 +1,5 @@
+pub mod Answer
+pub mod Lines
+pub mod Serve
+pub mod Status
+pub mod inner

@@ -1,0 +1,25 @@
+//! Answers to what is asked of a guest program, and how a program writes them and ends.
+//!
+//! - [`Asked`] is what can be asked for: a replay, or a search, with the trace of what it finds or
+//!   without.
+//! - [`replay_text`], [`explore_text`] and [`explore_and_trace`] answer it for the bytes of texts.
+//!   Their contracts speak of nothing else.
+//! - [`Fault`] is why there is no answer, the line that tells so, and its status.
+//! - An [`Answer`] is all that is written, and the status. [`serve`] reads a text, answers and
+//!   writes; [`serve_file`] does so with a file.
+//! - [`Teller`] is the gate of the searches: where it is asked to, it tells how far they are.
+#![tactic(auto)]
+
+mod answer;
+mod asked;
+mod fault;
+mod progress;
+mod serving;
+
+pub use answer::{
+    Answer, Printed, explore_and_trace, explore_text, replay_status, replay_text, verdict_status,
+};
+pub use asked::{Asked, DEFAULT_BOUND, Exploration};
+pub use fault::Fault;
+pub use progress::Teller;
+pub use serving::{is_standard_input, serve, serve_file};
