@@ -4,8 +4,8 @@
 Usage: tests/docs.py BINARY
        tests/docs.py --unproved
 
-With --unproved the program is built without proofs, by `rt try`, which runs all commands over one
-build. It checks each access to memory as it runs and is slow, so each command is run once. A suite of a
+With --unproved the program is built without proofs, by `rt try`: three times side by side, each for a third
+of the commands. It checks each access to memory as it runs and is slow, so each command is run once. A suite of a
 document's programs is left out: it prints their names, and `rt try` gives them others.
 
 In README.md and docs/*.md, fenced blocks are read by their first line:
@@ -28,6 +28,7 @@ import shlex
 import subprocess
 import sys
 import tempfile
+from concurrent.futures import ThreadPoolExecutor
 from pathlib import Path
 
 ROOT = Path(__file__).resolve().parent.parent
@@ -35,6 +36,8 @@ SECONDS = 60  # a replay takes a moment; one that takes this long counts as fail
 WORKERS = (2, 8)
 # What such a search prints may depend on the workers, or says how many they are.
 DEPENDS = {"--limit", "--quick", "--workers"}
+# So many builds without proofs run the commands side by side.
+BUILDS = 3
 
 
 def fenced_blocks(text):
@@ -120,6 +123,15 @@ def write_case(folder, number, asked):
 
 
 def run_unproved(all_asked):
+    """What each of these commands prints, all run over builds without proofs, side by side."""
+    length = -(-len(all_asked) // BUILDS)
+    parts = [all_asked[first:first + length] for first in range(0, len(all_asked), length)]
+    with ThreadPoolExecutor(BUILDS) as pool:
+        for printed in pool.map(run_by_one_build, parts):
+            yield from printed
+
+
+def run_by_one_build(all_asked):
     """What each of these commands prints, all run over one build without proofs."""
     examples = [word for path in sorted((ROOT / "examples").glob("**/*.guest"))
                 for word in ("--data", "%s=%s" % (path.relative_to(ROOT), path))]
@@ -134,10 +146,12 @@ def run_unproved(all_asked):
         rb"(.*?)case=(c\d{4}) run=ended status=(\d+) [^\n]*\n", done.stderr, re.S)}
     if not errors:
         raise SystemExit(done.stderr.decode("utf-8", "replace") + "rt try: no answer")
+    all_printed = []
     for number in range(len(all_asked)):
         case = b"c%04d" % number
         text, status = errors.get(case, (b"(no answer)\n", 0))
-        yield lines_of(outs.get(case, b"") + text, status)
+        all_printed.append(lines_of(outs.get(case, b"") + text, status))
+    return all_printed
 
 
 def by_workers(words):
