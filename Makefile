@@ -17,7 +17,7 @@ define HELP
                     half a minute to a minute, 2 GB
   make quick      all that needs no proof: the tests, the commands that the documents show,
                   the table of wrong bodies
-                    some seven minutes on four processors, 5 GB
+                    some five minutes on four processors, up to 12 GB
   make check C=crate
                   proves one crate, over what earlier checks kept
                     at first 1 to 10 minutes and those of the crates below it, then seconds
