@@ -26,7 +26,7 @@ pub no_items : {X : Type 0} (xs : List X) → length xs ≡ 0 → xs ≡ []
 no_items [] e = refl
 no_items (x ∷ xs) e = absurd (omega arith)
 
--- what stands behind so many that are kept
+-- an element behind the first ones of a list: where it is, and the list without it
 
 pub dropped_at : {X : Type 0} (xs : List X) (k : ℕ) (x : X) → k < length xs →
     slice_get xs k ≡ Some x → drop k xs ≡ x ∷ drop (suc k) xs
@@ -53,7 +53,7 @@ length_behind [] ys (suc k) x h = absurd (omega arith)
 length_behind (z ∷ xs) ys (suc k) x h = let l = length_behind xs ys k x (omega arith) in
     omega (arith, l)
 
--- a range taken out where more stands before or behind it
+-- a range taken out of a list that more elements follow, or precede
 
 pub range_left : {X : Type 0} (xs ys : List X) (first end : ℕ) → first ≤ end → end ≤ length xs →
     remove_range (xs ++ ys) first end ≡ remove_range xs first end ++ ys

@@ -66,7 +66,7 @@ function draw(parent, tag, attributes, text) {
   parent.appendChild(e);
   return e;
 }
-// The state after so many steps.
+// The state after the first `count` steps.
 function stateAfter(count) {
   const s = { variables: byName(data.opening.variables), owners: byName(), queues: byName(),
     counts: byName(data.opening.semaphores), locals: names.map(() => byName()), next: [], stop: [], waiting: names.map(() => null), woken: names.map(() => false) };

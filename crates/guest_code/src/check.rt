@@ -363,7 +363,7 @@ fn check_block(
     Ok(())
 }
 
-/// Whether a name may be declared here: these are declared before it, so many of its kind.
+/// Whether a name may be declared here, where these are declared before it, of its kind this many.
 fn check_new(
     declarations: &[Declaration],
     threads: &[Thread],

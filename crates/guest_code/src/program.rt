@@ -79,9 +79,9 @@ pub enum Instruction {
     },
     /// Stops the thread where the expression is 0.
     Assert(Expression),
-    /// Passes over so many of the next instructions where the expression is 0.
+    /// Passes over the next instructions, of which this is the number, where the expression is 0.
     SkipIfZero(Expression, usize),
-    /// Passes over so many of the next instructions.
+    /// Passes over the next instructions, of which this is the number.
     Skip(usize),
 }
 

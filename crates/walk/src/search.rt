@@ -115,7 +115,7 @@ impl Found {
         }
     }
 
-    // Whether fewer than so many were tried.
+    // Whether fewer schedules were tried than the limit.
     fn is_below(&self, limit: u64) -> bool
         ensures below { IsTrue result → self.now.part.tried < limit }
         ensures full { IsFalse result → limit ≤ self.now.part.tried }

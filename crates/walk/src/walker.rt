@@ -131,7 +131,8 @@ impl Walker {
         found.clear(&mut self.path.ends);
     }
 
-    /// The same as [`Walker::walk_into`], but what is found is added to what other walks found.
+    /// Walks an item as [`Walker::walk_into`] does, and adds what is found to what other walks found.
+    /// The schedules that those tried and the quota are fewer than the greatest count together.
     ///
     /// # Errors
     ///
