@@ -42,14 +42,7 @@ operand_end_shrinks a = then_shrinks _ _ (operand_shrinks a) (token_shrinks _)
 
 op_shrinks : (op : Op) → Shrinks (IsOp op)
 op_shrinks ops.Add = token_shrinks _
-op_shrinks ops.Subtract = token_shrinks _
-op_shrinks ops.Multiply = token_shrinks _
-op_shrinks ops.Equal = token_shrinks _
-op_shrinks ops.NotEqual = token_shrinks _
-op_shrinks ops.Less = token_shrinks _
-op_shrinks ops.LessOrEqual = token_shrinks _
-op_shrinks ops.Greater = token_shrinks _
-op_shrinks ops.GreaterOrEqual = token_shrinks _
+op_shrinks op = token_shrinks _
 
 pub expr_shrinks : (e : Expr) → Shrinks (IsExpr e)
 expr_shrinks (single a) = operand_shrinks a

@@ -143,21 +143,12 @@ can_do-same p s t a (Some (OnMutex m e)) (Some (OnMutex n d)) h =
 can_do-same p s t a (Some (Waits c m)) (Some (OnMutex n d)) h =
     ap (mutex_allows d) (get_or-set_other s.owners m n _ None
     (differ n m (nat_eq-swap n m ∙ (right_of_two false (nat_eq m n) h).1)))
-can_do-same p s t a (Some i) (Some (OnVariable x d)) h = refl
-can_do-same p s t a (Some (OnVariable x e)) (Some (OnMutex n d)) h = refl
-can_do-same p s t a (Some (OnCondition c e)) (Some (OnMutex n d)) h = refl
-can_do-same p s t a (Some (OnSemaphore k e)) (Some (OnMutex n d)) h = refl
-can_do-same p s t a (Some i) (Some (Waits c m)) h = refl
-can_do-same p s t a (Some i) (Some (OnCondition c d)) h = refl
 can_do-same p s t a (Some (OnSemaphore k e)) (Some (OnSemaphore l d)) h =
     ap (sem_allows d) (get_or-set_other s.counts k l _ 0
     (differ l k (nat_eq-swap l k ∙ lone (nat_eq k l) h)))
-can_do-same p s t a (Some (OnVariable x e)) (Some (OnSemaphore l d)) h = refl
-can_do-same p s t a (Some (OnMutex m e)) (Some (OnSemaphore l d)) h = refl
-can_do-same p s t a (Some (Waits c m)) (Some (OnSemaphore l d)) h = refl
-can_do-same p s t a (Some (OnCondition c e)) (Some (OnSemaphore l d)) h = refl
 can_do-same p s t a None j h = refl
 can_do-same p s t a i None h = cc
+can_do-same p s t a (Some i) (Some j) h = refl
 
 -- a step, with the thread and what it does written out
 step_as : (p : Program) (s : Snapshot) (t : ℕ) (th : Thread) (i : Option Action)

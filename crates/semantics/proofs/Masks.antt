@@ -12,7 +12,7 @@ use Rattle.guest_code.specs.Program.{Program}
 use Rattle.semantics.specs.declared.mask.Mask.{Mask}
 use Rattle.semantics.specs.declared.state.Action.{Action}
 use Rattle.semantics.specs.declared.state.Thread.{Thread}
-use Rattle.semantics.specs.declared.state.Action.TheVariants.{OnVariable, OnMutex, Wait as Waits, OnCondition, OnSemaphore}
+use Rattle.semantics.specs.declared.state.Action.TheVariants.{OnVariable}
 use Rattle.semantics.specs.Machine.{Snapshot, is_enabled, can_do}
 use Rattle.semantics.specs.Mask.{has, no_threads, members_from, bits_of, mask_of, one_if}
 use Rattle.semantics.specs.Work.{up_from}
@@ -204,12 +204,9 @@ minus_bits a b u fits fits2 = elim (cases_lt u 16) [
 -- a step on a variable lets no other thread be enabled or cease to be
 can_do_same : (s : Snapshot) (V : List ℤ) (T : List Thread) (a : Option Action)
     → can_do (record s { vars = V; threads = T }) a ≡ can_do s a
-can_do_same s V T (Some (OnVariable x d)) = refl
-can_do_same s V T (Some (OnMutex m d)) = refl
-can_do_same s V T (Some (Waits c m)) = refl
-can_do_same s V T (Some (OnCondition c d)) = refl
-can_do_same s V T (Some (OnSemaphore k d)) = refl
 can_do_same s V T None = refl
+can_do_same s V T (Some (OnVariable x d)) = refl
+can_do_same s V T (Some a) = refl
 
 shifted : (n t i : ℕ) → bit_at (n / 2 ^ t) i ≡ bit_at n (t + i)
 shifted n t i = ap (λ (k : ℕ). k % 2) (div-div-eq-div-mul n (2 ^ t) (2 ^ i) ∙ ap (λ (k : ℕ). n / k)
