@@ -17,8 +17,8 @@ use Rattle.schedules.specs.Schedules.{state_after, runs}
 use Rattle.semantics.specs.Ends.{kind_of}
 use Rattle.replay.specs.declared.error.ReplayError.{ReplayError}
 use Rattle.replay.specs.declared.error.ReplayError.TheVariants as replay
-use Rattle.replay.specs.declared.schedule.ScheduleError.{ScheduleError}
-use Rattle.replay.specs.declared.schedule.ScheduleError.TheVariants as schedule
+use Rattle.replay.specs.declared.error.ScheduleError.{ScheduleError}
+use Rattle.replay.specs.declared.error.ScheduleError.TheVariants as schedule
 use Rattle.replay.specs.Run.{ReplayErrorMeans}
 use Rattle.replay.specs.Spelling as spelling
 use Rattle.replay.specs.Trace.{Trace}

@@ -1,5 +1,5 @@
 -- A schedule that is carried out up to a place, and what is told of its steps.
-use Rattle.std.proofs.Common.{length-append, ◌≡◌, ℕ, zero, suc, ◌+◌, ◌<◌, true, false, List, [], ◌∷◌, ◌++◌, length, take, map, replicate, get_or, Option, Some, None, refl, ap, ◌∙◌, sym, subst, inl, inr, arith}
+use Rattle.std.proofs.Common.{length-append, ◌≡◌, ℕ, zero, suc, ◌+◌, ◌<◌, true, List, [], ◌∷◌, ◌++◌, length, take, map, replicate, get_or, Option, Some, None, refl, ap, ◌∙◌, sym, subst, inl, inr, arith}
 use Rattle.std.specs.List.{slice_get, All}
 use Rattle.std.proofs.lemmas.List.{map-append, length-replicate}
 use Rattle.std.proofs.lemmas.List.Elements.{All-nil, All-push}
@@ -11,12 +11,11 @@ use Rattle.replay.specs.Run.{number_at}
 use Rattle.replay.proofs.LinesOfSteps.{IsToldUpTo, told_none, told_more}
 use Rattle.explain.specs.declared.step.Step.{Step}
 use Rattle.explain.specs.declared.explanation.Holder.{Holder}
-use Rattle.explain.specs.declared.explanation.Carried.{Carried}
 use Rattle.explain.specs.Steps.{Tells, IsTakenStep}
 use Rattle.explain.specs.Holders.{IsHeldBy}
 use Rattle.explain.specs.Lost.{IsWithin}
-use Rattle.explain.specs.Explains.{carried_out, TellsSteps, TellsHolders, StopsAt}
-use Rattle.explain.specs.inner.Carrying.{AreFollowed, IsCarriedOut}
+use Rattle.explain.specs.Explains.{carried_out, TellsHolders}
+use Rattle.explain.specs.inner.Carrying.{AreFollowed}
 use Rattle.explain.proofs.Pushed.{pushed_at}
 use Rattle.explain.proofs.HeldOn.{held_on, held_by_none}
 use Rattle.explain.proofs.Within.{is_within}
@@ -111,34 +110,3 @@ carried_more p w k t e new steps more holders follow told f inside_w is can old 
         (owner_of new.state m) (old.holders.each m l)
         (sym (ap (λ (s : Snapshot). owner_of s m) further.reached.state))
         (next.each m (let e = old.holders.all in omega (arith, l, e)))
-
--- the schedule is carried out, up to its end or to where it can't go on
-pub carried_out_at : (p : Program) (w : List ℕ) (k : ℕ) (carried : Carried) →
-    IsCarriedUpTo p w k carried.execution carried.steps.items carried.holders.items →
-    StopsAt p w k carried.refused → IsCarriedOut p w carried
-carried_out_at p w k carried done stops = record {
-  of = done.of;
-  reached = subst (λ n. Reaches p (take n w) carried.execution) (sym done.count) done.told.reached;
-  steps = subst (λ n. TellsSteps p w n carried.steps.items) (sym done.count) (record {
-    ran = done.told.reached.runs;
-    lines = done.told.told;
-    each = done.each;
-  });
-  within = done.within;
-  holders = subst (λ n. TellsHolders p w n carried.holders.items) (sym done.count) done.holders;
-  stops = subst (λ n. StopsAt p w n carried.refused) (sym done.count) stops;
-}
-
--- the next step is of no thread that is enabled
-pub stops_here : (p : Program) (w : List ℕ) (k t : ℕ) (e : ExecutionView) (steps : List Step)
-    (holders : List (Option Holder)) → k < length w → t ≡ get_or w k 0 →
-    IsCarriedUpTo p w k e steps holders → is_enabled p e.state t ≡ false →
-    StopsAt p w k (Some t)
-stops_here p w k t e steps holders inside_w is old bad = (
-  record {
-    inside = inside_w;
-    legal = old.told.reached.runs;
-    bad = sym (λ i. is_enabled p (old.told.reached.state i) (is i)) ∙ bad;
-  },
-  sym is,
-)

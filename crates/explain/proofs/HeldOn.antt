@@ -32,9 +32,6 @@ kept p w k m h old now = record {
     upto_next : (j n : ℕ) → j ≤ n + 1 → (j ≤ n) ⊎ (j ≡ n + 1)
     upto_next j n l = grind (arith, l)
 
-some_owner : (h : Option Holder) (g : Holder) → h ≡ Some g → (f : Holder) → h ≡ Some f → g ≡ f
-some_owner h g e f d = ap (λ o. unwrap_or o g) (sym e ∙ d)
-
 only : (g h : Holder) → Some g ≡ Some h → g ≡ h
 only g h e = ap (λ o. unwrap_or o g) e
 

@@ -1,10 +1,10 @@
 -- A step of a program is one of few threads and few variables.
-use Rattle.std.proofs.Common.{zero, suc, List, [], ◌∷◌, ◌≡◌, ℕ, ◌<◌, length, Some, None, ap, subst, arith}
+use Rattle.std.proofs.Common.{zero, suc, List, [], ◌∷◌, ◌≡◌, ℕ, ◌<◌, length, Some, ap, subst, arith}
 use Rattle.std.specs.Prelude.{unwrap_or}
 use Rattle.std.specs.List.{All}
 use Rattle.guest_code.specs.Program.{Program, IsWellFormed}
 use Rattle.replay.specs.declared.run.Act.{Act}
-use Rattle.replay.specs.declared.run.Act.TheVariants.{Load, Store, Add, Cas, Lock, Unlock, Wait, Retake, Signal, Broadcast, Acquire, Release}
+use Rattle.replay.specs.declared.run.Act.TheVariants.{Load, Store, Add, Cas}
 use Rattle.replay.specs.declared.run.Line.{Line}
 use Rattle.replay.specs.Trace.{IsValidAct, IsValidLine}
 use Rattle.explain.specs.declared.step.Step.{Step}
@@ -23,31 +23,14 @@ reads : (p : Program) (act : Act) (x : ℕ) → IsValidAct p act → read_by act
 reads p (Load y v) x h e = this_one p y x h e
 reads p (Add y v w) x h e = this_one p y x h e
 reads p (Cas y v hit) x h e = this_one p y x h e
-reads p (Store y v) x h e = absurd cc
-reads p (Lock m) x h e = absurd cc
-reads p (Unlock m) x h e = absurd cc
-reads p (Wait c m) x h e = absurd cc
-reads p (Retake m) x h e = absurd cc
-reads p (Signal c) x h e = absurd cc
-reads p (Broadcast c) x h e = absurd cc
-reads p (Acquire k) x h e = absurd cc
-reads p (Release k) x h e = absurd cc
+reads p act x h e = absurd cc
 
 writes : (p : Program) (act : Act) (x : ℕ) → IsValidAct p act → written_by act ≡ Some x →
     x < length p.variables
 writes p (Store y v) x h e = this_one p y x h e
 writes p (Add y v w) x h e = this_one p y x h e
 writes p (Cas y v (Some w)) x h e = this_one p y x h e
-writes p (Cas y v None) x h e = absurd cc
-writes p (Load y v) x h e = absurd cc
-writes p (Lock m) x h e = absurd cc
-writes p (Unlock m) x h e = absurd cc
-writes p (Wait c m) x h e = absurd cc
-writes p (Retake m) x h e = absurd cc
-writes p (Signal c) x h e = absurd cc
-writes p (Broadcast c) x h e = absurd cc
-writes p (Acquire k) x h e = absurd cc
-writes p (Release k) x h e = absurd cc
+writes p act x h e = absurd cc
 
 pub is_within : (p : Program) (line : Line) → IsWellFormed p → IsValidLine p line → IsWithin line
 is_within p line f valid = record {

@@ -124,8 +124,9 @@ walk_leaves all (outside at ∷ us) ns ms p e = absurd cc
 -- the uses of a block from one of its statements on
 block_uses_at : (inside : Bool) (ss : List Placed) (i : ℕ) (x : Placed) → i < length ss
     → x ≡ get_or ss i x
-    → block_uses inside (block_view (drop i ss)) ≡ stmt_uses inside x.at (stmt_view x.statement) ++ block_uses
-    inside (block_view (drop (i + 1) ss))
+    → block_uses inside (block_view (drop i ss))
+    ≡ stmt_uses inside x.at (stmt_view x.statement)
+    ++ block_uses inside (block_view (drop (i + 1) ss))
 block_uses_at inside ss i x lt is = rw (add-one, drop-cons ss i x, ← is, view-placed x) refl
 
 pub block_goes : (all : List Use) (inside : Bool) (ss : List Placed) (i : ℕ) (x : Placed)
@@ -145,7 +146,7 @@ pub block_stops : (all : List Use) (inside : Bool) (ss : List Placed) (i : ℕ) 
     → Refuses d (fault_of whole)
 block_stops all inside ss i x ns d whole lt is e h =
     let rest = block_uses inside (block_view (drop (i + 1) ss)) in
-    let same : walk all ns (stmt_uses inside x.at (stmt_view x.statement) ++ rest) ≡ whole = ap (walk all ns)
-    (sym (block_uses_at inside ss i x lt is)) ∙ h in
+    let same : walk all ns (stmt_uses inside x.at (stmt_view x.statement) ++ rest) ≡ whole =
+    ap (walk all ns) (sym (block_uses_at inside ss i x lt is)) ∙ h in
     subst (λ (r : Checked). Refuses d (fault_of r)) same
     (walk_stops all (stmt_uses inside x.at (stmt_view x.statement)) rest ns d e)

@@ -12,25 +12,14 @@ use Rattle.guest_code.specs.declared.program.Instruction.{Instruction}
 use Rattle.guest_code.specs.Sizes.{size, block_size}
 use Rattle.guest_code.specs.Code.{Names, stmt_code, block_code, unrolled}
 
-pub block_size_at : (ss : List Placed) (i : ℕ) (x : Placed) → i < length ss
-    → x ≡ get_or ss i x → block_size (block_view (drop i ss)) ≡ size (stmt_view x.statement) + block_size
-    (block_view (drop (i + 1) ss))
+pub block_size_at : (ss : List Placed) (i : ℕ) (x : Placed) → i < length ss → x ≡ get_or ss i x
+    → block_size (block_view (drop i ss))
+    ≡ size (stmt_view x.statement) + block_size (block_view (drop (i + 1) ss))
 block_size_at ss i x lt is = rw (add-one, drop-cons ss i x, ← is, view-placed x) refl
 
 pub block_size_end : (ss : List Placed) (i : ℕ) → length ss ≤ i
     → block_size (block_view (drop i ss)) ≡ 0
 block_size_end ss i le = rw (drop_all i ss le) refl
-
-pub block_code_at : (ns : Names) (ss : List Placed) (i exit : ℕ) (x : Placed)
-    → i < length ss → x ≡ get_or ss i x
-    → block_code ns (block_view (drop i ss)) exit ≡ stmt_code ns (stmt_view x.statement)
-    (exit + block_size (block_view (drop (i + 1) ss))) ++ block_code ns
-    (block_view (drop (i + 1) ss)) exit
-block_code_at ns ss i exit x lt is = rw (add-one, drop-cons ss i x, ← is, view-placed x) refl
-
-pub block_code_end : (ns : Names) (ss : List Placed) (i exit : ℕ) → length ss ≤ i
-    → block_code ns (block_view (drop i ss)) exit ≡ []
-block_code_end ns ss i exit le = rw (drop_all i ss le) refl
 
 pub cut_below : (n m : ℕ) → 0 < n → n * m ≤ INSTRUCTIONS → min m (INSTRUCTIONS + 1) ≡ m
 cut_below zero m h lt = absurd (omega arith)

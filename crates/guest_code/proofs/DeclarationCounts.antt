@@ -97,33 +97,25 @@ one_variable : (name : List ℕ) (o : Object) (xs : List Variable)
     → length (cons_option (variable_of name o) xs) ≡ (if same (kind_of o) kinds.Variable then suc
     (length xs) else length xs)
 one_variable name (objects.Variable z) xs = refl
-one_variable name objects.Mutex xs = refl
-one_variable name objects.Condition xs = refl
-one_variable name (objects.Semaphore n) xs = refl
+one_variable name o xs = refl
 
 one_mutex : (name : List ℕ) (o : Object) (xs : List (List ℕ))
     → length (cons_option (mutex_of name o) xs) ≡ (if same (kind_of o) kinds.Mutex then suc
     (length xs) else length xs)
-one_mutex name (objects.Variable z) xs = refl
 one_mutex name objects.Mutex xs = refl
-one_mutex name objects.Condition xs = refl
-one_mutex name (objects.Semaphore n) xs = refl
+one_mutex name o xs = refl
 
 one_condition : (name : List ℕ) (o : Object) (xs : List (List ℕ))
     → length (cons_option (condition_of name o) xs)
     ≡ (if same (kind_of o) kinds.Condition then suc (length xs) else length xs)
-one_condition name (objects.Variable z) xs = refl
-one_condition name objects.Mutex xs = refl
 one_condition name objects.Condition xs = refl
-one_condition name (objects.Semaphore n) xs = refl
+one_condition name o xs = refl
 
 one_semaphore : (name : List ℕ) (o : Object) (xs : List Semaphore)
     → length (cons_option (semaphore_of name o) xs)
     ≡ (if same (kind_of o) kinds.Semaphore then suc (length xs) else length xs)
-one_semaphore name (objects.Variable z) xs = refl
-one_semaphore name objects.Mutex xs = refl
-one_semaphore name objects.Condition xs = refl
 one_semaphore name (objects.Semaphore n) xs = refl
+one_semaphore name o xs = refl
 
 pub many_variables : (ds : List Declaration) → length (objects_by variable_of ds) ≡ how_many
     kinds.Variable (declarations_uses ds)
@@ -145,10 +137,7 @@ many_semaphores = objects_many semaphore_of kinds.Semaphore one_semaphore
 
 same_self : (k : Kind) → same k k ≡ true
 same_self kinds.Variable = refl
-same_self kinds.Mutex = refl
-same_self kinds.Condition = refl
-same_self kinds.Semaphore = refl
-same_self kinds.Thread = refl
+same_self k = refl
 
 -- threads declare nothing but threads
 thread_hit : (hit : Bool) (k : Kind) (o : Option Kind) → (if hit then Some kinds.Thread else o)

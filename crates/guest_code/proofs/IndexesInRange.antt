@@ -238,11 +238,14 @@ mutual
   stmt_in_range p ns all g inside at (tree.unlock m) exit h = only p _ _ (g.mutex m.text h.0, tt)
   stmt_in_range p ns all g inside at (tree.wait c m) exit h = only p _ _
       ((g.condition c.text h.0, g.mutex m.text h.1.0), tt)
-  stmt_in_range p ns all g inside at (tree.signal c) exit h = only p _ _ (g.condition c.text h.0, tt)
+  stmt_in_range p ns all g inside at (tree.signal c) exit h = only p _ _
+      (g.condition c.text h.0, tt)
   stmt_in_range p ns all g inside at (tree.broadcast c) exit h = only p _ _
       (g.condition c.text h.0, tt)
-  stmt_in_range p ns all g inside at (tree.acquire s) exit h = only p _ _ (g.semaphore s.text h.0, tt)
-  stmt_in_range p ns all g inside at (tree.release s) exit h = only p _ _ (g.semaphore s.text h.0, tt)
+  stmt_in_range p ns all g inside at (tree.acquire s) exit h = only p _ _
+      (g.semaphore s.text h.0, tt)
+  stmt_in_range p ns all g inside at (tree.release s) exit h = only p _ _
+      (g.semaphore s.text h.0, tt)
   stmt_in_range p ns all g inside at (tree.set r e) exit h =
       let l = local_in_range p ns all g r h.0 in
       let v = expression_in_range p ns all g e h.1 in

@@ -77,39 +77,35 @@ same_program-Decides p q = (
 abbrev pub same_items : Vec ℕ Global → Vec ℕ Global → Bool
 same_items a b = pointwise nat_eq a.items b.items
 
+-- lists are the same where their items are seen to be
+lists_seen : {A B : Type 0} (view : A → B) (E : A → A → Bool) (F : B → B → Bool)
+    → ((x y : A) → E x y ≡ F (view x) (view y)) → (xs ys : List A)
+    → pointwise E xs ys ≡ pointwise F (map view xs) (map view ys)
+lists_seen view E F same [] [] = refl
+lists_seen view E F same [] (y ∷ ys) = refl
+lists_seen view E F same (x ∷ xs) [] = refl
+lists_seen view E F same (x ∷ xs) (y ∷ ys) =
+    let one = same x y in
+    let more = lists_seen view E F same xs ys in
+    λ i. one i && more i
+
 names_seen : (xs ys : List (Vec ℕ Global)) → pointwise same_items xs ys ≡ pointwise
     (pointwise nat_eq) (names_view xs) (names_view ys)
-names_seen [] [] = refl
-names_seen [] (y ∷ ys) = refl
-names_seen (x ∷ xs) [] = refl
-names_seen (x ∷ xs) (y ∷ ys) = ap (λ (r : Bool). pointwise nat_eq x.items y.items && r)
-    (names_seen xs ys)
+names_seen = lists_seen (λ (v : Vec ℕ Global). v.items) same_items (pointwise nat_eq) (λ x y. refl)
 
 variables_seen : (xs ys : List code-variable.Variable)
     → pointwise variable-eq.it xs ys ≡ pointwise same_variable (map variable_view xs)
     (map variable_view ys)
-variables_seen [] [] = refl
-variables_seen [] (y ∷ ys) = refl
-variables_seen (x ∷ xs) [] = refl
-variables_seen (x ∷ xs) (y ∷ ys) = ap (λ (r : Bool). same_variable (variable_view x)
-    (variable_view y) && r) (variables_seen xs ys)
+variables_seen = lists_seen variable_view variable-eq.it same_variable (λ x y. refl)
 
 semaphores_seen : (xs ys : List code-semaphore.Semaphore)
     → pointwise semaphore-eq.it xs ys ≡ pointwise same_semaphore (map semaphore_view xs)
     (map semaphore_view ys)
-semaphores_seen [] [] = refl
-semaphores_seen [] (y ∷ ys) = refl
-semaphores_seen (x ∷ xs) [] = refl
-semaphores_seen (x ∷ xs) (y ∷ ys) = ap (λ (r : Bool). same_semaphore (semaphore_view x)
-    (semaphore_view y) && r) (semaphores_seen xs ys)
+semaphores_seen = lists_seen semaphore_view semaphore-eq.it same_semaphore (λ x y. refl)
 
 threads_seen : (xs ys : List code-thread.Thread) → pointwise thread-eq.it xs ys ≡ pointwise
     same_thread (map thread_view xs) (map thread_view ys)
-threads_seen [] [] = refl
-threads_seen [] (y ∷ ys) = refl
-threads_seen (x ∷ xs) [] = refl
-threads_seen (x ∷ xs) (y ∷ ys) = ap (λ (r : Bool). same_thread (thread_view x) (thread_view y) &&
-    r) (threads_seen xs ys)
+threads_seen = lists_seen thread_view thread-eq.it same_thread (λ x y. refl)
 
 -- one step of a chain of `&&`
 pub then_so : (a b r s v : Bool) → r ≡ a → r ≡ true → s ≡ b → v ≡ s → v ≡ (a && b)

@@ -1,29 +1,17 @@
 -- The places of instructions, one statement after the other, and how many there are.
-use Rattle.std.proofs.Common.{◌≡◌, ℕ, zero, suc, ◌+◌, ◌-◌, ◌*◌, ◌<◌, ◌≤◌, List, [], ◌∷◌, ◌++◌, length, get_or, slice_index_or, drop, map, All, refl, sym, ap, ◌∙◌, arith, add-one, drop-cons, append_assoc, length-append}
-use Rattle.std.proofs.lemmas.List.{drop_all, nil_from_length}
+use Rattle.std.proofs.Common.{◌≡◌, ℕ, zero, suc, ◌-◌, ◌*◌, ◌<◌, List, [], ◌∷◌, ◌++◌, length, slice_index_or, map, All, refl, sym, ap, ◌∙◌, arith, append_assoc, length-append}
+use Rattle.std.proofs.lemmas.List.{nil_from_length}
 use Rattle.std.proofs.lemmas.List.Elements.{All-nil, All-cons, All-append}
 use Rattle.guest_syntax.specs.declared.place.Pos.{Pos}
-use Rattle.guest_syntax.specs.declared.tree.Placed.{Placed}
 use Rattle.guest_syntax.specs.StatementPlaces.{Inside, EachPlace, IsInThread, AreInThreads}
 use Rattle.guest_syntax.specs.Tree as tree
 use Rattle.guest_syntax.specs.Tree.{Stmt, Block, Declaration, Thread, Tree, stmt_view, block_view}
-use Rattle.guest_syntax.proofs.StatementView.{view-placed}
 use Rattle.guest_code.specs.Sizes.{size, block_size}
 use Rattle.guest_code.specs.Uses.{thread_locals, tree_locals}
 use Rattle.guest_code.specs.Code.{thread_code, code}
 use Rattle.guest_code.specs.Program.{no_thread}
 use Rattle.guest_code.specs.SourceMap.{stmt_places, block_places, thread_places, copies, source_map, ArePlacesInThreads, IsMapOf}
 use Rattle.guest_code.proofs.CodeLengths.{block_length}
-
-pub block_places_at : (ss : List Placed) (i : ℕ) (x : Placed) → i < length ss
-    → x ≡ get_or ss i x
-    → block_places (block_view (drop i ss)) ≡ stmt_places x.at (stmt_view x.statement)
-    ++ block_places (block_view (drop (i + 1) ss))
-block_places_at ss i x lt is = rw (add-one, drop-cons ss i x, ← is, view-placed x) refl
-
-pub block_places_end : (ss : List Placed) (i : ℕ) → length ss ≤ i
-    → block_places (block_view (drop i ss)) ≡ []
-block_places_end ss i le = rw (drop_all i ss le) refl
 
 -- ---- how many
 

@@ -98,7 +98,8 @@ abbrev mutual
 
   pub block_code : Names → Block → ℕ → List Instruction
   block_code ns tree.nothing exit = []
-  block_code ns (tree.next at s b) exit = stmt_code ns s (exit + block_size b) ++ block_code ns b exit
+  block_code ns (tree.next at s b) exit =
+      stmt_code ns s (exit + block_size b) ++ block_code ns b exit
 
 -- ---- programs
 

@@ -91,6 +91,18 @@ pub record Gap (c : Bool) (at : Pos) (bytes : List ℕ) (x : Pos × List ℕ) : 
   pub ascii : Ascii gap
   pub stop : IsStop x.1 state
 
+no_gap : {c : Bool} {at : Pos} {bytes : List ℕ} → IsStop bytes c → Gap c at bytes (at, bytes)
+unfolding after
+no_gap {c = c} stop = record {
+  gap = [];
+  state = c;
+  parts = refl;
+  is_gap = refl;
+  place = refl;
+  ascii = tt;
+  stop = stop;
+}
+
 skip_by_takes : (b : ℕ) (bs : List ℕ) (c : Bool) (at : Pos) (x : Pos × List ℕ) (s : Step)
     (more : Bool → Option (Pos × List ℕ)) → gap_step c b ≡ s
     → ((d : Bool) → more d ≡ Some x → Gap d (past at b) bs x) → skip_by s more at (b ∷ bs) ≡ Some x
@@ -111,30 +123,14 @@ skip_by_takes b bs c at x (Passed d) more is ih e =
 skip_by_takes b bs c at x Stops more is ih e =
     let none = step_stops (nat_le 128 b) c (b == 35) (is_space b) (not (b == 10)) is in
     subst (λ y. Gap c at (b ∷ bs) y) (some_is (at, b ∷ bs) x e)
-    (record {
-      gap = [];
-      state = c;
-      parts = refl;
-      is_gap = refl;
-      place = refl;
-      ascii = tt;
-      stop = (none, subst (λ c. gap_step c b ≡ Stops) none is);
-    })
+    (no_gap (none, subst (λ c. gap_step c b ≡ Stops) none is))
 skip_by_takes b bs c at x NotAscii more is ih e = absurd cc
 
 pub skip_takes : (bytes : List ℕ) (c : Bool) (at : Pos) (x : Pos × List ℕ)
     → skipped c at bytes ≡ Some x → Gap c at bytes x
 unfolding skipped after
 skip_takes [] c at x e = subst (λ y. Gap c at [] y) (some_is (at, []) x e)
-    (record {
-      gap = [];
-      state = c;
-      parts = refl;
-      is_gap = refl;
-      place = refl;
-      ascii = tt;
-      stop = tt;
-    })
+    (no_gap tt)
 skip_takes (b ∷ bs) c at x e = skip_by_takes b bs c at x (gap_step c b)
     (λ d. skipped d (past at b) bs) refl (λ d h. skip_takes bs d (past at b) x h) e
 

@@ -4,10 +4,11 @@ use Rattle.std.specs.Prelude.{nat_le, pos}
 use Rattle.std.proofs.lemmas.Bool.{leb-true, le-leb}
 use Rattle.guest_syntax.specs.declared.limits.TheConstants.{NUMBER}
 use Rattle.guest_syntax.specs.declared.place.Pos.{Pos}
+use Rattle.guest_syntax.specs.declared.token.Symbol.{Symbol}
 use Rattle.guest_syntax.specs.declared.token.Symbol.TheVariants as symbols
 use Rattle.guest_syntax.specs.declared.tree.Op.{Op}
 use Rattle.guest_syntax.specs.declared.tree.Op.TheVariants as ops
-use Rattle.guest_syntax.specs.Tokens.{Kind, name, keyword, number, symbol, bad, Token}
+use Rattle.guest_syntax.specs.Tokens.{Kind, name, number, symbol, Token}
 use Rattle.guest_syntax.specs.Tree.{Operand, local, literal, Expr, single, both}
 use Rattle.guest_syntax.specs.Forms.{IsToken, IsLiteral}
 use Rattle.guest_syntax.specs.Grammar.{IsOperand, IsOp, IsExpr}
@@ -21,9 +22,6 @@ use Rattle.guest_syntax.proofs.TokenReaders.{token_takes, token_again, kind_agai
 
 literal_by_takes : (k : Kind) (at : Pos) (ts : List Token) (x : ℤ × List Token)
     → literal_by k ts ≡ Some x → IsLiteral x.0 (record { kind = k; at = at } ∷ ts) x.1
-literal_by_takes (name s) at ts x e = absurd cc
-literal_by_takes (keyword w) at ts x e = absurd cc
-literal_by_takes bad at ts x e = absurd cc
 literal_by_takes (number n) at ts x e =
     let g = cond_ok (nat_le n NUMBER) (pos n, ts) x e in
     subst (λ (y : ℤ × List Token). IsLiteral y.0 (record { kind = number n; at = at } ∷ ts) y.1)
@@ -34,18 +32,7 @@ literal_by_takes (symbol symbols.Minus) at ts x e =
     (record { kind = symbol symbols.Minus; at = at } ∷ ts) y.1)
     (some_is (negated n.0.0, n.0.1) x n.2)
     (n.0.0, inr (refl, (ts, (at, refl), number_takes NUMBER ts n.0 n.1)))
-literal_by_takes (symbol symbols.Equal) at ts x e = absurd cc
-literal_by_takes (symbol symbols.NotEqual) at ts x e = absurd cc
-literal_by_takes (symbol symbols.LessOrEqual) at ts x e = absurd cc
-literal_by_takes (symbol symbols.GreaterOrEqual) at ts x e = absurd cc
-literal_by_takes (symbol symbols.Less) at ts x e = absurd cc
-literal_by_takes (symbol symbols.Greater) at ts x e = absurd cc
-literal_by_takes (symbol symbols.Plus) at ts x e = absurd cc
-literal_by_takes (symbol symbols.Times) at ts x e = absurd cc
-literal_by_takes (symbol symbols.Assign) at ts x e = absurd cc
-literal_by_takes (symbol symbols.Open) at ts x e = absurd cc
-literal_by_takes (symbol symbols.Close) at ts x e = absurd cc
-literal_by_takes (symbol symbols.End) at ts x e = absurd cc
+literal_by_takes k at ts x e = absurd cc
 
 pub literal_takes : (ts : List Token) (x : ℤ × List Token) → literal_from ts ≡ Some x
     → IsLiteral x.0 ts x.1
@@ -100,16 +87,10 @@ operand_by_takes : (t : Token) (k : Kind) (ts : List Token) (x : Operand × List
 operand_by_takes t (name s) ts x e = subst
     (λ (y : Operand × List Token). IsOperand y.0 (record { kind = name s; at = t.at } ∷ ts) y.1)
     (some_is (local (record { text = s; at = t.at }), ts) x e) refl
-operand_by_takes t (keyword w) ts x e = absurd cc
-operand_by_takes t (number n) ts x e =
-    let z = bind_some (literal_by (number n) ts) _ _ e in
-    subst (λ (y : Operand × List Token). IsOperand y.0 (record { kind = number n; at = t.at } ∷ ts)
-    y.1) (some_is (literal z.0.0, z.0.1) x z.2) (literal_by_takes (number n) t.at ts z.0 z.1)
-operand_by_takes t (symbol s) ts x e =
-    let z = bind_some (literal_by (symbol s) ts) _ _ e in
-    subst (λ (y : Operand × List Token). IsOperand y.0 (record { kind = symbol s; at = t.at } ∷ ts)
-    y.1) (some_is (literal z.0.0, z.0.1) x z.2) (literal_by_takes (symbol s) t.at ts z.0 z.1)
-operand_by_takes t bad ts x e = absurd cc
+operand_by_takes t k ts x e =
+    let z = bind_some (literal_by k ts) (λ z. Some (literal z.0, z.1)) x e in
+    subst (λ (y : Operand × List Token). IsOperand y.0 (record { kind = k; at = t.at } ∷ ts) y.1)
+    (some_is (literal z.0.0, z.0.1) x z.2) (literal_by_takes k t.at ts z.0 z.1)
 
 pub operand_takes : (ts : List Token) (x : Operand × List Token) → operand_from ts ≡ Some x
     → IsOperand x.0 ts x.1
@@ -131,79 +112,34 @@ operand_again (literal z) ts rest h =
 
 op_of_is : (k : Kind) (op : Op) → op_of k ≡ Some op → (ts rest : List Token) → IsToken k ts rest
     → IsOp op ts rest
-op_of_is (name s) op e ts rest h = absurd cc
-op_of_is (keyword w) op e ts rest h = absurd cc
-op_of_is (number n) op e ts rest h = absurd cc
-op_of_is bad op e ts rest h = absurd cc
-op_of_is (symbol symbols.Equal) op e ts rest h =
-    subst (λ o. IsOp o ts rest) (some_is ops.Equal op e) h
-op_of_is (symbol symbols.NotEqual) op e ts rest h =
-    subst (λ o. IsOp o ts rest) (some_is ops.NotEqual op e) h
-op_of_is (symbol symbols.LessOrEqual) op e ts rest h =
-    subst (λ o. IsOp o ts rest) (some_is ops.LessOrEqual op e) h
-op_of_is (symbol symbols.GreaterOrEqual) op e ts rest h =
-    subst (λ o. IsOp o ts rest) (some_is ops.GreaterOrEqual op e) h
-op_of_is (symbol symbols.Less) op e ts rest h =
-    subst (λ o. IsOp o ts rest) (some_is ops.Less op e) h
-op_of_is (symbol symbols.Greater) op e ts rest h =
-    subst (λ o. IsOp o ts rest) (some_is ops.Greater op e) h
-op_of_is (symbol symbols.Plus) op e ts rest h = subst (λ o. IsOp o ts rest) (some_is ops.Add op e) h
-op_of_is (symbol symbols.Minus) op e ts rest h =
-    subst (λ o. IsOp o ts rest) (some_is ops.Subtract op e) h
-op_of_is (symbol symbols.Times) op e ts rest h =
-    subst (λ o. IsOp o ts rest) (some_is ops.Multiply op e) h
 op_of_is (symbol symbols.Assign) op e ts rest h = absurd cc
 op_of_is (symbol symbols.Open) op e ts rest h = absurd cc
 op_of_is (symbol symbols.Close) op e ts rest h = absurd cc
 op_of_is (symbol symbols.End) op e ts rest h = absurd cc
+op_of_is (symbol s) op e ts rest h = subst (λ o. IsOp o ts rest) (some_is _ op e) h
+op_of_is k op e ts rest h = absurd cc
+
+op_token : (s : Symbol) (op : Op) (ts rest : List Token) → op_of (symbol s) ≡ Some op
+    → IsToken (symbol s) ts rest → (t : Token) × (token_at ts ≡ Some (t, rest))
+    × (op_of t.kind ≡ Some op)
+op_token s op ts rest e h = (
+  record { kind = symbol s; at = h.0 },
+  kind_again (symbol s) ts rest h refl,
+  e,
+)
 
 op_read : (op : Op) (ts rest : List Token) → IsOp op ts rest → (t : Token)
     × (token_at ts ≡ Some (t, rest)) × (op_of t.kind ≡ Some op)
-op_read ops.Add ts rest h = (
-  record { kind = symbol symbols.Plus; at = h.0 },
-  kind_again (symbol symbols.Plus) ts rest h refl,
-  refl,
-)
-op_read ops.Subtract ts rest h = (
-  record { kind = symbol symbols.Minus; at = h.0 },
-  kind_again (symbol symbols.Minus) ts rest h refl,
-  refl,
-)
-op_read ops.Multiply ts rest h = (
-  record { kind = symbol symbols.Times; at = h.0 },
-  kind_again (symbol symbols.Times) ts rest h refl,
-  refl,
-)
-op_read ops.Equal ts rest h = (
-  record { kind = symbol symbols.Equal; at = h.0 },
-  kind_again (symbol symbols.Equal) ts rest h refl,
-  refl,
-)
-op_read ops.NotEqual ts rest h = (
-  record { kind = symbol symbols.NotEqual; at = h.0 },
-  kind_again (symbol symbols.NotEqual) ts rest h refl,
-  refl,
-)
-op_read ops.Less ts rest h = (
-  record { kind = symbol symbols.Less; at = h.0 },
-  kind_again (symbol symbols.Less) ts rest h refl,
-  refl,
-)
-op_read ops.LessOrEqual ts rest h = (
-  record { kind = symbol symbols.LessOrEqual; at = h.0 },
-  kind_again (symbol symbols.LessOrEqual) ts rest h refl,
-  refl,
-)
-op_read ops.Greater ts rest h = (
-  record { kind = symbol symbols.Greater; at = h.0 },
-  kind_again (symbol symbols.Greater) ts rest h refl,
-  refl,
-)
-op_read ops.GreaterOrEqual ts rest h = (
-  record { kind = symbol symbols.GreaterOrEqual; at = h.0 },
-  kind_again (symbol symbols.GreaterOrEqual) ts rest h refl,
-  refl,
-)
+op_read ops.Add ts rest h = op_token symbols.Plus ops.Add ts rest refl h
+op_read ops.Subtract ts rest h = op_token symbols.Minus ops.Subtract ts rest refl h
+op_read ops.Multiply ts rest h = op_token symbols.Times ops.Multiply ts rest refl h
+op_read ops.Equal ts rest h = op_token symbols.Equal ops.Equal ts rest refl h
+op_read ops.NotEqual ts rest h = op_token symbols.NotEqual ops.NotEqual ts rest refl h
+op_read ops.Less ts rest h = op_token symbols.Less ops.Less ts rest refl h
+op_read ops.LessOrEqual ts rest h = op_token symbols.LessOrEqual ops.LessOrEqual ts rest refl h
+op_read ops.Greater ts rest h = op_token symbols.Greater ops.Greater ts rest refl h
+op_read ops.GreaterOrEqual ts rest h =
+    op_token symbols.GreaterOrEqual ops.GreaterOrEqual ts rest refl h
 
 -- the next token ends an expression and a choice
 pub record Ends (ts : List Token) : Type 0 where

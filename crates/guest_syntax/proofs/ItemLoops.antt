@@ -1,6 +1,6 @@
 -- Items one after the other, as a loop reads them.
-use Rattle.std.proofs.Common.{◌≡◌, ℕ, zero, suc, ◌<◌, List, [], ◌∷◌, ◌++◌, length, Some, None, refl, sym, ap, ◌∙◌, append_assoc, arith}
-use Rattle.std.proofs.lemmas.List.{append-nil}
+use Rattle.std.proofs.Common.{◌≡◌, ℕ, zero, suc, ◌<◌, List, [], ◌∷◌, ◌++◌, length, map, Some, None, refl, sym, ap, ◌∙◌, append_assoc, arith}
+use Rattle.std.proofs.lemmas.List.{append-nil, map_push}
 use Rattle.guest_syntax.specs.declared.error.SyntaxError.{SyntaxError}
 use Rattle.guest_syntax.specs.Tokens.{Token}
 use Rattle.guest_syntax.specs.reader.Gives.{Fails}
@@ -51,12 +51,14 @@ goes_on_by turn front ts rest a total (suc n) e shorter enough same =
           (ap (λ o. with_front front (o >>= λ x. many_by (many turn n) x.0 x.1)) (sym e) ∙ same);
     }
 
-pub goes_on : {A : Type 0} (turn : Turn A) (front : List A) (ts rest : List Token) (a : A)
-    (total : Read (List A))
-    → turn ts ≡ Some (Some a, rest) → length rest < length ts → Goes turn front ts total
-    → Goes turn (front ++ a ∷ []) rest total
-goes_on turn front ts rest a total e shorter g =
-    goes_on_by turn front ts rest a total g.room e shorter g.enough g.same
+pub goes_on : {A X : Type 0} {turn : Turn A} (view : X → A) (before : List X) {after : List X}
+    {ts rest : List Token} {x : X} {total : Read (List A)}
+    → Goes turn (map view before) ts total → after ≡ before ++ x ∷ []
+    → turn ts ≡ Some (Some (view x), rest) → length rest < length ts
+    → Goes turn (map view after) rest total
+goes_on {turn = turn} view before {ts = ts} {rest = rest} {x = x} {total = total} g is e shorter =
+    rw (is, map_push view before x)
+    (goes_on_by turn (map view before) ts rest (view x) total g.room e shorter g.enough g.same)
 
 is_done_by : {A : Type 0} (turn : Turn A) (front : List A) (ts rest : List Token)
     (total : Read (List A)) (room : ℕ)
@@ -68,10 +70,11 @@ is_done_by {A = A} turn front ts rest total (suc n) e enough same =
     sym same ∙ (ap (λ o. with_front front (o >>= λ x. many_by (many turn n) x.0 x.1)) e ∙
     ap (λ (ns : List A). Some (ns, rest)) (append-nil front))
 
-pub is_done : {A : Type 0} (turn : Turn A) (front : List A) (ts rest : List Token)
-    (total : Read (List A))
-    → turn ts ≡ Some (None, rest) → Goes turn front ts total → total ≡ Some (front, rest)
-is_done turn front ts rest total e g = is_done_by turn front ts rest total g.room e g.enough g.same
+pub is_done : {A : Type 0} {turn : Turn A} {front : List A} {ts rest : List Token}
+    {total : Read (List A)}
+    → Goes turn front ts total → turn ts ≡ Some (None, rest) → total ≡ Some (front, rest)
+is_done {turn = turn} {front = front} {ts = ts} {rest = rest} {total = total} g e =
+    is_done_by turn front ts rest total g.room e g.enough g.same
 
 stops_by : {A : Type 0} (turn : Turn A) (front : List A) (ts : List Token) (total : Read (List A))
     (room : ℕ)
@@ -81,8 +84,8 @@ stops_by turn front ts total zero same e = sym same
 stops_by turn front ts total (suc n) same e =
     sym same ∙ ap (λ o. with_front front (o >>= λ x. many_by (many turn n) x.0 x.1)) e
 
-pub stops : {A : Type 0} (turn : Turn A) (front : List A) (ts : List Token) (total : Read (List A))
-    (e : SyntaxError)
+pub stops : {A : Type 0} {turn : Turn A} {front : List A} {ts : List Token}
+    {total : Read (List A)} (e : SyntaxError)
     → Goes turn front ts total → Fails e (turn ts) → Fails e total
-stops turn front ts total e g h = fails_then e (turn ts) total
-    (stops_by turn front ts total g.room g.same) h
+stops {turn = turn} {front = front} {ts = ts} {total = total} e g h =
+    fails_then e (turn ts) total (stops_by turn front ts total g.room g.same) h

@@ -20,12 +20,7 @@ use Rattle.guest_syntax.proofs.ScannerProgress.{tokens_first}
 pub fails_then : {A B : Type 0} (e : SyntaxError) (o : Option A) (p : Option B)
     → (o ≡ None → p ≡ None) → Fails e o → Fails e p
 fails_then errors.OutOfMemory o p f h = tt
-fails_then (errors.NotAscii at) o p f h = f h
-fails_then (errors.BadChar at) o p f h = f h
-fails_then (errors.Expected at) o p f h = f h
-fails_then (errors.NumberTooBig at) o p f h = f h
-fails_then (errors.TooLong at) o p f h = f h
-fails_then (errors.TooDeep at) o p f h = f h
+fails_then e o p f h = f h
 
 good : (k : Kind) → is_bad (kind_view k) ≡ false
 good (kinds.Name s) = refl

@@ -6,7 +6,7 @@ use Rattle.guest_syntax.specs.declared.tree.Op.{Op}
 use Rattle.guest_syntax.specs.declared.tree.Op.TheVariants as ops
 use Rattle.guest_syntax.specs.declared.tree.Object.{Object}
 use Rattle.guest_syntax.specs.declared.tree.Object.TheVariants as objects
-use Rattle.guest_syntax.specs.Tree.{Name, Operand, local, literal, Expr, single, both, Stmt, load, store, add, cas, lock, unlock, wait, signal, broadcast, acquire, release, set, assert, if_then, if_else, repeat, leave, Block, nothing, next, Declaration, Thread, Tree}
+use Rattle.guest_syntax.specs.Tree.{Name, Operand, local, literal, Expr, single, both, Stmt, load, store, add, cas, wait, set, assert, if_then, if_else, repeat, leave, Block, nothing, next, Declaration, Thread, Tree}
 use Rattle.guest_syntax.specs.Forms.{Form, ◌then◌, IsToken, IsName, IsNumber, IsEnd, IsLiteral, in_braces, each}
 use Rattle.guest_syntax.specs.Grammar.{IsOperand, IsOp, IsExpr, IsTimes, IsStatement, AreStatements, IsBlock, IsObject, IsDeclaration, IsThread, IsTree}
 use Rattle.guest_syntax.specs.reader.SingleTokens.{is_bad}
@@ -67,14 +67,7 @@ operand_end_c a = then_c _ _ (operand_c a) (token_c _ refl)
 
 op_c : (op : Op) → Cleans (IsOp op)
 op_c ops.Add = token_c _ refl
-op_c ops.Subtract = token_c _ refl
-op_c ops.Multiply = token_c _ refl
-op_c ops.Equal = token_c _ refl
-op_c ops.NotEqual = token_c _ refl
-op_c ops.Less = token_c _ refl
-op_c ops.LessOrEqual = token_c _ refl
-op_c ops.Greater = token_c _ refl
-op_c ops.GreaterOrEqual = token_c _ refl
+op_c op = token_c _ refl
 
 pub expr_c : (e : Expr) → Cleans (IsExpr e)
 expr_c (single a) = operand_c a
@@ -99,17 +92,8 @@ mutual
   statement_c (cas r x a b) room =
       then_c _ _ (token_c _ refl)
       (then_c _ _ (name_c r) (then_c _ _ (name_c x) (then_c _ _ (operand_c a) (operand_end_c b))))
-  statement_c (lock m) room = then_c _ _ (token_c _ refl) (then_c _ _ (name_c m) (token_c _ refl))
-  statement_c (unlock m) room = then_c _ _ (token_c _ refl) (then_c _ _ (name_c m) (token_c _ refl))
   statement_c (wait c m) room = then_c _ _ (token_c _ refl)
       (then_c _ _ (name_c c) (then_c _ _ (name_c m) (token_c _ refl)))
-  statement_c (signal c) room = then_c _ _ (token_c _ refl) (then_c _ _ (name_c c) (token_c _ refl))
-  statement_c (broadcast c) room = then_c _ _ (token_c _ refl)
-      (then_c _ _ (name_c c) (token_c _ refl))
-  statement_c (acquire s) room = then_c _ _ (token_c _ refl)
-      (then_c _ _ (name_c s) (token_c _ refl))
-  statement_c (release s) room = then_c _ _ (token_c _ refl)
-      (then_c _ _ (name_c s) (token_c _ refl))
   statement_c (set r e) room = then_c _ _ (token_c _ refl)
       (then_c _ _ (name_c r) (then_c _ _ (expr_c e) (token_c _ refl)))
   statement_c (assert e) room = then_c _ _ (token_c _ refl) (then_c _ _ (expr_c e) (token_c _ refl))
@@ -121,6 +105,7 @@ mutual
   statement_c (repeat n b) room = then_c _ _ (token_c _ refl)
       (then_c _ _ (times_c n) (braces_c _ room (λ less. statements_c b less)))
   statement_c leave room = then_c _ _ (token_c _ refl) (token_c _ refl)
+  statement_c s room = then_c _ _ (token_c _ refl) (then_c _ _ (name_c _) (token_c _ refl))
 
   pub statements_c : (b : Block) (room : ℕ) → Cleans (AreStatements b room)
   statements_c nothing room ts rest h = adds_none ts rest h
@@ -151,7 +136,8 @@ thread_c : (t : Thread) → Cleans (IsThread t)
 thread_c t = then_c _ _ (token_c _ refl)
     (then_c _ _ (name_c t.name) (block_c t.body _))
 
-pub each_c : {A : Type 0} (F : A → Form) → ((a : A) → Cleans (F a)) → (xs : List A) → Cleans (each F xs)
+pub each_c : {A : Type 0} (F : A → Form) → ((a : A) → Cleans (F a)) → (xs : List A)
+    → Cleans (each F xs)
 each_c F f [] ts rest h = adds_none ts rest h
 each_c F f (x ∷ xs) ts rest h = adds_then (f x ts h.0 h.1) (each_c F f xs h.0 rest h.2)
 

@@ -35,18 +35,7 @@ skipped_len (b ∷ bs) c at x e = skip_by_len b bs at x (gap_step c b)
 
 pub symbol_has_bytes : (s : Symbol) → 0 < length (symbol_text s)
 symbol_has_bytes symbols.Equal = omega arith
-symbol_has_bytes symbols.NotEqual = omega arith
-symbol_has_bytes symbols.LessOrEqual = omega arith
-symbol_has_bytes symbols.GreaterOrEqual = omega arith
-symbol_has_bytes symbols.Less = omega arith
-symbol_has_bytes symbols.Greater = omega arith
-symbol_has_bytes symbols.Plus = omega arith
-symbol_has_bytes symbols.Minus = omega arith
-symbol_has_bytes symbols.Times = omega arith
-symbol_has_bytes symbols.Assign = omega arith
-symbol_has_bytes symbols.Open = omega arith
-symbol_has_bytes symbols.Close = omega arith
-symbol_has_bytes symbols.End = omega arith
+symbol_has_bytes s = omega arith
 
 letter_is_name : (b : Bool) (bs : Bool) → b ≡ true → (b || bs) ≡ true
 letter_is_name true bs e = refl

@@ -5,7 +5,7 @@ use Rattle.guest_syntax.specs.declared.token.Keyword.{Keyword}
 use Rattle.guest_syntax.specs.declared.token.Symbol.{Symbol}
 use Rattle.guest_syntax.specs.declared.token.Keyword.TheVariants as keywords
 use Rattle.guest_syntax.specs.declared.token.Symbol.TheVariants as symbols
-use Rattle.guest_syntax.specs.Tokens.{Kind, name, keyword, number, symbol, bad, Token}
+use Rattle.guest_syntax.specs.Tokens.{Kind, keyword, symbol, Token}
 use Rattle.guest_syntax.specs.reader.Scanner.{◌>>=◌}
 use Rattle.guest_syntax.specs.Tree.{Name, Operand, Expr, Stmt, load, store, add, cas, lock, unlock, wait, signal, broadcast, acquire, release, set, assert, if_then, if_else, repeat, leave, Block, nothing, next, Placed, block_of}
 use Rattle.guest_syntax.specs.Forms.{Form, ◌then◌, IsTokenAt, IsToken, IsName, IsEnd, BeginsAt, placed_at, in_braces}
@@ -34,32 +34,44 @@ abbrev IsTurn : ℕ → Option Placed → Form
 IsTurn room None = IsToken (symbol symbols.Close)
 IsTurn room (Some p) = placed_at p.at (IsStatement p.statement room)
 
+-- what is read before the end, and the end
+pub last_takes : {A B : Type 0} (from : List Token → Read A) (F : A → Form)
+    → ((ts : List Token) (x : A × List Token) → from ts ≡ Some x → F x.0 ts x.1)
+    → (made : A → B) (ts : List Token) (x : B × List Token)
+    → (from ts >>= λ a. symbol_from symbols.End a.1 >>= λ e. Some (made a.0, e)) ≡ Some x
+    → (a : A) × (made a ≡ x.0) × (F a then IsEnd) ts x.1
+last_takes {A = A} {B = B} from F takes made ts x h =
+    let a = bind_some (from ts) _ _ h in
+    let e = bind_some (symbol_from symbols.End a.0.1) _ _ a.2 in
+    let is : (made a.0.0, e.0) ≡ x = some_is (made a.0.0, e.0) x e.2 in
+    subst (λ (y : B × List Token). (a : A) × (made a ≡ y.0) × (F a then IsEnd) ts y.1) is
+    (a.0.0, refl, (a.0.1, takes ts a.0 a.1, symbol_takes symbols.End a.0.1 e.0 e.1))
+
 pub one_name_takes : (ts : List Token) (x : Name × List Token) → one_name_from ts ≡ Some x
     → (IsName x.0 then IsEnd) ts x.1
 unfolding one_name_from
 one_name_takes ts x e =
-    let n = bind_some (name_from ts) _ _ e in
-    let s = bind_some (symbol_from symbols.End n.0.1) _ _ n.2 in
-    subst (λ (y : Name × List Token). (IsName y.0 then IsEnd) ts y.1) (some_is (n.0.0, s.0) x s.2)
-    (n.0.1, name_takes ts n.0 n.1, symbol_takes symbols.End n.0.1 s.0 s.1)
+    let n = last_takes name_from IsName name_takes (λ n. n) ts x e in
+    subst (λ n. (IsName n then IsEnd) ts x.1) n.1 n.2
+
+-- a name, what is read after it before the end, and the end
+value_takes : {A B : Type 0} (from : List Token → Read A) (F : A → Form)
+    → ((ts : List Token) (x : A × List Token) → from ts ≡ Some x → F x.0 ts x.1)
+    → (made : Name → A → B) (ts : List Token) (x : B × List Token)
+    → (name_from ts >>= λ n. from n.1 >>= λ a. symbol_from symbols.End a.1 >>= λ e.
+    Some (made n.0 a.0, e)) ≡ Some x
+    → (n : Name) × (a : A) × (made n a ≡ x.0) × (IsName n then F a then IsEnd) ts x.1
+value_takes from F takes made ts x h =
+    let n = bind_some (name_from ts) _ _ h in
+    let a = last_takes from F takes (made n.0.0) n.0.1 x n.2 in
+    (n.0.0, a.0, a.1, (n.0.1, name_takes ts n.0 n.1, a.2))
 
 two_names_takes : (ts : List Token) (x : (Name × Name) × List Token) → two_names_from ts ≡ Some x
     → (IsName x.0.0 then IsName x.0.1 then IsEnd) ts x.1
 unfolding two_names_from
 two_names_takes ts x e =
-    let n = bind_some (name_from ts) _ _ e in
-    let m = bind_some (name_from n.0.1) _ _ n.2 in
-    let s = bind_some (symbol_from symbols.End m.0.1) _ _ m.2 in
-    subst (λ (y : (Name × Name) × List Token). (IsName y.0.0 then IsName y.0.1 then IsEnd) ts y.1)
-    (some_is ((n.0.0, m.0.0), s.0) x s.2) (
-      n.0.1,
-      name_takes ts n.0 n.1,
-      (
-        m.0.1,
-        name_takes n.0.1 m.0 m.1,
-        symbol_takes symbols.End m.0.1 s.0 s.1,
-      ),
-    )
+    let n = value_takes name_from IsName name_takes (λ n m. (n, m)) ts x e in
+    subst (λ (y : Name × Name). (IsName y.0 then IsName y.1 then IsEnd) ts x.1) n.2 n.3
 
 -- a statement and the tokens after it
 abbrev IsSpelt : ℕ → List Token → Stmt × List Token → Type 0
@@ -74,79 +86,39 @@ StatementTakes w reader =
 store_takes : StatementTakes keywords.Store store_from
 unfolding store_from
 store_takes room before ts x w e =
-    let r = bind_some (name_from ts) _ _ e in
-    let v = bind_some (operand_from r.0.1) _ _ r.2 in
-    let s = bind_some (symbol_from symbols.End v.0.1) _ _ v.2 in
-    subst (IsSpelt room before) (some_is (store r.0.0 v.0.0, s.0) x s.2) (
-      ts,
-      w,
-      (
-        r.0.1,
-        name_takes ts r.0 r.1,
-        (
-          v.0.1,
-          operand_takes r.0.1 v.0 v.1,
-          symbol_takes symbols.End v.0.1 s.0 s.1,
-        ),
-      ),
-    )
+    let v = value_takes operand_from IsOperand operand_takes store ts x e in
+    subst (λ s. IsStatement s room before x.1) v.2 (ts, w, v.3)
 
 add_takes : StatementTakes keywords.Add add_from
 unfolding add_from
-add_takes room before ts s w e =
+add_takes room before ts x w e =
     let r = bind_some (name_from ts) _ _ e in
-    let v = bind_some (name_from r.0.1) _ _ r.2 in
-    let a = bind_some (operand_from v.0.1) _ _ v.2 in
-    let end = bind_some (symbol_from symbols.End a.0.1) _ _ a.2 in
-    let last : (IsOperand a.0.0 then IsEnd) v.0.1 end.0 =
-    (a.0.1, operand_takes v.0.1 a.0 a.1, symbol_takes symbols.End a.0.1 end.0 end.1) in
-    subst (IsSpelt room before)
-    (some_is (add r.0.0 v.0.0 a.0.0, end.0) s end.2)
-    (ts, w, (r.0.1, name_takes ts r.0 r.1, (v.0.1, name_takes r.0.1 v.0 v.1, last)))
+    let v = value_takes operand_from IsOperand operand_takes (add r.0.0) r.0.1 x r.2 in
+    subst (λ s. IsStatement s room before x.1) v.2 (ts, w, (r.0.1, name_takes ts r.0 r.1, v.3))
 
 cas_takes : StatementTakes keywords.Cas cas_from
 unfolding cas_from
-cas_takes room before ts s w e =
+cas_takes room before ts x w e =
     let r = bind_some (name_from ts) _ _ e in
-    let v = bind_some (name_from r.0.1) _ _ r.2 in
-    let a = bind_some (operand_from v.0.1) _ _ v.2 in
-    let b = bind_some (operand_from a.0.1) _ _ a.2 in
-    let end = bind_some (symbol_from symbols.End b.0.1) _ _ b.2 in
-    let last : (IsOperand b.0.0 then IsEnd) a.0.1 end.0 =
-    (b.0.1, operand_takes a.0.1 b.0 b.1, symbol_takes symbols.End b.0.1 end.0 end.1) in
-    let operands : (IsOperand a.0.0 then IsOperand b.0.0 then IsEnd) v.0.1 end.0 =
-    (a.0.1, operand_takes v.0.1 a.0 a.1, last) in
-    subst (IsSpelt room before)
-    (some_is (cas r.0.0 v.0.0 a.0.0 b.0.0, end.0) s end.2)
-    (ts, w, (r.0.1, name_takes ts r.0 r.1, (v.0.1, name_takes r.0.1 v.0 v.1, operands)))
+    let n = bind_some (name_from r.0.1) _ _ r.2 in
+    let a = bind_some (operand_from n.0.1) _ _ n.2 in
+    let b = last_takes operand_from IsOperand operand_takes (cas r.0.0 n.0.0 a.0.0) a.0.1 x a.2 in
+    let operands : (IsOperand a.0.0 then IsOperand b.0 then IsEnd) n.0.1 x.1 =
+    (a.0.1, operand_takes n.0.1 a.0 a.1, b.2) in
+    subst (λ s. IsStatement s room before x.1) b.1
+    (ts, w, (r.0.1, name_takes ts r.0 r.1, (n.0.1, name_takes r.0.1 n.0 n.1, operands)))
 
 set_takes : StatementTakes keywords.Set set_from
 unfolding set_from
 set_takes room before ts x w e =
-    let r = bind_some (name_from ts) _ _ e in
-    let v = bind_some (expr_from r.0.1) _ _ r.2 in
-    let s = bind_some (symbol_from symbols.End v.0.1) _ _ v.2 in
-    subst (IsSpelt room before) (some_is (set r.0.0 v.0.0, s.0) x s.2) (
-      ts,
-      w,
-      (
-        r.0.1,
-        name_takes ts r.0 r.1,
-        (
-          v.0.1,
-          expr_takes r.0.1 v.0 v.1,
-          symbol_takes symbols.End v.0.1 s.0 s.1,
-        ),
-      ),
-    )
+    let v = value_takes expr_from IsExpr expr_takes set ts x e in
+    subst (λ s. IsStatement s room before x.1) v.2 (ts, w, v.3)
 
 assert_takes : StatementTakes keywords.Assert assert_from
 unfolding assert_from
 assert_takes room before ts x w e =
-    let r = bind_some (expr_from ts) _ _ e in
-    let s = bind_some (symbol_from symbols.End r.0.1) _ _ r.2 in
-    subst (IsSpelt room before) (some_is (assert r.0.0, s.0) x s.2)
-    (ts, w, (r.0.1, expr_takes ts r.0 r.1, symbol_takes symbols.End r.0.1 s.0 s.1))
+    let v = last_takes expr_from IsExpr expr_takes assert ts x e in
+    subst (λ s. IsStatement s room before x.1) v.1 (ts, w, v.2)
 
 -- a statement of one name
 named_takes_by : (w : Keyword) (made : Name → Stmt) (room : ℕ)
@@ -162,20 +134,10 @@ named_takes_by w made room is before ts x h e =
 
 named_takes : (w : Keyword) (room : ℕ) (before ts : List Token) (x : Stmt × List Token)
     → IsToken (keyword w) before ts → named_by w ts ≡ Some x → IsStatement x.0 room before x.1
-named_takes keywords.Var room before ts x h e = absurd cc
-named_takes keywords.Mutex room before ts x h e = absurd cc
-named_takes keywords.Cond room before ts x h e = absurd cc
-named_takes keywords.Sem room before ts x h e = absurd cc
-named_takes keywords.Thread room before ts x h e = absurd cc
-named_takes keywords.Load room before ts x h e = absurd cc
-named_takes keywords.Store room before ts x h e = absurd cc
-named_takes keywords.Add room before ts x h e = absurd cc
-named_takes keywords.Cas room before ts x h e = absurd cc
 named_takes keywords.Lock room before ts x h e =
     named_takes_by keywords.Lock lock room (λ n ts rest h. h) before ts x h e
 named_takes keywords.Unlock room before ts x h e =
     named_takes_by keywords.Unlock unlock room (λ n ts rest h. h) before ts x h e
-named_takes keywords.Wait room before ts x h e = absurd cc
 named_takes keywords.Signal room before ts x h e =
     named_takes_by keywords.Signal signal room (λ n ts rest h. h) before ts x h e
 named_takes keywords.Broadcast room before ts x h e =
@@ -184,90 +146,34 @@ named_takes keywords.Acquire room before ts x h e =
     named_takes_by keywords.Acquire acquire room (λ n ts rest h. h) before ts x h e
 named_takes keywords.Release room before ts x h e =
     named_takes_by keywords.Release release room (λ n ts rest h. h) before ts x h e
-named_takes keywords.Set room before ts x h e = absurd cc
-named_takes keywords.If room before ts x h e = absurd cc
-named_takes keywords.Else room before ts x h e = absurd cc
-named_takes keywords.Repeat room before ts x h e = absurd cc
-named_takes keywords.Leave room before ts x h e = absurd cc
-named_takes keywords.Assert room before ts x h e = absurd cc
+named_takes w room before ts x h e = absurd cc
 
 simple_takes : (w : Keyword) (room : ℕ) (before ts : List Token) (x : Stmt × List Token)
     → IsToken (keyword w) before ts → simple_by w ts ≡ Some x
     → IsStatement x.0 room before x.1
-simple_takes keywords.Var room before ts x h e =
-    named_takes keywords.Var room before ts x h e
-simple_takes keywords.Mutex room before ts x h e =
-    named_takes keywords.Mutex room before ts x h e
-simple_takes keywords.Cond room before ts x h e =
-    named_takes keywords.Cond room before ts x h e
-simple_takes keywords.Sem room before ts x h e =
-    named_takes keywords.Sem room before ts x h e
-simple_takes keywords.Thread room before ts x h e =
-    named_takes keywords.Thread room before ts x h e
 simple_takes keywords.Load room before ts x h e =
     let n = bind_some (two_names_from ts) _ _ e in
     subst (IsSpelt room before) (some_is (load n.0.0.0 n.0.0.1, n.0.1) x n.2)
     (ts, h, two_names_takes ts n.0 n.1)
-simple_takes keywords.Store room before ts x h e = store_takes room before ts x h e
-simple_takes keywords.Add room before ts x h e = add_takes room before ts x h e
-simple_takes keywords.Cas room before ts x h e = cas_takes room before ts x h e
-simple_takes keywords.Lock room before ts x h e =
-    named_takes keywords.Lock room before ts x h e
-simple_takes keywords.Unlock room before ts x h e =
-    named_takes keywords.Unlock room before ts x h e
 simple_takes keywords.Wait room before ts x h e =
     let n = bind_some (two_names_from ts) _ _ e in
     subst (IsSpelt room before) (some_is (wait n.0.0.0 n.0.0.1, n.0.1) x n.2)
     (ts, h, two_names_takes ts n.0 n.1)
-simple_takes keywords.Signal room before ts x h e =
-    named_takes keywords.Signal room before ts x h e
-simple_takes keywords.Broadcast room before ts x h e =
-    named_takes keywords.Broadcast room before ts x h e
-simple_takes keywords.Acquire room before ts x h e =
-    named_takes keywords.Acquire room before ts x h e
-simple_takes keywords.Release room before ts x h e =
-    named_takes keywords.Release room before ts x h e
+simple_takes keywords.Store room before ts x h e = store_takes room before ts x h e
+simple_takes keywords.Add room before ts x h e = add_takes room before ts x h e
+simple_takes keywords.Cas room before ts x h e = cas_takes room before ts x h e
 simple_takes keywords.Set room before ts x h e = set_takes room before ts x h e
-simple_takes keywords.If room before ts x h e =
-    named_takes keywords.If room before ts x h e
-simple_takes keywords.Else room before ts x h e =
-    named_takes keywords.Else room before ts x h e
-simple_takes keywords.Repeat room before ts x h e =
-    named_takes keywords.Repeat room before ts x h e
+simple_takes keywords.Assert room before ts x h e = assert_takes room before ts x h e
 simple_takes keywords.Leave room before ts x h e =
     let s = bind_some (symbol_from symbols.End ts) _ _ e in
     subst (IsSpelt room before) (some_is (leave, s.0) x s.2)
     (ts, h, symbol_takes symbols.End ts s.0 s.1)
-simple_takes keywords.Assert room before ts x h e = assert_takes room before ts x h e
+simple_takes w room before ts x h e = named_takes w room before ts x h e
 
 is_else_kind : (k : Kind) → is_else k ≡ true → k ≡ keyword keywords.Else
 unfolding is_else
-is_else_kind (name s) e = absurd cc
-is_else_kind (number n) e = absurd cc
-is_else_kind (symbol s) e = absurd cc
-is_else_kind bad e = absurd cc
-is_else_kind (keyword keywords.Var) e = absurd cc
-is_else_kind (keyword keywords.Mutex) e = absurd cc
-is_else_kind (keyword keywords.Cond) e = absurd cc
-is_else_kind (keyword keywords.Sem) e = absurd cc
-is_else_kind (keyword keywords.Thread) e = absurd cc
-is_else_kind (keyword keywords.Load) e = absurd cc
-is_else_kind (keyword keywords.Store) e = absurd cc
-is_else_kind (keyword keywords.Add) e = absurd cc
-is_else_kind (keyword keywords.Cas) e = absurd cc
-is_else_kind (keyword keywords.Lock) e = absurd cc
-is_else_kind (keyword keywords.Unlock) e = absurd cc
-is_else_kind (keyword keywords.Wait) e = absurd cc
-is_else_kind (keyword keywords.Signal) e = absurd cc
-is_else_kind (keyword keywords.Broadcast) e = absurd cc
-is_else_kind (keyword keywords.Acquire) e = absurd cc
-is_else_kind (keyword keywords.Release) e = absurd cc
-is_else_kind (keyword keywords.Set) e = absurd cc
-is_else_kind (keyword keywords.If) e = absurd cc
 is_else_kind (keyword keywords.Else) e = refl
-is_else_kind (keyword keywords.Repeat) e = absurd cc
-is_else_kind (keyword keywords.Leave) e = absurd cc
-is_else_kind (keyword keywords.Assert) e = absurd cc
+is_else_kind k e = absurd cc
 
 choice_by_takes : (block : Reader) (room : ℕ) → Takes block room
     → (before ts : List Token) (x : Stmt × List Token) (e : Expr) (b : Block)
@@ -325,50 +231,11 @@ statement_takes : (block : Reader) (room : ℕ) → Takes block room
     → (w : Keyword) (before ts : List Token) (x : Stmt × List Token)
     → IsToken (keyword w) before ts → statement_by block w ts ≡ Some x
     → IsStatement x.0 room before x.1
-statement_takes block room ih keywords.Var before ts x h e =
-    simple_takes keywords.Var room before ts x h e
-statement_takes block room ih keywords.Mutex before ts x h e =
-    simple_takes keywords.Mutex room before ts x h e
-statement_takes block room ih keywords.Cond before ts x h e =
-    simple_takes keywords.Cond room before ts x h e
-statement_takes block room ih keywords.Sem before ts x h e =
-    simple_takes keywords.Sem room before ts x h e
-statement_takes block room ih keywords.Thread before ts x h e =
-    simple_takes keywords.Thread room before ts x h e
-statement_takes block room ih keywords.Load before ts x h e =
-    simple_takes keywords.Load room before ts x h e
-statement_takes block room ih keywords.Store before ts x h e =
-    simple_takes keywords.Store room before ts x h e
-statement_takes block room ih keywords.Add before ts x h e =
-    simple_takes keywords.Add room before ts x h e
-statement_takes block room ih keywords.Cas before ts x h e =
-    simple_takes keywords.Cas room before ts x h e
-statement_takes block room ih keywords.Lock before ts x h e =
-    simple_takes keywords.Lock room before ts x h e
-statement_takes block room ih keywords.Unlock before ts x h e =
-    simple_takes keywords.Unlock room before ts x h e
-statement_takes block room ih keywords.Wait before ts x h e =
-    simple_takes keywords.Wait room before ts x h e
-statement_takes block room ih keywords.Signal before ts x h e =
-    simple_takes keywords.Signal room before ts x h e
-statement_takes block room ih keywords.Broadcast before ts x h e =
-    simple_takes keywords.Broadcast room before ts x h e
-statement_takes block room ih keywords.Acquire before ts x h e =
-    simple_takes keywords.Acquire room before ts x h e
-statement_takes block room ih keywords.Release before ts x h e =
-    simple_takes keywords.Release room before ts x h e
-statement_takes block room ih keywords.Set before ts x h e =
-    simple_takes keywords.Set room before ts x h e
 statement_takes block room ih keywords.If before ts x h e =
     choice_takes block room ih before ts x h e
-statement_takes block room ih keywords.Else before ts x h e =
-    simple_takes keywords.Else room before ts x h e
 statement_takes block room ih keywords.Repeat before ts x h e =
     repeat_takes block room ih before ts x h e
-statement_takes block room ih keywords.Leave before ts x h e =
-    simple_takes keywords.Leave room before ts x h e
-statement_takes block room ih keywords.Assert before ts x h e =
-    simple_takes keywords.Assert room before ts x h e
+statement_takes block room ih w before ts x h e = simple_takes w room before ts x h e
 
 begins : (at : Pos) (k : Kind) (ts rest : List Token) → IsTokenAt at k ts rest → BeginsAt at ts
 begins at k ts rest h = subst (BeginsAt at) (sym h) refl
@@ -377,29 +244,15 @@ begins at k ts rest h = subst (BeginsAt at) (sym h) refl
 turn_by_takes : (block : Reader) (room : ℕ) → Takes block room
     → (k : Kind) (at : Pos) (before ts : List Token) (x : Option Placed × List Token)
     → IsTokenAt at k before ts → turn_by block k at ts ≡ Some x → IsTurn room x.0 before x.1
-turn_by_takes block room ih (name s) at before ts x w h = absurd cc
-turn_by_takes block room ih (number n) at before ts x w h = absurd cc
-turn_by_takes block room ih bad at before ts x w h = absurd cc
 turn_by_takes block room ih (keyword v) at before ts x w h =
     let s = bind_some (statement_by block v ts) _ _ h in
     subst (λ (y : Option Placed × List Token). IsTurn room y.0 before y.1)
     (some_is (Some (record { at = at; statement = s.0.0 }), s.0.1) x s.2)
     (begins at (keyword v) before ts w, statement_takes block room ih v before ts s.0 (at, w) s.1)
-turn_by_takes block room ih (symbol symbols.Equal) at before ts x w h = absurd cc
-turn_by_takes block room ih (symbol symbols.NotEqual) at before ts x w h = absurd cc
-turn_by_takes block room ih (symbol symbols.LessOrEqual) at before ts x w h = absurd cc
-turn_by_takes block room ih (symbol symbols.GreaterOrEqual) at before ts x w h = absurd cc
-turn_by_takes block room ih (symbol symbols.Less) at before ts x w h = absurd cc
-turn_by_takes block room ih (symbol symbols.Greater) at before ts x w h = absurd cc
-turn_by_takes block room ih (symbol symbols.Plus) at before ts x w h = absurd cc
-turn_by_takes block room ih (symbol symbols.Minus) at before ts x w h = absurd cc
-turn_by_takes block room ih (symbol symbols.Times) at before ts x w h = absurd cc
-turn_by_takes block room ih (symbol symbols.Assign) at before ts x w h = absurd cc
-turn_by_takes block room ih (symbol symbols.Open) at before ts x w h = absurd cc
 turn_by_takes block room ih (symbol symbols.Close) at before ts x w h =
     subst (λ (y : Option Placed × List Token). IsTurn room y.0 before y.1) (some_is (None, ts) x h)
     (at, w)
-turn_by_takes block room ih (symbol symbols.End) at before ts x w h = absurd cc
+turn_by_takes block room ih k at before ts x w h = absurd cc
 
 turn_takes : (block : Reader) (room : ℕ) → Takes block room
     → (ts : List Token) (x : Option Placed × List Token) → turn_from block ts ≡ Some x
@@ -427,7 +280,8 @@ many_by_takes more room ih (Some s) before ts x t h =
     (some_is (s ∷ m.0.0, m.0.1) x m.2) (r.0, (ts, t, r.1), r.2)
 
 many_takes : (block : Reader) (room : ℕ) → Takes block room
-    → (n : ℕ) (ts : List Token) (x : List Placed × List Token) → many (turn_from block) n ts ≡ Some x
+    → (n : ℕ) (ts : List Token) (x : List Placed × List Token)
+    → many (turn_from block) n ts ≡ Some x
     → AreTurns room x.0 ts x.1
 unfolding many
 many_takes block room ih zero ts x h = absurd cc
@@ -483,22 +337,7 @@ symbol_ends s ts rest e h = record {
 statement_ends : (s : Stmt) (room : ℕ) (ts rest : List Token) → IsStatement s room ts rest → Ends ts
 unfolding is_else
 statement_ends (load r x) room ts rest h = keyword_ends keywords.Load ts h.0 refl h.1
-statement_ends (store x a) room ts rest h = keyword_ends keywords.Store ts h.0 refl h.1
-statement_ends (add r x a) room ts rest h = keyword_ends keywords.Add ts h.0 refl h.1
-statement_ends (cas r x a b) room ts rest h = keyword_ends keywords.Cas ts h.0 refl h.1
-statement_ends (lock m) room ts rest h = keyword_ends keywords.Lock ts h.0 refl h.1
-statement_ends (unlock m) room ts rest h = keyword_ends keywords.Unlock ts h.0 refl h.1
-statement_ends (wait c m) room ts rest h = keyword_ends keywords.Wait ts h.0 refl h.1
-statement_ends (signal c) room ts rest h = keyword_ends keywords.Signal ts h.0 refl h.1
-statement_ends (broadcast c) room ts rest h = keyword_ends keywords.Broadcast ts h.0 refl h.1
-statement_ends (acquire s) room ts rest h = keyword_ends keywords.Acquire ts h.0 refl h.1
-statement_ends (release s) room ts rest h = keyword_ends keywords.Release ts h.0 refl h.1
-statement_ends (set r e) room ts rest h = keyword_ends keywords.Set ts h.0 refl h.1
-statement_ends (assert e) room ts rest h = keyword_ends keywords.Assert ts h.0 refl h.1
-statement_ends (if_then e b) room ts rest h = keyword_ends keywords.If ts h.0 refl h.1
-statement_ends (if_else e b c) room ts rest h = keyword_ends keywords.If ts h.0 refl h.1
-statement_ends (repeat n b) room ts rest h = keyword_ends keywords.Repeat ts h.0 refl h.1
-statement_ends leave room ts rest h = keyword_ends keywords.Leave ts h.0 refl h.1
+statement_ends s room ts rest h = keyword_ends _ ts h.0 refl h.1
 
 statements_end : (b : Block) (room : ℕ) (ts mid rest : List Token) → AreStatements b room ts mid
     → IsToken (symbol symbols.Close) mid rest → Ends ts
@@ -672,8 +511,8 @@ mutual
   statement_again at (assert e) room ts rest first (mid, w, h) ends =
       keyword_turn keywords.Assert _ at ts mid _ first w (rw (assert_again e mid rest h) refl)
   statement_again at (if_then e b) room ts rest first (mid, w, h) ends =
-      keyword_turn keywords.If _ at ts mid _ first w (rw (then_again e b (statements_again b) room mid rest
-      h ends) refl)
+      keyword_turn keywords.If _ at ts mid _ first w
+      (rw (then_again e b (statements_again b) room mid rest h ends) refl)
   statement_again at (if_else e b c) room ts rest first (mid, w, h) ends =
       keyword_turn keywords.If _ at ts mid _ first w (rw (else_again e b c (statements_again b)
       (statements_again c) room mid rest h) refl)
@@ -681,7 +520,8 @@ mutual
       keyword_turn keywords.Repeat _ at ts mid _ first w
       (rw (repeat_again n b (statements_again b) room mid rest h) refl)
   statement_again at leave room ts rest first (mid, w, h) ends =
-      keyword_turn keywords.Leave _ at ts mid _ first w (rw (symbol_again symbols.End mid rest h) refl)
+      keyword_turn keywords.Leave _ at ts mid _ first w
+      (rw (symbol_again symbols.End mid rest h) refl)
 
   statements_again : (b : Block) → Again b
   statements_again nothing room n ts mid rest h close lt =

@@ -80,7 +80,8 @@ mutual
   each_place Q q last f (next at s b) room ts rest (mid, (first, hs), hb) r h =
       let one = statement_c s room ts mid hs in
       let more = adds_then (statements_c b room mid rest hb) r in
-      let here = at_first q at ts mid last first h one (statement_shorter s room ts mid hs) more in (
+      let shorter = statement_shorter s room ts mid hs in
+      let here = at_first q at ts mid last first h one shorter more in (
         f at here.0 here.1,
         inside Q q last f s room ts mid hs more h,
         each_place Q q last f b room mid rest hb r (further q one h),

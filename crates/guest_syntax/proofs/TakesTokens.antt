@@ -6,7 +6,7 @@ use Rattle.guest_syntax.specs.declared.tree.Op.{Op}
 use Rattle.guest_syntax.specs.declared.tree.Op.TheVariants as ops
 use Rattle.guest_syntax.specs.declared.tree.Object.{Object}
 use Rattle.guest_syntax.specs.declared.tree.Object.TheVariants as objects
-use Rattle.guest_syntax.specs.Tree.{Name, Operand, local, literal, Expr, single, both, Stmt, load, store, add, cas, lock, unlock, wait, signal, broadcast, acquire, release, set, assert, if_then, if_else, repeat, leave, Block, nothing, next, Thread}
+use Rattle.guest_syntax.specs.Tree.{Name, Operand, local, literal, Expr, single, both, Stmt, load, store, add, cas, wait, set, assert, if_then, if_else, repeat, leave, Block, nothing, next, Thread}
 use Rattle.guest_syntax.specs.Forms.{Form, ◌then◌, IsToken, IsName, IsNumber, IsEnd, IsLiteral, in_braces}
 use Rattle.guest_syntax.specs.Grammar.{IsOperand, IsOp, IsExpr, IsTimes, IsStatement, AreStatements, IsBlock, IsObject, IsThread}
 
@@ -42,14 +42,7 @@ operand_end_shrinks a = then_shrinks _ _ (operand_shrinks a) (token_shrinks _)
 
 op_shrinks : (op : Op) → Shrinks (IsOp op)
 op_shrinks ops.Add = token_shrinks _
-op_shrinks ops.Subtract = token_shrinks _
-op_shrinks ops.Multiply = token_shrinks _
-op_shrinks ops.Equal = token_shrinks _
-op_shrinks ops.NotEqual = token_shrinks _
-op_shrinks ops.Less = token_shrinks _
-op_shrinks ops.LessOrEqual = token_shrinks _
-op_shrinks ops.Greater = token_shrinks _
-op_shrinks ops.GreaterOrEqual = token_shrinks _
+op_shrinks op = token_shrinks _
 
 pub expr_shrinks : (e : Expr) → Shrinks (IsExpr e)
 expr_shrinks (single a) = operand_shrinks a
@@ -84,20 +77,8 @@ mutual
       (then_shrinks _ _ (name_shrinks r)
       (then_shrinks _ _ (name_shrinks x) (then_shrinks _ _ (operand_shrinks a)
       (operand_end_shrinks b))))
-  statement_shorter (lock m) room = after_token _ _
-      (then_shrinks _ _ (name_shrinks m) (token_shrinks _))
-  statement_shorter (unlock m) room = after_token _ _
-      (then_shrinks _ _ (name_shrinks m) (token_shrinks _))
   statement_shorter (wait c m) room = after_token _ _
       (then_shrinks _ _ (name_shrinks c) (then_shrinks _ _ (name_shrinks m) (token_shrinks _)))
-  statement_shorter (signal c) room = after_token _ _
-      (then_shrinks _ _ (name_shrinks c) (token_shrinks _))
-  statement_shorter (broadcast c) room = after_token _ _
-      (then_shrinks _ _ (name_shrinks c) (token_shrinks _))
-  statement_shorter (acquire s) room = after_token _ _
-      (then_shrinks _ _ (name_shrinks s) (token_shrinks _))
-  statement_shorter (release s) room = after_token _ _
-      (then_shrinks _ _ (name_shrinks s) (token_shrinks _))
   statement_shorter (set r e) room = after_token _ _
       (then_shrinks _ _ (name_shrinks r) (then_shrinks _ _ (expr_shrinks e) (token_shrinks _)))
   statement_shorter (assert e) room = after_token _ _
@@ -112,6 +93,7 @@ mutual
   statement_shorter (repeat n b) room = after_token _ _
       (then_shrinks _ _ (times_shrinks n) (braces_shrink _ room (λ less. statements_shrink b less)))
   statement_shorter leave room = after_token _ _ (token_shrinks _)
+  statement_shorter s room = after_token _ _ (then_shrinks _ _ (name_shrinks _) (token_shrinks _))
 
   pub statements_shrink : (b : Block) (room : ℕ) → Shrinks (AreStatements b room)
   statements_shrink nothing room ts rest h = omega (arith, ap length h)

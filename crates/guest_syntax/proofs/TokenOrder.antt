@@ -86,8 +86,10 @@ in_order at bytes (t ∷ ts) (rest, b, more) =
     let here : UpTo at t.at = subst (UpTo at) (sym b.place) (up_to_after at b.gap) in
     let ends : Before t.at b.next = subst (Before t.at) (sym b.next_is)
     (before_after t.at b.text (has_bytes t.kind b.text b.spelt)) in
-    let later = each_as (UpTo b.next) (Before t.at) (λ p h. before_up_to ends h) ts further.0 in
-    ((here, each_as (Before t.at) (UpTo at) (λ p h. inr (up_to_before here h)) ts later), (later, further.1))
+    let later = each_as (UpTo b.next) (Before t.at) (λ p h. before_up_to ends h) ts further.0 in (
+      (here, each_as (Before t.at) (UpTo at) (λ p h. inr (up_to_before here h)) ts later),
+      (later, further.1),
+    )
 
 -- ---- further on
 

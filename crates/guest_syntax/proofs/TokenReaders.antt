@@ -47,25 +47,11 @@ same_symbol s u e = same_true symbol-type.the_type (search rules) s u e
 
 pub symbol_itself : (s : Symbol) → symbol-eq.eq-value.it s s ≡ true
 symbol_itself symbols.Equal = refl
-symbol_itself symbols.NotEqual = refl
-symbol_itself symbols.LessOrEqual = refl
-symbol_itself symbols.GreaterOrEqual = refl
-symbol_itself symbols.Less = refl
-symbol_itself symbols.Greater = refl
-symbol_itself symbols.Plus = refl
-symbol_itself symbols.Minus = refl
-symbol_itself symbols.Times = refl
-symbol_itself symbols.Assign = refl
-symbol_itself symbols.Open = refl
-symbol_itself symbols.Close = refl
-symbol_itself symbols.End = refl
+symbol_itself s = refl
 
 is_symbol_kind : (s : Symbol) (k : Kind) → is_symbol s k ≡ true → k ≡ symbol s
-is_symbol_kind s (name n) e = absurd cc
-is_symbol_kind s (keyword w) e = absurd cc
-is_symbol_kind s (number n) e = absurd cc
 is_symbol_kind s (symbol u) e = ap symbol (same_symbol u s e)
-is_symbol_kind s bad e = absurd cc
+is_symbol_kind s k e = absurd cc
 
 pub symbol_takes : (s : Symbol) (ts rest : List Token) → symbol_from s ts ≡ Some rest
     → IsToken (symbol s) ts rest
@@ -85,10 +71,7 @@ name_in_is : (t : Token) (k : Kind) (n : Name) → t.kind ≡ k → name_in t �
     → t ≡ record { kind = name n.text; at = n.at }
 name_in_is t (name s) n e h = let is : record { text = s; at = t.at } ≡ n =
     some_is _ n (rw e at h) in rw (← is) (ap (λ (k : Kind). record { kind = k; at = t.at }) e)
-name_in_is t (keyword w) n e h = absurd (let h : None ≡ Some n = rw e at h in cc)
-name_in_is t (number w) n e h = absurd (let h : None ≡ Some n = rw e at h in cc)
-name_in_is t (symbol w) n e h = absurd (let h : None ≡ Some n = rw e at h in cc)
-name_in_is t bad n e h = absurd (let h : None ≡ Some n = rw e at h in cc)
+name_in_is t k n e h = absurd (let h : None ≡ Some n = rw e at h in cc)
 
 pub name_takes : (ts : List Token) (x : Name × List Token) → name_from ts ≡ Some x
     → IsName x.0 ts x.1

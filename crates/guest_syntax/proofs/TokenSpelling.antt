@@ -1,5 +1,5 @@
 -- One token among bytes: what was read is spelled so, and what is spelled so is read.
-use Rattle.std.proofs.Common.{◌≡◌, ◌≢◌, ℕ, ◌+◌, ◌-◌, ◌*◌, ◌^◌, min, ◌<◌, Bool, true, false, cond, List, [], ◌∷◌, ◌++◌, length, take, drop, Option, Some, None, refl, sym, ap, subst, ◌∙◌, arith, length-append, true≢false, lit<}
+use Rattle.std.proofs.Common.{◌≡◌, ◌≢◌, ℕ, ◌+◌, ◌-◌, ◌*◌, ◌^◌, min, ◌<◌, Bool, true, false, cond, List, [], ◌∷◌, ◌++◌, length, take, drop, Option, Some, None, refl, sym, ap, subst, ◌∙◌, arith, true≢false, lit<}
 use Rattle.std.specs.Prelude.{find, fold, nat_eq, ◌==◌}
 use Rattle.std.specs.Cmp.Derive.{both_true}
 use Rattle.std.specs.Option.{option_map_or}
@@ -18,7 +18,6 @@ use Rattle.guest_syntax.specs.Tokens.{Kind, name, keyword, number, symbol, bad, 
 use Rattle.guest_syntax.specs.reader.Scanner.{name_or_keyword, capped, symbol_at, kind_by, kind_at}
 use Rattle.guest_syntax.proofs.OptionCases.{map_some, some_is}
 use Rattle.guest_syntax.proofs.ByteClasses.{and_parts, or_left, or_right, letter_no_digit, name_byte_ascii, digit_ascii}
-use Rattle.guest_syntax.proofs.ScannerProgress.{symbol_has_bytes}
 use Rattle.guest_syntax.proofs.BlankRuns.{Ascii}
 use Rattle.guest_syntax.proofs.LongestPrefix.{Front, front, prefix_is}
 
@@ -51,52 +50,14 @@ identifier_all (b ∷ s) h = both_true (letter_name b h.0) h.1
 
 pub keyword_is_identifier : (w : Keyword) → IsIdentifier (keyword_text w)
 keyword_is_identifier keywords.Var = (refl, refl)
-keyword_is_identifier keywords.Mutex = (refl, refl)
-keyword_is_identifier keywords.Cond = (refl, refl)
-keyword_is_identifier keywords.Sem = (refl, refl)
-keyword_is_identifier keywords.Thread = (refl, refl)
-keyword_is_identifier keywords.Load = (refl, refl)
-keyword_is_identifier keywords.Store = (refl, refl)
-keyword_is_identifier keywords.Add = (refl, refl)
-keyword_is_identifier keywords.Cas = (refl, refl)
-keyword_is_identifier keywords.Lock = (refl, refl)
-keyword_is_identifier keywords.Unlock = (refl, refl)
-keyword_is_identifier keywords.Wait = (refl, refl)
-keyword_is_identifier keywords.Signal = (refl, refl)
-keyword_is_identifier keywords.Broadcast = (refl, refl)
-keyword_is_identifier keywords.Acquire = (refl, refl)
-keyword_is_identifier keywords.Release = (refl, refl)
-keyword_is_identifier keywords.Set = (refl, refl)
-keyword_is_identifier keywords.If = (refl, refl)
-keyword_is_identifier keywords.Else = (refl, refl)
-keyword_is_identifier keywords.Repeat = (refl, refl)
-keyword_is_identifier keywords.Leave = (refl, refl)
-keyword_is_identifier keywords.Assert = (refl, refl)
+keyword_is_identifier w = (refl, refl)
+
+first_is : (a b : ℕ) (xs ys : List ℕ) → a ∷ xs ≡ b ∷ ys → a ≡ b
+first_is a b xs ys e = cc
 
 symbol_head : (s : Symbol) (c : ℕ) (t : List ℕ) → symbol_text s ≡ c ∷ t → is_name_byte c ≡ false
-symbol_head symbols.Equal c t e = let is : 61 ≡ c =
-    cc in subst (λ c. is_name_byte c ≡ false) is refl
-symbol_head symbols.NotEqual c t e = let is : 33 ≡ c =
-    cc in subst (λ c. is_name_byte c ≡ false) is refl
-symbol_head symbols.LessOrEqual c t e = let is : 60 ≡ c =
-    cc in subst (λ c. is_name_byte c ≡ false) is refl
-symbol_head symbols.GreaterOrEqual c t e = let is : 62 ≡ c =
-    cc in subst (λ c. is_name_byte c ≡ false) is refl
-symbol_head symbols.Less c t e = let is : 60 ≡ c = cc in subst (λ c. is_name_byte c ≡ false) is refl
-symbol_head symbols.Greater c t e = let is : 62 ≡ c =
-    cc in subst (λ c. is_name_byte c ≡ false) is refl
-symbol_head symbols.Plus c t e = let is : 43 ≡ c = cc in subst (λ c. is_name_byte c ≡ false) is refl
-symbol_head symbols.Minus c t e = let is : 45 ≡ c =
-    cc in subst (λ c. is_name_byte c ≡ false) is refl
-symbol_head symbols.Times c t e = let is : 42 ≡ c =
-    cc in subst (λ c. is_name_byte c ≡ false) is refl
-symbol_head symbols.Assign c t e = let is : 61 ≡ c =
-    cc in subst (λ c. is_name_byte c ≡ false) is refl
-symbol_head symbols.Open c t e = let is : 123 ≡ c =
-    cc in subst (λ c. is_name_byte c ≡ false) is refl
-symbol_head symbols.Close c t e = let is : 125 ≡ c =
-    cc in subst (λ c. is_name_byte c ≡ false) is refl
-symbol_head symbols.End c t e = let is : 59 ≡ c = cc in subst (λ c. is_name_byte c ≡ false) is refl
+symbol_head symbols.Equal c t e = subst (λ c. is_name_byte c ≡ false) (first_is 61 c _ t e) refl
+symbol_head s c t e = subst (λ c. is_name_byte c ≡ false) (first_is _ c _ t e) refl
 
 -- ---- words
 
@@ -158,27 +119,7 @@ keyword_found text w e = sym ((bytes_eq-Decides (keyword_text w) text).0
 
 keyword_itself : (w : Keyword) → looked_up (keyword_text w) ≡ Some w
 keyword_itself keywords.Var = refl
-keyword_itself keywords.Mutex = refl
-keyword_itself keywords.Cond = refl
-keyword_itself keywords.Sem = refl
-keyword_itself keywords.Thread = refl
-keyword_itself keywords.Load = refl
-keyword_itself keywords.Store = refl
-keyword_itself keywords.Add = refl
-keyword_itself keywords.Cas = refl
-keyword_itself keywords.Lock = refl
-keyword_itself keywords.Unlock = refl
-keyword_itself keywords.Wait = refl
-keyword_itself keywords.Signal = refl
-keyword_itself keywords.Broadcast = refl
-keyword_itself keywords.Acquire = refl
-keyword_itself keywords.Release = refl
-keyword_itself keywords.Set = refl
-keyword_itself keywords.If = refl
-keyword_itself keywords.Else = refl
-keyword_itself keywords.Repeat = refl
-keyword_itself keywords.Leave = refl
-keyword_itself keywords.Assert = refl
+keyword_itself w = refl
 
 not_found : (text : List ℕ) (o : Option Keyword) → looked_up text ≡ o
     → ((w : Keyword) → text ≢ keyword_text w) → o ≡ None
@@ -251,22 +192,8 @@ capped_is xs = capped_from xs 0 0 (omega arith)
 -- ---- signs
 
 symbol_parts : (s : Symbol) → (c : ℕ) × (t : List ℕ) × (symbol_text s ≡ c ∷ t)
-symbol_parts symbols.Equal = (61, 61 ∷ [], refl)
-symbol_parts symbols.NotEqual = (33, 61 ∷ [], refl)
-symbol_parts symbols.LessOrEqual = (60, 61 ∷ [], refl)
-symbol_parts symbols.GreaterOrEqual = (62, 61 ∷ [], refl)
-symbol_parts symbols.Less = (60, [], refl)
-symbol_parts symbols.Greater = (62, [], refl)
-symbol_parts symbols.Plus = (43, [], refl)
-symbol_parts symbols.Minus = (45, [], refl)
-symbol_parts symbols.Times = (42, [], refl)
-symbol_parts symbols.Assign = (61, [], refl)
-symbol_parts symbols.Open = (123, [], refl)
-symbol_parts symbols.Close = (125, [], refl)
-symbol_parts symbols.End = (59, [], refl)
-
-first_is : (a b : ℕ) (xs ys : List ℕ) → a ∷ xs ≡ b ∷ ys → a ≡ b
-first_is a b xs ys e = cc
+symbol_parts symbols.Equal = (_, _, refl)
+symbol_parts s = (_, _, refl)
 
 -- the symbol that this one and `=` after it are
 abbrev with_equals : Symbol → Option Symbol
@@ -278,112 +205,11 @@ with_equals _ = None
 -- a sign that is another and one byte more
 longer : (u g : Symbol) (b : ℕ) → symbol_text u ≡ symbol_text g ++ b ∷ []
     → (with_equals g ≡ Some u) × (b ≡ 61)
-longer symbols.Equal symbols.Equal b e = absurd (let h = ap length e in omega (arith, h))
-longer symbols.Equal symbols.NotEqual b e = absurd (let h = ap length e in omega (arith, h))
-longer symbols.Equal symbols.LessOrEqual b e = absurd (let h = ap length e in omega (arith, h))
-longer symbols.Equal symbols.GreaterOrEqual b e = absurd (let h = ap length e in omega (arith, h))
-longer symbols.Equal symbols.Less b e = absurd (let h : 61 ≡ 60 = first_is _ _ _ _ e in omega arith)
-longer symbols.Equal symbols.Greater b e =
-    absurd (let h : 61 ≡ 62 = first_is _ _ _ _ e in omega arith)
-longer symbols.Equal symbols.Plus b e = absurd (let h : 61 ≡ 43 = first_is _ _ _ _ e in omega arith)
-longer symbols.Equal symbols.Minus b e =
-    absurd (let h : 61 ≡ 45 = first_is _ _ _ _ e in omega arith)
-longer symbols.Equal symbols.Times b e =
-    absurd (let h : 61 ≡ 42 = first_is _ _ _ _ e in omega arith)
 longer symbols.Equal symbols.Assign b e = (refl, cc)
-longer symbols.Equal symbols.Open b e = absurd
-    (let h : 61 ≡ 123 = first_is _ _ _ _ e in omega arith)
-longer symbols.Equal symbols.Close b e =
-    absurd (let h : 61 ≡ 125 = first_is _ _ _ _ e in omega arith)
-longer symbols.Equal symbols.End b e = absurd (let h : 61 ≡ 59 = first_is _ _ _ _ e in omega arith)
-longer symbols.NotEqual symbols.Equal b e = absurd (let h = ap length e in omega (arith, h))
-longer symbols.NotEqual symbols.NotEqual b e = absurd (let h = ap length e in omega (arith, h))
-longer symbols.NotEqual symbols.LessOrEqual b e = absurd (let h = ap length e in omega (arith, h))
-longer symbols.NotEqual symbols.GreaterOrEqual b e =
-    absurd (let h = ap length e in omega (arith, h))
-longer symbols.NotEqual symbols.Less b e =
-    absurd (let h : 33 ≡ 60 = first_is _ _ _ _ e in omega arith)
-longer symbols.NotEqual symbols.Greater b e =
-    absurd (let h : 33 ≡ 62 = first_is _ _ _ _ e in omega arith)
-longer symbols.NotEqual symbols.Plus b e =
-    absurd (let h : 33 ≡ 43 = first_is _ _ _ _ e in omega arith)
-longer symbols.NotEqual symbols.Minus b e =
-    absurd (let h : 33 ≡ 45 = first_is _ _ _ _ e in omega arith)
-longer symbols.NotEqual symbols.Times b e =
-    absurd (let h : 33 ≡ 42 = first_is _ _ _ _ e in omega arith)
-longer symbols.NotEqual symbols.Assign b e =
-    absurd (let h : 33 ≡ 61 = first_is _ _ _ _ e in omega arith)
-longer symbols.NotEqual symbols.Open b e =
-    absurd (let h : 33 ≡ 123 = first_is _ _ _ _ e in omega arith)
-longer symbols.NotEqual symbols.Close b e =
-    absurd (let h : 33 ≡ 125 = first_is _ _ _ _ e in omega arith)
-longer symbols.NotEqual symbols.End b e =
-    absurd (let h : 33 ≡ 59 = first_is _ _ _ _ e in omega arith)
-longer symbols.LessOrEqual symbols.Equal b e = absurd (let h = ap length e in omega (arith, h))
-longer symbols.LessOrEqual symbols.NotEqual b e = absurd (let h = ap length e in omega (arith, h))
-longer symbols.LessOrEqual symbols.LessOrEqual b e =
-    absurd (let h = ap length e in omega (arith, h))
-longer symbols.LessOrEqual symbols.GreaterOrEqual b e =
-    absurd (let h = ap length e in omega (arith, h))
 longer symbols.LessOrEqual symbols.Less b e = (refl, cc)
-longer symbols.LessOrEqual symbols.Greater b e =
-    absurd (let h : 60 ≡ 62 = first_is _ _ _ _ e in omega arith)
-longer symbols.LessOrEqual symbols.Plus b e =
-    absurd (let h : 60 ≡ 43 = first_is _ _ _ _ e in omega arith)
-longer symbols.LessOrEqual symbols.Minus b e =
-    absurd (let h : 60 ≡ 45 = first_is _ _ _ _ e in omega arith)
-longer symbols.LessOrEqual symbols.Times b e =
-    absurd (let h : 60 ≡ 42 = first_is _ _ _ _ e in omega arith)
-longer symbols.LessOrEqual symbols.Assign b e =
-    absurd (let h : 60 ≡ 61 = first_is _ _ _ _ e in omega arith)
-longer symbols.LessOrEqual symbols.Open b e =
-    absurd (let h : 60 ≡ 123 = first_is _ _ _ _ e in omega arith)
-longer symbols.LessOrEqual symbols.Close b e =
-    absurd (let h : 60 ≡ 125 = first_is _ _ _ _ e in omega arith)
-longer symbols.LessOrEqual symbols.End b e =
-    absurd (let h : 60 ≡ 59 = first_is _ _ _ _ e in omega arith)
-longer symbols.GreaterOrEqual symbols.Equal b e = absurd (let h = ap length e in omega (arith, h))
-longer symbols.GreaterOrEqual symbols.NotEqual b e =
-    absurd (let h = ap length e in omega (arith, h))
-longer symbols.GreaterOrEqual symbols.LessOrEqual b e =
-    absurd (let h = ap length e in omega (arith, h))
-longer symbols.GreaterOrEqual symbols.GreaterOrEqual b e =
-    absurd (let h = ap length e in omega (arith, h))
-longer symbols.GreaterOrEqual symbols.Less b e =
-    absurd (let h : 62 ≡ 60 = first_is _ _ _ _ e in omega arith)
 longer symbols.GreaterOrEqual symbols.Greater b e = (refl, cc)
-longer symbols.GreaterOrEqual symbols.Plus b e =
-    absurd (let h : 62 ≡ 43 = first_is _ _ _ _ e in omega arith)
-longer symbols.GreaterOrEqual symbols.Minus b e =
-    absurd (let h : 62 ≡ 45 = first_is _ _ _ _ e in omega arith)
-longer symbols.GreaterOrEqual symbols.Times b e =
-    absurd (let h : 62 ≡ 42 = first_is _ _ _ _ e in omega arith)
-longer symbols.GreaterOrEqual symbols.Assign b e =
-    absurd (let h : 62 ≡ 61 = first_is _ _ _ _ e in omega arith)
-longer symbols.GreaterOrEqual symbols.Open b e =
-    absurd (let h : 62 ≡ 123 = first_is _ _ _ _ e in omega arith)
-longer symbols.GreaterOrEqual symbols.Close b e =
-    absurd (let h : 62 ≡ 125 = first_is _ _ _ _ e in omega arith)
-longer symbols.GreaterOrEqual symbols.End b e =
-    absurd (let h : 62 ≡ 59 = first_is _ _ _ _ e in omega arith)
-longer symbols.Less g b e = absurd (let h = ap length e in omega
-    (arith, h, length-append (symbol_text g) (b ∷ []), symbol_has_bytes g))
-longer symbols.Greater g b e = absurd (let h = ap length e in omega
-    (arith, h, length-append (symbol_text g) (b ∷ []), symbol_has_bytes g))
-longer symbols.Plus g b e = absurd (let h = ap length e in omega
-    (arith, h, length-append (symbol_text g) (b ∷ []), symbol_has_bytes g))
-longer symbols.Minus g b e = absurd (let h = ap length e in omega
-    (arith, h, length-append (symbol_text g) (b ∷ []), symbol_has_bytes g))
-longer symbols.Times g b e = absurd (let h = ap length e in omega
-    (arith, h, length-append (symbol_text g) (b ∷ []), symbol_has_bytes g))
-longer symbols.Assign g b e = absurd (let h = ap length e in omega
-    (arith, h, length-append (symbol_text g) (b ∷ []), symbol_has_bytes g))
-longer symbols.Open g b e = absurd (let h = ap length e in omega
-    (arith, h, length-append (symbol_text g) (b ∷ []), symbol_has_bytes g))
-longer symbols.Close g b e = absurd (let h = ap length e in omega
-    (arith, h, length-append (symbol_text g) (b ∷ []), symbol_has_bytes g))
-longer symbols.End g b e = absurd (let h = ap length e in omega
-    (arith, h, length-append (symbol_text g) (b ∷ []), symbol_has_bytes g))
+longer u symbols.Equal b e = absurd (omega (arith, first_is _ _ _ _ e, ap length e))
+longer u g b e = absurd (omega (arith, first_is _ _ _ _ e, ap length e))
 
 abbrev NoLonger : Symbol → List ℕ → Type 0
 NoLonger g rest = (b : ℕ) (more : List ℕ) → rest ≡ b ∷ more → (u : Symbol)
@@ -417,22 +243,13 @@ symbol_starts s g e = sym ((slice_eq-Decides Decides-eqb (symbol_text g)
 -- a symbol and `=` after it is not read as the symbol alone
 not_alone : (g u : Symbol) (more : List ℕ) → with_equals g ≡ Some u
     → symbol_at (symbol_text g ++ 61 ∷ more) ≡ Some g → ⊥
-not_alone symbols.Equal u more l e = absurd cc
-not_alone symbols.NotEqual u more l e = absurd cc
-not_alone symbols.LessOrEqual u more l e = absurd cc
-not_alone symbols.GreaterOrEqual u more l e = absurd cc
 not_alone symbols.Less u more l e = let same : symbols.LessOrEqual ≡ symbols.Less =
     some_is symbols.LessOrEqual symbols.Less e in absurd cc
 not_alone symbols.Greater u more l e = let same : symbols.GreaterOrEqual ≡ symbols.Greater =
     some_is symbols.GreaterOrEqual symbols.Greater e in absurd cc
-not_alone symbols.Plus u more l e = absurd cc
-not_alone symbols.Minus u more l e = absurd cc
-not_alone symbols.Times u more l e = absurd cc
 not_alone symbols.Assign u more l e = let same : symbols.Equal ≡ symbols.Assign =
     some_is symbols.Equal symbols.Assign e in absurd cc
-not_alone symbols.Open u more l e = absurd cc
-not_alone symbols.Close u more l e = absurd cc
-not_alone symbols.End u more l e = absurd cc
+not_alone g u more l e = absurd cc
 
 symbol_no_longer : (s rest : List ℕ) (g : Symbol) → s ≡ symbol_text g ++ rest
     → symbol_at s ≡ Some g → NoLonger g rest
@@ -447,15 +264,7 @@ symbol_ascii symbols.Equal = (lit< tt, (lit< tt, tt))
 symbol_ascii symbols.NotEqual = (lit< tt, (lit< tt, tt))
 symbol_ascii symbols.LessOrEqual = (lit< tt, (lit< tt, tt))
 symbol_ascii symbols.GreaterOrEqual = (lit< tt, (lit< tt, tt))
-symbol_ascii symbols.Less = (lit< tt, tt)
-symbol_ascii symbols.Greater = (lit< tt, tt)
-symbol_ascii symbols.Plus = (lit< tt, tt)
-symbol_ascii symbols.Minus = (lit< tt, tt)
-symbol_ascii symbols.Times = (lit< tt, tt)
-symbol_ascii symbols.Assign = (lit< tt, tt)
-symbol_ascii symbols.Open = (lit< tt, tt)
-symbol_ascii symbols.Close = (lit< tt, tt)
-symbol_ascii symbols.End = (lit< tt, tt)
+symbol_ascii s = (lit< tt, tt)
 
 -- ---- what was read is spelled so
 
@@ -572,52 +381,22 @@ number_again n (c ∷ t) rest h longest =
     ∙ ap (λ u. Some (number (capped u), length (c ∷ t))) taken
     ∙ ap (λ n. Some (number n, length (c ∷ t))) (capped_is (c ∷ t) ∙ sym h.2)
 
-less_again : (rest : List ℕ) → IsLongest (symbol_text symbols.Less) rest
-    → kind_at (60 ∷ rest) ≡ Some (symbol symbols.Less, 1)
-unfolding kind_at
-less_again [] longest = refl
-less_again (b ∷ more) longest =
-    let other : (61 == b) ≡ false = not_true (61 == b)
-    (λ e. longest b more refl (symbol symbols.LessOrEqual)
-    (ap (λ b. 60 ∷ b ∷ []) (sym ((Decides-eqb 61 b).0 e)))) in
-    rw other refl
-
-greater_again : (rest : List ℕ) → IsLongest (symbol_text symbols.Greater) rest
-    → kind_at (62 ∷ rest) ≡ Some (symbol symbols.Greater, 1)
-unfolding kind_at
-greater_again [] longest = refl
-greater_again (b ∷ more) longest =
-    let other : (61 == b) ≡ false = not_true (61 == b)
-    (λ e. longest b more refl (symbol symbols.GreaterOrEqual)
-    (ap (λ b. 62 ∷ b ∷ []) (sym ((Decides-eqb 61 b).0 e)))) in
-    rw other refl
-
-assign_again : (rest : List ℕ) → IsLongest (symbol_text symbols.Assign) rest
-    → kind_at (61 ∷ rest) ≡ Some (symbol symbols.Assign, 1)
-unfolding kind_at
-assign_again [] longest = refl
-assign_again (b ∷ more) longest =
-    let other : (61 == b) ≡ false = not_true (61 == b)
-    (λ e. longest b more refl (symbol symbols.Equal)
-    (ap (λ b. 61 ∷ b ∷ []) (sym ((Decides-eqb 61 b).0 e)))) in
-    rw other refl
+-- a byte after a symbol that is not read with it
+no_equals : (u : Symbol) (c b : ℕ) (more : List ℕ) → c ∷ 61 ∷ [] ≡ symbol_text u
+    → IsLongest (c ∷ []) (b ∷ more) → (61 == b) ≡ false
+no_equals u c b more is longest = not_true (61 == b) (λ e. longest b more refl (symbol u)
+    (ap (λ b. c ∷ b ∷ []) (sym ((Decides-eqb 61 b).0 e)) ∙ is))
 
 symbol_again : (g : Symbol) (rest : List ℕ) → IsLongest (symbol_text g) rest
     → kind_at (symbol_text g ++ rest) ≡ Some (symbol g, length (symbol_text g))
 unfolding kind_at
-symbol_again symbols.Equal rest longest = refl
-symbol_again symbols.NotEqual rest longest = refl
-symbol_again symbols.LessOrEqual rest longest = refl
-symbol_again symbols.GreaterOrEqual rest longest = refl
-symbol_again symbols.Less rest longest = less_again rest longest
-symbol_again symbols.Greater rest longest = greater_again rest longest
-symbol_again symbols.Plus rest longest = refl
-symbol_again symbols.Minus rest longest = refl
-symbol_again symbols.Times rest longest = refl
-symbol_again symbols.Assign rest longest = assign_again rest longest
-symbol_again symbols.Open rest longest = refl
-symbol_again symbols.Close rest longest = refl
-symbol_again symbols.End rest longest = refl
+symbol_again symbols.Less (b ∷ more) longest =
+    rw (no_equals symbols.LessOrEqual 60 b more refl longest) refl
+symbol_again symbols.Greater (b ∷ more) longest =
+    rw (no_equals symbols.GreaterOrEqual 62 b more refl longest) refl
+symbol_again symbols.Assign (b ∷ more) longest =
+    rw (no_equals symbols.Equal 61 b more refl longest) refl
+symbol_again g rest longest = refl
 
 pub kind_again : (k : Kind) (text rest : List ℕ) → Spelling k text → IsLongest text rest
     → kind_at (text ++ rest) ≡ Some (k, length text)

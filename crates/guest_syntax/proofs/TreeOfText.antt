@@ -45,12 +45,7 @@ found text (Err e) le g = tt
 answers : (r : Result code.Tree SyntaxError) (t : Tree) → Gives tree_view r (Some t) → Answers r t
 answers (Ok x) t g = sym (some_is t (tree_view x) g)
 answers (Err errors.OutOfMemory) t g = refl
-answers (Err (errors.NotAscii p)) t g = absurd cc
-answers (Err (errors.BadChar p)) t g = absurd cc
-answers (Err (errors.Expected p)) t g = absurd cc
-answers (Err (errors.NumberTooBig p)) t g = absurd cc
-answers (Err (errors.TooLong p)) t g = absurd cc
-answers (Err (errors.TooDeep p)) t g = absurd cc
+answers (Err e) t g = absurd cc
 
 pub only : (text : List ℕ) (r : Result code.Tree SyntaxError)
     → Gives tree_view r (tree_from (tokens_from start text)) → (t : Tree) → Spells text t

@@ -7,9 +7,9 @@ use Rattle.guest_syntax.specs.declared.token.Keyword.TheVariants as keywords
 use Rattle.guest_syntax.specs.declared.token.Symbol.TheVariants as symbols
 use Rattle.guest_syntax.specs.declared.tree.Object.{Object}
 use Rattle.guest_syntax.specs.declared.tree.Object.TheVariants as objects
-use Rattle.guest_syntax.specs.Tokens.{Kind, name, keyword, number, symbol, bad, Token}
+use Rattle.guest_syntax.specs.Tokens.{Kind, keyword, symbol, Token}
 use Rattle.guest_syntax.specs.Tree.{Name, Declaration, Thread, Tree}
-use Rattle.guest_syntax.specs.Forms.{Form, ◌then◌, IsToken, IsName, IsEnd, each}
+use Rattle.guest_syntax.specs.Forms.{IsLiteral, IsNumber, IsSymbol, Form, ◌then◌, IsToken, IsName, IsEnd, each}
 use Rattle.guest_syntax.specs.Grammar.{IsObject, IsDeclaration, IsThread, IsTree}
 use Rattle.guest_syntax.specs.reader.Reads.{Read}
 use Rattle.guest_syntax.specs.reader.SingleTokens.{is_bad, next_at, token_at, symbol_from, name_from, number_from}
@@ -21,7 +21,7 @@ use Rattle.guest_syntax.proofs.OptionCases.{bind_some, some_is, cond_no}
 use Rattle.guest_syntax.proofs.TokenReaders.{kind_again, kind_takes, symbol_takes, symbol_again, name_takes, name_again, number_takes, number_again}
 use Rattle.guest_syntax.proofs.ExpressionReaders.{literal_takes, literal_again}
 use Rattle.guest_syntax.proofs.TakesTokens.{object_shorter, thread_shorter}
-use Rattle.guest_syntax.proofs.StatementReaders.{one_name_takes, one_name_again, block_takes, block_again, next_again}
+use Rattle.guest_syntax.proofs.StatementReaders.{last_takes, one_name_takes, one_name_again, block_takes, block_again, next_again}
 
 -- ---- items in turn
 
@@ -94,47 +94,15 @@ all_again F turn again xs ts mid rest h e =
 variable_by_takes : (v : Name) (k : Kind) (before t1 t2 ts : List Token)
     (x : Declaration × List Token) → IsToken (keyword keywords.Var) before t1 → IsName v t1 t2
     → IsToken k t2 ts → variable_by v k ts ≡ Some x → IsDeclaration x.0 before x.1
-variable_by_takes v (symbol symbols.Equal) before t1 t2 ts x w n h e = absurd cc
-variable_by_takes v (symbol symbols.NotEqual) before t1 t2 ts x w n h e = absurd cc
-variable_by_takes v (symbol symbols.LessOrEqual) before t1 t2 ts x w n h e = absurd cc
-variable_by_takes v (symbol symbols.GreaterOrEqual) before t1 t2 ts x w n h e = absurd cc
-variable_by_takes v (symbol symbols.Less) before t1 t2 ts x w n h e = absurd cc
-variable_by_takes v (symbol symbols.Greater) before t1 t2 ts x w n h e = absurd cc
-variable_by_takes v (symbol symbols.Plus) before t1 t2 ts x w n h e = absurd cc
-variable_by_takes v (symbol symbols.Minus) before t1 t2 ts x w n h e = absurd cc
-variable_by_takes v (symbol symbols.Times) before t1 t2 ts x w n h e = absurd cc
 variable_by_takes v (symbol symbols.Assign) before t1 t2 ts x w n h e =
-    let z = bind_some (literal_from ts) _ _ e in
-    let s = bind_some (symbol_from symbols.End z.0.1) _ _ z.2 in
-    subst (λ (y : Declaration × List Token). IsDeclaration y.0 before y.1)
-    (some_is (record { name = v; object = objects.Variable z.0.0 }, s.0) x s.2)
-    (inr (
-      t1,
-      w,
-      (
-        t2,
-        n,
-        (
-          ts,
-          h,
-          (
-            z.0.1,
-            literal_takes ts z.0 z.1,
-            symbol_takes symbols.End z.0.1 s.0 s.1,
-          ),
-        ),
-      ),
-    ))
-variable_by_takes v (symbol symbols.Open) before t1 t2 ts x w n h e = absurd cc
-variable_by_takes v (symbol symbols.Close) before t1 t2 ts x w n h e = absurd cc
+    let z = last_takes literal_from IsLiteral literal_takes
+    (λ z. record { name = v; object = objects.Variable z }) ts x e in
+    subst (λ d. IsDeclaration d before x.1) z.1 (inr (t1, w, (t2, n, (ts, h, z.2))))
 variable_by_takes v (symbol symbols.End) before t1 t2 ts x w n h e =
     subst (λ (y : Declaration × List Token). IsDeclaration y.0 before y.1)
     (some_is (record { name = v; object = objects.Variable (pos 0) }, ts) x e)
     (inl (refl, (t1, w, (t2, n, h))))
-variable_by_takes v (name s) before t1 t2 ts x w n h e = absurd cc
-variable_by_takes v (keyword s) before t1 t2 ts x w n h e = absurd cc
-variable_by_takes v (number s) before t1 t2 ts x w n h e = absurd cc
-variable_by_takes v bad before t1 t2 ts x w n h e = absurd cc
+variable_by_takes v k before t1 t2 ts x w n h e = absurd cc
 
 variable_takes : (before ts : List Token) (x : Declaration × List Token)
     → IsToken (keyword keywords.Var) before ts → variable_from ts ≡ Some x
@@ -165,22 +133,11 @@ unfolding semaphore_from
 semaphore_takes before ts x w e =
     let v = bind_some (name_from ts) _ _ e in
     let a = bind_some (symbol_from symbols.Assign v.0.1) _ _ v.2 in
-    let n = bind_some (number_from COUNT a.0) _ _ a.2 in
-    let s = bind_some (symbol_from symbols.End n.0.1) _ _ n.2 in
-    subst (λ (y : Declaration × List Token). IsDeclaration y.0 before y.1)
-    (some_is (record { name = v.0.0; object = objects.Semaphore n.0.0 }, s.0) x s.2) (
-      ts,
-      w,
-      (
-        v.0.1,
-        name_takes ts v.0 v.1,
-        (
-          a.0,
-          symbol_takes symbols.Assign v.0.1 a.0 a.1,
-          (n.0.1, number_takes COUNT a.0 n.0 n.1, symbol_takes symbols.End n.0.1 s.0 s.1),
-        ),
-      ),
-    )
+    let n = last_takes (number_from COUNT) (IsNumber COUNT) (number_takes COUNT)
+    (λ n. record { name = v.0.0; object = objects.Semaphore n }) a.0 x a.2 in
+    let counted : (IsSymbol symbols.Assign then IsNumber COUNT n.0 then IsEnd) v.0.1 x.1 =
+    (a.0, symbol_takes symbols.Assign v.0.1 a.0 a.1, n.2) in
+    subst (λ d. IsDeclaration d before x.1) n.1 (ts, w, (v.0.1, name_takes ts v.0 v.1, counted))
 
 -- nothing
 abbrev Same : Form
@@ -209,18 +166,6 @@ next_kind k ts rest h e = ap next_at h.1 ∙ rw e refl
 declaration_by_takes : (k : Kind) (before following : List Token)
     (x : Option Declaration × List Token) → IsToken k before following
     → declaration_by k before following ≡ Some x → IsGiven IsDeclaration Same x.0 before x.1
-declaration_by_takes (name s) before following x h e =
-    subst (λ (y : Option Declaration × List Token). IsGiven IsDeclaration Same y.0 before y.1)
-    (some_is (None, before) x e) refl
-declaration_by_takes (number n) before following x h e =
-    subst (λ (y : Option Declaration × List Token). IsGiven IsDeclaration Same y.0 before y.1)
-    (some_is (None, before) x e) refl
-declaration_by_takes (symbol s) before following x h e =
-    subst (λ (y : Option Declaration × List Token). IsGiven IsDeclaration Same y.0 before y.1)
-    (some_is (None, before) x e) refl
-declaration_by_takes bad before following x h e =
-    subst (λ (y : Option Declaration × List Token). IsGiven IsDeclaration Same y.0 before y.1)
-    (some_is (None, before) x e) refl
 declaration_by_takes (keyword keywords.Var) before following x h e =
     let v = bind_some (variable_from following) _ _ e in
     subst (λ (y : Option Declaration × List Token). IsGiven IsDeclaration Same y.0 before y.1)
@@ -239,58 +184,7 @@ declaration_by_takes (keyword keywords.Sem) before following x h e =
     let v = bind_some (semaphore_from following) _ _ e in
     subst (λ (y : Option Declaration × List Token). IsGiven IsDeclaration Same y.0 before y.1)
     (some_is (Some v.0.0, v.0.1) x v.2) (semaphore_takes before following v.0 h v.1)
-declaration_by_takes (keyword keywords.Thread) before following x h e =
-    subst (λ (y : Option Declaration × List Token). IsGiven IsDeclaration Same y.0 before y.1)
-    (some_is (None, before) x e) refl
-declaration_by_takes (keyword keywords.Load) before following x h e =
-    subst (λ (y : Option Declaration × List Token). IsGiven IsDeclaration Same y.0 before y.1)
-    (some_is (None, before) x e) refl
-declaration_by_takes (keyword keywords.Store) before following x h e =
-    subst (λ (y : Option Declaration × List Token). IsGiven IsDeclaration Same y.0 before y.1)
-    (some_is (None, before) x e) refl
-declaration_by_takes (keyword keywords.Add) before following x h e =
-    subst (λ (y : Option Declaration × List Token). IsGiven IsDeclaration Same y.0 before y.1)
-    (some_is (None, before) x e) refl
-declaration_by_takes (keyword keywords.Cas) before following x h e =
-    subst (λ (y : Option Declaration × List Token). IsGiven IsDeclaration Same y.0 before y.1)
-    (some_is (None, before) x e) refl
-declaration_by_takes (keyword keywords.Lock) before following x h e =
-    subst (λ (y : Option Declaration × List Token). IsGiven IsDeclaration Same y.0 before y.1)
-    (some_is (None, before) x e) refl
-declaration_by_takes (keyword keywords.Unlock) before following x h e =
-    subst (λ (y : Option Declaration × List Token). IsGiven IsDeclaration Same y.0 before y.1)
-    (some_is (None, before) x e) refl
-declaration_by_takes (keyword keywords.Wait) before following x h e =
-    subst (λ (y : Option Declaration × List Token). IsGiven IsDeclaration Same y.0 before y.1)
-    (some_is (None, before) x e) refl
-declaration_by_takes (keyword keywords.Signal) before following x h e =
-    subst (λ (y : Option Declaration × List Token). IsGiven IsDeclaration Same y.0 before y.1)
-    (some_is (None, before) x e) refl
-declaration_by_takes (keyword keywords.Broadcast) before following x h e =
-    subst (λ (y : Option Declaration × List Token). IsGiven IsDeclaration Same y.0 before y.1)
-    (some_is (None, before) x e) refl
-declaration_by_takes (keyword keywords.Acquire) before following x h e =
-    subst (λ (y : Option Declaration × List Token). IsGiven IsDeclaration Same y.0 before y.1)
-    (some_is (None, before) x e) refl
-declaration_by_takes (keyword keywords.Release) before following x h e =
-    subst (λ (y : Option Declaration × List Token). IsGiven IsDeclaration Same y.0 before y.1)
-    (some_is (None, before) x e) refl
-declaration_by_takes (keyword keywords.Set) before following x h e =
-    subst (λ (y : Option Declaration × List Token). IsGiven IsDeclaration Same y.0 before y.1)
-    (some_is (None, before) x e) refl
-declaration_by_takes (keyword keywords.If) before following x h e =
-    subst (λ (y : Option Declaration × List Token). IsGiven IsDeclaration Same y.0 before y.1)
-    (some_is (None, before) x e) refl
-declaration_by_takes (keyword keywords.Else) before following x h e =
-    subst (λ (y : Option Declaration × List Token). IsGiven IsDeclaration Same y.0 before y.1)
-    (some_is (None, before) x e) refl
-declaration_by_takes (keyword keywords.Repeat) before following x h e =
-    subst (λ (y : Option Declaration × List Token). IsGiven IsDeclaration Same y.0 before y.1)
-    (some_is (None, before) x e) refl
-declaration_by_takes (keyword keywords.Leave) before following x h e =
-    subst (λ (y : Option Declaration × List Token). IsGiven IsDeclaration Same y.0 before y.1)
-    (some_is (None, before) x e) refl
-declaration_by_takes (keyword keywords.Assert) before following x h e =
+declaration_by_takes k before following x h e =
     subst (λ (y : Option Declaration × List Token). IsGiven IsDeclaration Same y.0 before y.1)
     (some_is (None, before) x e) refl
 
@@ -362,35 +256,11 @@ thread_takes before ts x w e =
 thread_by_takes : (k : Kind) (before following : List Token) (x : Option Thread × List Token)
     → IsToken k before following → thread_by k following ≡ Some x
     → IsGiven IsThread (IsNext None) x.0 before x.1
-thread_by_takes (name s) before following x h e = absurd cc
-thread_by_takes (number n) before following x h e = absurd cc
-thread_by_takes (symbol s) before following x h e = absurd cc
-thread_by_takes bad before following x h e = absurd cc
-thread_by_takes (keyword keywords.Var) before following x h e = absurd cc
-thread_by_takes (keyword keywords.Mutex) before following x h e = absurd cc
-thread_by_takes (keyword keywords.Cond) before following x h e = absurd cc
-thread_by_takes (keyword keywords.Sem) before following x h e = absurd cc
 thread_by_takes (keyword keywords.Thread) before following x h e =
     let v = bind_some (thread_from following) _ _ e in
     subst (λ (y : Option Thread × List Token). IsGiven IsThread (IsNext None) y.0 before y.1)
     (some_is (Some v.0.0, v.0.1) x v.2) (thread_takes before following v.0 h v.1)
-thread_by_takes (keyword keywords.Load) before following x h e = absurd cc
-thread_by_takes (keyword keywords.Store) before following x h e = absurd cc
-thread_by_takes (keyword keywords.Add) before following x h e = absurd cc
-thread_by_takes (keyword keywords.Cas) before following x h e = absurd cc
-thread_by_takes (keyword keywords.Lock) before following x h e = absurd cc
-thread_by_takes (keyword keywords.Unlock) before following x h e = absurd cc
-thread_by_takes (keyword keywords.Wait) before following x h e = absurd cc
-thread_by_takes (keyword keywords.Signal) before following x h e = absurd cc
-thread_by_takes (keyword keywords.Broadcast) before following x h e = absurd cc
-thread_by_takes (keyword keywords.Acquire) before following x h e = absurd cc
-thread_by_takes (keyword keywords.Release) before following x h e = absurd cc
-thread_by_takes (keyword keywords.Set) before following x h e = absurd cc
-thread_by_takes (keyword keywords.If) before following x h e = absurd cc
-thread_by_takes (keyword keywords.Else) before following x h e = absurd cc
-thread_by_takes (keyword keywords.Repeat) before following x h e = absurd cc
-thread_by_takes (keyword keywords.Leave) before following x h e = absurd cc
-thread_by_takes (keyword keywords.Assert) before following x h e = absurd cc
+thread_by_takes k before following x h e = absurd cc
 
 thread_next_takes : (o : Option Token) (before following : List Token)
     (x : Option Thread × List Token) → IsNext o before following → thread_next o following ≡ Some x

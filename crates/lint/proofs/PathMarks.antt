@@ -17,7 +17,8 @@ not_back : (i : Instruction) (n k : ℕ) → Goes i n k → k < n + 1 → ⊥
 not_back i n k goes lt = omega (arith, goes_on i n k goes)
 
 -- the marks of a code of which the first n instructions were passed
-pub record Passed (ms : List Mark) (code : List Instruction) (m s : ℕ) (b : Bool) (n : ℕ) : Type 0 where
+pub record Passed (ms : List Mark) (code : List Instruction) (m s : ℕ) (b : Bool)
+    (n : ℕ) : Type 0 where
   pub sound : (j : ℕ) (c : Bool) → Marked ms j c → Comes code m s b j c
   pub begun : Marked ms s b
   -- the next ones of those that were passed are marked

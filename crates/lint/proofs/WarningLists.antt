@@ -17,7 +17,8 @@ counted p kind n ws c = let P : ℕ → Type 0 = λ k. Chosen p kind k ws in sub
 pub chosen_more : (p : Program) (kind : Kind) (n : ℕ) (ws vs : List Warning)
     → Chosen p kind n ws → IsSo p kind n
     → vs ≡ ws ++ record { kind = kind; number = n } ∷ [] → Chosen p kind (n + 1) vs
-chosen_more p kind n ws vs chosen so e = let P : List Warning → Type 0 = λ us. Chosen p kind (n + 1) us in
+chosen_more p kind n ws vs chosen so e =
+    let P : List Warning → Type 0 = λ us. Chosen p kind (n + 1) us in
     subst P (sym e) (counted p kind n (ws ++ record { kind = kind; number = n } ∷ [])
     (taken chosen so))
 

@@ -1,11 +1,10 @@
 //! What a thread runs by itself, seen instruction by instruction.
 
-ghost use Rattle.std.specs.Prelude.{◌≡◌, ◌<◌, ◌≤◌, length};
-ghost use Rattle.semantics.specs.Machine.{of_both};
+ghost use Rattle.std.specs.Prelude.{◌<◌, ◌≤◌, length};
 
 use guest_code::limits::LOCALS;
 use guest_code::program::{Expression, Instruction, Value};
-use guest_syntax::tree::Op;
+use semantics::of_both;
 
 /// The values of a thread's locals.
 pub type Locals = [i64; LOCALS];
@@ -15,23 +14,6 @@ pub fn value_of(locals: &Locals, value: Value) -> i64 {
     match value {
         Value::Local(local) => locals.get(local).copied().unwrap_or(0),
         Value::Literal(number) => number,
-    }
-}
-
-/// What an operator makes of two values. Sums, differences and products wrap.
-fn of_both(op: Op, a: i64, b: i64) -> i64
-    ensures { result ≡ of_both op a b }
-{
-    match op {
-        Op::Add => a.wrapping_add(b),
-        Op::Subtract => a.wrapping_sub(b),
-        Op::Multiply => a.wrapping_mul(b),
-        Op::Equal => i64::from(a == b),
-        Op::NotEqual => i64::from(a != b),
-        Op::Less => i64::from(a < b),
-        Op::LessOrEqual => i64::from(a <= b),
-        Op::Greater => i64::from(a > b),
-        Op::GreaterOrEqual => i64::from(a >= b),
     }
 }
 

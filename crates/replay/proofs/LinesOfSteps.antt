@@ -1,19 +1,18 @@
 -- The threads that have stopped, and the lines of steps one after another.
 use Rattle.std.proofs.Common.{◌≡◌, ℕ, zero, suc, ◌+◌, ◌<◌, ◌≤◌, Bool, true, false, cond, List, [], ◌∷◌, ◌++◌, length, take, get_or, Option, Some, None, refl, ap, ◌∙◌, sym, subst, arith, append_assoc, append-nil, add-one}
 use Rattle.std.specs.List.{filter}
-use Rattle.std.proofs.lemmas.List.{take_more, take_all}
+use Rattle.std.proofs.lemmas.List.{take_more}
 use Rattle.std.proofs.lemmas.List.Elements.{filter-append}
 use Rattle.guest_code.specs.Program.{Program}
 use Rattle.semantics.specs.Machine.{Snapshot, next_of, is_enabled, step, start}
 use Rattle.semantics.specs.Work.{up_from}
 use Rattle.schedules.specs.Schedules.{state_after, last_of, last_after}
-use Rattle.semantics.specs.Ends.{kind_of}
 use Rattle.schedules.specs.Execution.{ExecutionView, Reaches, stepped}
 use Rattle.schedules.proofs.Executions.{reaches_step, reaches_few}
 use Rattle.replay.specs.declared.run.Line.{Line}
 use Rattle.replay.specs.declared.error.ReplayError.{ReplayError}
 use Rattle.replay.specs.declared.error.ReplayError.TheVariants.{NoSuchThread, NotEnabled, OutOfMemory}
-use Rattle.replay.specs.Run.{Run, lines_from, line_at, stopped_in, IsRunOf, IsFirstBad, ReplayErrorMeans}
+use Rattle.replay.specs.Run.{lines_from, line_at, IsFirstBad, ReplayErrorMeans}
 use Rattle.replay.specs.inner.Step.{RefusalMeans}
 
 -- rising numbers, with one more
@@ -98,27 +97,6 @@ told_more p w k e new lines more t line inside is old can told value pushed =
 pub few_so_far : (p : Program) (w : List ℕ) (k : ℕ) (e : ExecutionView) (lines : List Line) →
     IsToldUpTo p w k e lines → e.preemptions ≤ length (take k w)
 few_so_far p w k e lines old = reaches_few p (take k w) e old.reached
-
--- the whole schedule
-pub told_all : (p : Program) (w : List ℕ) (k : ℕ) (e : ExecutionView) (r : Run) → length w ≤ k →
-    IsToldUpTo p w k e r.lines → r.stopped ≡ stopped_in (start p) →
-    r.preemptions ≡ e.preemptions → r.vars ≡ e.state.vars → r.kind ≡ kind_of p e.state →
-    IsRunOf p w r
-told_all p w k e r over old stopped count vars kind =
-    let whole : take k w ≡ w = take_all k w over in
-    let all : Reaches p w e = subst (λ v. Reaches p v e) whole old.reached in
-    let told : r.lines ≡ lines_from p (start p) None w = old.told
-    ∙ ap (lines_from p (start p) None) whole in
-    record {
-      legal = all.runs;
-      same = λ i. record {
-        stopped = stopped i;
-        lines = told i;
-        preemptions = (count ∙ all.preemptions) i;
-        vars = (vars ∙ ap (λ (u : Snapshot). u.vars) all.state) i;
-        kind = (kind ∙ ap (kind_of p) all.state) i;
-      };
-    }
 
 -- a step that is refused is the first bad place
 refused_at : (p : Program) (w : List ℕ) (k t : ℕ) (e : ExecutionView) (lines : List Line) →

@@ -75,13 +75,6 @@ pub count_is_number : (text : List ℕ) (n : ℕ) → SpellsCount text n → n <
 count_is_number text n s small =
     record { small = small; written = count_written text n s (omega (arith, small)) }
 
--- what is held of a small count is the count
-pub held_small : (held n : ℕ) → held ≡ min n (2 ^ 64 - 1) → held < 2 ^ 64 - 1 → held ≡ n
-held_small held n e h = omega (arith, e, h)
-
-pub held_large : (held n limit : ℕ) → held ≡ min n (2 ^ 64 - 1) → limit < held → limit < n
-held_large held n limit e h = omega (arith, e, h)
-
 pub utf8_numeral : (text : List ℕ) → IsNumeral 10 text → IsUtf8 text
 utf8_numeral text h = IsUtf8-from_ascii text (IsAscii-from_digits text h.1)
 

@@ -156,11 +156,6 @@ no_x text e = elim (cases_lt (position_or_len is_x text) (length text)) [
 ]
 
 -- a piece held
-pub step_held : (text : List ℕ) (t : ℕ) → SpellsNumber text t →
-    IsHeldAs text (record { thread = t; count = 1 })
-step_held text t s =
-    record { count = 1; spelt = inl (record { number = s; once = refl }); bounded = omega arith }
-
 pub run_held : (text a b : List ℕ) (t held n : ℕ) → text ≡ a ++ 120 ∷ b → SpellsNumber a t →
     SpellsCount b n → held ≡ min n (2 ^ 64 - 1) →
     IsHeldAs text (record { thread = t; count = held })

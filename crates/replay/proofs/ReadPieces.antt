@@ -13,7 +13,7 @@ use Rattle.replay.specs.inner.Piece.{IsHeldAs}
 use Rattle.replay.proofs.SpelledOnce.{piece_inside, steps_before, each_once}
 
 -- a text that isn't `-`, cut at its commas
-abbrev cuts : List ℕ → List (List ℕ)
+abbrev pub cuts : List ℕ → List (List ℕ)
 cuts text = slice_split (λ b. b == 44) text
 
 pieces_are : (text : List ℕ) → bytes_eq text (codes "-") ≡ false → pieces_of text ≡ cuts text
@@ -25,15 +25,6 @@ pub record IsRead (texts : List (List ℕ)) (places : ℕ) : Type 0 where
   pub spelt : SpellEach texts w
   pub counted : places ≡ length w
   pub short : places ≤ 32768
-
-pub read_none : IsRead [] 0
-read_none = record {
-  w = [];
-  spelt = record { pieces = []; spelt = tt; steps = refl };
-  counted =
-      refl;
-  short = omega arith;
-}
 
 -- one more piece
 zip_push : (texts : List (List ℕ)) (ps : List Piece) (text : List ℕ) (p : Piece) →

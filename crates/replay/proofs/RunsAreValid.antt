@@ -7,11 +7,11 @@ use Rattle.std.proofs.lemmas.List.Elements.{All-nil, All-cons, All-append, All-f
 use Rattle.guest_code.specs.declared.program.Instruction.{Instruction}
 use Rattle.guest_code.specs.Program.{Program, IsWellFormed, IsValid, code_of, no_thread}
 use Rattle.semantics.specs.declared.state.Action.{Action}
-use Rattle.semantics.specs.declared.state.Action.TheVariants.{OnVariable, OnMutex, Wait as Waits, OnCondition, OnSemaphore}
+use Rattle.semantics.specs.declared.state.Action.TheVariants.{OnVariable, OnMutex, OnCondition, OnSemaphore}
 use Rattle.semantics.specs.declared.state.VariableAction.TheVariants.{Load as Loads, Store as Stores, Add as Adds, Cas as Swaps}
-use Rattle.semantics.specs.declared.state.MutexAction.TheVariants.{Lock as Locks, Unlock as Unlocks, Retake as Retakes}
-use Rattle.semantics.specs.declared.state.ConditionAction.TheVariants.{Signal as Signals, Broadcast as Broadcasts}
-use Rattle.semantics.specs.declared.state.SemaphoreAction.TheVariants.{Acquire as Acquires, Release as Releases}
+use Rattle.semantics.specs.declared.state.MutexAction.TheVariants.{Lock as Locks}
+use Rattle.semantics.specs.declared.state.ConditionAction.TheVariants.{Signal as Signals}
+use Rattle.semantics.specs.declared.state.SemaphoreAction.TheVariants.{Acquire as Acquires}
 use Rattle.semantics.specs.Machine.{Snapshot, thread_at, next_of, can_do, is_enabled, step, start}
 use Rattle.semantics.specs.Work.{up_from}
 use Rattle.schedules.specs.Schedules.{runs, state_after}
@@ -32,13 +32,9 @@ valid_act p s t (OnVariable x (Stores a)) h = h.0
 valid_act p s t (OnVariable x (Adds r a)) h = h.0
 valid_act p s t (OnVariable x (Swaps r a b)) h = h.0
 valid_act p s t (OnMutex m Locks) h = h
-valid_act p s t (OnMutex m Unlocks) h = h
-valid_act p s t (OnMutex m Retakes) h = h
-valid_act p s t (Waits c m) h = h
 valid_act p s t (OnCondition c Signals) h = h
-valid_act p s t (OnCondition c Broadcasts) h = h
 valid_act p s t (OnSemaphore k Acquires) h = h
-valid_act p s t (OnSemaphore k Releases) h = h
+valid_act p s t a h = h
 
 -- what a thread is about to do
 valid_instruction : (p : Program) (code : List Instruction) (k : ℕ) → All (IsValid p) code →

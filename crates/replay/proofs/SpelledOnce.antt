@@ -3,8 +3,8 @@ use Rattle.std.proofs.Common.{◌≡◌, ◌⊎◌, ℕ, ◌+◌, ◌<◌, ◌�
 use Rattle.std.proofs.lemmas.List.{length-append, length-replicate}
 use Rattle.std.specs.List.{AllZip}
 use Rattle.replay.specs.declared.piece.Piece.{Piece}
-use Rattle.replay.specs.declared.schedule.ScheduleError.{ScheduleError}
-use Rattle.replay.specs.declared.schedule.ScheduleError.TheVariants.{BadSchedule, TooLong, OutOfMemory}
+use Rattle.replay.specs.declared.error.ScheduleError.{ScheduleError}
+use Rattle.replay.specs.declared.error.ScheduleError.TheVariants.{BadSchedule, TooLong, OutOfMemory}
 use Rattle.replay.specs.Spelling.{SpellsPiece, IsPiece, SpellEach, Spells, pieces_of, steps_of, length_with_commas, IsReadUpTo, IsBadAt, IsTooLongAt, IsReadable, ScheduleErrorMeans}
 use Rattle.replay.proofs.PieceTexts.{piece_once, heads, tails}
 

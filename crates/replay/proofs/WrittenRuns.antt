@@ -68,10 +68,6 @@ rest_is others i t l is = ap runs_of (drop_more others i 0 l)
     ∙ ap (λ u. joined_before (record { thread = u; count = 1 }) (runs_of (drop (i + 1) others)))
     (sym is)
 
-pub written_none : (w others : List ℕ) (t : ℕ) → w ≡ t ∷ others →
-    IsWritten w [] (record { thread = t; count = 1 }) (drop 0 others)
-written_none w others t e = record { done = []; written = refl; runs = ap runs_of e }
-
 pub written_same : (w others text : List ℕ) (run : Piece) (i t : ℕ) →
     IsWritten w text run (drop i others) → i < length others → t ≡ get_or others i 0 →
     t ≡ run.thread →

@@ -3,8 +3,8 @@ use Rattle.std.specs.Prelude.{ℕ, List, ◌++◌, codes}
 use Rattle.std.specs.Fmt.{decimal}
 use Rattle.replay.specs.declared.error.ReplayError.{ReplayError}
 use Rattle.replay.specs.declared.error.ReplayError.TheVariants as runs
-use Rattle.replay.specs.declared.schedule.ScheduleError.{ScheduleError}
-use Rattle.replay.specs.declared.schedule.ScheduleError.TheVariants as texts
+use Rattle.replay.specs.declared.error.ScheduleError.{ScheduleError}
+use Rattle.replay.specs.declared.error.ScheduleError.TheVariants as texts
 
 -- the number and the name of the refusal, and the place in the schedule
 abbrev pub replay_error_text : ReplayError → List ℕ

@@ -7,8 +7,8 @@ use Rattle.std.specs.Str.Parse.{IsNumeral, digits_value}
 use Rattle.replay.specs.declared.piece.Piece.{Piece}
 use Rattle.replay.specs.declared.piece.TheConstants.{NUMBERS}
 use Rattle.replay.specs.declared.schedule.TheConstants.{PLACES}
-use Rattle.replay.specs.declared.schedule.ScheduleError.{ScheduleError}
-use Rattle.replay.specs.declared.schedule.ScheduleError.TheVariants.{BadSchedule, TooLong, OutOfMemory}
+use Rattle.replay.specs.declared.error.ScheduleError.{ScheduleError}
+use Rattle.replay.specs.declared.error.ScheduleError.TheVariants.{BadSchedule, TooLong, OutOfMemory}
 
 -- pieces
 

@@ -1,10 +1,58 @@
-//! Why a schedule has no run.
+//! Why a text is no schedule, and why a schedule has no run.
 
 ghost use Rattle.std.specs.Prelude.{◌≡◌};
 
 use std::alloc::{AllocError, AllocFailed};
 use std::fmt;
 use thiserror::Error;
+
+/// Why a text is no schedule.
+#[derive(Debug, Drop, Error)]
+pub enum ScheduleError {
+    /// The offset, in bytes, of the first piece that can't be taken, where it is no piece.
+    BadSchedule(usize),
+    /// The offset, in bytes, of the first piece that can't be taken, where it is one with which
+    /// the schedule has more than [`PLACES`](crate::PLACES) places.
+    TooLong(usize),
+    /// Memory ran out.
+    OutOfMemory,
+}
+
+/// What the user is told: the number and the name of the refusal, and the offset in the text.
+impl fmt::Display for ScheduleError {
+    ghost use Rattle.std.specs.Prelude.{Some};
+    ghost use Rattle.replay.specs.ErrorTexts.{schedule_error_text};
+
+    ghost output = { λ e. Some (schedule_error_text e) };
+
+    fn fmt<W: fmt::Write>(&self, f: &mut fmt::Formatter<W>) -> fmt::Result {
+        match self {
+            ScheduleError::BadSchedule(at) => write!(f, "schedule Q1 BadSchedule at {at}"),
+            ScheduleError::TooLong(at) => write!(f, "schedule Q3 TooLong at {at}"),
+            ScheduleError::OutOfMemory => write!(f, "memory"),
+        }
+    }
+}
+
+impl From<AllocError> for ScheduleError {
+    ghost use Rattle.replay.specs.declared.error.ScheduleError.TheVariants.{OutOfMemory};
+
+    ghost from_gives = { λ _ e. e ≡ OutOfMemory };
+
+    fn from(_e: AllocError) -> ScheduleError {
+        ScheduleError::OutOfMemory
+    }
+}
+
+impl<T: Drop> From<AllocFailed<T>> for ScheduleError {
+    ghost use Rattle.replay.specs.declared.error.ScheduleError.TheVariants.{OutOfMemory};
+
+    ghost from_gives = { λ _ e. e ≡ OutOfMemory };
+
+    fn from(_e: AllocFailed<T>) -> ScheduleError {
+        ScheduleError::OutOfMemory
+    }
+}
 
 /// Why a schedule has no run. Places count from 0, and the first bad one is told.
 #[derive(Debug, Drop, Error)]

@@ -10,7 +10,7 @@ ghost use Rattle.replay.specs.Spelling.{Spells, IsBadAt, IsTooLongAt, ScheduleEr
 ghost use Rattle.replay.specs.declared.piece.Piece.{Piece};
 ghost use Rattle.replay.specs.declared.piece.TheConstants.{NUMBERS};
 ghost use Rattle.replay.specs.declared.schedule.TheConstants.{PLACES};
-ghost use Rattle.replay.specs.declared.schedule.ScheduleError.{ScheduleError};
+ghost use Rattle.replay.specs.declared.error.ScheduleError.{ScheduleError};
 
 /// A schedule that has a first bad place doesn't run, and has no other. So `replay` answers a
 /// schedule that runs by its run, and any other by its first bad place, unless memory runs out.

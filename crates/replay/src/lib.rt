@@ -15,7 +15,7 @@ mod run;
 mod schedule;
 mod trace;
 
-pub use crate::error::ReplayError;
+pub use crate::error::{ReplayError, ScheduleError};
 pub use crate::run::{Act, Line, Run, act_of, replay};
-pub use crate::schedule::{PLACES, ScheduleError, schedule_from, schedule_text};
+pub use crate::schedule::{PLACES, schedule_from, schedule_text};
 pub use crate::trace::trace_text;

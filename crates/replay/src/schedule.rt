@@ -7,65 +7,16 @@ ghost use Rattle.std.specs.Str.{bytes_eq};
 ghost use Rattle.replay.specs.Spelling.{printed, Spells, IsReadable, ScheduleErrorMeans};
 ghost use Rattle.replay.specs.inner.Piece.{RefusalMeans};
 
+use crate::error::ScheduleError;
 use crate::piece::{Piece, piece_of, put_piece, put_steps};
 use schedules::limits::STEPS;
-use std::alloc::{AllocError, AllocFailed, Global};
-use std::fmt;
-use thiserror::Error;
+use std::alloc::{AllocError, Global};
 
 /// The most places of a schedule that is read from a text: the limit of steps.
 pub const PLACES: usize = STEPS;
 
 /// The empty schedule.
 const EMPTY: &[u8] = b"-";
-
-/// Why a text is no schedule.
-#[derive(Debug, Drop, Error)]
-pub enum ScheduleError {
-    /// The offset, in bytes, of the first piece that can't be taken, where it is no piece.
-    BadSchedule(usize),
-    /// The offset, in bytes, of the first piece that can't be taken, where it is one with which
-    /// the schedule has more than [`PLACES`] places.
-    TooLong(usize),
-    /// Memory ran out.
-    OutOfMemory,
-}
-
-/// What the user is told: the number and the name of the refusal, and the offset in the text.
-impl fmt::Display for ScheduleError {
-    ghost use Rattle.std.specs.Prelude.{Some};
-    ghost use Rattle.replay.specs.ErrorTexts.{schedule_error_text};
-
-    ghost output = { λ e. Some (schedule_error_text e) };
-
-    fn fmt<W: fmt::Write>(&self, f: &mut fmt::Formatter<W>) -> fmt::Result {
-        match self {
-            ScheduleError::BadSchedule(at) => write!(f, "schedule Q1 BadSchedule at {at}"),
-            ScheduleError::TooLong(at) => write!(f, "schedule Q3 TooLong at {at}"),
-            ScheduleError::OutOfMemory => write!(f, "memory"),
-        }
-    }
-}
-
-impl From<AllocError> for ScheduleError {
-    ghost use Rattle.replay.specs.declared.schedule.ScheduleError.TheVariants.{OutOfMemory};
-
-    ghost from_gives = { λ _ e. e ≡ OutOfMemory };
-
-    fn from(_e: AllocError) -> ScheduleError {
-        ScheduleError::OutOfMemory
-    }
-}
-
-impl<T: Drop> From<AllocFailed<T>> for ScheduleError {
-    ghost use Rattle.replay.specs.declared.schedule.ScheduleError.TheVariants.{OutOfMemory};
-
-    ghost from_gives = { λ _ e. e ≡ OutOfMemory };
-
-    fn from(_e: AllocFailed<T>) -> ScheduleError {
-        ScheduleError::OutOfMemory
-    }
-}
 
 /// The printed spelling of a schedule: its longest runs, a run of one step as the number alone.
 ///

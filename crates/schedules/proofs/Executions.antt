@@ -1,6 +1,5 @@
 -- A further step of an execution, and what loops over a schedule know of theirs.
 use Rattle.std.proofs.Common.{◌≡◌, ℕ, zero, suc, ◌+◌, ◌<◌, ◌≤◌, Bool, true, false, List, [], ◌∷◌, ◌++◌, length, take, get_or, Option, None, Some, refl, ap, ◌∙◌, sym, subst, arith}
-use Rattle.std.proofs.lemmas.List.{take_more, take_all}
 use Rattle.std.specs.Int.{from_bool}
 use Rattle.guest_code.specs.Program.{Program}
 use Rattle.semantics.specs.Machine.{Snapshot, start, step, is_enabled}
@@ -62,19 +61,3 @@ runs_at p s [] i h l = absurd (omega arith)
 runs_at p s (t ∷ w) zero h l = (and_true (is_enabled p s t) (runs p (step p s t) w) h).0
 runs_at p s (t ∷ w) (suc i) h l = runs_at p (step p s t) w i
     (and_true (is_enabled p s t) (runs p (step p s t) w) h).1 (omega arith)
-
--- where a beginning of a schedule that runs leads, the thread of the next step is enabled
-pub reaches_enabled : (p : Program) (w : List ℕ) (i : ℕ) (e : ExecutionView)
-    → runs p (start p) w ≡ true → i < length w → Reaches p (take i w) e
-    → is_enabled p e.state (get_or w i 0) ≡ true
-reaches_enabled p w i e h l r = subst (λ z. is_enabled p z (get_or w i 0) ≡ true) (sym r.state)
-    (runs_at p (start p) w i h l)
-
--- the beginnings of a schedule, each a step longer than the one before
-pub reaches_more : (p : Program) (w : List ℕ) (i : ℕ) (e : ExecutionView) → i < length w
-    → Reaches p (take i w ++ get_or w i 0 ∷ []) e → Reaches p (take (i + 1) w) e
-reaches_more p w i e l r = subst (λ v. Reaches p v e) (sym (take_more w i 0 l)) r
-
-pub reaches_all : (p : Program) (w : List ℕ) (i : ℕ) (e : ExecutionView) → length w ≤ i
-    → Reaches p (take i w) e → Reaches p w e
-reaches_all p w i e l r = subst (λ v. Reaches p v e) (take_all i w l) r

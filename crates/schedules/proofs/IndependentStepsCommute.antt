@@ -143,21 +143,12 @@ can_do-same p s t a (Some (OnMutex m e)) (Some (OnMutex n d)) h =
 can_do-same p s t a (Some (Waits c m)) (Some (OnMutex n d)) h =
     ap (mutex_allows d) (get_or-set_other s.owners m n _ None
     (differ n m (nat_eq-swap n m ∙ (right_of_two false (nat_eq m n) h).1)))
-can_do-same p s t a (Some i) (Some (OnVariable x d)) h = refl
-can_do-same p s t a (Some (OnVariable x e)) (Some (OnMutex n d)) h = refl
-can_do-same p s t a (Some (OnCondition c e)) (Some (OnMutex n d)) h = refl
-can_do-same p s t a (Some (OnSemaphore k e)) (Some (OnMutex n d)) h = refl
-can_do-same p s t a (Some i) (Some (Waits c m)) h = refl
-can_do-same p s t a (Some i) (Some (OnCondition c d)) h = refl
 can_do-same p s t a (Some (OnSemaphore k e)) (Some (OnSemaphore l d)) h =
     ap (sem_allows d) (get_or-set_other s.counts k l _ 0
     (differ l k (nat_eq-swap l k ∙ lone (nat_eq k l) h)))
-can_do-same p s t a (Some (OnVariable x e)) (Some (OnSemaphore l d)) h = refl
-can_do-same p s t a (Some (OnMutex m e)) (Some (OnSemaphore l d)) h = refl
-can_do-same p s t a (Some (Waits c m)) (Some (OnSemaphore l d)) h = refl
-can_do-same p s t a (Some (OnCondition c e)) (Some (OnSemaphore l d)) h = refl
 can_do-same p s t a None j h = refl
 can_do-same p s t a i None h = cc
+can_do-same p s t a (Some i) (Some j) h = refl
 
 -- a step, with the thread and what it does written out
 step_as : (p : Program) (s : Snapshot) (t : ℕ) (th : Thread) (i : Option Action)
@@ -300,19 +291,11 @@ module _ (p : Program) (s : Snapshot) (t v : ℕ) (a b : Thread) (ne : t ≢ v) 
       → acts p (acts p s t a i) v b j ≡ acts p (acts p s v b j) t a i
   acts_commute (Some (OnVariable x d)) (Some (OnVariable y e)) h =
       vars_commute x d y e (of_vars x d y e (lone _ h))
-  acts_commute (Some (OnVariable x d)) (Some (OnMutex n e)) h =
-      same _ _ refl refl refl refl (set_comm s.threads t v _ _ ne)
-  acts_commute (Some (OnVariable x d)) (Some (Waits c m)) h =
-      same _ _ refl refl refl refl (set_comm s.threads t v _ _ ne)
   acts_commute (Some (OnVariable x d)) (Some (OnCondition c e)) h =
       same _ _ refl refl refl refl (sym (waking_first s.threads v t c
       (threads_to_wake e (queue_of s c)) (threads_to_wake e (queue_of s c))
       (resumed (code_of p v) b) (resumed (code_of p t) (reader_after d a (value_of s x)))
       (λ z. ne (sym z)) refl (resumed-awake c (code_of p t) (reader_after d a (value_of s x)))))
-  acts_commute (Some (OnVariable x d)) (Some (OnSemaphore k e)) h =
-      same _ _ refl refl refl refl (set_comm s.threads t v _ _ ne)
-  acts_commute (Some (OnMutex m d)) (Some (OnVariable y e)) h =
-      same _ _ refl refl refl refl (set_comm s.threads t v _ _ ne)
   acts_commute (Some (OnMutex m d)) (Some (OnMutex n e)) h =
       let apart_ : nat_eq m n ≡ false = lone _ h in
       let f = other_owner m n (owner_after d t (owner_of s m)) apart_ in
@@ -335,10 +318,6 @@ module _ (p : Program) (s : Snapshot) (t v : ℕ) (a b : Thread) (ne : t ≢ v) 
       (threads_to_wake e (queue_of s c)) (threads_to_wake e (queue_of s c))
       (resumed (code_of p v) b) (taker_after d (code_of p t) t (owner_of s m) a) (λ z. ne (sym z))
       refl (taker-awake c d (code_of p t) t (owner_of s m) a)))
-  acts_commute (Some (OnMutex m d)) (Some (OnSemaphore k e)) h =
-      same _ _ refl refl refl refl (set_comm s.threads t v _ _ ne)
-  acts_commute (Some (Waits c m)) (Some (OnVariable y e)) h =
-      same _ _ refl refl refl refl (set_comm s.threads t v _ _ ne)
   acts_commute (Some (Waits c m)) (Some (OnMutex n e)) h =
       let apart_ : nat_eq m n ≡ false = (right_of_two false (nat_eq m n) h).1 in
       let f = other_owner m n (given_back t (owner_of s m)) apart_ in
@@ -369,8 +348,6 @@ module _ (p : Program) (s : Snapshot) (t v : ℕ) (a b : Thread) (ne : t ≢ v) 
       (ap (queue_joined t (owner_of s m)) l)) refl
       (sym (waking_first s.threads v t d _ _ _ _ (λ z. ne (sym z)) (ap (threads_to_wake e) k)
       (waiter-awake d c t (owner_of s m) a (nat_eq-swap d c ∙ apart_))))
-  acts_commute (Some (Waits c m)) (Some (OnSemaphore k e)) h =
-      same _ _ refl refl refl refl (set_comm s.threads t v _ _ ne)
   acts_commute (Some (OnCondition c d)) (Some (OnVariable y e)) h =
       same _ _ refl refl refl refl (waking_first s.threads t v c (threads_to_wake d (queue_of s c))
       (threads_to_wake d (queue_of s c)) (resumed (code_of p t) a)
@@ -404,12 +381,6 @@ module _ (p : Program) (s : Snapshot) (t v : ℕ) (a b : Thread) (ne : t ≢ v) 
       (threads_to_wake d (queue_of s c)) (resumed (code_of p t) a)
       (counter_after e (code_of p v) (count_of s k) b) ne refl
       (counter-awake c e (code_of p v) (count_of s k) b))
-  acts_commute (Some (OnSemaphore k d)) (Some (OnVariable y e)) h =
-      same _ _ refl refl refl refl (set_comm s.threads t v _ _ ne)
-  acts_commute (Some (OnSemaphore k d)) (Some (OnMutex n e)) h =
-      same _ _ refl refl refl refl (set_comm s.threads t v _ _ ne)
-  acts_commute (Some (OnSemaphore k d)) (Some (Waits c m)) h =
-      same _ _ refl refl refl refl (set_comm s.threads t v _ _ ne)
   acts_commute (Some (OnSemaphore k d)) (Some (OnCondition c e)) h =
       same _ _ refl refl refl refl (sym (waking_first s.threads v t c
       (threads_to_wake e (queue_of s c)) (threads_to_wake e (queue_of s c))
@@ -425,6 +396,8 @@ module _ (p : Program) (s : Snapshot) (t v : ℕ) (a b : Thread) (ne : t ≢ v) 
       (ap (λ z. counter_after d (code_of p t) z a) g))
   acts_commute None j h = cc
   acts_commute (Some i) None h = cc
+  acts_commute (Some i) (Some j) h =
+      same _ _ refl refl refl refl (set_comm s.threads t v _ _ ne)
 
 pub commute : (p : Program) (s : Snapshot) (t v : ℕ) → is_enabled p s t ≡ true
     → is_enabled p s v ≡ true → independent p s t v ≡ true

@@ -332,8 +332,8 @@ all_some (suc n) p s less = elim (is_terminal p s) as
       | true ↦ λ over. let e : length (complete_schedules p s) ≡ 1 =
           ap length (complete_schedules-terminal p s over) in omega arith
       | false ↦ λ more.
-          let first = first_passing (is_enabled p s) (up_from 0 (length s.threads)) (not_over p s more)
-          in
+          let first = first_passing (is_enabled p s) (up_from 0 (length s.threads))
+          (not_over p s more) in
           let falls : work p (step p s first.0) < work p s = work-step p s first.0 first.3 in
           let rest : List (List ℕ) = flat_map (λ t. before t (complete_schedules p (step p s t)))
           first.1 in

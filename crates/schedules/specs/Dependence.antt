@@ -1,5 +1,5 @@
 -- Dependent steps, in plain words: there is an object that both access, and one of them writes it.
-use Rattle.std.specs.Prelude.{◌≡◌, ◌⊎◌, ℕ, List, Option, Some, Contains, option_map}
+use Rattle.std.specs.Prelude.{◌≡◌, ◌⊎◌, List, Option, Some, option_map}
 use Rattle.std.specs.List.{Any}
 use Rattle.guest_code.specs.declared.program.Instruction.{Instruction}
 use Rattle.semantics.specs.declared.state.Status.{Status}

@@ -7,7 +7,7 @@ use Rattle.std.proofs.lemmas.List.Folds.{Any-from_list_any, list_any-from_Any}
 use Rattle.semantics.specs.declared.view.Kind.TheVariants.{Done, Failed, Stuck}
 use Rattle.semantics.specs.declared.state.Status.{Status}
 use Rattle.semantics.specs.declared.state.Stop.{Stop}
-use Rattle.semantics.specs.declared.state.Status.TheVariants.{Running, Waiting, Woken, Ended, Stopped}
+use Rattle.semantics.specs.declared.state.Status.TheVariants.{Ended, Stopped}
 use Rattle.semantics.specs.declared.state.Thread.{Thread}
 use Rattle.semantics.specs.Ends.{is_stopped, is_ended, final_kind}
 use Rattle.semantics.specs.FinalKinds.{SomeStopped, SomeUnended, AllEnded}
@@ -16,17 +16,11 @@ use Rattle.semantics.specs.FinalKinds.{SomeStopped, SomeUnended, AllEnded}
 
 why_stopped : (status : Status) → is_stopped status ≡ true → (why : Stop) × (status ≡ Stopped why)
 why_stopped (Stopped why) h = (why, refl)
-why_stopped Running h = cc
-why_stopped (Waiting c) h = cc
-why_stopped Woken h = cc
-why_stopped Ended h = cc
+why_stopped status h = cc
 
 has_ended : (status : Status) → is_ended status ≡ true → status ≡ Ended
 has_ended Ended h = refl
-has_ended Running h = cc
-has_ended (Waiting c) h = cc
-has_ended Woken h = cc
-has_ended (Stopped why) h = cc
+has_ended status h = cc
 
 not_ended : (status : Status) → is_ended status ≡ false → status ≢ Ended
 not_ended status h e = let k : is_ended status ≡ true = ap is_ended e in cc

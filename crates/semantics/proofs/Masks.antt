@@ -1,5 +1,5 @@
 -- Members of a mask members_from a number on.
-use Rattle.std.proofs.Common.{◌≡◌, ◌≢◌, ℕ, ℤ, zero, suc, ◌+◌, ◌-◌, ◌<◌, ◌≤◌, Bool, true, false, cond, not, ◌&&◌, ◌||◌, min, max, List, [], ◌∷◌, length, Option, Some, None, refl, ap, ◌∙◌, sym, arith, inl, inr, get_or-set_other, pow-suc, ◌/◌, ◌^◌, ◌*◌, ◌%◌, nat_eq}
+use Rattle.std.proofs.Common.{◌≡◌, ◌≢◌, ℕ, ℤ, zero, suc, ◌+◌, ◌-◌, ◌<◌, ◌≤◌, Bool, true, false, cond, not, ◌&&◌, ◌||◌, min, max, List, [], ◌∷◌, length, Option, Some, None, refl, ap, ◌∙◌, sym, arith, inl, inr, pow-suc, ◌/◌, ◌^◌, ◌*◌, ◌%◌, nat_eq}
 use Rattle.std.specs.List.{filter}
 use Rattle.std.specs.Int.{bit_at, bit_not, w16, trailing_zeros}
 use Rattle.std.specs.Int.Bits.{bit_and, bit_or}
@@ -8,14 +8,12 @@ use Rattle.std.proofs.Math.Nat.{div-div-eq-div-mul, div-le_self}
 use Rattle.std.proofs.lemmas.Nat.{pow-add}
 use Rattle.std.proofs.lemmas.Nat.Bits.{bit_at_above, bit_at-zero, bit_at-trailing_zeros, bit_at_not, bit_at_and, bit_at_or, bit_at-lt, bit_at_cat_low, bit_at_cat_high, same_from_bits_below}
 use Rattle.std.proofs.lemmas.Bool.{cases_lt}
-use Rattle.guest_code.specs.Program.{Program, code_of}
+use Rattle.guest_code.specs.Program.{Program}
 use Rattle.semantics.specs.declared.mask.Mask.{Mask}
 use Rattle.semantics.specs.declared.state.Action.{Action}
-use Rattle.semantics.specs.declared.state.VariableAction.{VariableAction}
 use Rattle.semantics.specs.declared.state.Thread.{Thread}
-use Rattle.semantics.specs.declared.state.Action.TheVariants.{OnVariable, OnMutex, Wait as Waits, OnCondition, OnSemaphore}
-use Rattle.semantics.specs.Machine.{Snapshot, is_enabled, acts, can_do, next_of, thread_at, missing_thread, action_at}
-use Rattle.std.specs.Prelude.{slice_get}
+use Rattle.semantics.specs.declared.state.Action.TheVariants.{OnVariable}
+use Rattle.semantics.specs.Machine.{Snapshot, is_enabled, can_do}
 use Rattle.semantics.specs.Mask.{has, no_threads, members_from, bits_of, mask_of, one_if}
 use Rattle.semantics.specs.Work.{up_from}
 use Rattle.semantics.specs.Ends.{enabled}
@@ -148,20 +146,9 @@ pub is_mask_of : (m : Mask) (f : ℕ → Bool) → m.bits < 2 ^ 16
 is_mask_of m f h same = same_members m (mask_of f) h (mask_of-fits f)
     (λ t l. same t l ∙ sym (has-mask_of f t l))
 
-pub mask_of-same : (f g : ℕ → Bool) → ((t : ℕ) → t < THREADS → f t ≡ g t) → mask_of f ≡ mask_of g
-mask_of-same f g same = is_mask_of (mask_of f) g (mask_of-fits f)
-    (λ t l. has-mask_of f t l ∙ same t l)
-
-pub mask_of-has : (m : Mask) → m.bits < 2 ^ 16 → mask_of (has m) ≡ m
-mask_of-has m h = sym (is_mask_of m (has m) h (λ t l. refl))
-
 -- no thread from the limit on is in a mask
 pub has-above : (m : Mask) (t : ℕ) → m.bits < 2 ^ 16 → THREADS ≤ t → has m t ≡ false
 has-above m t fits h = ap (λ (n : ℕ). nat_eq n 1) (bit_at_above m.bits 16 t fits h)
-
-pub members-mask_of : (f : ℕ → Bool) → members_from (mask_of f) 0 ≡ filter f (up_from 0 THREADS)
-unfolding members_from
-members-mask_of f = filter_between (has (mask_of f)) f 0 THREADS (λ t h k. has-mask_of f t k)
 
 pub empty_has : (t : ℕ) → has no_threads t ≡ false
 empty_has t = ap (λ n. nat_eq n 1) (bit_at-zero t)
@@ -183,17 +170,20 @@ members-without_first m n t h none off others =
     ∙ filter_between (has n) (has m) (t + 1) (16 - (t + 1))
     (λ u a b. let ne : u ≢ t = omega arith in others u ne)
 
--- a mask with those of another
-
 -- a mask without those of another
 
+-- what holds of all pairs of bits
+on_bits : (P : ℕ → ℕ → Type 0) → P 0 0 → P 0 1 → P 1 0 → P 1 1 → (x y : ℕ) → x < 2 → y < 2 → P x y
+on_bits P a b c d zero zero h k = a
+on_bits P a b c d zero (suc zero) h k = b
+on_bits P a b c d (suc zero) zero h k = c
+on_bits P a b c d (suc zero) (suc zero) h k = d
+on_bits P a b c d (suc (suc x)) y h k = absurd (omega arith)
+on_bits P a b c d x (suc (suc y)) h k = absurd (omega arith)
+
 both_bits : (x y : ℕ) → x < 2 → y < 2 → nat_eq (min x (1 - y)) 1 ≡ (nat_eq x 1 && not (nat_eq y 1))
-both_bits zero zero h k = refl
-both_bits zero (suc zero) h k = refl
-both_bits (suc zero) zero h k = refl
-both_bits (suc zero) (suc zero) h k = refl
-both_bits (suc (suc x)) y h k = absurd (omega arith)
-both_bits x (suc (suc y)) h k = absurd (omega arith)
+both_bits = on_bits (λ x y. nat_eq (min x (1 - y)) 1 ≡ (nat_eq x 1 && not (nat_eq y 1))) refl refl
+    refl refl
 
 pub minus_bits : (a b u : ℕ) → a < 2 ^ 16 → b < 2 ^ 16
     → nat_eq (bit_at (bit_and a (bit_not w16 b)) u) 1
@@ -214,20 +204,9 @@ minus_bits a b u fits fits2 = elim (cases_lt u 16) [
 -- a step on a variable lets no other thread be enabled or cease to be
 can_do_same : (s : Snapshot) (V : List ℤ) (T : List Thread) (a : Option Action)
     → can_do (record s { vars = V; threads = T }) a ≡ can_do s a
-can_do_same s V T (Some (OnVariable x d)) = refl
-can_do_same s V T (Some (OnMutex m d)) = refl
-can_do_same s V T (Some (Waits c m)) = refl
-can_do_same s V T (Some (OnCondition c d)) = refl
-can_do_same s V T (Some (OnSemaphore k d)) = refl
 can_do_same s V T None = refl
-
-pub others_stay : (p : Program) (s : Snapshot) (t x : ℕ) (d : VariableAction) (u : ℕ) → u ≢ t
-    → is_enabled p (acts p s t (thread_at s t) (Some (OnVariable x d))) u ≡ is_enabled p s u
-others_stay p s t x d u ne =
-    let N : Snapshot = acts p s t (thread_at s t) (Some (OnVariable x d)) in
-    can_do_same s N.vars N.threads (next_of p N u)
-    ∙ ap (λ (th : Thread). can_do s (action_at th.status (slice_get (code_of p u) th.pc)))
-    (get_or-set_other s.threads t u _ missing_thread ne)
+can_do_same s V T (Some (OnVariable x d)) = refl
+can_do_same s V T (Some a) = refl
 
 shifted : (n t i : ℕ) → bit_at (n / 2 ^ t) i ≡ bit_at n (t + i)
 shifted n t i = ap (λ (k : ℕ). k % 2) (div-div-eq-div-mul n (2 ^ t) (2 ^ i) ∙ ap (λ (k : ℕ). n / k)
@@ -316,12 +295,7 @@ none_left m n u e a b = none_in (has m) n (16 - n) u e a (omega (arith, a, b))
 -- a mask with those of another
 
 either_bit : (x y : ℕ) → x < 2 → y < 2 → nat_eq (max x y) 1 ≡ (nat_eq x 1 || nat_eq y 1)
-either_bit zero zero h k = refl
-either_bit zero (suc zero) h k = refl
-either_bit (suc zero) zero h k = refl
-either_bit (suc zero) (suc zero) h k = refl
-either_bit (suc (suc x)) y h k = absurd (omega arith)
-either_bit x (suc (suc y)) h k = absurd (omega arith)
+either_bit = on_bits (λ x y. nat_eq (max x y) 1 ≡ (nat_eq x 1 || nat_eq y 1)) refl refl refl refl
 
 pub union_bits : (a b u : ℕ) → nat_eq (bit_at (bit_or a b) u) 1
     ≡ (nat_eq (bit_at a u) 1 || nat_eq (bit_at b u) 1)

@@ -60,23 +60,15 @@ differ_at o q probe = not (int_eq (of_both o probe.0 probe.1) (of_both q probe.0
 same_or_differ : (o q : Op) → (o ≡ q) ⊎ (list_any (differ_at o q) probes ≡ true)
 unfolding int_wrap
 same_or_differ ops.Add ops.Add = inl refl
-same_or_differ ops.Add q = inr refl
 same_or_differ ops.Subtract ops.Subtract = inl refl
-same_or_differ ops.Subtract q = inr refl
 same_or_differ ops.Multiply ops.Multiply = inl refl
-same_or_differ ops.Multiply q = inr refl
 same_or_differ ops.Equal ops.Equal = inl refl
-same_or_differ ops.Equal q = inr refl
 same_or_differ ops.NotEqual ops.NotEqual = inl refl
-same_or_differ ops.NotEqual q = inr refl
 same_or_differ ops.Less ops.Less = inl refl
-same_or_differ ops.Less q = inr refl
 same_or_differ ops.LessOrEqual ops.LessOrEqual = inl refl
-same_or_differ ops.LessOrEqual q = inr refl
 same_or_differ ops.Greater ops.Greater = inl refl
-same_or_differ ops.Greater q = inr refl
 same_or_differ ops.GreaterOrEqual ops.GreaterOrEqual = inl refl
-same_or_differ ops.GreaterOrEqual q = inr refl
+same_or_differ o q = inr refl
 
 pub operators_differ : (o q : Op) → o ≢ q → Differ o q
 operators_differ o q ne = go (same_or_differ o q)

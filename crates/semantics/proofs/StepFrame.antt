@@ -61,39 +61,29 @@ module _ (p : Program) (s : Snapshot) (t : ℕ) (th : Thread) where
       kept (Stores a) clear e = absurd (clear (0, omega arith, ap writes_var e))
       kept (Adds r a) clear e = absurd (clear (0, omega arith, ap writes_var e))
       kept (Swaps r a b) clear e = absurd (clear (0, omega arith, ap writes_var e))
-  acts_variables (OnMutex m d) x clear = refl
-  acts_variables (Waits c m) x clear = refl
-  acts_variables (OnCondition c d) x clear = refl
-  acts_variables (OnSemaphore k d) x clear = refl
+  acts_variables a x clear = refl
 
   acts_mutexes : (a : Action) (m : ℕ)
       → (Writes a (mutex m) → ⊥) → owner_of (acts p s t th (Some a)) m ≡ owner_of s m
-  acts_mutexes (OnVariable y d) m clear = refl
   acts_mutexes (OnMutex n d) m clear =
       set_unchanged s.owners n m _ None (λ e. absurd (clear (0, omega arith, ap writes_mutex e)))
   acts_mutexes (Waits c n) m clear =
       set_unchanged s.owners n m _ None (λ e. absurd (clear (1, omega arith, ap writes_mutex e)))
-  acts_mutexes (OnCondition c d) m clear = refl
-  acts_mutexes (OnSemaphore k d) m clear = refl
+  acts_mutexes a m clear = refl
 
   acts_conditions : (a : Action) (c : ℕ)
       → (Writes a (condition c) → ⊥) → queue_of (acts p s t th (Some a)) c ≡ queue_of s c
-  acts_conditions (OnVariable y d) c clear = refl
-  acts_conditions (OnMutex n d) c clear = refl
   acts_conditions (Waits d n) c clear =
       set_unchanged s.queues d c _ [] (λ e. absurd (clear (0, omega arith, ap writes_condition e)))
   acts_conditions (OnCondition d f) c clear =
       set_unchanged s.queues d c _ [] (λ e. absurd (clear (0, omega arith, ap writes_condition e)))
-  acts_conditions (OnSemaphore k d) c clear = refl
+  acts_conditions a c clear = refl
 
   acts_semaphores : (a : Action) (k : ℕ)
       → (Writes a (semaphore k) → ⊥) → count_of (acts p s t th (Some a)) k ≡ count_of s k
-  acts_semaphores (OnVariable y d) k clear = refl
-  acts_semaphores (OnMutex n d) k clear = refl
-  acts_semaphores (Waits d n) k clear = refl
-  acts_semaphores (OnCondition c d) k clear = refl
   acts_semaphores (OnSemaphore l d) k clear =
       set_unchanged s.counts l k _ 0 (λ e. absurd (clear (0, omega arith, ap writes_semaphore e)))
+  acts_semaphores a k clear = refl
 
 module _ (p : Program) (s : Snapshot) (t : ℕ) where
   pub step_variables : (x : ℕ) (a : Action)

@@ -113,8 +113,8 @@ not_waiting p s t a c n w =
 -- what a thread that acts wakes waits again
 threads_wait : (p : Program) (s : Snapshot) (t c : ℕ) (d : ConditionAction) (th : Thread)
     → HasWaiters s → next_of p s t ≡ Some (OnCondition c d)
-    → waiting_again c (queue_of s c) (set (wake c (threads_to_wake d (queue_of s c)) s.threads) t th)
-    ≡ set s.threads t th
+    → waiting_again c (queue_of s c)
+    (set (wake c (threads_to_wake d (queue_of s c)) s.threads) t th) ≡ set s.threads t th
 threads_wait p s t c d th w n =
     waiting_again-set c (queue_of s c) t th (wake c (threads_to_wake d (queue_of s c)) s.threads)
     (λ i. not_waiting p s t (OnCondition c d) c n (w.waits c t i))

@@ -2,7 +2,7 @@
 use Rattle.std.proofs.Common.{rules, Option, Some}
 use Rattle.std.specs.Prelude.{IfSome}
 use Rattle.guest_code.specs.declared.program.Instruction.{Instruction}
-use Rattle.guest_code.specs.declared.program.Instruction.TheVariants.{Load, Store, Add, Cas, Lock, Unlock, Wait, Signal, Broadcast, Acquire, Release, Set, Assert, SkipIfZero, Skip}
+use Rattle.guest_code.specs.declared.program.Instruction.TheVariants.{Load, Add, Cas, Wait, Set, Assert, SkipIfZero, Skip}
 use Rattle.guest_code.specs.Program.{Program, IsValid}
 use Rattle.semantics.specs.declared.state.Status.{Status}
 use Rattle.semantics.specs.declared.state.Status.TheVariants.{Running, Woken}
@@ -12,20 +12,13 @@ use Rattle.semantics.specs.Reachable.{IsValidAction}
 valid_action_of : (p : Program) (i : Instruction) → IsValid p i
     → IfSome (action_of i) (IsValidAction p)
 valid_action_of p (Load r x) h = (h.1, h.0)
-valid_action_of p (Store x a) h = h
 valid_action_of p (Add r x a) h = (h.1, (h.0, h.2))
 valid_action_of p (Cas r x a b) h = (h.1, (h.0, h.2, h.3))
-valid_action_of p (Lock m) h = h
-valid_action_of p (Unlock m) h = h
-valid_action_of p (Wait c m) h = h
-valid_action_of p (Signal c) h = h
-valid_action_of p (Broadcast c) h = h
-valid_action_of p (Acquire k) h = h
-valid_action_of p (Release k) h = h
 valid_action_of p (Set r e) h = tt
 valid_action_of p (Assert e) h = tt
 valid_action_of p (SkipIfZero e n) h = tt
 valid_action_of p (Skip n) h = tt
+valid_action_of p i h = h
 
 pub valid_action_at : (p : Program) (status : Status) (i : Option Instruction)
     → IfSome i (IsValid p) → IfSome (action_at status i) (IsValidAction p)

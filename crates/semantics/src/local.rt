@@ -164,17 +164,7 @@ fn turn(code: &[Instruction], thread: &mut Thread) -> bool
             pass(code, thread, *n);
             true
         }
-        Instruction::Load { .. }
-        | Instruction::Store { .. }
-        | Instruction::Add { .. }
-        | Instruction::Cas { .. }
-        | Instruction::Lock(_)
-        | Instruction::Unlock(_)
-        | Instruction::Wait { .. }
-        | Instruction::Signal(_)
-        | Instruction::Broadcast(_)
-        | Instruction::Acquire(_)
-        | Instruction::Release(_) => false,
+        _ => false,
     }
 }
 

@@ -4,7 +4,7 @@ use Rattle.guest_syntax.specs.declared.limits.TheConstants.{NUMBER}
 use Rattle.guest_syntax.specs.declared.token.Symbol.TheVariants as symbols
 use Rattle.guest_syntax.specs.declared.tree.Op.{Op}
 use Rattle.guest_syntax.specs.declared.tree.Op.TheVariants as ops
-use Rattle.guest_syntax.specs.Tokens.{Kind, name, keyword, number, symbol, bad, Token}
+use Rattle.guest_syntax.specs.Tokens.{Kind, name, number, symbol, Token}
 use Rattle.guest_syntax.specs.reader.Scanner.{◌>>=◌}
 use Rattle.guest_syntax.specs.Tree as tree
 use Rattle.guest_syntax.specs.Tree.{Operand, Expr}
@@ -27,10 +27,7 @@ literal_from ts = do
 
 abbrev pub operand_by : Token → List Token → Kind → Read Operand
 operand_by t ts (name s) = Some (tree.local (record { text = s; at = t.at }), ts)
-operand_by t ts (keyword w) = None
-operand_by t ts (number n) = literal_by (number n) ts >>= λ z. Some (tree.literal z.0, z.1)
-operand_by t ts (symbol s) = literal_by (symbol s) ts >>= λ z. Some (tree.literal z.0, z.1)
-operand_by t ts bad = None
+operand_by t ts k = literal_by k ts >>= λ z. Some (tree.literal z.0, z.1)
 
 unfoldable pub operand_from : List Token → Read Operand
 operand_from ts = do

@@ -1,8 +1,8 @@
 -- Pieces as a program holds them, and refusals before memory is asked for.
 use Rattle.std.specs.Prelude.{◌≡◌, ℕ, ◌-◌, ◌^◌, List, min}
 use Rattle.replay.specs.declared.piece.Piece.{Piece}
-use Rattle.replay.specs.declared.schedule.ScheduleError.{ScheduleError}
-use Rattle.replay.specs.declared.schedule.ScheduleError.TheVariants.{BadSchedule, TooLong, OutOfMemory}
+use Rattle.replay.specs.declared.error.ScheduleError.{ScheduleError}
+use Rattle.replay.specs.declared.error.ScheduleError.TheVariants.{BadSchedule, TooLong, OutOfMemory}
 use Rattle.replay.specs.Spelling.{SpellsPiece, IsBadAt, IsTooLongAt}
 
 -- the text spells a piece that is held so: a count that is larger than any number is held as the

@@ -1,43 +1,31 @@
-use Rattle.std.proofs.Common.{map, refl}
+use Rattle.std.proofs.Common.{refl}
 use Rattle.std.proofs.lemmas.Result.{err_from_is_err_and}
-use Rattle.std.proofs.lemmas.List.{map_push}
 use Rattle.guest_syntax.specs.Tree.{declaration_view}
 use Rattle.guest_syntax.specs.reader.Reads.{rest_of}
-use Rattle.guest_syntax.specs.reader.Items.{all_from}
 use Rattle.guest_syntax.specs.reader.Trees.{declaration_turn}
 use Rattle.guest_syntax.proofs.ItemLoops.{begins, goes_on, is_done, stops}
 use Rattle.guest_syntax.proofs.parser.declarations.Goals as goal
 
 pub items-init : goal.items-init
 items-init c = record {
-  goes = rw c.new-all.ensures.items
-      (begins declaration_turn (rest_of c.args.text));
+  goes = rw c.new-all.ensures.items (begins declaration_turn (rest_of c.args.text));
   same = refl;
 }
 
 pub returns-in_err-declaration-clause-gives : goal.returns-in_err-declaration-clause-gives
 returns-in_err-declaration-clause-gives c =
     let p = err_from_is_err_and c.from_residual.result c.from_residual.ensures.1 in
-    rw (p.1, p.2) (stops declaration_turn (map declaration_view c.items.all.items)
-    (rest_of c.items.rest) (all_from declaration_turn (rest_of c.args.text))
-    c.in_err-declaration.field-0.0 c.items.invariant.goes c.in_err-declaration.ensures.gives)
+    rw (p.1, p.2) (stops _ c.items.invariant.goes c.in_err-declaration.ensures.gives)
 
 pub returns-in-None-clause-gives : goal.returns-in-None-clause-gives
 returns-in-None-clause-gives c =
-    is_done declaration_turn (map declaration_view c.items.all.items) (rest_of c.items.rest)
-    (rest_of c.in_ok-declaration.after) (all_from declaration_turn (rest_of c.args.text))
-    (rw c.in-None.is at c.in_ok-declaration.ensures.gives) c.items.invariant.goes
+    is_done c.items.invariant.goes (rw c.in-None.is at c.in_ok-declaration.ensures.gives)
 
 pub items-preserved : goal.items-preserved
 items-preserved c = record {
-  goes = rw (
-    c.in_ok-push-in-Some.ensures.items,
-    map_push declaration_view c.items.all.items c.in-Some.declaration,
-  )
-      (goes_on declaration_turn (map declaration_view c.items.all.items) (rest_of c.items.rest)
-      (rest_of c.in_ok-declaration.after) (declaration_view c.in-Some.declaration)
-      (all_from declaration_turn (rest_of c.args.text))
+  goes = goes_on declaration_view c.items.all.items c.items.invariant.goes
+      c.in_ok-push-in-Some.ensures.items
       (rw c.in-Some.is at c.in_ok-declaration.ensures.gives)
-      (rw c.in-Some.is at c.in_ok-declaration.ensures.shorter refl) c.items.invariant.goes);
+      (rw c.in-Some.is at c.in_ok-declaration.ensures.shorter refl);
   same = rw c.in_ok-declaration.ensures.within c.items.invariant.same;
 }

@@ -1,43 +1,31 @@
-use Rattle.std.proofs.Common.{map, refl}
+use Rattle.std.proofs.Common.{refl}
 use Rattle.std.proofs.lemmas.Result.{err_from_is_err_and}
-use Rattle.std.proofs.lemmas.List.{map_push}
 use Rattle.guest_syntax.specs.Tree.{thread_view}
 use Rattle.guest_syntax.specs.reader.Reads.{rest_of}
-use Rattle.guest_syntax.specs.reader.Items.{all_from}
 use Rattle.guest_syntax.specs.reader.Trees.{thread_turn}
 use Rattle.guest_syntax.proofs.ItemLoops.{begins, goes_on, is_done, stops}
 use Rattle.guest_syntax.proofs.parser.threads.Goals as goal
 
 pub items-init : goal.items-init
 items-init c = record {
-  goes = rw c.new-all.ensures.items
-      (begins thread_turn (rest_of c.args.text));
+  goes = rw c.new-all.ensures.items (begins thread_turn (rest_of c.args.text));
   same = refl;
 }
 
 pub returns-in_err-thread-clause-gives : goal.returns-in_err-thread-clause-gives
 returns-in_err-thread-clause-gives c =
     let p = err_from_is_err_and c.from_residual.result c.from_residual.ensures.1 in
-    rw (p.1, p.2) (stops thread_turn (map thread_view c.items.all.items) (rest_of c.items.rest)
-    (all_from thread_turn (rest_of c.args.text)) c.in_err-thread.field-0.0
-    c.items.invariant.goes c.in_err-thread.ensures.gives)
+    rw (p.1, p.2) (stops _ c.items.invariant.goes c.in_err-thread.ensures.gives)
 
 pub returns-in-None-clause-gives : goal.returns-in-None-clause-gives
 returns-in-None-clause-gives c =
-    is_done thread_turn (map thread_view c.items.all.items) (rest_of c.items.rest)
-    (rest_of c.in_ok-thread.after) (all_from thread_turn (rest_of c.args.text))
-    (rw c.in-None.is at c.in_ok-thread.ensures.gives) c.items.invariant.goes
+    is_done c.items.invariant.goes (rw c.in-None.is at c.in_ok-thread.ensures.gives)
 
 pub items-preserved : goal.items-preserved
 items-preserved c = record {
-  goes = rw (
-    c.in_ok-push-in-Some.ensures.items,
-    map_push thread_view c.items.all.items c.in-Some.thread,
-  )
-      (goes_on thread_turn (map thread_view c.items.all.items) (rest_of c.items.rest)
-      (rest_of c.in_ok-thread.after) (thread_view c.in-Some.thread)
-      (all_from thread_turn (rest_of c.args.text))
+  goes = goes_on thread_view c.items.all.items c.items.invariant.goes
+      c.in_ok-push-in-Some.ensures.items
       (rw c.in-Some.is at c.in_ok-thread.ensures.gives)
-      (rw c.in-Some.is at c.in_ok-thread.ensures.shorter refl) c.items.invariant.goes);
+      (rw c.in-Some.is at c.in_ok-thread.ensures.shorter refl);
   same = rw c.in_ok-thread.ensures.within c.items.invariant.same;
 }

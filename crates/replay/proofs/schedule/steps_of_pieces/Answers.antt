@@ -1,7 +1,7 @@
-use Rattle.std.proofs.Common.{◌==◌, rules, tests, length}
+use Rattle.std.proofs.Common.{◌≡◌, ◌==◌, rules, tests, length, map}
 use Rattle.std.proofs.lemmas.Iterator.Consumers.{YieldsList-at}
 use Rattle.std.proofs.lemmas.Iterator.Splits.{YieldsList-from_slice_split}
-use Rattle.replay.proofs.ReadPieces.{is_piece_here, there_is_one, held_one, more_steps, steps_all, all_short}
+use Rattle.replay.proofs.ReadPieces.{cuts, is_piece_here, there_is_one, held_one, more_steps, steps_all, all_short}
 use Rattle.replay.proofs.KnownItems.{turned, ended}
 use Rattle.replay.proofs.schedule.steps_of_pieces.Goals as goal
 
@@ -35,25 +35,22 @@ loop-piece-preserved c =
           c.unwrap.ensures) c.in_ok-put_steps.ensures;
     }
 
-pub returns-clause-value : goal.returns-clause-value
-returns-clause-value c =
-    let all = ended c.loop-piece.yielded _ c.loop-piece.yielded_by _ _ c.in-None.is
+-- all pieces
+all_read : (c : goal.In-None) → map (λ x. x.now) c.loop-piece.yielded ≡ cuts c.args.text.now
+all_read c = ended c.loop-piece.yielded _ c.loop-piece.yielded_by _ _ c.in-None.is
     c.next.ensures.steps
     (YieldsList-at c.into_iter-piece-iterator.ensures.into_iter_gives
     (YieldsList-from_slice_split _ (λ b. b == 44) c.args.text.now
     c.split-piece-items.ensures.rest c.split-piece-items.ensures.done
-    c.split-piece-items.ensures.closure (λ x r q k. search (rules, tests)))) in
+    c.split-piece-items.ensures.closure (λ x r q k. search (rules, tests))))
+
+pub returns-clause-value : goal.returns-clause-value
+returns-clause-value c =
     steps_all c.args.text.now c.loop-piece.schedule.items c.requires.some
-    (rw all at c.loop-piece.invariant.spelt)
+    (rw (all_read c) at c.loop-piece.invariant.spelt)
 
 pub returns-clause-short : goal.returns-clause-short
 returns-clause-short c =
-    let all = ended c.loop-piece.yielded _ c.loop-piece.yielded_by _ _ c.in-None.is
-    c.next.ensures.steps
-    (YieldsList-at c.into_iter-piece-iterator.ensures.into_iter_gives
-    (YieldsList-from_slice_split _ (λ b. b == 44) c.args.text.now
-    c.split-piece-items.ensures.rest c.split-piece-items.ensures.done
-    c.split-piece-items.ensures.closure (λ x r q k. search (rules, tests)))) in
     all_short c.args.text.now c.loop-piece.schedule.items
     (steps_all c.args.text.now c.loop-piece.schedule.items c.requires.some
-    (rw all at c.loop-piece.invariant.spelt)) c.requires.readable
+    (rw (all_read c) at c.loop-piece.invariant.spelt)) c.requires.readable
