@@ -158,53 +158,53 @@ stays p s t n = let e : nat_eq t t ≡ true = grind (arith, nat_tests) in
 -- back to the last frame
 
 pub copies_leave : (p : Program) (w : List ℕ) (fixed width size : ℕ) (fs : List Frame)
-    (ws : List ℤ) (n : ℕ) → AreCopies p w fixed width size fs ws → n < length fs
-    → AreCopies p (take (frame_at fs n).steps w) fixed width size (take n fs) ws
-copies_leave p w fixed width size fs ws n h long = record {
+    (ws : List ℤ) (n m : ℕ) → AreCopies p w fixed width size fs ws → n < length fs → n ≤ m
+    → m ≤ n + 1 → AreCopies p (take (frame_at fs n).steps w) fixed width size (take m fs) ws
+copies_leave p w fixed width size fs ws n m h long low high = record {
   each = λ k l. let b = below k l in
       subst (λ (g : Frame). IsCopy p (take g.steps (take (frame_at fs n).steps w)) fixed width g
       (words_at size ws k)) (sym (same k b))
       (subst (λ v. IsCopy p v fixed width (frame_at fs k) (words_at size ws k))
       (sym (take-take (frame_at fs k).steps (frame_at fs n).steps w
-      (h.rising k n (omega arith) (omega (arith, long)))))
-      (h.each k (omega (arith, b, long))));
+      (h.rising k n (omega (arith, b, high)) (omega (arith, long)))))
+      (h.each k (omega (arith, b, long, high))));
   within = λ k l. let b = below k l in
       subst (λ (g : Frame). g.steps ≤ length (take (frame_at fs n).steps w)) (sym (same k b))
-      (let r = h.rising k n (omega arith) (omega (arith, long)) in
+      (let r = h.rising k n (omega (arith, b, high)) (omega (arith, long)) in
       let e = length-take-le (frame_at fs n).steps w (h.within n (omega (arith, long))) in
       omega (arith, r, e));
   rising = λ j k le l. let b = below k l in
-      subst (λ (g : Frame). (frame_at (take n fs) j).steps ≤ g.steps) (sym (same k b))
+      subst (λ (g : Frame). (frame_at (take m fs) j).steps ≤ g.steps) (sym (same k b))
       (subst (λ (g : Frame). g.steps ≤ (frame_at fs k).steps) (sym (same j (omega arith)))
-      (h.rising j k le (omega (arith, b, long))));
+      (h.rising j k le (omega (arith, b, long, high))));
   first = λ l. ap (λ (g : Frame). g.steps) (same 0 (below 0 l)) ∙ h.first (omega (arith, long));
-  bottom = λ e. let z : n ≡ 0 = sym many ∙ e in
+  bottom = λ e. let z : n ≡ 0 = omega (arith, many, e, low) in
       ap (λ k. take (frame_at fs k).steps w) z ∙ ap (λ k. take k w) (h.first (omega (arith, long)));
-  room = let r = h.room in let m : n * size ≤ length fs * size =
-      mul-le-mul_right size (omega (arith, long)) in
-      let e : length (take n fs) * size ≡ n * size = ap (λ k. k * size) many in
-      omega (arith, r, m, e);
+  room = let r = h.room in let l : m * size ≤ length fs * size =
+      mul-le-mul_right size (omega (arith, long, high)) in
+      let e : length (take m fs) * size ≡ m * size = ap (λ k. k * size) many in
+      omega (arith, r, l, e);
 }
   where
-    many : length (take n fs) ≡ n
-    many = length-take-le n fs (omega (arith, long))
+    many : length (take m fs) ≡ m
+    many = length-take-le m fs (omega (arith, long, high))
 
-    below : (k : ℕ) → k < length (take n fs) → k < n
+    below : (k : ℕ) → k < length (take m fs) → k < m
     below k l = omega (arith, l, many)
 
-    same : (k : ℕ) → k < n → frame_at (take n fs) k ≡ frame_at fs k
-    same k l = get_or-take n fs k no_frame l
+    same : (k : ℕ) → k < m → frame_at (take m fs) k ≡ frame_at fs k
+    same k l = get_or-take m fs k no_frame l
 
-pub path_left : (p : Program) (old new : Path) (n : ℕ) (f : Frame) → IsPath p old
-    → n < length (used_frames old)
+pub path_left : (p : Program) (old new : Path) (n m : ℕ) (f : Frame) → IsPath p old
+    → n < length (used_frames old) → n ≤ m → m ≤ n + 1
     → f ≡ frame_at (used_frames old) n → new.steps.items ≡ take f.steps old.steps.items
     → new.node ≡ f.node → Shows p new.machine (state_at p (take f.steps old.steps.items))
     → length new.machine.values.items ≡ length old.machine.values.items
     → new.machine.fixed ≡ old.machine.fixed
     → new.machine.width ≡ old.machine.width → new.size ≡ old.size
-    → (used_frames new) ≡ take n (used_frames old)
+    → (used_frames new) ≡ take m (used_frames old)
     → new.words.items ≡ old.words.items → new.depth ≤ length new.frames.items → IsPath p new
-path_left p old new n f h long e steps node shows values fixed width size frames words room =
+path_left p old new n m f h long low high e steps node shows values fixed width size frames words room =
     record {
       well_formed = h.well_formed;
       reaches = subst (λ v. ReachesNode p v new.node) (sym here)
@@ -224,9 +224,9 @@ path_left p old new n f h long e steps node shows values fixed width size frames
           new.words.items)
           (sym frames)
           (subst (λ ws. AreCopies p w old.machine.fixed old.machine.width old.size
-          (take n (used_frames old)) ws) (sym words)
+          (take m (used_frames old)) ws) (sym words)
           (copies_leave p old.steps.items old.machine.fixed old.machine.width old.size
-          (used_frames old) old.words.items n h.frames long))))));
+          (used_frames old) old.words.items n m h.frames long low high))))));
       room = room;
       count = length-take-le new.depth new.frames.items room;
     }
