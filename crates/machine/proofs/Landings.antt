@@ -22,7 +22,7 @@ use Rattle.machine.specs.declared.control.Control.{Control}
 use Rattle.machine.specs.declared.local.Landing.{Landing}
 use Rattle.machine.specs.Refinement.{takes_mutex, takes_semaphore, is_woken, at_mutex, at_semaphore, held, next_at, HasObjects, HasThreadAt, IsControl}
 use Rattle.machine.specs.inner.LocalRuns.{IsLandingOf}
-use Rattle.machine.specs.inner.Parts.{IsIdle, IsApart, IsControlBut, LeavesOthers, IsMarked, Stands, Lands, IsTaking}
+use Rattle.machine.specs.inner.Parts.{IsIdle, IsApart, IsControlBut, LeavesOthers, IsMarked, Stands, Lands, IsTaking, IsPlain}
 use Rattle.machine.proofs.Lists.{set_has, set_there}
 
 and_true : (b : Bool) → (b && true) ≡ b
@@ -110,11 +110,6 @@ stands_at_semaphore s t k c near objects apart few here others = record {
 }
 
 -- at neither
-
--- it takes nothing, and can be done or not
-abbrev pub IsPlain : Option Action → Bool → Type 0
-IsPlain a on = ((s : Snapshot) → on ≡ can_do (held s) a) × ((m : ℕ) → false ≡ takes_mutex m a)
-    × ((k : ℕ) → false ≡ takes_semaphore k a)
 
 pub stands_at_none : (s : Snapshot) (t : ℕ) (a : Option Action) (c : Control) (on : Bool)
     → HasObjects c s → IsApart c t → IsPlain a on → Stands c c s t a on

@@ -110,8 +110,8 @@ pub ran_on : (p : Program) (s : Snapshot) (t : ℕ) (c : Control) (vars mine min
     (code : List Instruction) (q : IsPerformed p s t c vars mine Running) → pc
     ≡ (thread_at s t).pc → code ≡ code_of p t
     → All (LocalsBelow (length mine)) code
-    → own_thread at mine' ≡ run_from code (own_thread (record { pc = pc + 1; status = Running })
-    mine)
+    → own_thread at mine' ≡ run_from code
+    (own_thread (record { pc = pc + 1; status = Running; free = false }) mine)
     → own_thread at mine' ≡ narrow (length mine) (settled (code_of p t) Running q.th)
 ran_on p s t c vars mine mine' at pc code q here same below ran =
     ran ∙ ((λ i. local_run (drop (place i + 1) code) 0
@@ -127,16 +127,16 @@ ran_on p s t c vars mine mine' at pc code q here same below ran =
 pub stayed : (p : Program) (s : Snapshot) (t : ℕ) (c : Control) (vars mine : List ℤ) (pc : ℕ)
     (status : Status)
     (q : IsPerformed p s t c vars mine status) → pc ≡ (thread_at s t).pc → (status ≡ Running → ⊥)
-    → own_thread (record { pc = pc; status = status }) mine
+    → own_thread (record { pc = pc; status = status; free = false }) mine
     ≡ narrow (length mine) (settled (code_of p t) status q.th)
 stayed p s t c vars mine pc status q here stops = of status stops
   where
-    same : (w : Status) → own_thread (record { pc = pc; status = w }) mine
+    same : (w : Status) → own_thread (record { pc = pc; status = w; free = false }) mine
         ≡ narrow (length mine) (with_status q.th w)
     same w = λ i. record { pc = (here ∙ sym q.pc) i; locals = q.own i; status = w }
 
     of : (w : Status) → (w ≡ Running → ⊥)
-        → own_thread (record { pc = pc; status = w }) mine
+        → own_thread (record { pc = pc; status = w; free = false }) mine
         ≡ narrow (length mine) (settled (code_of p t) w q.th)
     of Running halts = absurd (halts refl)
     of Ended halts = same Ended

@@ -1,4 +1,4 @@
-use Rattle.std.proofs.Common.{arith, length, refl, sym, subst}
+use Rattle.std.proofs.Common.{arith, false, length, refl, sym, subst}
 use Rattle.std.specs.Prelude.{All}
 use Rattle.guest_code.specs.Program.{LocalsBelow}
 use Rattle.semantics.specs.declared.state.Status.TheVariants.{Running}
@@ -25,7 +25,8 @@ returns-in-Running c = λ s vars r there here.
     (subst (All (LocalsBelow (length c.args.own.now))) (sym c.code-code.ensures.code)
     c.requires.below)
     c.run_own-at.ensures.value in
-    finished p s t c.args.self.now c.arrive.new.self vars old own Running _ q there (omega arith)
+    finished p s t c.args.self.now c.arrive.new.self vars old own Running
+    c.run_own-at.result q there (omega arith)
     ran
     (arrived p q.after t _ c.args.self.now c.arrive.new.self q.control
     (omega (arith, there, q.threads))
@@ -39,7 +40,8 @@ returns-in_default c = λ s vars q there here.
     let old = c.args.own.now in
     let own = stayed p s t c.args.self.now vars old c.args.pc c.args.status q here
     c.in_default.not-Running in
-    finished p s t c.args.self.now c.arrive-in_default.new.self vars old old c.args.status _ q there
+    finished p s t c.args.self.now c.arrive-in_default.new.self vars old old c.args.status
+    (record { pc = c.args.pc; status = c.args.status; free = false }) q there
     refl own
     (arrived p q.after t _ c.args.self.now c.arrive-in_default.new.self q.control
     (omega (arith, there, q.threads))
