@@ -1,7 +1,7 @@
 //! The step of a thread, over the values of the variables and its own locals.
 
-ghost use Rattle.std.specs.Prelude.{◌≡◌, ◌<◌, ◌≤◌, ℕ, ℤ, List, take, true, length, Some, All};
-ghost use Rattle.guest_code.specs.Program.{Program, IsValid, IsWellFormed, LocalsBelow, code_of};
+ghost use Rattle.std.specs.Prelude.{◌≡◌, ◌<◌, ◌≤◌, ◌^◌, ℕ, ℤ, List, take, true, length, Some, All};
+ghost use Rattle.guest_code.specs.Program.{Program, IsValid, IsValidCode, IsWellFormed, LocalsBelow, code_of};
 ghost use Rattle.guest_code.specs.declared.program.Instruction.{Instruction};
 ghost use Rattle.guest_code.specs.declared.program.Instruction.TheVariants.{Unlock, Wait, Signal, Broadcast, Release};
 ghost use Rattle.semantics.specs.declared.state.VariableAction.{VariableAction};
@@ -179,17 +179,24 @@ impl Control {
 
     // After what a thread performed at this place it runs on, or gets the status.
     #[inline(always)]
-    fn finish(&mut self, program: &Program, own: &mut [i64], thread: u8, pc: usize, status: Status)
-        requires thread { thread < length program.now.threads }
-        requires pc { pc < length (code_of program.now thread) }
-        requires below { All (LocalsBelow (length own.old)) (code_of program.now thread) }
-        ensures { (s : Snapshot) → (vars : List ℤ)
-            → IsPerformed program.now s thread self.old vars own.old status
+    fn finish(
+        &mut self,
+        code: &[Instruction],
+        own: &mut [i64],
+        thread: u8,
+        pc: usize,
+        status: Status,
+    )
+        requires thread { thread < THREADS }
+        requires pc { pc < length code.now }
+        requires few { length code.now < 2 ^ 16 }
+        requires fine { (p : Program) × IsValidCode p code.now × IsWellFormed p }
+        requires below { All (LocalsBelow (length own.old)) code.now }
+        ensures { (p : Program) → (s : Snapshot) → (vars : List ℤ) → code.now ≡ code_of p thread
+            → IsPerformed p s thread self.old vars own.old status
             → thread < length s.threads → pc ≡ (thread_at s thread).pc
-            → IsStepped program.now s thread self.new vars own.new }
+            → IsStepped p s thread self.new vars own.new }
     {
-        program.keeps_limits();
-        let code = program.code(thread);
         match status {
             Status::Running => {
                 let at = run_own(code, own, pc + 1);
@@ -243,10 +250,10 @@ impl Control {
         let instruction = &code[pc];
         if self.woken.has(thread) {
             self.retake(thread, instruction);
-            self.finish(program, own, thread, pc, Status::Running);
+            self.finish(code, own, thread, pc, Status::Running);
         } else {
             let status = self.perform(program, variables, own, thread, instruction);
-            self.finish(program, own, thread, pc, status);
+            self.finish(code, own, thread, pc, status);
         }
     }
 
