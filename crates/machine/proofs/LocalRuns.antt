@@ -1,5 +1,5 @@
 -- What a thread does with those of its locals that are kept, and how many are enough.
-use Rattle.std.proofs.Common.{◌≡◌, ℕ, ℤ, zero, suc, ◌+◌, ◌<◌, ◌≤◌, true, false, cond, List, [], ◌∷◌, length, take, drop, get_or, set, refl, ap, ◌∙◌, sym, arith}
+use Rattle.std.proofs.Common.{◌≡◌, ℕ, ℤ, zero, suc, ◌+◌, ◌≤◌, true, false, cond, List, [], ◌∷◌, length, take, drop, set, refl, ap, ◌∙◌, sym, arith}
 use Rattle.std.specs.Prelude.{All}
 use Rattle.std.specs.Int.{int_wrapping_add, w64}
 use Rattle.std.specs.Ordering.{int_eq}
@@ -7,7 +7,7 @@ use Rattle.std.proofs.Math.Seq.{take-set-lt}
 use Rattle.std.proofs.lemmas.List.{get_or-take}
 use Rattle.std.proofs.lemmas.List.Elements.{All-drop}
 use Rattle.std.specs.Prelude.{pos}
-use Rattle.guest_code.specs.Program.{Program, Thread as CodeThread, code_of, IsValueBelow, IsExpressionBelow, LocalsBelow}
+use Rattle.guest_code.specs.Program.{Program, code_of, IsValueBelow, IsExpressionBelow, LocalsBelow}
 use Rattle.guest_code.specs.declared.program.Value.{Value}
 use Rattle.guest_code.specs.declared.program.Value.TheVariants.{Local, Literal}
 use Rattle.guest_code.specs.declared.program.Expression.{Expression}
@@ -176,12 +176,3 @@ below_more m n (Set r e) l b = (omega (arith, l, b.0), expression_more m n e l b
 below_more m n (Assert e) l b = expression_more m n e l b
 below_more m n (SkipIfZero e k) l b = expression_more m n e l b
 below_more m n i l b = tt
-
-pub wide_enough : (ths : List CodeThread) (w k : ℕ)
-    → ((u : ℕ) → u < k → u < length ths → (d : CodeThread) → (get_or ths u d).locals ≤ w)
-    → length ths ≤ k
-    → All (λ th. All (LocalsBelow th.locals) th.code) ths
-    → All (λ th. All (LocalsBelow w) th.code) ths
-wide_enough ths w k few full own u d l j e m =
-    below_more (get_or ths u d).locals w (get_or (get_or ths u d).code j e)
-    (few u (omega arith) l d) (own u d l j e m)
