@@ -4,25 +4,24 @@ use Rattle.std.proofs.lemmas.Bool.{cases_order}
 use Rattle.std.specs.Option.{is_some}
 use Rattle.guest_code.specs.declared.program.Expression.{Expression}
 use Rattle.guest_code.specs.declared.program.Instruction.{Instruction}
-use Rattle.guest_code.specs.declared.program.Instruction.TheVariants.{Lock, Wait, Acquire, Set, Assert, SkipIfZero, Skip}
+use Rattle.guest_code.specs.declared.program.Instruction.TheVariants.{Lock, Acquire, Set, Assert, SkipIfZero, Skip}
 use Rattle.guest_code.specs.Program.{Program}
 use Rattle.semantics.specs.declared.mask.Mask.{Mask}
 use Rattle.semantics.specs.declared.state.Thread.{Thread}
-use Rattle.semantics.specs.declared.state.Status.{Status}
 use Rattle.semantics.specs.declared.state.Status.TheVariants.{Waiting}
 use Rattle.semantics.specs.declared.state.MutexAction.{MutexAction}
 use Rattle.semantics.specs.declared.state.MutexAction.TheVariants.{Lock as Locks, Unlock as Unlocks, Retake as Retakes}
 use Rattle.semantics.specs.declared.state.SemaphoreAction.TheVariants.{Acquire as Acquires}
 use Rattle.semantics.specs.declared.state.Action.{Action}
 use Rattle.semantics.specs.declared.state.Action.TheVariants.{OnMutex, OnSemaphore}
-use Rattle.semantics.specs.Machine.{Snapshot, thread_at, owner_of, can_do, is_free, missing_thread, action_of, retake_of}
-use Rattle.semantics.specs.Mask.{has, no_threads}
+use Rattle.semantics.specs.Machine.{Snapshot, thread_at, owner_of, can_do, is_free, missing_thread, action_of}
+use Rattle.semantics.specs.Mask.{has}
 use Rattle.semantics.specs.Ends.{is_stopped, is_ended}
 use Rattle.machine.specs.declared.control.Control.{Control}
 use Rattle.machine.specs.declared.local.Landing.{Landing}
 use Rattle.machine.specs.Refinement.{takes_mutex, takes_semaphore, is_woken, at_mutex, at_semaphore, held, next_at, HasObjects, HasThreadAt, IsControl}
 use Rattle.machine.specs.inner.LocalRuns.{IsLandingOf}
-use Rattle.machine.specs.inner.Parts.{IsIdle, IsApart, IsControlBut, LeavesOthers, IsMarked, Stands, Lands, IsTaking}
+use Rattle.machine.specs.inner.Parts.{IsIdle, IsApart, IsControlBut, LeavesOthers, IsMarked, Stands, Lands, IsTaking, IsPlain}
 use Rattle.machine.proofs.Lists.{set_has, set_there}
 
 and_true : (b : Bool) → (b && true) ≡ b
@@ -111,11 +110,6 @@ stands_at_semaphore s t k c near objects apart few here others = record {
 
 -- at neither
 
--- it takes nothing, and can be done or not
-abbrev pub IsPlain : Option Action → Bool → Type 0
-IsPlain a on = ((s : Snapshot) → on ≡ can_do (held s) a) × ((m : ℕ) → false ≡ takes_mutex m a)
-    × ((k : ℕ) → false ≡ takes_semaphore k a)
-
 pub stands_at_none : (s : Snapshot) (t : ℕ) (a : Option Action) (c : Control) (on : Bool)
     → HasObjects c s → IsApart c t → IsPlain a on → Stands c c s t a on
 stands_at_none s t a c on objects apart plain = record {
@@ -144,29 +138,6 @@ plain_else (Assert v) a b c d e f = absurd (d v refl)
 plain_else (SkipIfZero v n) a b c d e f = absurd (e v n refl)
 plain_else (Skip n) a b c d e f = absurd (f n refl)
 plain_else x a b c d e f = ((λ s. refl), (λ m. refl), (λ k. refl))
-
--- what a woken thread is at takes nothing where it is no `wait`
-pub no_retake : (x : Instruction) → ((n m : ℕ) → x ≡ Wait n m → ⊥) → retake_of x ≡ None
-no_retake (Wait n m) other = absurd (other n m refl)
-no_retake x other = refl
-
--- the marks of a status, and in no set else
-pub marked : (t : ℕ) (c d : Control) (status : Status) → IsIdle c t → LeavesOthers t c d
-    → ((s : Snapshot) → HasObjects c s → HasObjects d s)
-    → d.mutexes ≡ c.mutexes → d.semaphores ≡ c.semaphores
-    → has d.unended t ≡ not (is_ended status) → has d.stopped t ≡ is_stopped status
-    → has d.woken t ≡ is_woken status → IsMarked c d t status
-marked t c d status idle others objects ms ks a b e = record {
-  objects = objects;
-  others = others;
-  unended = a;
-  stopped = b;
-  woken = e;
-  apart = record {
-    mutexes = λ m. ap (λ ws. has (get_or ws m no_threads) t) ms ∙ idle.apart.mutexes m;
-    semaphores = λ k. ap (λ ws. has (get_or ws k no_threads) t) ks ∙ idle.apart.semaphores k;
-  };
-}
 
 -- all together
 

@@ -1,5 +1,5 @@
 -- What a thread does with those of its locals that are kept, and how many are enough.
-use Rattle.std.proofs.Common.{◌≡◌, ℕ, ℤ, zero, suc, ◌+◌, ◌<◌, ◌≤◌, true, false, cond, List, [], ◌∷◌, length, take, drop, get_or, set, refl, ap, ◌∙◌, sym, arith}
+use Rattle.std.proofs.Common.{◌≡◌, ℕ, ℤ, zero, suc, ◌+◌, ◌≤◌, true, false, cond, List, [], ◌∷◌, length, take, drop, set, refl, ap, ◌∙◌, sym, arith}
 use Rattle.std.specs.Prelude.{All}
 use Rattle.std.specs.Int.{int_wrapping_add, w64}
 use Rattle.std.specs.Ordering.{int_eq}
@@ -7,7 +7,7 @@ use Rattle.std.proofs.Math.Seq.{take-set-lt}
 use Rattle.std.proofs.lemmas.List.{get_or-take}
 use Rattle.std.proofs.lemmas.List.Elements.{All-drop}
 use Rattle.std.specs.Prelude.{pos}
-use Rattle.guest_code.specs.Program.{Program, Thread as CodeThread, code_of, IsValueBelow, IsExpressionBelow, LocalsBelow}
+use Rattle.guest_code.specs.Program.{Program, code_of, IsValueBelow, IsExpressionBelow, LocalsBelow}
 use Rattle.guest_code.specs.declared.program.Value.{Value}
 use Rattle.guest_code.specs.declared.program.Value.TheVariants.{Local, Literal}
 use Rattle.guest_code.specs.declared.program.Expression.{Expression}
@@ -110,8 +110,8 @@ pub ran_on : (p : Program) (s : Snapshot) (t : ℕ) (c : Control) (vars mine min
     (code : List Instruction) (q : IsPerformed p s t c vars mine Running) → pc
     ≡ (thread_at s t).pc → code ≡ code_of p t
     → All (LocalsBelow (length mine)) code
-    → own_thread at mine' ≡ run_from code (own_thread (record { pc = pc + 1; status = Running })
-    mine)
+    → own_thread at mine' ≡ run_from code
+    (own_thread (record { pc = pc + 1; status = Running; free = false }) mine)
     → own_thread at mine' ≡ narrow (length mine) (settled (code_of p t) Running q.th)
 ran_on p s t c vars mine mine' at pc code q here same below ran =
     ran ∙ ((λ i. local_run (drop (place i + 1) code) 0
@@ -127,16 +127,16 @@ ran_on p s t c vars mine mine' at pc code q here same below ran =
 pub stayed : (p : Program) (s : Snapshot) (t : ℕ) (c : Control) (vars mine : List ℤ) (pc : ℕ)
     (status : Status)
     (q : IsPerformed p s t c vars mine status) → pc ≡ (thread_at s t).pc → (status ≡ Running → ⊥)
-    → own_thread (record { pc = pc; status = status }) mine
+    → own_thread (record { pc = pc; status = status; free = false }) mine
     ≡ narrow (length mine) (settled (code_of p t) status q.th)
 stayed p s t c vars mine pc status q here stops = of status stops
   where
-    same : (w : Status) → own_thread (record { pc = pc; status = w }) mine
+    same : (w : Status) → own_thread (record { pc = pc; status = w; free = false }) mine
         ≡ narrow (length mine) (with_status q.th w)
     same w = λ i. record { pc = (here ∙ sym q.pc) i; locals = q.own i; status = w }
 
     of : (w : Status) → (w ≡ Running → ⊥)
-        → own_thread (record { pc = pc; status = w }) mine
+        → own_thread (record { pc = pc; status = w; free = false }) mine
         ≡ narrow (length mine) (settled (code_of p t) w q.th)
     of Running halts = absurd (halts refl)
     of Ended halts = same Ended
@@ -176,12 +176,3 @@ below_more m n (Set r e) l b = (omega (arith, l, b.0), expression_more m n e l b
 below_more m n (Assert e) l b = expression_more m n e l b
 below_more m n (SkipIfZero e k) l b = expression_more m n e l b
 below_more m n i l b = tt
-
-pub wide_enough : (ths : List CodeThread) (w k : ℕ)
-    → ((u : ℕ) → u < k → u < length ths → (d : CodeThread) → (get_or ths u d).locals ≤ w)
-    → length ths ≤ k
-    → All (λ th. All (LocalsBelow th.locals) th.code) ths
-    → All (λ th. All (LocalsBelow w) th.code) ths
-wide_enough ths w k few full own u d l j e m =
-    below_more (get_or ths u d).locals w (get_or (get_or ths u d).code j e)
-    (few u (omega arith) l d) (own u d l j e m)

@@ -50,13 +50,6 @@ count_at p k l = sym (get_or-map (λ s. s.count) p.semaphores k no_semaphore 0 l
 pub count_inside : (p : Program) (k : ℕ) → k < length p.semaphores → k < length (start p).counts
 count_inside p k l = omega (arith, l, length-map p.semaphores (λ s. s.count))
 
-pub all_counts : (p : Program) (cs : List ℕ) (k : ℕ)
-    → ((j : ℕ) → get_or cs j 0 ≡ get_or (take k (start p).counts) j 0) → length p.semaphores ≤ k
-    → (j : ℕ) → get_or cs j 0 ≡ get_or (start p).counts j 0
-all_counts p cs k same full j = same j
-    ∙ ap (λ (xs : List ℕ). get_or xs j 0) (take_all k (start p).counts
-    (omega (arith, full, length-map p.semaphores (λ s. s.count))))
-
 -- before any thread is there
 
 abbrev pub unbegun : Mask → List ℕ → Control

@@ -85,7 +85,7 @@ accessed p s t i c vars mine x d cell vars' mine' poised is below read wrote own
     th = thread_at s t
 
     nowhere : Landing
-    nowhere = record { pc = 0; status = Running }
+    nowhere = record { pc = 0; status = Running; free = false }
 
     old : cell ≡ value_of s x
     old = read ∙ ap (λ vs. get_or vs x (pos 0)) poised.variables

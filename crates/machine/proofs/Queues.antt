@@ -63,9 +63,6 @@ queued_first zero q l = absurd (omega arith)
 queued_first (suc n) q l = let e : suc n - 1 ≡ n = omega arith in
     rw e (ap (λ x. x ∷ queued n q) (sym (and_mask (q / 2 ^ (4 * n)) 4)))
 
-pub four_bits : (n : ℕ) → bit_and n 15 < 16
-four_bits n = rw (and_mask n 4) (mod_below n 16 (omega arith))
-
 -- a queue is another one
 pub requeued : (p : Program) (s : Snapshot) (t n : ℕ) (c : Control) (L : ℕ) (bits q : List ℕ)
     → IsControlBut p c s t → n < length s.queues → n < length c.lengths

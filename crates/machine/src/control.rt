@@ -11,7 +11,7 @@ ghost use Rattle.semantics.specs.Machine.{Snapshot, queue_of, count_of, next_of,
 ghost use Rattle.semantics.specs.Mask.{has};
 ghost use Rattle.machine.specs.Refinement.{queued, IsControl, HasObjects};
 ghost use Rattle.machine.specs.inner.LocalRuns.{IsLandingOf};
-ghost use Rattle.machine.specs.inner.Parts.{IsIdle, IsApart, IsControlBut, IsMarked, Stands, Lands, IsTaking};
+ghost use Rattle.machine.specs.inner.Parts.{IsFreeIn, IsIdle, IsApart, IsControlBut, IsMarked, Stands, Lands, IsTaking};
 ghost use Rattle.machine.specs.inner.Opening.{IsOpenedTo};
 
 mod steps;
@@ -270,11 +270,15 @@ impl Control {
     fn stand(&mut self, code: &[Instruction], thread: u8, at: Landing) -> bool
         requires thread { thread < THREADS }
         requires fine { (p : Program) × IsValidCode p code.now × IsWellFormed p }
+        requires free { IsFreeIn code.now at }
         ensures lengths { self.new.lengths ≡ self.old.lengths }
         ensures stands { (s : Snapshot) → HasObjects self.old s → IsApart self.old thread
             → Stands self.old self.new s thread
             (action_at at.status (slice_get code.now at.pc)) result }
     {
+        if at.free {
+            return true;
+        }
         match at.status {
             Status::Running => match code.get(at.pc) {
                 Some(instruction) => self.stand_running(instruction, thread),
@@ -294,6 +298,7 @@ impl Control {
         requires thread { thread < THREADS }
         requires fine { (p : Program) × IsValidCode p code.now × IsWellFormed p }
         requires pc { at.pc < 2 ^ 16 }
+        requires free { IsFreeIn code.now at }
         ensures lengths { self.new.lengths ≡ self.old.lengths }
         ensures lands { (p : Program) → (s : Snapshot) → (th : Thread) → HasObjects self.old s
             → IsIdle self.old thread → IsLandingOf at th → code.now ≡ code_of p thread
@@ -320,6 +325,7 @@ impl Control {
         let at = Landing {
             pc: self.places[thread as usize] as usize,
             status: Status::Woken,
+            free: false,
         };
         self.arrive(program.code(thread), thread, at);
     }

@@ -1,11 +1,12 @@
 //! What a thread does with its own locals, of which a slice is given.
 
-ghost use Rattle.std.specs.Prelude.{◌≡◌, ◌<◌, ◌≤◌, List, ℤ, length, IsTrue, IsFalse, All};
+ghost use Rattle.std.specs.Prelude.{◌≡◌, ◌<◌, ◌≤◌, List, ℤ, true, false, length, IsTrue, IsFalse, All};
 ghost use Rattle.guest_code.specs.Program.{IsValueBelow, IsExpressionBelow, LocalsBelow};
 ghost use Rattle.semantics.specs.declared.state.Status.TheVariants.{Running};
 ghost use Rattle.semantics.specs.Machine.{value_of_operand, value_of_expression, is_zero, is_expected, run_from, run_past, var_after, reader_after};
 ghost use Rattle.machine.specs.declared.local.Landing.{Landing};
 ghost use Rattle.machine.specs.inner.LocalRuns.{own_thread, IsAccessBelow};
+ghost use Rattle.machine.specs.inner.Parts.{IsFreeIn};
 
 use guest_code::program::{Expression, Instruction, Value};
 use semantics::of_both;
@@ -17,6 +18,8 @@ pub struct Landing {
     /// The number of the instruction; the length of the code where the thread ended.
     pub pc: usize,
     pub status: Status,
+    /// Its next step is known to be possible, and to take no mutex and acquire no semaphore.
+    pub free: bool,
 }
 
 // A local's value, or the number itself.
@@ -89,7 +92,7 @@ fn pass(code: &[Instruction], at: &mut Landing, skip: usize)
     requires pc { at.old.pc < length code.now }
     ensures pc { at.new.pc ≤ length code.now }
     ensures further { at.old.pc < at.new.pc }
-    ensures status { at.new.status ≡ at.old.status }
+    ensures same { at.new ≡ record at.old { pc = at.new.pc } }
     ensures run { (locals : List ℤ) → run_from code.now (own_thread at.new locals)
         ≡ run_past code.now (own_thread at.old locals) skip }
 {
@@ -103,9 +106,12 @@ fn turn(code: &[Instruction], own: &mut [i64], at: &mut Landing) -> bool
     requires below { All (LocalsBelow (length own.old)) code.now }
     requires pc { at.old.pc ≤ length code.now }
     requires running { at.old.status ≡ Running }
+    requires unknown { at.old.free ≡ false }
     ensures pc { at.new.pc ≤ length code.now }
     ensures further { IsTrue result → at.old.pc < at.new.pc }
     ensures running { IsTrue result → at.new.status ≡ Running }
+    ensures unknown { IsTrue result → at.new.free ≡ false }
+    ensures free { IsFreeIn code.now at.new }
     ensures same { IsTrue result → run_from code.now (own_thread at.new own.new)
         ≡ run_from code.now (own_thread at.old own.old) }
     ensures over { IsFalse result → own_thread at.new own.new
@@ -142,13 +148,15 @@ fn turn(code: &[Instruction], own: &mut [i64], at: &mut Landing) -> bool
         | Instruction::Store { .. }
         | Instruction::Add { .. }
         | Instruction::Cas { .. }
-        | Instruction::Lock(_)
         | Instruction::Unlock(_)
         | Instruction::Wait { .. }
         | Instruction::Signal(_)
         | Instruction::Broadcast(_)
-        | Instruction::Acquire(_)
-        | Instruction::Release(_) => false,
+        | Instruction::Release(_) => {
+            at.free = true;
+            false
+        }
+        Instruction::Lock(_) | Instruction::Acquire(_) => false,
     }
 }
 
@@ -159,12 +167,14 @@ pub fn run_own(code: &[Instruction], own: &mut [i64], from: usize) -> Landing
     requires below { All (LocalsBelow (length own.old)) code.now }
     requires pc { from ≤ length code.now }
     ensures pc { result.pc ≤ length code.now }
+    ensures free { IsFreeIn code.now result }
     ensures value { own_thread result own.new ≡ run_from code.now
-        (own_thread (record { pc = from; status = Running }) own.old) }
+        (own_thread (record { pc = from; status = Running; free = false }) own.old) }
 {
     let mut at = Landing {
         pc: from,
         status: Status::Running,
+        free: false,
     };
     let mut running = true;
     while running {

@@ -78,6 +78,7 @@ impl Machine {
         let at = Landing {
             pc: state.pc(thread),
             status: state.status(thread),
+            free: false,
         };
         self.control.arrive(program.code(thread), thread, at);
         Ok(())

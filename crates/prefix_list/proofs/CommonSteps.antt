@@ -1,8 +1,10 @@
 -- How many steps two prefixes begin with alike.
-use Rattle.std.proofs.Common.{◌≡◌, ℕ, zero, suc, ◌+◌, ◌-◌, ◌<◌, ◌≤◌, Bool, true, false, cond, nat_eq, List, [], ◌∷◌, ◌++◌, length, get_or, take, drop, refl, ap, sym, ◌∙◌, arith}
+use Rattle.std.proofs.Common.{◌≡◌, ℕ, zero, suc, ◌+◌, ◌-◌, ◌<◌, ◌≤◌, Bool, true, false, cond, nat_eq, List, [], ◌∷◌, ◌++◌, length, get_or, take, drop, refl, ap, sym, ◌∙◌, subst, arith, inl, inr}
+use Rattle.std.proofs.lemmas.Bool.{cases_lt}
 use Rattle.std.proofs.lemmas.Bool.Decides.{nat_tests}
-use Rattle.std.proofs.lemmas.List.{take_rest}
-use Rattle.prefix_list.specs.inner.Packed.{before, tail_of, start_of, end_of, dropped_of}
+use Rattle.std.proofs.lemmas.List.{take_rest, length-take, length-take-le, length-drop, get_or-take, get_or-drop, get_or_past}
+use Rattle.std.proofs.lemmas.Nat.{le_bytes_8}
+use Rattle.prefix_list.specs.inner.Packed.{number_at, before, tail_of, start_of, end_of, dropped_of}
 use Rattle.prefix_list.specs.PrefixLists.{common_length}
 
 pub common_is : (n : ℕ) (a b : List ℕ) → n ≤ length a → n ≤ length b → take n a ≡ take n b →
@@ -21,6 +23,28 @@ common_is (suc n) (x ∷ p) (y ∷ w) la lb e d =
     (λ i. cond (same i) (suc (common_length p w)) 0)
     ∙ ap (λ m. suc m) (common_is n p w (omega arith) (omega arith) tail
     (λ g h f. d (omega arith) (omega arith) f))
+
+-- what is cut out of bytes are bytes
+inside : (m n : ℕ) (c : List ℕ) → ((i : ℕ) → get_or c i 0 < 256) → (i : ℕ)
+    → get_or (take m (drop n c)) i 0 < 256
+inside m n c f i = elim (cases_lt i m) [
+  | inl l ↦ subst (λ x. x < 256) (sym (get_or-take m (drop n c) i 0 l ∙ get_or-drop n c i 0))
+      (f (n + i))
+  | inr l ↦ subst (λ x. x < 256) (sym (get_or_past (take m (drop n c)) i 0
+      (omega (arith, l, length-take m (drop n c))))) (omega arith)
+]
+
+-- eight bytes of each of two lists, read as the same number, are the same
+pub same_eight : (n : ℕ) (a b : List ℕ) → n + 8 ≤ length a → n + 8 ≤ length b
+    → ((i : ℕ) → get_or a i 0 < 256) → ((i : ℕ) → get_or b i 0 < 256)
+    → number_at n a ≡ number_at n b → take 8 (drop n a) ≡ take 8 (drop n b)
+unfolding number_at
+same_eight n a b la lb fa fb e =
+    sym (le_bytes_8 (take 8 (drop n a)) _ (long a la) (inside 8 n a fa) refl)
+    ∙ le_bytes_8 (take 8 (drop n b)) _ (long b lb) (inside 8 n b fb) e
+  where
+    long : (c : List ℕ) → n + 8 ≤ length c → length (take 8 (drop n c)) ≡ 8
+    long c l = length-take-le 8 (drop n c) (omega (arith, l, length-drop n c))
 
 -- prefixes that are alike to the end of both are equal
 pub same_where : (a b : List ℕ) → common_length a b ≡ length a → length a ≡ length b → a ≡ b

@@ -240,11 +240,6 @@ pub packed_before : (n : ℕ) (b last first : List ℕ) (l : ℕ) → IsPacked n
 packed_before n b last first l (inl e) more = absurd (omega arith)
 packed_before n b last first l (inr s) more = before_short n b last first l s
 
-pub packed_short : (n : ℕ) (b last first : List ℕ) (l : ℕ) → IsPacked n b last first l → 0 < n
-    → length last ≤ l
-packed_short n b last first l (inl e) more = absurd (omega arith)
-packed_short n b last first l (inr s) more = stack_short n b last first l s
-
 pub packed_stack : (n : ℕ) (b last first : List ℕ) (l : ℕ) → IsPacked n b last first l → 0 < n
     → IsStack n b last first l
 packed_stack n b last first l (inl e) more = absurd (omega arith)

@@ -1,5 +1,5 @@
 -- Lists of prefixes.
-use Rattle.std.specs.Prelude.{ℕ, zero, suc, ◌-◌, if◌then◌else◌, nat_eq, List, [], ◌∷◌, length, slice_index_or}
+use Rattle.std.specs.Prelude.{ℕ, suc, ◌-◌, if◌then◌else◌, nat_eq, List, [], ◌∷◌, length, slice_index_or}
 
 -- the last of these prefixes; the empty one where there is none
 abbrev pub last_of : List (List ℕ) → List ℕ

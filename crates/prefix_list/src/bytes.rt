@@ -5,6 +5,29 @@ ghost use Rattle.prefix_list.specs.PrefixLists.{common_length};
 
 use std::alloc::AllocError;
 
+// Whether two prefixes have the same eight steps from a place on.
+fn has_same_eight(a: &[u8], b: &[u8], at: usize) -> bool
+    requires in_a { at + 8 ≤ length a.now }
+    requires in_b { at + 8 ≤ length b.now }
+    ensures { IsTrue result → take 8 (drop at a.now) ≡ take 8 (drop at b.now) }
+{
+    number(a, at) == number(b, at)
+}
+
+// A number of steps that two prefixes begin with alike, found eight by eight.
+fn shared_eights(a: &[u8], b: &[u8]) -> usize
+    ensures in_a { result ≤ length a.now }
+    ensures in_b { result ≤ length b.now }
+    ensures alike { take result a.now ≡ take result b.now }
+{
+    let most = a.len().min(b.len());
+    let mut n = 0;
+    while 8 <= most - n && has_same_eight(a, b, n) {
+        n += 8;
+    }
+    n
+}
+
 /// How many steps two prefixes begin with alike.
 pub fn shared_length(a: &[u8], b: &[u8]) -> usize
     ensures in_a { result ≤ length a.now }
@@ -13,7 +36,7 @@ pub fn shared_length(a: &[u8], b: &[u8]) -> usize
     ensures all { result ≡ common_length a.now b.now }
 {
     let most = a.len().min(b.len());
-    let mut n = 0;
+    let mut n = shared_eights(a, b);
     while n < most && a[n] == b[n] {
         n += 1;
     }
@@ -25,7 +48,7 @@ pub fn shared_length(a: &[u8], b: &[u8]) -> usize
 pub fn is_one_longer(prefix: &Vec<u8>, steps: usize) -> bool
     ensures { IsTrue result → vec_len prefix.now ≡ steps + 1 }
 {
-    steps < prefix.len() && prefix.len() - steps == 1
+    !prefix.is_empty() && prefix.len() - 1 == steps
 }
 
 // Whether there is room for two more bytes.

@@ -1,13 +1,13 @@
 -- How a sum is joined with that of a single item: one schedule more, or none.
-use Rattle.std.proofs.Common.{◌≡◌, ℕ, ◌+◌, ◌<◌, ◌≤◌, Bool, true, false, cond, ◌||◌, List, [], ◌∷◌, Some, refl, ap, ◌∙◌, arith}
+use Rattle.std.proofs.Common.{◌≡◌, ℕ, ◌+◌, ◌≤◌, Bool, true, false, cond, ◌||◌, List, [], ◌∷◌, Some, refl, ap, ◌∙◌, arith}
 use Rattle.std.proofs.Math.Bool.{or-false}
 use Rattle.guest_code.specs.Program.{Program}
-use Rattle.semantics.specs.View.{View, is_bad}
+use Rattle.semantics.specs.View.{is_bad}
 use Rattle.schedules.specs.Order.{end_of, lesser, least}
 use Rattle.summary.specs.Summaries.{SummaryView, IsSummary, nothing, cut, greatest_count, is_failed, is_stuck, end_kind, with_view, sum_of, join, with_beyond, added, counted_if}
 use Rattle.summary.proofs.LesserSchedules.{lesser_none}
 use Rattle.summary.proofs.SortedViews.{sorted_views-push, sorted_already}
-use Rattle.summary.proofs.SumsJoin.{join_nothing, cut_below}
+use Rattle.summary.proofs.SumsJoin.{join_nothing}
 
 -- no schedule, and whether some go past the bound
 pub join_past : (a : SummaryView) (past : Bool) → IsSummary a →
@@ -38,9 +38,3 @@ join_leaf p a w h = λ i. record {
         ≡ cond b (lesser a.first_bad (Some w)) a.first_bad
     first true = refl
     first false = lesser_none a.first_bad
-
--- so the count of what was tried goes up by one
-pub tried_one : (a : SummaryView) (w : List ℕ) (v : View) → a.tried < greatest_count →
-    (added a w v).tried ≡ a.tried + 1
-unfolding added
-tried_one a w v h = cut_below (a.tried + 1) (omega (arith, h))

@@ -1,7 +1,7 @@
 -- Sums of lists of schedules: a list followed by another has the join of their sums, and what each
 -- sum keeps.
-use Rattle.std.proofs.Common.{◌≡◌, ◌↔◌, ◌⊎◌, ℕ, ◌+◌, ◌≤◌, ◌<◌, inl, inr, ⊎_elim, Bool, true, false, cond, ◌||◌, nat_lt, List, [], ◌∷◌, ◌++◌, length, map, Option, Some, None, is_some, refl, ap, ◌∙◌, sym, subst, arith, length-append, zero-add}
-use Rattle.std.proofs.lemmas.List.{map-append, append-nil, append_assoc}
+use Rattle.std.proofs.Common.{◌≡◌, ◌↔◌, ◌⊎◌, ℕ, ◌+◌, ◌≤◌, ◌<◌, inl, inr, ⊎_elim, Bool, true, false, cond, ◌||◌, nat_lt, List, [], ◌∷◌, ◌++◌, length, map, Option, Some, None, is_some, refl, ap, ◌∙◌, sym, subst, arith, length-append}
+use Rattle.std.proofs.lemmas.List.{map-append, append-nil}
 use Rattle.std.proofs.lemmas.List.Elements.{filter-append}
 use Rattle.std.proofs.lemmas.List.Sums.{sum_by-append, length-filter}
 use Rattle.std.proofs.lemmas.Bool.{cases_lt}
@@ -16,7 +16,7 @@ use Rattle.semantics.specs.View.{View, view_cmp, is_bad}
 use Rattle.schedules.specs.Order.{end_of, lesser, least, precedes}
 use Rattle.summary.specs.Summaries.{SummaryView, IsSummary, nothing, cut, greatest_count, is_failed, is_stuck, end_kind, with_view, sorted_views, sum_of, join, with_beyond, added, counted_if, first_bad_with}
 use Rattle.summary.proofs.LesserSchedules.{lesser_assoc, lesser_comm, lesser_none, least-append}
-use Rattle.summary.proofs.SortedViews.{sorted_views-append, sorted_views-comm, sorted_views-assoc, sorted_views-push, sorted_views-sorted, sorted_already, with_view-sorted, sorted_views-members, sorted_views-either}
+use Rattle.summary.proofs.SortedViews.{sorted_views-append, sorted_views-comm, sorted_views-assoc, sorted_views-sorted, sorted_already, with_view-sorted, sorted_views-members, sorted_views-either}
 
 cut_add : (a b : ℕ) → cut (a + b) ≡ cut (cut a + cut b)
 cut_add a b = omega arith

@@ -5,6 +5,7 @@ use Rattle.std.proofs.Common.{not, ◌&&◌, nat_eq, List, [], ◌∷◌, ◌++�
 use Rattle.std.proofs.Common.{Some, None, Option, refl, ap, ◌∙◌, sym, subst}
 use Rattle.std.proofs.Common.{arith, inl, inr}
 use Rattle.std.proofs.Math.Nat.{mul-le-mul_right}
+use Rattle.std.proofs.Math.Path.{transport}
 use Rattle.std.proofs.lemmas.Bool.{cases_order}
 use Rattle.std.proofs.lemmas.Bool.Decides.{nat_tests}
 use Rattle.std.proofs.lemmas.List.{drop-take, length-append, length-take-le, get_or-take, take-take}
@@ -36,10 +37,6 @@ take_front (suc n) [] ys l = absurd (omega arith)
 take_front (suc n) (x ∷ xs) ys l = ap (λ zs. x ∷ zs) (take_front n xs ys (omega arith))
 
 -- the words
-
-pub front_kept : (n : ℕ) (old mid : List ℤ) (z : ℤ) → ((m : ℕ) → m ≤ n → take m mid ≡ take m old)
-    → n ≤ length mid → (m : ℕ) → m ≤ n → take m (mid ++ z ∷ []) ≡ take m old
-front_kept n old mid z same room m l = take_front m mid (z ∷ []) (omega arith) ∙ same m l
 
 pub chunk_same : (size k n : ℕ) (new old : List ℤ) → k < n
     → ((m : ℕ) → m ≤ n * size → take m new ≡ take m old) → words_at size new k ≡ words_at size old k
@@ -101,29 +98,17 @@ pub path_gone : (p : Program) (old new : Path) (t : ℕ) → IsPath p old → 0 
 path_gone p old new t h some enabled used steps last shows values fixed width size frames words
     room = record {
       well_formed = h.well_formed;
-      reaches = subst (λ w. ReachesNode p w new.node) (sym steps)
-          (subst (λ o. Reaches p (w ++ t ∷ [])
-          (record { state = state_at p (w ++ t ∷ []); last = o; preemptions = new.node.used }))
-          (sym last)
-          (reaches_parts p w _ t (state_at p (w ++ t ∷ [])) new.node.used h.reaches enabled
-          push used));
-      shows = subst (λ w. Shows p new.machine (state_at p w)) (sym steps)
-          (subst (Shows p new.machine) (sym push) shows);
+      reaches = transport (λ i. Reaches p (sym steps i) (record {
+        state = state_at p (sym steps i);
+        last = sym last i;
+        preemptions = new.node.used;
+      })) (reaches_parts p w _ t (state_at p (w ++ t ∷ [])) new.node.used h.reaches enabled push used);
+      shows = subst (Shows p new.machine) (sym (ap (state_at p) steps ∙ push)) shows;
       size = size ∙ (h.size ∙ sym values);
-      frames = subst (λ v. AreCopies p v new.machine.fixed new.machine.width new.size
-          (used_frames new) new.words.items) (sym steps)
-          (subst (λ n. AreCopies p (w ++ t ∷ []) n new.machine.width new.size (used_frames new)
-          new.words.items) (sym fixed)
-          (subst (λ n. AreCopies p (w ++ t ∷ []) old.machine.fixed n new.size (used_frames new)
-          new.words.items) (sym width)
-          (subst (λ n. AreCopies p (w ++ t ∷ []) old.machine.fixed old.machine.width n
-          (used_frames new) new.words.items) (sym size)
-          (subst (λ fs. AreCopies p (w ++ t ∷ []) old.machine.fixed old.machine.width old.size fs
-          new.words.items) (sym frames)
-          (subst (λ ws. AreCopies p (w ++ t ∷ []) old.machine.fixed old.machine.width old.size
-          (used_frames old) ws) (sym words)
+      frames = transport (λ i. AreCopies p (sym steps i) (sym fixed i) (sym width i) (sym size i)
+          (sym frames i) (sym words i))
           (copies_go p w t old.machine.fixed old.machine.width old.size (used_frames old)
-          old.words.items h.frames some))))));
+          old.words.items h.frames some);
       room = room;
       count = length-take-le new.depth new.frames.items room;
     }
@@ -158,75 +143,63 @@ stays p s t n = let e : nat_eq t t ≡ true = grind (arith, nat_tests) in
 -- back to the last frame
 
 pub copies_leave : (p : Program) (w : List ℕ) (fixed width size : ℕ) (fs : List Frame)
-    (ws : List ℤ) (n : ℕ) → AreCopies p w fixed width size fs ws → n < length fs
-    → AreCopies p (take (frame_at fs n).steps w) fixed width size (take n fs) ws
-copies_leave p w fixed width size fs ws n h long = record {
+    (ws : List ℤ) (n m : ℕ) → AreCopies p w fixed width size fs ws → n < length fs → n ≤ m
+    → m ≤ n + 1 → AreCopies p (take (frame_at fs n).steps w) fixed width size (take m fs) ws
+copies_leave p w fixed width size fs ws n m h long low high = record {
   each = λ k l. let b = below k l in
       subst (λ (g : Frame). IsCopy p (take g.steps (take (frame_at fs n).steps w)) fixed width g
       (words_at size ws k)) (sym (same k b))
       (subst (λ v. IsCopy p v fixed width (frame_at fs k) (words_at size ws k))
       (sym (take-take (frame_at fs k).steps (frame_at fs n).steps w
-      (h.rising k n (omega arith) (omega (arith, long)))))
-      (h.each k (omega (arith, b, long))));
+      (h.rising k n (omega (arith, b, high)) (omega (arith, long)))))
+      (h.each k (omega (arith, b, long, high))));
   within = λ k l. let b = below k l in
       subst (λ (g : Frame). g.steps ≤ length (take (frame_at fs n).steps w)) (sym (same k b))
-      (let r = h.rising k n (omega arith) (omega (arith, long)) in
+      (let r = h.rising k n (omega (arith, b, high)) (omega (arith, long)) in
       let e = length-take-le (frame_at fs n).steps w (h.within n (omega (arith, long))) in
       omega (arith, r, e));
   rising = λ j k le l. let b = below k l in
-      subst (λ (g : Frame). (frame_at (take n fs) j).steps ≤ g.steps) (sym (same k b))
+      subst (λ (g : Frame). (frame_at (take m fs) j).steps ≤ g.steps) (sym (same k b))
       (subst (λ (g : Frame). g.steps ≤ (frame_at fs k).steps) (sym (same j (omega arith)))
-      (h.rising j k le (omega (arith, b, long))));
+      (h.rising j k le (omega (arith, b, long, high))));
   first = λ l. ap (λ (g : Frame). g.steps) (same 0 (below 0 l)) ∙ h.first (omega (arith, long));
-  bottom = λ e. let z : n ≡ 0 = sym many ∙ e in
+  bottom = λ e. let z : n ≡ 0 = omega (arith, many, e, low) in
       ap (λ k. take (frame_at fs k).steps w) z ∙ ap (λ k. take k w) (h.first (omega (arith, long)));
-  room = let r = h.room in let m : n * size ≤ length fs * size =
-      mul-le-mul_right size (omega (arith, long)) in
-      let e : length (take n fs) * size ≡ n * size = ap (λ k. k * size) many in
-      omega (arith, r, m, e);
+  room = let r = h.room in let l : m * size ≤ length fs * size =
+      mul-le-mul_right size (omega (arith, long, high)) in
+      let e : length (take m fs) * size ≡ m * size = ap (λ k. k * size) many in
+      omega (arith, r, l, e);
 }
   where
-    many : length (take n fs) ≡ n
-    many = length-take-le n fs (omega (arith, long))
+    many : length (take m fs) ≡ m
+    many = length-take-le m fs (omega (arith, long, high))
 
-    below : (k : ℕ) → k < length (take n fs) → k < n
+    below : (k : ℕ) → k < length (take m fs) → k < m
     below k l = omega (arith, l, many)
 
-    same : (k : ℕ) → k < n → frame_at (take n fs) k ≡ frame_at fs k
-    same k l = get_or-take n fs k no_frame l
+    same : (k : ℕ) → k < m → frame_at (take m fs) k ≡ frame_at fs k
+    same k l = get_or-take m fs k no_frame l
 
-pub path_left : (p : Program) (old new : Path) (n : ℕ) (f : Frame) → IsPath p old
-    → n < length (used_frames old)
+pub path_left : (p : Program) (old new : Path) (n m : ℕ) (f : Frame) → IsPath p old
+    → n < length (used_frames old) → n ≤ m → m ≤ n + 1
     → f ≡ frame_at (used_frames old) n → new.steps.items ≡ take f.steps old.steps.items
     → new.node ≡ f.node → Shows p new.machine (state_at p (take f.steps old.steps.items))
     → length new.machine.values.items ≡ length old.machine.values.items
     → new.machine.fixed ≡ old.machine.fixed
     → new.machine.width ≡ old.machine.width → new.size ≡ old.size
-    → (used_frames new) ≡ take n (used_frames old)
+    → (used_frames new) ≡ take m (used_frames old)
     → new.words.items ≡ old.words.items → new.depth ≤ length new.frames.items → IsPath p new
-path_left p old new n f h long e steps node shows values fixed width size frames words room =
+path_left p old new n m f h long low high e steps node shows values fixed width size frames words room =
     record {
       well_formed = h.well_formed;
-      reaches = subst (λ v. ReachesNode p v new.node) (sym here)
-          (subst (λ m. ReachesNode p w m) (sym (node ∙ ap (λ (g : Frame). g.node) e))
-          (h.frames.each n long).reaches);
+      reaches = transport (λ i. ReachesNode p (sym here i)
+          (sym (node ∙ ap (λ (g : Frame). g.node) e) i)) (h.frames.each n long).reaches;
       shows = subst (λ v. Shows p new.machine (state_at p v)) (sym steps) shows;
       size = size ∙ (h.size ∙ sym values);
-      frames = subst (λ v. AreCopies p v new.machine.fixed new.machine.width new.size
-          (used_frames new) new.words.items) (sym here)
-          (subst (λ k. AreCopies p w k new.machine.width new.size (used_frames new) new.words.items)
-          (sym fixed)
-          (subst (λ k. AreCopies p w old.machine.fixed k new.size (used_frames new) new.words.items)
-          (sym width)
-          (subst (λ k. AreCopies p w old.machine.fixed old.machine.width k (used_frames new)
-          new.words.items) (sym size)
-          (subst (λ fs. AreCopies p w old.machine.fixed old.machine.width old.size fs
-          new.words.items)
-          (sym frames)
-          (subst (λ ws. AreCopies p w old.machine.fixed old.machine.width old.size
-          (take n (used_frames old)) ws) (sym words)
+      frames = transport (λ i. AreCopies p (sym here i) (sym fixed i) (sym width i) (sym size i)
+          (sym frames i) (sym words i))
           (copies_leave p old.steps.items old.machine.fixed old.machine.width old.size
-          (used_frames old) old.words.items n h.frames long))))));
+          (used_frames old) old.words.items n m h.frames long low high);
       room = room;
       count = length-take-le new.depth new.frames.items room;
     }
@@ -305,22 +278,15 @@ pub path_words : (p : Program) (old new : Path) → IsPath p old → new.steps.i
     new.words.items → new.depth ≤ length new.frames.items → IsPath p new
 path_words p old new h steps last used machine size frames room = record {
   well_formed = h.well_formed;
-  reaches = subst (λ w. ReachesNode p w new.node) (sym steps)
-      (subst (λ o. Reaches p old.steps.items
-      (record { state = state_at p old.steps.items; last = o; preemptions = new.node.used }))
-      (sym last)
-      (subst (λ u. Reaches p old.steps.items
-      (record { state = state_at p old.steps.items; last = old.node.last; preemptions = u }))
-      (sym used) h.reaches));
-  shows = subst (λ w. Shows p new.machine (state_at p w)) (sym steps)
-      (subst (λ m. Shows p m (state_at p old.steps.items)) (sym machine) h.shows);
+  reaches = transport (λ i. Reaches p (sym steps i) (record {
+    state = state_at p (sym steps i);
+    last = sym last i;
+    preemptions = sym used i;
+  })) h.reaches;
+  shows = transport (λ i. Shows p (sym machine i) (state_at p (sym steps i))) h.shows;
   size = size ∙ (h.size ∙ ap (λ (m : Machine). length m.values.items) (sym machine));
-  frames = subst (λ v. AreCopies p v new.machine.fixed new.machine.width new.size (used_frames new)
-      new.words.items) (sym steps)
-      (subst (λ (m : Machine). AreCopies p old.steps.items m.fixed m.width new.size
-      (used_frames new) new.words.items) (sym machine)
-      (subst (λ k. AreCopies p old.steps.items old.machine.fixed old.machine.width k
-      (used_frames new) new.words.items) (sym size) frames));
+  frames = transport (λ i. AreCopies p (sym steps i) (sym machine i).fixed (sym machine i).width
+      (sym size i) (used_frames new) new.words.items) frames;
   room = room;
   count = length-take-le new.depth new.frames.items room;
 }
@@ -341,10 +307,8 @@ copies_open p w fixed width size fs ws new f h steps copy same long = record {
         (words_at size new (length fs))) (sym last)
         (subst (λ v. IsCopy p v fixed width f (words_at size new (length fs)))
         (sym (ap (λ j. take j w) steps ∙ take-length w)) copy))
-    | inr (inl a) ↦ subst (λ (g : Frame). IsCopy p (take g.steps w) fixed width g
-        (words_at size new k)) (sym (before k a))
-        (subst (λ xs. IsCopy p (take (frame_at fs k).steps w) fixed width (frame_at fs k) xs)
-        (sym (chunk_same size k (length fs) new ws a same)) (h.each k a))
+    | inr (inl a) ↦ transport (λ i. IsCopy p (take (sym (before k a) i).steps w) fixed width
+        (sym (before k a) i) (sym (chunk_same size k (length fs) new ws a same) i)) (h.each k a)
     | inr (inr a) ↦ absurd (omega (arith, l, a, many))
   ];
   within = λ k l. elim (cases_order k (length fs)) [
@@ -449,12 +413,8 @@ copies_opened p old f new h steps node control same long words =
     copies_open p old.steps.items old.machine.fixed old.machine.width old.size (used_frames old)
     old.words.items new f h.frames steps (record {
       reaches = subst (λ m. ReachesNode p old.steps.items m) (sym node) h.reaches;
-      shows = subst (λ c. IsState p old.machine.fixed old.machine.width c
-          (words_at old.size new (length (used_frames old)))
-          (state_at p old.steps.items)) (sym control)
-          (subst (λ xs. IsState p old.machine.fixed old.machine.width old.machine.control xs
-          (state_at p old.steps.items))
-          (sym words) h.shows);
+      shows = transport (λ i. IsState p old.machine.fixed old.machine.width (sym control i)
+          (sym words i) (state_at p old.steps.items)) h.shows;
     }) same long
 
 pub path_opened : (p : Program) (old new : Path) (f : Frame) (q : ℕ) (I mine : List ℤ)
@@ -495,10 +455,8 @@ pub path_same : (p : Program) (old new : Path) → IsPath p old → new.steps.it
     → new.depth ≤ length new.frames.items → IsPath p new
 path_same p old new h steps last used machine size frames words room = path_words p old new h steps
     last used machine size
-    (subst (λ fs. AreCopies p old.steps.items old.machine.fixed old.machine.width old.size fs
-    new.words.items) (sym frames)
-    (subst (λ ws. AreCopies p old.steps.items old.machine.fixed old.machine.width old.size
-    (used_frames old) ws) (sym words) h.frames)) room
+    (transport (λ i. AreCopies p old.steps.items old.machine.fixed old.machine.width old.size
+    (sym frames i) (sym words i)) h.frames) room
 
 -- nothing is to be tried at the node
 pub open_done : (mode : Mode) (p : Program) (t : Path) → members_from t.node.todo 0 ≡ []

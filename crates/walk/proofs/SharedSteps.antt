@@ -6,13 +6,6 @@ use Rattle.walk.specs.declared.found.Found.{Found}
 use Rattle.prefix_list.specs.PrefixLists.{last_of}
 use Rattle.walk.specs.inner.WalkerInvariant.{IsShared}
 
--- nothing is put off yet
-pub shared_none : (w : List ℕ) (f : Found) → f.shared ≡ 0 → IsShared w f
-shared_none w f e = record {
-  fits = omega (arith, e);
-  same = (λ i. take (e i) (last_of f.deferred)) ∙ sym (λ i. take (e i) w);
-}
-
 -- the same of the same steps
 pub shared_same : (w v : List ℕ) (f : Found) → IsShared w f → v ≡ w → IsShared v f
 shared_same w v f h e = subst (λ (x : List ℕ). IsShared x f) (sym e) h

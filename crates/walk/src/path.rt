@@ -177,12 +177,13 @@ impl Path {
         Ok(())
     }
 
-    /// Goes back to the node of a frame, which is one no more.
+    /// Goes back to the node of a frame, which is one no more; it may be taken as one again.
     #[inline(always)]
     pub fn leave(&mut self, _program: &Program, depth: usize)
         requires path { IsPath _program.now self.old }
         requires frame { depth < self.old.depth }
         ensures path { IsPath _program.now self.new }
+        ensures again { IsPath _program.now (record self.new { depth = depth + 1 }) }
         ensures steps { self.new.steps.items
             ≡ take (length self.new.steps.items) self.old.steps.items }
         ensures few { length self.new.steps.items ≤ (frame_at self.old.frames.items depth).steps }
@@ -244,10 +245,13 @@ impl Path {
         Ok(())
     }
 
-    // Goes back to the node of the last frame to which so many steps lead, or fewer.
+    // Goes back to the node of the last frame to which so many steps lead, or fewer. It keeps the
+    // frame.
     fn go_back(&mut self, program: &Program, count: usize)
         requires path { IsPath program.now self.old }
+        requires frames { 0 < self.old.depth }
         ensures path { IsPath program.now self.new }
+        ensures frames { 0 < self.new.depth }
         ensures few { length self.new.steps.items ≤ count }
         ensures steps { self.new.steps.items
             ≡ take (length self.new.steps.items) self.old.steps.items }
@@ -260,6 +264,32 @@ impl Path {
             depth -= 1;
         }
         self.leave(program, depth);
+        self.depth = depth + 1;
+    }
+
+    // Takes the step of a schedule at this place. The node after it gets a frame, unless it is the
+    // last.
+    fn go_along(
+        &mut self,
+        program: &Program,
+        schedule: &[u8],
+        place: usize,
+    ) -> Result<(), AllocError>
+        requires path { IsPath program.now self.old }
+        requires frames { 0 < self.old.depth }
+        requires place { place < length schedule.now }
+        requires steps { self.old.steps.items ≡ take place schedule.now }
+        requires runs { runs program.now (start program.now) schedule.now ≡ true }
+        ensures path { IsPath program.now self.new }
+        ensures frames { OnOk result (0 < self.new.depth) }
+        ensures steps { OnOk result (self.new.steps.items ≡ take (place + 1) schedule.now) }
+    {
+        self.go(program, schedule[place], Mask::empty())?;
+        if place + 1 < schedule.len() {
+            self.open(program)
+        } else {
+            Ok(())
+        }
     }
 
     /// Goes to where a schedule leads: back to what it shares with the steps so far, and then on.
@@ -271,13 +301,16 @@ impl Path {
         requires path { IsPath program.now self.old }
         requires runs { runs program.now (start program.now) schedule.now ≡ true }
         ensures path { IsPath program.now self.new }
+        ensures frames { OnOk result (0 < self.new.depth) }
         ensures steps { OnOk result (self.new.steps.items ≡ schedule.now) }
     {
+        if self.depth == 0 {
+            self.open(program)?;
+        }
         let shared = shared_length(self.steps.as_slice(), schedule);
         self.go_back(program, shared);
         for place in self.steps.len()..schedule.len() {
-            self.open(program)?;
-            self.go(program, schedule[place], Mask::empty())?;
+            self.go_along(program, schedule, place)?;
         }
         Ok(())
     }

@@ -546,9 +546,6 @@ impl Path {
         ensures todo { OnOk result (self.new.node.todo ≡ no_threads) }
     {
         self.go_to(item.program(), item.prefix())?;
-        if self.depth == 0 {
-            self.open(item.program())?;
-        }
         self.node.asleep = item.mask();
         self.node.todo = Mask::empty();
         self.base = self.depth;

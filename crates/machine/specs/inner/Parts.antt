@@ -1,16 +1,18 @@
 -- Parts of a step: a thread leaves its place, objects change, and it is put where it is then.
-use Rattle.std.specs.Prelude.{◌≡◌, ◌≢◌, ℕ, Bool, true, false, not, List, slice_index_or, Option}
+use Rattle.std.specs.Prelude.{◌≡◌, ◌≢◌, ℕ, Bool, true, false, not, List, slice_get, slice_index_or, Option}
 use Rattle.semantics.specs.declared.mask.Mask.{Mask}
 use Rattle.guest_code.specs.Program.{Program}
+use Rattle.guest_code.specs.declared.program.Instruction.{Instruction}
 use Rattle.semantics.specs.declared.state.Thread.{Thread}
 use Rattle.semantics.specs.declared.state.Status.{Status}
 use Rattle.semantics.specs.declared.state.Action.{Action}
 use Rattle.semantics.specs.declared.state.MutexAction.{MutexAction}
 use Rattle.semantics.specs.declared.state.MutexAction.TheVariants.{Lock as Locks, Unlock as Unlocks, Retake as Retakes}
-use Rattle.semantics.specs.Machine.{Snapshot, thread_at, can_do}
+use Rattle.semantics.specs.Machine.{Snapshot, thread_at, can_do, action_at}
 use Rattle.semantics.specs.Mask.{has, no_threads}
 use Rattle.semantics.specs.Ends.{is_stopped, is_ended}
 use Rattle.machine.specs.declared.control.Control.{Control}
+use Rattle.machine.specs.declared.local.Landing.{Landing}
 use Rattle.machine.specs.Refinement.{is_woken, takes_mutex, takes_semaphore, at_mutex, at_semaphore, held, HasObjects, HasThreadAt}
 
 -- thread t is at no mutex and no semaphore
@@ -82,3 +84,12 @@ abbrev pub IsTaking : MutexAction → Type 0
 IsTaking Locks = Unit {0}
 IsTaking Retakes = Unit {0}
 IsTaking Unlocks = ⊥
+
+-- the step takes nothing, and can be done or not
+abbrev pub IsPlain : Option Action → Bool → Type 0
+IsPlain a on = ((s : Snapshot) → on ≡ can_do (held s) a) × ((m : ℕ) → false ≡ takes_mutex m a)
+    × ((k : ℕ) → false ≡ takes_semaphore k a)
+
+-- where a thread is said to be free, its next step takes nothing, and can be done
+abbrev pub IsFreeIn : List Instruction → Landing → Type 0
+IsFreeIn code at = at.free ≡ true → IsPlain (action_at at.status (slice_get code at.pc)) true

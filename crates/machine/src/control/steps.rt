@@ -1,7 +1,8 @@
 //! The step of a thread, over the values of the variables and its own locals.
 
-ghost use Rattle.std.specs.Prelude.{◌≡◌, ◌<◌, ◌≤◌, ℕ, ℤ, List, take, true, length, Some, All};
-ghost use Rattle.guest_code.specs.Program.{Program, IsValid, IsWellFormed, LocalsBelow, code_of};
+ghost use Rattle.std.specs.Prelude.{◌≡◌, ◌<◌, ◌≤◌, ◌^◌, ℕ, ℤ, List, take, true, length, Some, All};
+ghost use Rattle.guest_code.specs.Program.{Program, IsValid, IsValidCode, IsWellFormed, LocalsBelow, code_of};
+ghost use Rattle.guest_code.specs.declared.program.Instruction.{Instruction};
 ghost use Rattle.guest_code.specs.declared.program.Instruction.TheVariants.{Unlock, Wait, Signal, Broadcast, Release};
 ghost use Rattle.semantics.specs.declared.state.VariableAction.{VariableAction};
 ghost use Rattle.semantics.specs.declared.state.Status.TheVariants.{Running, Woken};
@@ -9,6 +10,8 @@ ghost use Rattle.semantics.specs.declared.state.Action.TheVariants.{OnVariable};
 ghost use Rattle.semantics.specs.Machine.{Snapshot, thread_at, action_of, is_enabled, next_of, retake_of, step};
 ghost use Rattle.semantics.specs.Reachable.{IsOf};
 ghost use Rattle.machine.specs.Refinement.{IsControl, IsState};
+ghost use Rattle.machine.specs.declared.control.Control.{Control};
+ghost use Rattle.machine.specs.inner.LocalRuns.{IsAccessBelow};
 ghost use Rattle.machine.specs.inner.Steps.{IsPoised, IsPerformed, IsStepped, IsReadyIn};
 
 use crate::control::Control;
@@ -16,8 +19,27 @@ use crate::local::{Landing, access, run_own};
 use guest_code::limits::{COUNT, THREADS};
 use guest_code::program::{Instruction, Program};
 use semantics::state::VariableAction::{Add as Adds, Cas as Swaps, Load as Loads, Store as Stores};
-use semantics::state::{Action, Status, Stop};
+use semantics::state::{Action, Status, Stop, VariableAction};
 use semantics::{action_at, owns};
+
+// What a thread does with a variable. It runs on then.
+#[inline(always)]
+fn on_variable(
+    variables: &mut [i64],
+    own: &mut [i64],
+    variable: usize,
+    action: VariableAction,
+) -> Status
+    requires variable { variable < length variables.old }
+    requires below { IsAccessBelow (length own.old) action }
+    ensures { (p : Program) → (s : Snapshot) → (t : ℕ) → (i : Instruction) → (c : Control)
+        → IsPoised p s t i c variables.old own.old
+        → action_of i ≡ Some (OnVariable variable action)
+        → IsPerformed p s t c variables.new own.new result }
+{
+    access(&mut variables[variable], own, action);
+    Status::Running
+}
 
 impl Control {
     // The first step of a `wait`.
@@ -69,78 +91,37 @@ impl Control {
     }
 
     // A signal wakes the first of the queue, if there is one.
-    fn signal(&mut self, program: &Program, thread: u8, c: usize)
+    fn signal(&mut self, program: &Program, thread: u8, c: usize) -> Status
         requires thread { thread < length program.now.threads }
         requires ready { (s : Snapshot) × (vars : List ℤ) × (mine : List ℤ)
             × IsPoised program.now s thread (Signal c) self.old vars mine }
         ensures { (s : Snapshot) → (vars : List ℤ) → (mine : List ℤ)
             → IsPoised program.now s thread (Signal c) self.old vars mine
-            → IsPerformed program.now s thread self.new vars mine Running }
+            → IsPerformed program.now s thread self.new vars mine result }
     {
         program.keeps_limits();
         if self.lengths[c] > 0 {
             let first = self.take_first(c);
             self.wake(program, first);
         }
+        Status::Running
     }
 
     // A broadcast wakes all of the queue.
-    fn broadcast(&mut self, program: &Program, thread: u8, c: usize)
+    fn broadcast(&mut self, program: &Program, thread: u8, c: usize) -> Status
         requires thread { thread < length program.now.threads }
         requires ready { (s : Snapshot) × (vars : List ℤ) × (mine : List ℤ)
             × IsPoised program.now s thread (Broadcast c) self.old vars mine }
         ensures { (s : Snapshot) → (vars : List ℤ) → (mine : List ℤ)
             → IsPoised program.now s thread (Broadcast c) self.old vars mine
-            → IsPerformed program.now s thread self.new vars mine Running }
+            → IsPerformed program.now s thread self.new vars mine result }
     {
         program.keeps_limits();
         while self.lengths[c] > 0 {
             let first = self.take_first(c);
             self.wake(program, first);
         }
-    }
-
-    // The step of a running thread at an instruction that is on no variable, but for what the
-    // thread does itself after it: its status then.
-    #[inline(always)]
-    fn perform_on_object(
-        &mut self,
-        program: &Program,
-        thread: u8,
-        instruction: &Instruction,
-    ) -> Status
-        requires thread { thread < length program.now.threads }
-        requires object { (x : ℕ) → (d : VariableAction)
-            → action_of instruction.now ≡ Some (OnVariable x d) → ⊥ }
-        requires ready { (s : Snapshot) × (vars : List ℤ) × (mine : List ℤ)
-            × IsPoised program.now s thread instruction.now self.old vars mine }
-        ensures { (s : Snapshot) → (vars : List ℤ) → (mine : List ℤ)
-            → IsPoised program.now s thread instruction.now self.old vars mine
-            → IsPerformed program.now s thread self.new vars mine result }
-    {
-        program.keeps_limits();
-        match instruction {
-            Instruction::Lock(m) => {
-                self.take(thread, *m);
-                Status::Running
-            }
-            Instruction::Unlock(m) => self.unlock(thread, *m),
-            Instruction::Acquire(k) => {
-                self.acquire(thread, *k);
-                Status::Running
-            }
-            Instruction::Release(k) => self.release_if_room(thread, *k),
-            Instruction::Wait { condition, mutex } => self.begin_wait(thread, *condition, *mutex),
-            Instruction::Signal(c) => {
-                self.signal(program, thread, *c);
-                Status::Running
-            }
-            Instruction::Broadcast(c) => {
-                self.broadcast(program, thread, *c);
-                Status::Running
-            }
-            _ => Status::Running,
-        }
+        Status::Running
     }
 
     // The step of a running thread, but for what it does itself after it: its status then.
@@ -160,56 +141,76 @@ impl Control {
             → IsPoised program.now s thread instruction.now self.old variables.old own.old
             → IsPerformed program.now s thread self.new variables.new own.new result }
     {
+        program.keeps_limits();
         match instruction {
             Instruction::Load { local, variable } => {
-                access(&mut variables[*variable], own, Loads(*local));
-                Status::Running
+                on_variable(variables, own, *variable, Loads(*local))
             }
             Instruction::Store { variable, value } => {
-                access(&mut variables[*variable], own, Stores(*value));
-                Status::Running
+                on_variable(variables, own, *variable, Stores(*value))
             }
             Instruction::Add {
                 local,
                 variable,
                 value,
-            } => {
-                access(&mut variables[*variable], own, Adds(*local, *value));
-                Status::Running
-            }
+            } => on_variable(variables, own, *variable, Adds(*local, *value)),
             Instruction::Cas {
                 local,
                 variable,
                 expected,
                 new,
-            } => {
-                let action = Swaps(*local, *expected, *new);
-                access(&mut variables[*variable], own, action);
+            } => on_variable(variables, own, *variable, Swaps(*local, *expected, *new)),
+            Instruction::Lock(m) => {
+                self.take(thread, *m);
                 Status::Running
             }
-            _ => self.perform_on_object(program, thread, instruction),
+            Instruction::Unlock(m) => self.unlock(thread, *m),
+            Instruction::Acquire(k) => {
+                self.acquire(thread, *k);
+                Status::Running
+            }
+            Instruction::Release(k) => self.release_if_room(thread, *k),
+            Instruction::Wait { condition, mutex } => self.begin_wait(thread, *condition, *mutex),
+            Instruction::Signal(c) => self.signal(program, thread, *c),
+            Instruction::Broadcast(c) => self.broadcast(program, thread, *c),
+            _ => Status::Running,
         }
     }
 
     // After what a thread performed at this place it runs on, or gets the status.
     #[inline(always)]
-    fn finish(&mut self, program: &Program, own: &mut [i64], thread: u8, pc: usize, status: Status)
-        requires thread { thread < length program.now.threads }
-        requires pc { pc < length (code_of program.now thread) }
-        requires below { All (LocalsBelow (length own.old)) (code_of program.now thread) }
-        ensures { (s : Snapshot) → (vars : List ℤ)
-            → IsPerformed program.now s thread self.old vars own.old status
+    fn finish(
+        &mut self,
+        code: &[Instruction],
+        own: &mut [i64],
+        thread: u8,
+        pc: usize,
+        status: Status,
+    )
+        requires thread { thread < THREADS }
+        requires pc { pc < length code.now }
+        requires few { length code.now < 2 ^ 16 }
+        requires fine { (p : Program) × IsValidCode p code.now × IsWellFormed p }
+        requires below { All (LocalsBelow (length own.old)) code.now }
+        ensures { (p : Program) → (s : Snapshot) → (vars : List ℤ) → code.now ≡ code_of p thread
+            → IsPerformed p s thread self.old vars own.old status
             → thread < length s.threads → pc ≡ (thread_at s thread).pc
-            → IsStepped program.now s thread self.new vars own.new }
+            → IsStepped p s thread self.new vars own.new }
     {
-        program.keeps_limits();
-        let code = program.code(thread);
         match status {
             Status::Running => {
                 let at = run_own(code, own, pc + 1);
                 self.arrive(code, thread, at);
             }
-            _ => self.arrive(code, thread, Landing { pc, status }),
+            _ => self.arrive(
+                code,
+                thread,
+                Landing {
+                    pc,
+                    status,
+                    free: false,
+                },
+            ),
         }
     }
 
@@ -249,10 +250,10 @@ impl Control {
         let instruction = &code[pc];
         if self.woken.has(thread) {
             self.retake(thread, instruction);
-            self.finish(program, own, thread, pc, Status::Running);
+            self.finish(code, own, thread, pc, Status::Running);
         } else {
             let status = self.perform(program, variables, own, thread, instruction);
-            self.finish(program, own, thread, pc, status);
+            self.finish(code, own, thread, pc, status);
         }
     }
 

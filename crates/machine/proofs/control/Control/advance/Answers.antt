@@ -1,4 +1,4 @@
-use Rattle.std.proofs.Common.{◌<◌, ◌∙◌, length, sym, subst, get_or}
+use Rattle.std.proofs.Common.{◌∙◌, sym}
 use Rattle.guest_code.specs.declared.program.Instruction.TheVariants.{Load}
 use Rattle.semantics.proofs.WorkFalls.{enabled_below}
 use Rattle.machine.proofs.WholeSteps.{poised_here, here_retakes, here_inside}
@@ -17,15 +17,14 @@ perform-status-requires-clause-ready c =
 
 pub finish-requires-else-has-clause-pc : goal.finish-requires-else-has-clause-pc
 finish-requires-else-has-clause-pc c =
-    subst (λ is. get_or c.args.self.now.places c.args.thread 0 < length is) c.code-code.ensures.code
-    (here_inside c.args.program.now c.requires.0 c.args.thread c.args.self.now
+    here_inside c.args.program.now c.requires.0 c.args.thread c.args.self.now
     c.code-code.result.now (Load 0 0) c.requires.1.control c.requires.1.enabled
-    c.code-code.ensures.code)
+    c.code-code.ensures.code
 
 pub returns-else-has : goal.returns-else-has
 returns-else-has c = λ s ready.
     let p = c.args.program.now in
-    c.finish-else-has.ensures s c.perform-status.new.variables
+    c.finish-else-has.ensures p s c.perform-status.new.variables c.code-code.ensures.code
     (c.perform-status.ensures s (poised_here p s c.args.thread c.args.self.now
     c.code-code.result.now _ ready.control ready.enabled c.code-code.ensures.code
     c.args.variables.now c.args.own.now ready c.code-code.ensures.valid.fine
@@ -37,7 +36,7 @@ returns-then-has c = λ s ready.
     let p = c.args.program.now in
     let t = c.args.thread in
     let code = c.code-code.result.now in
-    c.finish.ensures s c.args.variables.now
+    c.finish.ensures p s c.args.variables.now c.code-code.ensures.code
     (c.retake.ensures p s c.args.variables.now c.args.own.now ready.control ready.variables
     ready.own
     ready.of (c.code-code.ensures.valid.fine _ _ (here_inside p s t c.args.self.now code (Load 0 0)

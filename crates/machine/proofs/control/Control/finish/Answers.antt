@@ -1,6 +1,4 @@
-use Rattle.std.proofs.Common.{arith, length, refl, sym, subst}
-use Rattle.std.specs.Prelude.{All}
-use Rattle.guest_code.specs.Program.{LocalsBelow}
+use Rattle.std.proofs.Common.{arith, false, length, refl, subst}
 use Rattle.semantics.specs.declared.state.Status.TheVariants.{Running}
 use Rattle.machine.specs.inner.Steps.{settled, IsPerformed}
 use Rattle.machine.proofs.Landings.{arrived}
@@ -9,39 +7,37 @@ use Rattle.machine.proofs.WholeSteps.{finished}
 use Rattle.machine.proofs.control.Control.finish.Goals as goal
 
 pub returns-in-Running : goal.returns-in-Running
-returns-in-Running c = λ s vars r there here.
-    let p = c.args.program.now in
+returns-in-Running c = λ p s vars same r there here.
     let t = c.args.thread in
     let old = c.args.own.now in
     let own = c.run_own-at.new.own in
-    let q : IsPerformed c.args.program.now s c.args.thread c.args.self.now vars c.args.own.now
+    let q : IsPerformed p s c.args.thread c.args.self.now vars c.args.own.now
     Running =
-    subst (λ w. IsPerformed c.args.program.now s c.args.thread c.args.self.now vars
+    subst (λ w. IsPerformed p s c.args.thread c.args.self.now vars
     c.args.own.now w)
     c.in-Running.is r in
-    let th = settled c.code-code.result.now Running q.th in
+    let th = settled c.args.code.now Running q.th in
     let ran = ran_on p s t c.args.self.now vars old own c.run_own-at.result c.args.pc
-    c.code-code.result.now q here c.code-code.ensures.code
-    (subst (All (LocalsBelow (length c.args.own.now))) (sym c.code-code.ensures.code)
-    c.requires.below)
+    c.args.code.now q here same c.requires.below
     c.run_own-at.ensures.value in
-    finished p s t c.args.self.now c.arrive.new.self vars old own Running _ q there (omega arith)
+    finished p s t c.args.self.now c.arrive.new.self vars old own Running
+    c.run_own-at.result q there (omega arith)
     ran
     (arrived p q.after t _ c.args.self.now c.arrive.new.self q.control
     (omega (arith, there, q.threads))
     (c.arrive.ensures.lands p q.after _ q.control.objects q.control.idle
-    (lands_there (length old) c.run_own-at.result own _ ran) c.code-code.ensures.code))
+    (lands_there (length old) c.run_own-at.result own _ ran) same))
 
 pub returns-in_default : goal.returns-in_default
-returns-in_default c = λ s vars q there here.
-    let p = c.args.program.now in
+returns-in_default c = λ p s vars same q there here.
     let t = c.args.thread in
     let old = c.args.own.now in
     let own = stayed p s t c.args.self.now vars old c.args.pc c.args.status q here
     c.in_default.not-Running in
-    finished p s t c.args.self.now c.arrive-in_default.new.self vars old old c.args.status _ q there
+    finished p s t c.args.self.now c.arrive-in_default.new.self vars old old c.args.status
+    (record { pc = c.args.pc; status = c.args.status; free = false }) q there
     refl own
     (arrived p q.after t _ c.args.self.now c.arrive-in_default.new.self q.control
     (omega (arith, there, q.threads))
     (c.arrive-in_default.ensures.lands p q.after _ q.control.objects q.control.idle
-    (lands_there (length old) _ old _ own) c.code-code.ensures.code))
+    (lands_there (length old) _ old _ own) same))
