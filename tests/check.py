@@ -61,6 +61,9 @@ REFUSED = [
      "did you mean `balance` (declared at 1:5)?"),
     ("mutex queue; var quene; thread A { lock ^quee; unlock queue; load r quene; }", 4,
      "check C2 Unknown at", "did you mean `queue` (declared at 1:7)?"),
+    # three bytes of four are others
+    ("var wxyd; thread A { load r ^abcd; store wxyd r; }", 4, "check C2 Unknown at",
+     "declare it: var abcd;"),
     ("var x;\nthread A { lock ^x; }", 1, "check C3 WrongKind at", "a mutex must be here"),
     ("var x; thread A { if ^x == 0 { } }", 1, "check C3 WrongKind at", "load r x; if r"),
     ("var x; var y; thread A { store x ^y; }", 1, "check C3 WrongKind at", "load r y;"),

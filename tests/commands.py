@@ -30,6 +30,7 @@ LATE = EIGHTS.replace("var x;", "var x; var y;").replace("}\nthread B {",
 
 FILES = {
     "race.guest": RACE,
+    "Füße": RACE,
     "as_expected.guest": "# expect: bad\n" + RACE,
     "unexpected.guest": "  #expect:clean \n" + RACE,
     "clean.guest": "# expect: clean\n" + APART,
@@ -126,6 +127,97 @@ PROGRESS = [
 PROGRESS_LINE = re.compile(r"(?:bound (\d+)|unbounded): ([\d,]+) tried, ([\d,]+) bad, ([\d,]+) open, "
                            r"([\d,]+) deferred")
 
+# Words that ask for nothing.
+REFUSED = [
+    [], ["replay"], ["replay", "a", "0", "1"], ["relay", "a"], ["replay", "--fast", "a"], ["explore"],
+    ["explore", "a", "--bound", "65"], ["explore", "a", "--bound", "x"], ["explore", "a", "--workers", "0"],
+    ["explore", "a", "--workers", "17"], ["unbounded", "a", "--limit", "0"],
+    ["unbounded", "a", "--limit", "9223372036854775808"], ["unbounded", "a", "--bound", "1"],
+]
+HELPED = [["--help"], ["replay", "--help"], ["explore", "--help"], ["unbounded", "--help"], ["help", "replay"]]
+HELP_END = """
+
+Examples:
+  ctxbound explore examples/first.guest --trace
+  ctxbound unbounded examples/lost_update_fixed.guest
+  ctxbound replay examples/first.guest 0,1,0
+  ctxbound explain examples/lock_order.guest
+  ctxbound check examples/first.guest
+  ctxbound suite examples
+
+`clean` with `"all":false` is no proof: schedules with more preemptions were left out.
+Try `unbounded` first where a program is small: it leaves no outcome out.
+`--workers` pays without a bound, and with many threads and few preemptions; else it gains little.
+
+Statuses:
+  0  no schedule is bad, or a suite's files are as expected; a replay that is done, or not complete
+  1  a schedule is bad: it failed or got stuck; so did a replay
+  2  words, text, program or schedule refused; help or version shown
+  3  the search was cut short
+  4  out of memory, or the file can't be read or the output written
+"""
+# Words, and what is written on both streams and the status.
+WORDS = [
+    (["replay", "race.guest"], ("preemptions 0\nkind none\nvars x=0\n", "", 0)),
+    (["replay", "race.guest", "-"], ("preemptions 0\nkind none\nvars x=0\n", "", 0)),
+    (["replay", "race.guest", "0,1"],
+     ("0 A store x 1\n1 B load x 1 preempt stop assert\npreemptions 1\nkind none\nvars x=1\n", "", 0)),
+    (["replay", "Füße"], ("preemptions 0\nkind none\nvars x=0\n", "", 0)),
+    (["replay", "no/such/file.guest", "0"], ("", "ctxbound: file\n", 4)),
+    ([b"\xff"], ("", "ctxbound: words NotUtf8\n", 2)),
+    (["replay", "race.guest", b"0,\xff"], ("", "ctxbound: words NotUtf8\n", 2)),
+    # All but the last step of a thread can be followed by a preemption.
+    (["explore", "eights.guest", "--bound", "64", "--workers", "16", "--limit", "9223372036854775807"],
+     ('{"all":true,"bound":14,"ends":[{"kind":"done","vars":[1]},{"kind":"done","vars":[2]}],"failed":0,'
+      '"stuck":0,"tried":12870,"verdict":"clean"}\n', "", 0)),
+]
+
+# A thread as long as one may be, and one that waits for a broadcast together with another one.
+LONGEST = "var x; thread A { repeat 64 { store x 1; store x 2; store x 3; store x 4; } }"
+TWO_WAITERS = ("mutex m; cond c; thread A { lock m; wait c m; unlock m; } thread B { lock m; wait c m; unlock m; } "
+               "thread C { lock m; broadcast c; unlock m; }")
+SIXTEEN = "ABCDEFGHIJKLMNOP"
+NO_STEPS = "preemptions 0\nkind done\nvars\n"
+# How the report of a search begins that is cut short, up to the number of schedules that were tried.
+CUT_SHORT = ('{"bound":0,"cause":"limit","ends":[{"kind":"done","vars":[1,1,1,1,1,1,1,1]}],"failed":0,'
+             '"finished":null,"schedule":null,"stuck":0,"tried":')
+
+
+def threads(names, statements=""):
+    """Threads of these names, with these statements."""
+    return "".join("thread %s { %s} " % (name, statements) for name in names)
+
+
+def replays_at_limits():
+    """Texts and schedules at their limits and past them: what is on standard input, the schedule, and what is
+    written on both streams and the status."""
+    for count, schedule, line in ((65536, "-", "check C4 NoThreads"), (65537, "x", "syntax S5 TooLong at 1:1"),
+                                  (200000, "x", "syntax S5 TooLong at 1:1")):
+        yield " " * count, schedule, ("", "ctxbound: %s\n" % line, 2)
+    steps = "".join("%d A store x %d\n" % (step, step % 4 + 1) for step in range(256))
+    yield LONGEST, ",".join(["0"] * 256), (steps + "preemptions 0\nkind done\nvars x=4\n", "", 0)
+    yield LONGEST, ",".join(["0"] * 4097), ("", "ctxbound: schedule P2 NotEnabled at 256\n", 2)
+    yield "thread A { " + "if 1 { " * 33, "x", ("", "ctxbound: syntax S6 TooDeep at 1:241\n", 2)
+    yield b"# \xc3", "x", ("", "ctxbound: syntax S1 NotAscii at 1:3\n", 2)
+    yield threads(SIXTEEN[:9]), "-", (NO_STEPS, "", 0)
+    yield threads(SIXTEEN), "-", (NO_STEPS, "", 0)
+    yield threads(SIXTEEN + "Q"), "-", ("", "ctxbound: check C5 TooMany at 1:216\n", 2)
+    steps = "".join("%d %s add x %d %d\n" % (step, SIXTEEN[step // 2], step, step + 1) for step in range(32))
+    yield ("var x; " + threads(SIXTEEN, "add r x 1; add r x 1; "), ",".join("%dx2" % thread for thread in range(16)),
+           (steps + "preemptions 0\nkind done\nvars x=32\n", "", 0))
+    for cut in range(len(TWO_WAITERS)):
+        yield TWO_WAITERS[:cut], "!", ("", "ctxbound: %s\n" % line_of_cut(TWO_WAITERS[:cut], TWO_WAITERS[cut:]), 2)
+
+
+def line_of_cut(kept, rest):
+    """What is said of a text of which this is kept and this is cut off, with a schedule that is none. A cut between
+    declarations and threads leaves a program, or no thread yet. Any other leaves a token that lacks: at the
+    end, or where a word was cut."""
+    if kept.count("{") == kept.count("}") and kept.strip()[-1:] in ("", ";", "}"):
+        return "schedule Q1 BadSchedule at 0" if "}" in kept else "check C4 NoThreads"
+    word = re.search("[A-Za-z]*$", kept)[0] if rest[:1].isalpha() else ""
+    return "syntax S3 Expected at 1:%d" % (len(kept) - len(word) + 1)
+
 
 class Checker:
     def __init__(self, binary, folder):
@@ -141,7 +233,38 @@ class Checker:
             self.passed += 1
             return
         self.failed += 1
-        print("ctxbound %s\n-- wanted: %r\n-- printed: %r" % (" ".join(words), wanted, printed))
+        print("ctxbound %r\n-- wanted: %r\n-- printed: %r" % (words, wanted, printed))
+
+    def words(self):
+        """What the words ask for, and what is said of those that ask for nothing."""
+        for words, wanted in WORDS:
+            self.compare(words, self.run(words), wanted)
+        words = ["unbounded", "--quick", "--limit", "1", "--workers", "2", "eights.guest"]
+        out, err, status = self.run(words)
+        report = json.loads(out)
+        self.compare(words, [report.get(key) for key in ("verdict", "cause", "bound", "quick")] + [err, status],
+                     ["incomplete", "limit", None, True, "", 3])
+        for words in REFUSED:
+            out, err, status = self.run(words)
+            self.compare(words, (out, err[:7], status), ("", "error: ", 2))
+        for words in HELPED:
+            out, err, status = self.run(words)
+            self.compare(words, (out, err[-len(HELP_END):], status), ("", HELP_END, 2))
+        version = json.loads((ROOT / "share/vscode/package.json").read_text(encoding="utf-8"))["version"]
+        self.compare(["--version"], self.run(["--version"]), ("", "ctxbound %s\n" % version, 2))
+
+    def limits(self):
+        """Texts, schedules and searches at their limits and past them."""
+        for text, schedule, wanted in replays_at_limits():
+            given = text if isinstance(text, bytes) else text.encode()
+            self.compare(["replay", "-", schedule], self.run(["replay", "-", schedule], given), wanted)
+        # Eight threads of one store each: more schedules than a round tries.
+        text = "".join("var %s; " % name.lower() for name in SIXTEEN[:8])
+        text += "".join(threads(name, "store %s 1; " % name.lower()) for name in SIXTEEN[:8])
+        words = ["explore", "-", "--bound", "0", "--limit", "1000"]
+        out, err, status = self.run(words, text.encode())
+        tried = int(re.match(r"\d*", out[len(CUT_SHORT):])[0] or 0)
+        self.compare(words, (out[:len(CUT_SHORT)], 1000 <= tried <= 17383, err, status), (CUT_SHORT, True, "", 3))
 
     def suites(self):
         for words, table, status in SUITES:
@@ -310,6 +433,8 @@ def main():
             path.parent.mkdir(exist_ok=True)
             path.write_text(text, encoding="utf-8")
         checker = Checker(str(Path(sys.argv[1]).resolve()), folder)
+        checker.words()
+        checker.limits()
         checker.suites()
         checker.suites_cut_short()
         checker.examples()

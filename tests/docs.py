@@ -1,5 +1,5 @@
 #!/usr/bin/env python3
-"""Runs every command that the documents and the examples show, and compares what it prints.
+"""Runs every command that the documents, the examples and the worked rows show, and compares what it prints.
 
 Usage: tests/docs.py BINARY
        tests/docs.py --unproved
@@ -21,6 +21,10 @@ finds the folder `examples`. `cpp -P NAME | ctxbound .. -` reads what the C prep
 program. It fails where an output or a status differs, where a program is
 shown that no command runs, and where nothing was run at all.
 
+In tests/rows.txt a line `guest: TEXT` is a program that ends where its line does, and the commands below it
+find it as the file FILE. There, standard error must have the lines that begin with `ctxbound: `, and
+standard output all others.
+
 Each search that is shown is made again by several workers, and must print the same.
 """
 import re
@@ -38,6 +42,7 @@ WORKERS = (2, 8)
 DEPENDS = {"--limit", "--quick", "--workers"}
 # So many builds without proofs run the commands side by side.
 BUILDS = 3
+ROWS = ROOT / "tests/rows.txt"
 
 
 def fenced_blocks(text):
@@ -86,11 +91,25 @@ def commented_commands(text):
     return found
 
 
-def lines_of(printed, status):
+def row_blocks(text):
+    """Each program of the worked rows, with the number of its line and the lines below it."""
+    found = []
+    for number, line in enumerate(text.split("\n"), 1):
+        if line.startswith("guest:"):
+            found.append((number, line[len("guest: "):], []))
+        elif found:
+            found[-1][2].append(line)
+    return found
+
+
+def lines_of(asked, out, err, status):
     """What a command prints, as the documents write it: lines, and a status unless 0."""
-    lines = printed.decode("utf-8", "replace").split("\n")
+    lines = (out + err).decode("utf-8", "replace").split("\n")
     if lines.pop():
         return lines + ["(the last line doesn't end)"]
+    told, tells = ([line.startswith(b"ctxbound: ") for line in stream.splitlines()] for stream in (out, err))
+    if asked.is_row and (any(told) or not all(tells)):
+        return lines + ["(a line is on the other stream)"]
     return lines + ["[status %d]" % status] if status else lines
 
 
@@ -110,7 +129,7 @@ def run(binary, asked):
                                   stdout=subprocess.PIPE, stderr=subprocess.PIPE, timeout=SECONDS)
         except subprocess.TimeoutExpired:
             return ["(no end within %d seconds)" % SECONDS]
-    return lines_of(done.stdout + done.stderr, done.returncode)
+    return lines_of(asked, done.stdout, done.stderr, done.returncode)
 
 
 def write_case(folder, number, asked):
@@ -147,10 +166,10 @@ def run_by_one_build(all_asked):
     if not errors:
         raise SystemExit(done.stderr.decode("utf-8", "replace") + "rt try: no answer")
     all_printed = []
-    for number in range(len(all_asked)):
+    for number, asked in enumerate(all_asked):
         case = b"c%04d" % number
         text, status = errors.get(case, (b"(no answer)\n", 0))
-        all_printed.append(lines_of(outs.get(case, b"") + text, status))
+        all_printed.append(lines_of(asked, outs.get(case, b""), text, status))
     return all_printed
 
 
@@ -162,10 +181,12 @@ def by_workers(words):
 
 
 class Asked:
-    """A command that is shown: where, its words, what it prints, and the programs that it finds."""
+    """A command that is shown: where, its words, what it prints, the programs that it finds, and whether it is a
+    worked row."""
 
-    def __init__(self, place, words, expected, programs):
-        self.place, self.words, self.expected, self.programs = place, words, expected, programs
+    def __init__(self, place, words, expected, programs, is_row):
+        self.place, self.words, self.expected = place, words, expected
+        self.programs, self.is_row = programs, is_row
 
     def prints_names(self):
         """Whether it prints the names of programs that a document shows."""
@@ -191,7 +212,7 @@ class Reader:
             return words
         for asked in [words] + (by_workers(words) if self.workers else []):
             self.asked.append(Asked("%s%s" % (place, "" if asked == words else " --workers " + asked[-1]),
-                                    asked, expected, programs))
+                                    asked, expected, programs, path == ROWS))
         return words
 
     def document(self, path):
@@ -217,10 +238,16 @@ class Reader:
         if "examples/" + path.name not in words:
             self.faults.append(path.name + "\n    no command runs this example")
 
+    def rows(self, path):
+        for number, text, lines in row_blocks(path.read_text(encoding="utf-8")):
+            for shown in commands(lines, number):
+                self.take(path, shown, {"FILE": text})
+
     def read(self):
         documents = [ROOT / "README.md"] + sorted((ROOT / "docs").glob("*.md"))
         work = [(self.document, path) for path in documents if path.exists()]
         work += [(self.example, path) for path in sorted((ROOT / "examples").glob("*.guest"))]
+        work += [(self.rows, ROWS)]
         for take_in, path in work:
             try:
                 take_in(path)

@@ -4,8 +4,9 @@
 Usage: tests/edits.py
 
 The section "Wrong bodies" has a heading `### CRATE` for each crate with files in must-fail/, and
-under it a table with a row for each edit, by the name of its file. The table under the heading
-"By a test alone" names in its last column a crate and tests of it. This fails where an edit has no
+under it a table with a row for each edit, by the name of its file. The tables under the headings
+"By a clause, and by a test" and "By a test alone" name in their last column a crate and tests of it, a
+script of tests/ and methods or tables of it, or tests/rows.txt. This fails where an edit has no
 row or a row no edit, where an edit can't be applied, and where a named test isn't there.
 """
 import re
@@ -14,7 +15,8 @@ from pathlib import Path
 
 ROOT = Path(__file__).resolve().parent.parent
 SECTION = re.compile(r"^## Wrong bodies\n(.*?)(?=^## |\Z)", re.M | re.S)
-BY_TESTS = "By a test alone"
+BY_TESTS = ("By a clause, and by a test", "By a test alone")
+ROWS = "tests/rows.txt"
 
 
 def tables():
@@ -76,21 +78,30 @@ def edit_faults(rows):
             yield name + ": " + fault
 
 
+def has_test(place, name):
+    """Whether a crate or a script has a test of this name."""
+    if place.startswith("tests/"):
+        form, files = r"^ *def %s\(|^%s = ", [ROOT / place]
+    else:
+        form, files = r"#\[test\][^{}]*?\bfn %s\(", ROOT.glob("crates/%s/src/**/*.rt" % place)
+    form = form.replace("%s", re.escape(name))
+    return any(re.search(form, file.read_text(encoding="utf-8"), re.M) for file in files if file.is_file())
+
+
 def test_faults(rows):
     """Which of the named tests aren't there."""
     for row in rows:
-        crate, *names = words(row[-1]) or [""]
-        texts = [path.read_text(encoding="utf-8") for path in ROOT.glob("crates/%s/src/**/*.rt" % crate)]
+        place, *names = words(row[-1]) or [""]
         for name in names:
-            if not any(re.search(r"#\[test\][^{}]*?\bfn %s\(" % re.escape(name), text) for text in texts):
-                yield "%s: docs/PROOFS.md names the test `%s`, which isn't there" % (crate, name)
-        if not names:
+            if not has_test(place, name):
+                yield "%s: docs/PROOFS.md names the test `%s`, which isn't there" % (place, name)
+        if not names and place != ROWS:
             yield "%s: a row that names no test" % row[0].strip()
 
 
 def main():
     rows = tables()
-    by_tests = rows.pop(BY_TESTS, [])
+    by_tests = [row for heading in BY_TESTS for row in rows.pop(heading, [])]
     faults = [*edit_faults(rows), *test_faults(by_tests)]
     for fault in faults:
         print(fault)

@@ -5,10 +5,12 @@ Usage: tests/gate.py
 
 Each line of a part is passed on as it comes, behind the minute of the gate at which it came, but for
 a part's closing line `N passed, M failed`, which stays alone, and for lines that say of one function
-or type that it is proved, which are left out. Before the last closing line there is one line on the
-whole. The first part that fails ends the gate, with its status.
+or type that it is proved, which are left out. Before the last closing line there is a line on when each
+crate was proved, one on the processor time, and one on the whole. The first part that fails ends the gate,
+with its status.
 """
 import re
+import resource
 import shutil
 import signal
 import subprocess
@@ -35,9 +37,10 @@ TRIED = {
     "what workers do": [sys.executable, "tests/rounds.py", PROGRAM, LISTENER],
     "what stands around the program": [sys.executable, "tests/around.py", PROGRAM],
 }
+PROVED = re.compile(r"rt: (\w+) proved$")
 # What the gate counts in the lines that it passes on.
 COUNTED = {
-    "proved": re.compile(r"rt: \w+ proved$"),
+    "proved": PROVED,
     "kept": re.compile(r"rt: \w+ is kept: "),
     "refused": re.compile(r"rt: must-fail \S+: refused"),
     "tests": re.compile(r"test .* \.\.\. ok$"),
@@ -49,6 +52,7 @@ class Gate:
         self.begun = time.monotonic()
         self.counts = dict.fromkeys(COUNTED, 0)
         self.passed = {}
+        self.proved_at = {}
 
     def minute(self):
         return int(time.monotonic() - self.begun) // 60
@@ -59,6 +63,9 @@ class Gate:
     def count(self, line):
         for name, form in COUNTED.items():
             self.counts[name] += bool(form.match(line))
+        proved = PROVED.match(line)
+        if proved:
+            self.proved_at[proved[1]] = self.minute()
 
     def part(self, name, words):
         """Runs a part and answers its closing line; where it fails, the gate ends."""
@@ -83,6 +90,12 @@ class Gate:
             sys.exit(status if 0 < status < 256 else 1)
         self.passed[name] = int(CLOSING.match(closing)[1]) if closing else 0
         return closing
+
+    def times(self):
+        """When each crate was proved, and the processor time of all parts."""
+        used = resource.getrusage(resource.RUSAGE_CHILDREN)
+        yield "proved at minute: " + (", ".join("%s %d" % it for it in self.proved_at.items()) or "none")
+        yield "processor minutes: %d" % ((used.ru_utime + used.ru_stime) / 60)
 
     def whole(self):
         kept = self.counts["kept"]
@@ -109,6 +122,8 @@ def main():
         if closing:
             print(closing, flush=True)
     closing = gate.part("refused memory", [sys.executable, "tests/allocations.py", PROGRAM, BENCHMARK, AGAIN])
+    for line in gate.times():
+        gate.say(line)
     gate.say(gate.whole())
     print(closing, flush=True)
 

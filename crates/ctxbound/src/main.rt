@@ -11,8 +11,6 @@ mod explained;
 mod files;
 mod program;
 mod suites;
-#[cfg(test)]
-mod tests;
 mod words;
 
 use crate::program::serve_words;

@@ -33,81 +33,156 @@ pub enum Slot {
     Block,
 }
 
-/// The places after a keyword, in order; none for other words.
-pub fn slots(keyword: &[u8]) -> &'static [Slot] {
-    match keyword {
-        b"load" => &[Slot::Local, Slot::Variable, Slot::End],
-        b"store" => &[Slot::Variable, Slot::Value, Slot::End],
-        b"add" => &[Slot::Local, Slot::Variable, Slot::Value, Slot::End],
-        b"cas" => &[
+/// A statement or a declaration: its keyword, the places after it in order, and how it is written.
+struct Form {
+    keyword: &'static str,
+    slots: &'static [Slot],
+    written: &'static str,
+}
+
+static FORMS: [Form; 22] = [
+    Form {
+        keyword: "load",
+        slots: &[Slot::Local, Slot::Variable, Slot::End],
+        written: "load LOCAL VAR;",
+    },
+    Form {
+        keyword: "store",
+        slots: &[Slot::Variable, Slot::Value, Slot::End],
+        written: "store VAR VALUE;",
+    },
+    Form {
+        keyword: "add",
+        slots: &[Slot::Local, Slot::Variable, Slot::Value, Slot::End],
+        written: "add LOCAL VAR AMOUNT;",
+    },
+    Form {
+        keyword: "cas",
+        slots: &[
             Slot::Local,
             Slot::Variable,
             Slot::Value,
             Slot::Value,
             Slot::End,
         ],
-        b"lock" | b"unlock" => &[Slot::Mutex, Slot::End],
-        b"wait" => &[Slot::Condition, Slot::Mutex, Slot::End],
-        b"signal" | b"broadcast" => &[Slot::Condition, Slot::End],
-        b"acquire" | b"release" => &[Slot::Semaphore, Slot::End],
-        _ => other_slots(keyword),
-    }
-}
-
-fn other_slots(keyword: &[u8]) -> &'static [Slot] {
-    match keyword {
-        b"set" => &[
+        written: "cas LOCAL VAR OLD NEW;",
+    },
+    Form {
+        keyword: "lock",
+        slots: &[Slot::Mutex, Slot::End],
+        written: "lock MUTEX;",
+    },
+    Form {
+        keyword: "unlock",
+        slots: &[Slot::Mutex, Slot::End],
+        written: "unlock MUTEX;",
+    },
+    Form {
+        keyword: "wait",
+        slots: &[Slot::Condition, Slot::Mutex, Slot::End],
+        written: "wait COND MUTEX;",
+    },
+    Form {
+        keyword: "signal",
+        slots: &[Slot::Condition, Slot::End],
+        written: "signal COND;",
+    },
+    Form {
+        keyword: "broadcast",
+        slots: &[Slot::Condition, Slot::End],
+        written: "broadcast COND;",
+    },
+    Form {
+        keyword: "acquire",
+        slots: &[Slot::Semaphore, Slot::End],
+        written: "acquire SEM;",
+    },
+    Form {
+        keyword: "release",
+        slots: &[Slot::Semaphore, Slot::End],
+        written: "release SEM;",
+    },
+    Form {
+        keyword: "set",
+        slots: &[
             Slot::Local,
             Slot::Value,
             Slot::OperatorOrEnd,
             Slot::Value,
             Slot::End,
         ],
-        b"assert" => &[Slot::Value, Slot::OperatorOrEnd, Slot::Value, Slot::End],
-        b"if" => &[Slot::Value, Slot::OperatorOrBlock, Slot::Value, Slot::Block],
-        b"repeat" => &[Slot::Times, Slot::Block],
-        b"else" => &[Slot::Block],
-        b"leave" => &[Slot::End],
-        b"var" => &[Slot::New, Slot::StartOrEnd, Slot::Number, Slot::End],
-        b"mutex" | b"cond" => &[Slot::New, Slot::End],
-        b"sem" => &[Slot::New, Slot::Start, Slot::Count, Slot::End],
-        b"thread" => &[Slot::New, Slot::Block],
-        _ => &[],
+        written: "set LOCAL VALUE; or set LOCAL VALUE OP VALUE;",
+    },
+    Form {
+        keyword: "assert",
+        slots: &[Slot::Value, Slot::OperatorOrEnd, Slot::Value, Slot::End],
+        written: "assert VALUE; or assert VALUE OP VALUE;",
+    },
+    Form {
+        keyword: "if",
+        slots: &[Slot::Value, Slot::OperatorOrBlock, Slot::Value, Slot::Block],
+        written: "if VALUE { .. } or if VALUE OP VALUE { .. }",
+    },
+    Form {
+        keyword: "repeat",
+        slots: &[Slot::Times, Slot::Block],
+        written: "repeat TIMES { .. }",
+    },
+    Form {
+        keyword: "else",
+        slots: &[Slot::Block],
+        written: "if VALUE { .. } else { .. }",
+    },
+    Form {
+        keyword: "leave",
+        slots: &[Slot::End],
+        written: "leave;",
+    },
+    Form {
+        keyword: "var",
+        slots: &[Slot::New, Slot::StartOrEnd, Slot::Number, Slot::End],
+        written: "var NAME; or var NAME = NUMBER;",
+    },
+    Form {
+        keyword: "mutex",
+        slots: &[Slot::New, Slot::End],
+        written: "mutex NAME;",
+    },
+    Form {
+        keyword: "cond",
+        slots: &[Slot::New, Slot::End],
+        written: "cond NAME;",
+    },
+    Form {
+        keyword: "sem",
+        slots: &[Slot::New, Slot::Start, Slot::Count, Slot::End],
+        written: "sem NAME = COUNT;",
+    },
+    Form {
+        keyword: "thread",
+        slots: &[Slot::New, Slot::Block],
+        written: "thread NAME { .. }",
+    },
+];
+
+/// The form with this keyword, if there is one.
+fn form_of(keyword: &[u8]) -> Option<&'static Form> {
+    FORMS.iter().find(|form| form.keyword.as_bytes() == keyword)
+}
+
+/// The places after a keyword, in order; none for other words.
+pub fn slots(keyword: &[u8]) -> &'static [Slot] {
+    match form_of(keyword) {
+        Some(form) => form.slots,
+        None => &[],
     }
 }
 
-/// How a statement or a declaration with this keyword is written.
+/// How a statement or a declaration with this keyword is written; empty for other words.
 pub fn written(keyword: &[u8]) -> &'static str {
-    match keyword {
-        b"load" => "load LOCAL VAR;",
-        b"store" => "store VAR VALUE;",
-        b"add" => "add LOCAL VAR AMOUNT;",
-        b"cas" => "cas LOCAL VAR OLD NEW;",
-        b"lock" => "lock MUTEX;",
-        b"unlock" => "unlock MUTEX;",
-        b"wait" => "wait COND MUTEX;",
-        b"signal" => "signal COND;",
-        b"broadcast" => "broadcast COND;",
-        b"acquire" => "acquire SEM;",
-        b"release" => "release SEM;",
-        _ => otherwise_written(keyword),
-    }
-}
-
-fn otherwise_written(keyword: &[u8]) -> &'static str {
-    match keyword {
-        b"set" => "set LOCAL VALUE; or set LOCAL VALUE OP VALUE;",
-        b"assert" => "assert VALUE; or assert VALUE OP VALUE;",
-        b"if" => "if VALUE { .. } or if VALUE OP VALUE { .. }",
-        b"repeat" => "repeat TIMES { .. }",
-        b"else" => "if VALUE { .. } else { .. }",
-        b"leave" => "leave;",
-        b"var" => "var NAME; or var NAME = NUMBER;",
-        b"mutex" => "mutex NAME;",
-        b"cond" => "cond NAME;",
-        b"sem" => "sem NAME = COUNT;",
-        b"thread" => "thread NAME { .. }",
-        _ => "",
+    match form_of(keyword) {
+        Some(form) => form.written,
+        None => "",
     }
 }
 

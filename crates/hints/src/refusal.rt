@@ -234,13 +234,12 @@ fn not_ascii(alloc: Global, text: &[u8]) -> Result<Told, AllocError> {
 
 /// Of a byte that begins no token.
 fn bad_byte(alloc: Global, context: Context<'_>) -> Result<Told, AllocError> {
-    let name = context.following(1);
-    match context.found() {
+    let found = context.found();
+    match found {
         b"(" | b")" if context.start < context.at => Told::new(
             alloc,
             &[b"no parentheses: ", written(context.keyword()).as_bytes()],
         ),
-        b"(" | b")" => Told::new(alloc, &[b"there are no parentheses"]),
         b"," if context.depth() == 0 => Told::with(
             alloc,
             &[b"no commas: one declaration for each name"],
@@ -252,27 +251,30 @@ fn bad_byte(alloc: Global, context: Context<'_>) -> Result<Told, AllocError> {
                 b";",
             ],
         ),
-        b"," => Told::new(alloc, &[b"there are no commas"]),
-        b"/" if matches!(name, b"/") || matches!(name, b"*") => {
-            Told::new(
-                alloc,
-                &[b"a comment begins with `#`, and ends with its line"],
-            )
-        }
-        b"/" | b"%" => Told::new(alloc, &[b"there is no division"]),
         b"&" | b"|" => Told::with(
             alloc,
             &[b"one operator a statement, and none of these"],
             &[b"write: assert p; assert q; or, where both are 0 or 1: set r p * q;"],
         ),
-        b"!" => Told::new(alloc, &[b"there is no `!`: compare with 0, as r == 0"]),
-        b"[" | b"]" => Told::new(alloc, &[b"there are no arrays"]),
-        b"\"" | b"'" => Told::new(alloc, &[b"there are no texts, only numbers"]),
-        b":" | b"." => Told::new(
+        _ => Told::new(
             alloc,
-            &[b"a declaration has no type: all values are numbers"],
+            &[no_such_mark(found, context.following(1)).as_bytes()],
         ),
-        _ => Told::new(alloc, &[b"no token begins with this byte"]),
+    }
+}
+
+/// What is said of a mark that begins no token, and of the piece after it.
+fn no_such_mark(found: &[u8], next: &[u8]) -> &'static str {
+    match found {
+        b"(" | b")" => "there are no parentheses",
+        b"," => "there are no commas",
+        b"/" if matches!(next, b"/" | b"*") => "a comment begins with `#`, and ends with its line",
+        b"/" | b"%" => "there is no division",
+        b"!" => "there is no `!`: compare with 0, as r == 0",
+        b"[" | b"]" => "there are no arrays",
+        b"\"" | b"'" => "there are no texts, only numbers",
+        b":" | b"." => "a declaration has no type: all values are numbers",
+        _ => "no token begins with this byte",
     }
 }
 
@@ -328,22 +330,7 @@ fn expected_in_block(alloc: Global, context: Context<'_>) -> Result<Told, AllocE
             &[b"there is no `", found, b"`: every run of a guest ends"],
             &[b"write: repeat 3 { load r x; if r != 0 { leave; } }"],
         ),
-        b"thread" | b"" => {
-            let mut told = Told::new(alloc, &[b"a statement or `}` was expected"])?;
-            if let Some(note) = missing_brace(alloc, context.pieces, context.at)? {
-                told.add(note)?;
-            }
-            Ok(told)
-        }
-        b"var" => Told::new(
-            alloc,
-            &[b"a local isn't declared: it is 0 until it gets a value"],
-        ),
-        b"mutex" | b"cond" | b"sem" => Told::new(
-            alloc,
-            &[b"all declarations come before the first thread"],
-        ),
-        b"else" => Told::new(alloc, &[b"`else` comes right after the `}` of an `if`"]),
+        b"thread" | b"" => expected_end(alloc, context),
         b"break" | b"return" => Told::new(
             alloc,
             &[
@@ -352,7 +339,29 @@ fn expected_in_block(alloc: Global, context: Context<'_>) -> Result<Told, AllocE
                 b"`: `leave` leaves the nearest `repeat`",
             ],
         ),
-        _ => expected_statement(alloc, context),
+        _ => match no_statement(found) {
+            Some(text) => Told::new(alloc, &[text.as_bytes()]),
+            None => expected_statement(alloc, context),
+        },
+    }
+}
+
+/// Of the end of the text, or the next thread, inside a block.
+fn expected_end(alloc: Global, context: Context<'_>) -> Result<Told, AllocError> {
+    let mut told = Told::new(alloc, &[b"a statement or `}` was expected"])?;
+    if let Some(note) = missing_brace(alloc, context.pieces, context.at)? {
+        told.add(note)?;
+    }
+    Ok(told)
+}
+
+/// What is said of a keyword that begins no statement.
+fn no_statement(found: &[u8]) -> Option<&'static str> {
+    match found {
+        b"var" => Some("a local isn't declared: it is 0 until it gets a value"),
+        b"mutex" | b"cond" | b"sem" => Some("all declarations come before the first thread"),
+        b"else" => Some("`else` comes right after the `}` of an `if`"),
+        _ => None,
     }
 }
 
@@ -394,12 +403,24 @@ fn expected_in_statement(alloc: Global, context: Context<'_>) -> Result<Told, Al
             &[b"write: } else { if VALUE { .. } }"],
         );
     }
+    expected_in_place(alloc, context)
+}
+
+/// Of a token in a place that is for another.
+fn expected_in_place(alloc: Global, context: Context<'_>) -> Result<Told, AllocError> {
     let want = match context.slot() {
         Some(slot) => wanted(slot),
         None => "`;`",
     };
     let mut told = Told::new(alloc, &[want.as_bytes(), b" was expected"])?;
-    told.add(note(
+    told.add(is_written(alloc, context)?)?;
+    add_hint(alloc, context, &mut told)?;
+    Ok(told)
+}
+
+/// How the statement is written.
+fn is_written(alloc: Global, context: Context<'_>) -> Result<Note, AllocError> {
+    note(
         alloc,
         &[
             b"`",
@@ -407,44 +428,56 @@ fn expected_in_statement(alloc: Global, context: Context<'_>) -> Result<Told, Al
             b"` is written: ",
             beside(written(context.keyword())),
         ],
-    )?)?;
-    add_hint(alloc, context, &mut told)?;
-    Ok(told)
+    )
 }
 
 /// What is likely to be missing.
 fn add_hint(alloc: Global, context: Context<'_>, told: &mut Told) -> Result<(), AllocError> {
-    let keyword = context.keyword();
-    let before = context.text(context.at.saturating_sub(1));
-    let given = context.at.saturating_sub(context.start);
-    if given == 2
-        && (matches!(keyword, b"add") || matches!(keyword, b"cas") || matches!(keyword, b"load"))
-    {
-        told.add(note(
-            alloc,
-            &[
-                b"is the local missing? here: ",
-                keyword,
-                b" old ",
-                before,
-                b" ..",
-            ],
-        )?)?;
+    if lacks_local(context) {
+        told.add(missing_local(alloc, context)?)?;
     }
-    if matches!(context.found(), b"0") && matches!(keyword, b"repeat") {
+    if matches!(context.found(), b"0") && matches!(context.keyword(), b"repeat") {
         told.add(note(alloc, &[b"a block is repeated once at least"])?)?;
     }
     if matches!(context.slot(), Some(Slot::End | Slot::OperatorOrEnd)) && starts_line(context) {
-        told.add(note(
-            alloc,
-            &[
-                b"is a `;` missing after `",
-                before,
-                b"` on the line before?",
-            ],
-        )?)?;
+        told.add(missing_end(alloc, context)?)?;
     }
     Ok(())
+}
+
+/// Whether a statement with a local has one word before the place.
+fn lacks_local(context: Context<'_>) -> bool {
+    context.at.saturating_sub(context.start) == 2
+        && matches!(context.keyword(), b"add" | b"cas" | b"load")
+}
+
+/// The piece before the place.
+fn before<'a>(context: Context<'a>) -> &'a [u8] {
+    context.text(context.at.saturating_sub(1))
+}
+
+fn missing_local(alloc: Global, context: Context<'_>) -> Result<Note, AllocError> {
+    note(
+        alloc,
+        &[
+            b"is the local missing? here: ",
+            context.keyword(),
+            b" old ",
+            before(context),
+            b" ..",
+        ],
+    )
+}
+
+fn missing_end(alloc: Global, context: Context<'_>) -> Result<Note, AllocError> {
+    note(
+        alloc,
+        &[
+            b"is a `;` missing after `",
+            before(context),
+            b"` on the line before?",
+        ],
+    )
 }
 
 /// Whether the piece at the place is on a later line than the one before it.
@@ -572,21 +605,10 @@ fn wrong_kind(alloc: Global, context: Context<'_>, tree: &Tree) -> Result<Told, 
     let is = is_a(alloc, found)?;
     match context.slot() {
         Some(slot @ (Slot::Variable | Slot::Mutex | Slot::Condition | Slot::Semaphore)) => {
-            Told::with(
-                alloc,
-                &[
-                    &is,
-                    b"); a ",
-                    beside(kind_wanted(Some(slot))),
-                    b" must be here",
-                ],
-                &[
-                    b"`",
-                    context.keyword(),
-                    b"` is written: ",
-                    beside(written(context.keyword())),
-                ],
-            )
+            let kind = kind_wanted(Some(slot));
+            let mut told = Told::new(alloc, &[&is, b"); a ", beside(kind), b" must be here"])?;
+            told.add(is_written(alloc, context)?)?;
+            Ok(told)
         }
         _ => not_a_local(alloc, context, &is),
     }
@@ -616,29 +638,23 @@ fn not_a_local(alloc: Global, context: Context<'_>, is: &Vec<u8>) -> Result<Told
                 context.found(),
             ],
         ),
-        _ => Told::with(
-            alloc,
-            &[
-                is.as_slice(),
-                b"); a local must be here, with a name of its own",
-            ],
-            &[
-                b"`",
-                context.keyword(),
-                b"` is written: ",
-                beside(written(context.keyword())),
-            ],
-        ),
+        _ => {
+            let want = b"); a local must be here, with a name of its own";
+            let mut told = Told::new(alloc, &[is.as_slice(), want])?;
+            told.add(is_written(alloc, context)?)?;
+            Ok(told)
+        }
     }
 }
 
 fn too_many(alloc: Global, context: Context<'_>) -> Result<Told, AllocError> {
-    match context.keyword() {
-        b"var" => Told::new(alloc, &[b"the 17th variable: at most 16"]),
-        b"mutex" => Told::new(alloc, &[b"the 9th mutex: at most 8"]),
-        b"cond" => Told::new(alloc, &[b"the 9th condition: at most 8"]),
-        b"sem" => Told::new(alloc, &[b"the 9th semaphore: at most 8"]),
-        b"thread" => Told::new(alloc, &[b"the 17th thread: at most 16"]),
-        _ => Told::new(alloc, &[b"the 17th local of its thread: at most 16"]),
-    }
+    let text = match context.keyword() {
+        b"var" => "the 17th variable: at most 16",
+        b"mutex" => "the 9th mutex: at most 8",
+        b"cond" => "the 9th condition: at most 8",
+        b"sem" => "the 9th semaphore: at most 8",
+        b"thread" => "the 17th thread: at most 16",
+        _ => "the 17th local of its thread: at most 16",
+    };
+    Told::new(alloc, &[text.as_bytes()])
 }

@@ -1,6 +1,5 @@
-//! A reader and a writer that fail at one of their calls, and words that a test gives.
+//! A reader and a writer that fail at one of their calls.
 
-use std::env::{Env, FillError};
 use std::io;
 use std::io::{ErrorKind, Read, Write};
 
@@ -63,30 +62,5 @@ impl Write for FailingWriter {
 
     fn flush(&mut self) -> io::Result<()> {
         self.call()
-    }
-}
-
-/// A system that gives these command words and no variables.
-#[derive(Drop)]
-pub struct Words<'a>(pub &'a [&'a [u8]]);
-
-impl<'a> Env for Words<'a> {
-    fn arg(&self, i: usize, buf: &mut [u8]) -> Result<usize, FillError> {
-        let Some(word) = self.0.get(i) else {
-            return Err(FillError::NotPresent);
-        };
-        if buf.len() < word.len() {
-            return Err(FillError::TooLong);
-        }
-        buf[..word.len()].copy_from_slice(word);
-        Ok(word.len())
-    }
-
-    fn var(&self, _name: &str, _buf: &mut [u8]) -> Result<usize, FillError> {
-        Err(FillError::NotPresent)
-    }
-
-    fn var_at(&self, _i: usize, _buf: &mut [u8]) -> Result<usize, FillError> {
-        Err(FillError::NotPresent)
     }
 }

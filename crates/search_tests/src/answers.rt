@@ -1,0 +1,170 @@
+//! Answers to a replay and to searches, over a reader and writers that fail. What is printed where none
+//! fails is in `tests/rows.txt` and `tests/commands.py`.
+
+mod devices;
+
+ghost use Rattle.std.specs.Prelude.{◌≤◌};
+ghost use Rattle.report.specs.Promises.{IsSearch};
+
+use crate::answers::devices::{FailingReader, FailingWriter};
+use answering::{Asked, Exploration, Fault, serve};
+use runner::{Options, Search};
+use std::alloc::{Alloc, Global};
+use std::io::Eprint;
+use std::process::Abort;
+use std::sync::Wait;
+use std::test::*;
+use std::thread::Threads;
+
+const RACE: &str =
+    "var x; thread A { store x 1; store x 0; } thread B { load r x; assert r == 0; }";
+
+const FILE_FAULT: &[u8] = b"ctxbound: file\n";
+
+/// A replay of this schedule.
+fn replay(alloc: Global, schedule: &str) -> Result<Asked, Fail> {
+    Ok(Asked::Replay {
+        schedule: String::from_str(alloc, schedule)?,
+    })
+}
+
+/// A search by one worker.
+fn search(options: Options) -> Asked
+    requires search { IsSearch options.search }
+    requires quota { 1 ≤ options.quota }
+{
+    Asked::Explore(Exploration {
+        options,
+        workers: 1,
+        progress: false,
+    })
+}
+
+/// Serves a request over a reader that fails at this call, and compares what is written as the line
+/// of a fault: answers the status, how much output there is, and the calls of the reader.
+fn reader_fails(
+    rt: &(impl Abort + Threads + Wait + Sync + Eprint + Alloc<A = Global>),
+    asked: &Asked,
+    text: &[u8],
+    fails_at: usize,
+    line: &[u8],
+) -> (u8, usize, usize) {
+    let alloc = rt.alloc();
+    let mut input = FailingReader {
+        text,
+        fails_at,
+        calls: 0,
+    };
+    let mut out = Vec::new(alloc);
+    let mut err = Vec::new(alloc);
+    let status = serve(rt, alloc, asked, &mut input, &mut out, &mut err);
+    assert_eq!(rt; err.as_slice(), line);
+    (status, out.len(), input.calls)
+}
+
+/// Serves a request over a writer that fails at this call, and compares what is written as the line
+/// of a fault: answers the status and the calls of the writer.
+fn writer_fails(
+    rt: &(impl Abort + Threads + Wait + Sync + Eprint + Alloc<A = Global>),
+    asked: &Asked,
+    fails_at: usize,
+    line: &[u8],
+) -> (u8, usize) {
+    let alloc = rt.alloc();
+    let mut input = RACE.as_bytes();
+    let mut out = FailingWriter::at(fails_at);
+    let mut err = Vec::new(alloc);
+    let status = serve(rt, alloc, asked, &mut input, &mut out, &mut err);
+    assert_eq!(rt; err.as_slice(), line);
+    (status, out.calls)
+}
+
+/// The output where no device fails.
+fn output(
+    rt: &(impl Abort + Threads + Wait + Sync + Eprint + Alloc<A = Global>),
+    asked: &Asked,
+) -> Vec<u8> {
+    let alloc = rt.alloc();
+    let mut input = RACE.as_bytes();
+    let mut out = Vec::new(alloc);
+    let mut err = Vec::new(alloc);
+    let _ = serve(rt, alloc, asked, &mut input, &mut out, &mut err);
+    assert!(rt; !out.is_empty() && err.is_empty());
+    out
+}
+
+/// Each call of a reader fails in turn: the program says so, and doesn't try it again.
+fn readers_fail(
+    rt: &(impl Abort + Threads + Wait + Sync + Eprint + Alloc<A = Global>),
+    asked: &Asked,
+) {
+    let text = RACE.as_bytes();
+    for fails_at in 0..=text.len() {
+        let counts = reader_fails(rt, asked, text, fails_at, FILE_FAULT);
+        assert_eq!(rt; counts, (4, 0, fails_at + 1));
+    }
+}
+
+/// Each call of a writer fails in turn.
+fn writers_fail(
+    rt: &(impl Abort + Threads + Wait + Sync + Eprint + Alloc<A = Global>),
+    asked: &Asked,
+) {
+    let length = output(rt, asked).len();
+    for fails_at in 0..=length {
+        let counts = writer_fails(rt, asked, fails_at, FILE_FAULT);
+        assert_eq!(rt; counts, (4, fails_at + 1));
+    }
+}
+
+#[test]
+fn says_that_a_device_failed(rt: HostRuntime) -> Result<(), Fail> {
+    let asked = replay(rt.alloc(), "0,1,0")?;
+    readers_fail(&rt, &asked);
+    writers_fail(&rt, &asked);
+    Ok(())
+}
+
+#[test]
+fn says_that_a_device_failed_in_a_search(rt: HostRuntime) {
+    for asked in &[
+        search(Options::new(Search::UpTo(2))),
+        search(Options::new(Search::Unbounded)),
+    ] {
+        readers_fail(&rt, asked);
+        writers_fail(&rt, asked);
+    }
+}
+
+#[test]
+fn reads_no_further_than_it_must(rt: HostRuntime) -> Result<(), Fail> {
+    let mut text = Vec::new(rt.alloc());
+    text.resize(65_537, b' ')?;
+    let asked = replay(rt.alloc(), "0")?;
+    let line = b"ctxbound: syntax S5 TooLong at 1:1\n";
+    let counts = reader_fails(&rt, &asked, text.as_slice(), 65_537, line);
+    assert_eq!(rt; counts, (2, 0, 65_537));
+    Ok(())
+}
+
+/// The status where neither stream takes anything.
+fn status_alone(
+    rt: &(impl Threads + Wait + Sync + Eprint + Alloc<A = Global>),
+    asked: &Asked,
+) -> u8 {
+    let mut input = RACE.as_bytes();
+    let mut out = FailingWriter::at(0);
+    let mut err = FailingWriter::at(0);
+    serve(rt, rt.alloc(), asked, &mut input, &mut out, &mut err)
+}
+
+#[test]
+fn keeps_its_status_where_a_stream_fails(rt: HostRuntime) -> Result<(), Fail> {
+    let asked = replay(rt.alloc(), "0,")?;
+    let line = b"ctxbound: schedule Q1 BadSchedule at 2\n";
+    assert_eq!(rt; writer_fails(&rt, &asked, 0, line), (2, 0));
+    assert_eq!(rt; status_alone(&rt, &asked), 2);
+    let mut err = FailingWriter::at(0);
+    assert_eq!(rt; Fault::Memory.report(&mut err), 4);
+    Ok(())
+}
