@@ -102,7 +102,9 @@ path_gone p old new t h some enabled used steps last shows values fixed width si
         state = state_at p (sym steps i);
         last = sym last i;
         preemptions = new.node.used;
-      })) (reaches_parts p w _ t (state_at p (w ++ t ∷ [])) new.node.used h.reaches enabled push used);
+      }))
+          (reaches_parts p w _ t (state_at p (w ++ t ∷ [])) new.node.used h.reaches enabled push
+          used);
       shows = subst (Shows p new.machine) (sym (ap (state_at p) steps ∙ push)) shows;
       size = size ∙ (h.size ∙ sym values);
       frames = transport (λ i. AreCopies p (sym steps i) (sym fixed i) (sym width i) (sym size i)
@@ -189,8 +191,8 @@ pub path_left : (p : Program) (old new : Path) (n m : ℕ) (f : Frame) → IsPat
     → new.machine.width ≡ old.machine.width → new.size ≡ old.size
     → (used_frames new) ≡ take m (used_frames old)
     → new.words.items ≡ old.words.items → new.depth ≤ length new.frames.items → IsPath p new
-path_left p old new n m f h long low high e steps node shows values fixed width size frames words room =
-    record {
+path_left p old new n m f h long low high e steps node shows values fixed width size frames words
+    room = record {
       well_formed = h.well_formed;
       reaches = transport (λ i. ReachesNode p (sym here i)
           (sym (node ∙ ap (λ (g : Frame). g.node) e) i)) (h.frames.each n long).reaches;

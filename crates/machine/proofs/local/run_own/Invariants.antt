@@ -14,9 +14,11 @@ invariant-loop-running l = record {
   free : IsFreeIn l.code l.at;
   below : All (LocalsBelow (length l.own)) l.code;
   same : IsTrue l.running → run_from l.code (own_thread l.at l.own)
-      ≡ run_from l.code (own_thread (record { pc = l.fn.from; status = Running; free = false }) l.fn.own);
+      ≡ run_from l.code
+      (own_thread (record { pc = l.fn.from; status = Running; free = false }) l.fn.own);
   over : IsFalse l.running → own_thread l.at l.own
-      ≡ run_from l.code (own_thread (record { pc = l.fn.from; status = Running; free = false }) l.fn.own);
+      ≡ run_from l.code
+      (own_thread (record { pc = l.fn.from; status = Running; free = false }) l.fn.own);
 }
 
 abbrev pub decreases-loop-running : goal.decreases-loop-running

@@ -1,4 +1,5 @@
-use Rattle.std.proofs.Common.{arith, ◌≡◌, ◌∙◌, ◌+◌, ◌-◌, ◌*◌, ◌<◌, length, refl, ap, sym, subst, take, drop}
+use Rattle.std.proofs.Common.{arith, ◌≡◌, ◌∙◌, ◌+◌, ◌-◌, ◌*◌, ◌<◌, length, refl, ap, sym}
+use Rattle.std.proofs.Common.{subst, take, drop}
 use Rattle.std.proofs.Math.Path.{transport}
 use Rattle.std.proofs.lemmas.List.{get_or_default, take-take, get_or-take}
 use Rattle.machine.specs.Refinement.{Shows, IsState}
