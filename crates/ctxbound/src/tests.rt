@@ -11,7 +11,7 @@ use crate::asked::Request;
 use crate::tests::devices::{FailingReader, FailingWriter};
 use crate::tests::reports::{ASKED_FOR_MORE, BOUNDED, CUT_SHORT, EIGHT_STORES, UNBOUNDED};
 use crate::tests::rows::{RACE, REFUSALS, TRACES};
-use answering::{Asked, Fault, serve};
+use answering::{Asked, Fault, ended, serve};
 use std::alloc::{Alloc, Global};
 use std::io::Eprint;
 use std::process::Abort;
@@ -73,7 +73,7 @@ fn answered(
     let mut input = text;
     let mut out = Vec::new(alloc);
     let mut err = Vec::new(alloc);
-    let status = serve(rt, alloc, request, &mut input, &mut out, &mut err);
+    let status = ended(serve(rt, request, &mut input, &mut out, &mut err), &mut err);
     Written { out, err, status }
 }
 
@@ -200,7 +200,7 @@ fn reader_fails(
     };
     let mut out = Vec::new(alloc);
     let mut err = Vec::new(alloc);
-    let status = serve(rt, alloc, request, &mut input, &mut out, &mut err);
+    let status = ended(serve(rt, request, &mut input, &mut out, &mut err), &mut err);
     assert_eq!(rt; err.as_slice(), line);
     (status, out.len(), input.calls)
 }
@@ -218,7 +218,7 @@ fn writer_fails(
     let mut input = text.as_bytes();
     let mut out = FailingWriter::at(fails_at);
     let mut err = Vec::new(alloc);
-    let status = serve(rt, alloc, request, &mut input, &mut out, &mut err);
+    let status = ended(serve(rt, request, &mut input, &mut out, &mut err), &mut err);
     assert_eq!(rt; err.as_slice(), line);
     (status, out.calls)
 }
@@ -319,7 +319,7 @@ fn status_alone(
     let mut input = RACE.as_bytes();
     let mut out = FailingWriter::at(0);
     let mut err = FailingWriter::at(0);
-    serve(rt, rt.alloc(), request, &mut input, &mut out, &mut err)
+    ended(serve(rt, request, &mut input, &mut out, &mut err), &mut err)
 }
 
 #[test]
