@@ -106,7 +106,8 @@ pub each_left : {X : Type 0} (xs ys : List X) (ks : List ℕ) → AreWithin xs k
     remove_each (xs ++ ys) ks ≡ remove_each xs ks ++ ys
 each_left xs ys [] h = refl
 each_left xs ys (k ∷ ks) h =
-    ap (λ zs. remove_each zs ks) (remove-append_left xs ys k h.0) ∙ each_left (remove xs k) ys ks h.1
+    ap (λ zs. remove_each zs ks) (remove-append_left xs ys k h.0)
+    ∙ each_left (remove xs k) ys ks h.1
 
 pub each_more : {X : Type 0} (xs : List X) (ks : List ℕ) (k : ℕ) →
     remove_each xs (ks ++ k ∷ []) ≡ remove (remove_each xs ks) k
@@ -160,7 +161,8 @@ each_same {X} xs first (k ∷ ks) a h =
     let e : suc (first + length ks) ≡ first + suc (length ks) = omega arith in (
       (lt, r.0),
       r.1 ∙ (ap (λ j. remove_range (remove xs j) first (first + length ks)) at
-          ∙ (out_again xs first (first + length ks) (omega (arith, at, lt)) (omega arith) ∙ ap (remove_range xs first) e)),
+          ∙ (out_again xs first (first + length ks) (omega (arith, at, lt)) (omega arith)
+          ∙ ap (remove_range xs first) e)),
     )
 
 pub range_out : {X : Type 0} (xs : List X) (first end most : ℕ) → first ≤ end → end ≤ length xs →

@@ -217,7 +217,8 @@ pub record HaveFound (p : Program) (mode : Mode) (items : List ItemView) (places
 -- the walks were settled, one after another
 abbrev pub HaveSettled : BookView → List WalkView → BookView → Type 0
 HaveSettled old [] new = new ≡ old
-HaveSettled old (w ∷ ws) new = (between : BookView) × Settles old w between × HaveSettled between ws new
+HaveSettled old (w ∷ ws) new =
+    (between : BookView) × Settles old w between × HaveSettled between ws new
 
 -- why a walk is refused
 abbrev pub IsRefused : BookView → WalkView → SettleError → Type 0

@@ -401,8 +401,9 @@ impl Book {
     ) -> Result<bool, AllocError>
         requires program { AreOf self.old.program items.now }
         requires walked { HaveFound self.old.program self.old.mode items.now places.now found.old }
-        ensures taken { (f : HaveFound self.old.program self.old.mode items.now places.now found.old) →
-            result ≡ Ok true → HaveSettled self.old f.walks self.new }
+        ensures taken { let b = self.old in
+            (f : HaveFound b.program b.mode items.now places.now found.old) →
+            result ≡ Ok true → HaveSettled b f.walks self.new }
         ensures same { (result ≡ Ok true → ⊥) → self.new ≡ self.old }
     {
         let Some(stand) = self.open_items.places_of(alloc, items, places)? else {

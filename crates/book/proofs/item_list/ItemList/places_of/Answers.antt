@@ -52,9 +52,11 @@ loop-k-preserved c =
     ∙ ap (λ i. Some i) (sym c.index-items-places.is) in
     let pushed : found ++ q ∷ [] ≡ c.push.new.self.items =
     ap (λ m. found ++ m ∷ [])
-    (let e : q ≡ c.length-packed.result + place - k = omega (arith, packed, view) in e) ∙ sym c.in_ok-push.ensures.items in
+    (let e : q ≡ c.length-packed.result + place - k = omega (arith, packed, view) in e)
+    ∙ sym c.in_ok-push.ensures.items in
     let more : take k places ++ at ∷ [] ≡ take (k + 1) places =
-    sym (take-suc places k 0 c.loop-k-test.true) ∙ ap (λ m. take m places) (let e : suc k ≡ k + 1 = omega arith in e) in
+    sym (take-suc places k 0 c.loop-k-test.true)
+    ∙ ap (λ m. take m places) (let e : suc k ≡ k + 1 = omega arith in e) in
     let next = λ (p : Program).
     let all = length-all p v in
     behind_next (all_of p v) (remove_each (all_of p v) found) n (n + c.loop-k.start) k (n + place) x
