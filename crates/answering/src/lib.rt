@@ -6,7 +6,8 @@
 //!   Their contracts speak of nothing else.
 //! - [`Fault`] is why there is no answer, the line that tells so, and its status.
 //! - An [`Answer`] is all that is written, and the status. [`serve`] reads a text, answers and
-//!   writes; [`serve_file`] does so with a file.
+//!   writes; [`ended`] is the status that the program ends with then; [`serve_file`] does all that
+//!   with a file.
 //! - [`Teller`] is the gate of the searches: where it is asked to, it tells how far they are.
 #![tactic(auto)]
 
@@ -22,4 +23,4 @@ pub use answer::{
 pub use asked::{Asked, DEFAULT_BOUND, Exploration};
 pub use fault::Fault;
 pub use progress::Teller;
-pub use serving::{is_standard_input, serve, serve_file};
+pub use serving::{ended, is_standard_input, serve, serve_file};

@@ -1,7 +1,8 @@
 //! One run of a program: a reader or a file, what is answered to its text, and two writers.
 
-ghost use Rattle.std.specs.Prelude.{◌≡◌, ◌⊎◌, IfSome, IfOk, IfErr};
+ghost use Rattle.std.specs.Prelude.{◌≡◌, IfSome, IfOk, IfErr, MatchResult};
 ghost use Rattle.answering.specs.Answer.{IsOfDevice};
+ghost use Rattle.answering.specs.Status.{fault_status};
 ghost use Rattle.answering.specs.Serve.{IsPartRead, IsServed, IsWritten};
 
 use crate::answer::Answer;
@@ -38,25 +39,40 @@ fn write_out<W: Write>(out: &mut W, output: &[u8]) -> Result<(), Fault>
     Ok(())
 }
 
-/// Does what is asked with the guest program that `input` gives: the answer goes to `out`, the
-/// line of a fault to `err`. Answers the status that the program ends with.
-pub fn serve<H: Threads + Wait + Sync + Eprint, R: Read, W: Write, E: Write>(
+/// Does what is asked with the guest program that `input` gives: the answer goes to `out`, the line
+/// of a fault that it tells to `err`. Answers the status of the answer, which was written then.
+///
+/// # Errors
+///
+/// The fault of the device where the input can't be read or the output can't be written.
+pub fn serve<H, R: Read, W: Write, E: Write>(
     rt: &H,
-    alloc: Global,
     asked: &Asked,
     input: &mut R,
     out: &mut W,
     err: &mut E,
-) -> u8
-    ensures { IfSome (R.remaining input.old) (λ text. (result ≡ 4)
-        ⊎ IsServed asked.now text (W.contents out.old) (W.contents out.new) result) }
+) -> Result<u8, Fault>
+where
+    H: Threads + Wait + Sync + Eprint + Alloc<A = Global>,
+    ensures served { IfOk result (λ status. IfSome (R.remaining input.old) (λ text.
+        IsServed asked.now text (W.contents out.old) (W.contents out.new) status)) }
+    ensures fault { IfErr result IsOfDevice }
 {
-    let answer = Answer::new(rt, alloc, asked, read_text(alloc, input));
-    match write_out(out, answer.output()) {
-        Ok(()) => {
-            let _ = answer.write_error(err);
-            answer.status()
-        }
+    let alloc = rt.alloc();
+    let text = read_text(alloc, input)?;
+    let answer = Answer::new(rt, alloc, asked, Ok(text));
+    write_out(out, answer.output())?;
+    let _ = answer.write_error(err);
+    Ok(answer.status())
+}
+
+/// The status that the program ends with: that of the answer that was served. Where a device failed
+/// the fault's line is written, and the status is the fault's.
+pub fn ended<E: Write>(served: Result<u8, Fault>, err: &mut E) -> u8
+    ensures { MatchResult served (λ status. result ≡ status) (λ fault. result ≡ fault_status fault) }
+{
+    match served {
+        Ok(status) => status,
         Err(fault) => fault.report(err),
     }
 }
@@ -77,11 +93,13 @@ pub fn serve_file<H, W: Write, E: Write>(
 where
     H: Threads + Wait + Sync + Eprint + Files + Input + Alloc<A = Global>,
 {
-    if is_standard_input(file) {
-        return serve(rt, rt.alloc(), asked, &mut rt.reader(), out, err);
-    }
-    match fs::open(rt, file) {
-        Ok(mut input) => serve(rt, rt.alloc(), asked, &mut input, out, err),
-        Err(error) => Fault::from(error).report(err),
-    }
+    let served = if is_standard_input(file) {
+        serve(rt, asked, &mut rt.reader(), out, err)
+    } else {
+        match fs::open(rt, file) {
+            Ok(mut input) => serve(rt, asked, &mut input, out, err),
+            Err(error) => Err(Fault::from(error)),
+        }
+    };
+    ended(served, err)
 }

@@ -10,3 +10,4 @@ pub mod Swept
 pub mod TakenOver
 pub mod OpenItems
 pub mod Rounds
+pub mod Gathered

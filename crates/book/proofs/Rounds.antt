@@ -18,7 +18,7 @@ use Rattle.book.proofs.Lists.{dropped_at, got_behind, removed_behind, length_beh
 use Rattle.book.proofs.Thinned.{settles_any}
 
 -- what is finished is a summary
-finished_kept : (b : BookView) → Keeps b → IsSummary b.finished
+pub finished_kept : (b : BookView) → Keeps b → IsSummary b.finished
 finished_kept b h = go b.dropped h
   where
     go : (d : _) → KeepsWhere d b → IsSummary b.finished

@@ -1,7 +1,7 @@
 -- Lists that grow by what a walk left, and shrink again where a later step is refused.
 use Rattle.std.specs.declared.alloc.AllocError.{AllocError}
-use Rattle.std.proofs.Common.{◌≡◌, ℕ, suc, ◌≤◌, Bool, true, false, Option, None, List, [], ◌∷◌, ◌++◌, length, take, refl, ap, sym, ◌∙◌, arith, append_assoc, Result, Ok, Err, OnOk, is_ok, if◌then◌else◌}
-use Rattle.std.specs.List.{remove_range}
+use Rattle.std.proofs.Common.{◌≡◌, ℕ, ◌≤◌, Bool, true, false, Option, None, List, [], ◌∷◌, ◌++◌, length, take, refl, ap, sym, ◌∙◌, arith, append_assoc, Result, Ok, Err, OnOk, is_ok, if◌then◌else◌}
+use Rattle.std.specs.List.{remove}
 use Rattle.std.proofs.lemmas.List.{take_at}
 use Rattle.schedules.specs.Order.{lesser}
 use Rattle.guest_code.specs.Program.{Program}
@@ -10,8 +10,8 @@ use Rattle.walk.specs.Items.{ItemView}
 use Rattle.walk.specs.declared.found.Found.{Found}
 use Rattle.walk.specs.Walks.{items_at, found_walk}
 use Rattle.book.specs.ItemLists.{ListView, all_of}
-use Rattle.book.specs.Books.{BookView, settled, taken_over}
-use Rattle.book.proofs.Lists.{range_left}
+use Rattle.book.specs.Books.{BookView, settled, taken_in, remove_each, AreWithin}
+use Rattle.book.proofs.Lists.{each_left}
 
 pub loose_only : (p : Program) (l : ListView) → l.packed ≡ [] → all_of p l ≡ l.loose
 loose_only p l e = ap (λ ws. items_at p ws ++ l.loose) e
@@ -36,15 +36,15 @@ given_back p unpacked more cut items rest n same packed loose len is =
     taken_back (all_of p unpacked) rest (all_of p more) (all_of p cut) n
     (grown p unpacked more rest packed loose) len is ∙ same
 
--- those in a range are out, and those that came are in
+-- those at some places are out, and those that came are in
 pub open_taken : (p : Program) (unpacked more out : ListView) (items rest : List ItemView)
-    (first end : ℕ) → all_of p unpacked ≡ items → more.packed ≡ unpacked.packed →
+    (places : List ℕ) → all_of p unpacked ≡ items → more.packed ≡ unpacked.packed →
     more.loose ≡ unpacked.loose ++ rest →
-    all_of p out ≡ remove_range (all_of p more) first end → first ≤ end → end ≤ length items →
-    all_of p out ≡ remove_range items first end ++ rest
-open_taken p unpacked more out items rest first end same packed loose is from to =
-    is ∙ (ap (λ xs. remove_range xs first end) (grown p unpacked more rest packed loose
-    ∙ ap (λ xs. xs ++ rest) same) ∙ range_left items rest first end from to)
+    all_of p out ≡ remove_each (all_of p more) places → AreWithin items places →
+    all_of p out ≡ remove_each items places ++ rest
+open_taken p unpacked more out items rest places same packed loose is within =
+    is ∙ (ap (λ xs. remove_each xs places) (grown p unpacked more rest packed loose
+    ∙ ap (λ xs. xs ++ rest) same) ∙ each_left items rest places within)
 
 pub same_book : (b : BookView) (finished : SummaryView) (open_items deferred : List ItemView) →
     finished ≡ b.finished → open_items ≡ b.open_items → deferred ≡ b.deferred →
@@ -53,10 +53,10 @@ same_book b finished open_items deferred e f g =
     λ k. record b { finished = e k; open_items = f k; deferred = g k }
 
 -- what a walk found settles its item
-pub settled_by_found : (b : BookView) (i : ItemView) (found : Found) (place end : ℕ) →
-    b.program ≡ i.program → end ≡ suc place →
-    taken_over b place end found ≡ settled b (found_walk b.mode i found) place
-settled_by_found b i found place end of e = λ k. record (taken_over b place (e k) found) {
+pub settled_by_found : (b : BookView) (i : ItemView) (found : Found) (place : ℕ) →
+    b.program ≡ i.program →
+    taken_in b (remove b.open_items place) found ≡ settled b (found_walk b.mode i found) place
+settled_by_found b i found place of = λ k. record (taken_in b (remove b.open_items place) found) {
   deferred = b.deferred ++ items_at (of k) found.deferred;
 }
 

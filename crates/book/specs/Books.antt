@@ -1,5 +1,5 @@
 -- What a book keeps, and what its calls do.
-use Rattle.std.specs.Prelude.{◌≡◌, ℕ, zero, suc, ◌<◌, ◌≤◌, ◌+◌, ◌-◌, min, Bool, true, false, not, ◌||◌, ◌&&◌, List, [], ◌∷◌, ◌++◌, length, filter, Option, Some, None, slice_get, All}
+use Rattle.std.specs.Prelude.{◌≡◌, ℕ, zero, suc, ◌<◌, ◌≤◌, ◌+◌, ◌-◌, min, Bool, true, false, not, ◌||◌, ◌&&◌, List, [], ◌∷◌, ◌++◌, length, filter, Option, Some, None, slice_get, All, flat_map}
 use Rattle.std.specs.declared.alloc.Global.{Global}
 use Rattle.std.specs.declared.sync.Arc.{Arc}
 use Rattle.std.specs.Arc.{arc_value}
@@ -161,13 +161,64 @@ pub record IsFoundAt (b : BookView) (found : Found) (place : ℕ) : Type 0 where
   pub is_open : IsOpenAt b item place
   pub walked : IsWalked (found_walk b.mode item found)
 
--- the book where what walks of the open items in a range of places found is settled
-abbrev pub taken_over : BookView → ℕ → ℕ → Found → BookView
-taken_over b first end found = record b {
+-- the book where what walks found is settled, and these are left of the open items
+abbrev pub taken_in : BookView → List ItemView → Found → BookView
+taken_in b left found = record b {
   finished = join b.finished found.part;
-  open_items = remove_range b.open_items first end ++ found.rest.items;
+  open_items = left ++ found.rest.items;
   deferred = b.deferred ++ items_at b.program found.deferred;
 }
+
+-- so where the walks are of the open items in a range of places
+abbrev pub taken_over : BookView → ℕ → ℕ → Found → BookView
+taken_over b first end found = taken_in b (remove_range b.open_items first end) found
+
+-- the list without the elements at these places, each counted in what those before it leave
+abbrev pub remove_each : {X : Type 0} → List X → List ℕ → List X
+remove_each xs [] = xs
+remove_each xs (k ∷ ks) = remove_each (remove xs k) ks
+
+-- there are such elements
+abbrev pub AreWithin : {X : Type 0} → List X → List ℕ → Type 0
+AreWithin xs [] = Unit {0}
+AreWithin xs (k ∷ ks) = (k < length xs) × AreWithin (remove xs k) ks
+
+-- the items at these places of a list stand there in another, each counted without those before it
+abbrev pub AreOpenAt : List ItemView → List ItemView → List ℕ → List ℕ → Type 0
+AreOpenAt xs items [] [] = Unit {0}
+AreOpenAt xs items [] (q ∷ qs) = ⊥
+AreOpenAt xs items (k ∷ ks) [] = ⊥
+AreOpenAt xs items (k ∷ ks) (q ∷ qs) =
+    (q < length xs) × (slice_get items k ≡ slice_get xs q) × AreOpenAt (remove xs q) items ks qs
+
+-- the walks are of the items at these places of a list, in a mode
+abbrev pub AreWalksAt : Mode → List ItemView → List ℕ → List WalkView → Type 0
+AreWalksAt mode items [] [] = Unit {0}
+AreWalksAt mode items [] (w ∷ ws) = ⊥
+AreWalksAt mode items (k ∷ ks) [] = ⊥
+AreWalksAt mode items (k ∷ ks) (w ∷ ws) =
+    (w.mode ≡ mode) × (slice_get items k ≡ Some w.item) × IsWalked w
+    × AreWalksAt mode items ks ws
+
+-- a summary joined with the parts of walks, one after another
+abbrev pub joined : SummaryView → List WalkView → SummaryView
+joined s [] = s
+joined s (w ∷ ws) = joined (join s w.part) ws
+
+-- walks of the items at these places of a list, one after another, found this together
+pub record HaveFound (p : Program) (mode : Mode) (items : List ItemView) (places : List ℕ)
+    (found : Found) : Type 0 where
+  pub walks : List WalkView
+  pub of : AreWalksAt mode items places walks
+  pub part : found.part ≡ joined nothing walks
+  pub rest : found.rest.items ≡ flat_map (λ w. w.rest) walks
+  pub deferred : items_at p found.deferred ≡ flat_map (λ w. w.deferred) walks
+
+-- the walks were settled, one after another
+abbrev pub HaveSettled : BookView → List WalkView → BookView → Type 0
+HaveSettled old [] new = new ≡ old
+HaveSettled old (w ∷ ws) new =
+    (between : BookView) × Settles old w between × HaveSettled between ws new
 
 -- why a walk is refused
 abbrev pub IsRefused : BookView → WalkView → SettleError → Type 0

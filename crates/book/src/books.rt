@@ -1,14 +1,15 @@
 //! Books.
 
-ghost use Rattle.std.specs.Prelude.{suc, true, false, None, count_by, ◌≡◌, ◌<◌, ◌≤◌, ◌+◌, ◌-◌, ◌&&◌, ◌↔◌, [], length, drop, is_ok, if◌then◌else◌, IfOk, OnOk, IfErr, IfSome, IfNone, IsTrue, slice_get, Some, All};
+ghost use Rattle.std.specs.Prelude.{suc, true, false, None, count_by, ◌≡◌, ◌<◌, ◌≤◌, ◌+◌, ◌-◌, ◌&&◌, ◌↔◌, [], length, drop, is_ok, if◌then◌else◌, IfOk, OnOk, IfErr, Ok, IfSome, IfNone, IsTrue, slice_get, Some, All};
 ghost use Rattle.std.specs.Arc.{arc_value};
+ghost use Rattle.std.specs.List.{remove};
 ghost use Rattle.walk.specs.declared.limits.TheConstants.{BOUND};
 ghost use Rattle.walk.specs.declared.mode.Mode.TheVariants.{Bounded};
 ghost use Rattle.walk.specs.Items.{whole, AreOf};
 ghost use Rattle.walk.specs.Walks.{IsWalked, found_walk};
 ghost use Rattle.book.specs.declared.limits.TheConstants.{ROUND};
 ghost use Rattle.book.specs.Quick.{IsBoundedBy};
-ghost use Rattle.book.specs.Books.{Keeps, drops, thinned, opening, IsWalkOf, IsFoundAt, HasWalkedRound, taken_over, Settles, IsRefused, Raises, IsNotRaised, IsClosed, bound_of};
+ghost use Rattle.book.specs.Books.{Keeps, drops, thinned, opening, IsWalkOf, IsFoundAt, HasWalkedRound, HaveFound, HaveSettled, taken_over, taken_in, remove_each, AreWithin, Settles, IsRefused, Raises, IsNotRaised, IsClosed, bound_of};
 
 use crate::errors::{RaiseError, SettleError};
 use crate::item_list::{ItemList, is_later};
@@ -219,6 +220,7 @@ impl Book {
     {
         let first = self.open_items.length().saturating_sub(ROUND);
         self.open_items.unpack_from(alloc, &self.program, first)?;
+        self.open_items.look_from(first);
         self.open_items.copy_from(alloc, first, items)
     }
 
@@ -375,10 +377,41 @@ impl Book {
     ) -> Result<(), AllocError>
         requires { IsFoundAt self.old found.old place }
         ensures { self.new ≡ (if is_ok result
-            then taken_over self.old place (suc place) found.old else self.old) }
+            then taken_in self.old (remove self.old.open_items place) found.old else self.old) }
     {
         let _open = self.open_length();
-        self.take_over(alloc, found, place, place + 1)
+        self.take_over(alloc, found, place, &[place])
+    }
+
+    /// Settles at once what walks of items of the book's last round found, in its mode and one after
+    /// another: of those at these places of the round. Answers whether it took them: it doesn't where
+    /// they aren't open in that order. No program is compared. The memory of what was found serves
+    /// later walks.
+    ///
+    /// # Errors
+    ///
+    /// `AllocError` where memory runs out. The book is as before then; of what was found some may be
+    /// lost, so the items that are open have to be walked again.
+    pub fn settle_all(
+        &mut self,
+        alloc: Global,
+        items: &[Item],
+        places: &[usize],
+        found: &mut Found,
+    ) -> Result<bool, AllocError>
+        requires program { AreOf self.old.program items.now }
+        requires walked { HaveFound self.old.program self.old.mode items.now places.now found.old }
+        ensures taken { let b = self.old in
+            (f : HaveFound b.program b.mode items.now places.now found.old) →
+            result ≡ Ok true → HaveSettled b f.walks self.new }
+        ensures same { (result ≡ Ok true → ⊥) → self.new ≡ self.old }
+    {
+        let Some(stand) = self.open_items.places_of(alloc, items, places)? else {
+            return Ok(false);
+        };
+        let first = self.open_items.packed_length();
+        self.take_over(alloc, found, first, stand.as_slice())?;
+        Ok(true)
     }
 
     /// Walks the last open items, at most `ROUND`, in their order, each where it stands, and settles
@@ -410,24 +443,26 @@ impl Book {
             let item = self.open_items.loose_item(place);
             walker.walk_on(alloc, found, item, self.mode, quota)?;
         }
-        self.take_over(alloc, found, first, end)
+        let places = [first; ROUND];
+        self.take_over(alloc, found, first, &places[..end - first])
     }
 
-    // Settles what walks of the open items in a range of places found, of which the memory is left.
-    // The lists grow first; then the sum is joined, which is the last that can be refused, and the
-    // items are taken out.
+    // Settles what walks of the open items at these places, each counted without those before it,
+    // found, of which the memory is left; none stands before the first one. The lists grow first; then
+    // the sum is joined, which is the last that can be refused, and the items are taken out.
     fn take_over(
         &mut self,
         alloc: Global,
         found: &mut Found,
         first: usize,
-        end: usize,
+        places: &[usize],
     ) -> Result<(), AllocError>
-        requires range { first ≤ end }
-        requires end { end ≤ length self.old.open_items }
-        requires keeps { Keeps (taken_over self.old first end found.old) }
-        ensures { self.new ≡ (if is_ok result
-            then taken_over self.old first end found.old else self.old) }
+        requires first { All (λ k. first ≤ k) places.now }
+        requires within { AreWithin self.old.open_items places.now }
+        requires keeps { let left = remove_each self.old.open_items places.now in
+            Keeps (taken_in self.old left found.old) }
+        ensures { let left = remove_each self.old.open_items places.now in
+            self.new ≡ (if is_ok result then taken_in self.old left found.old else self.old) }
     {
         let packs = is_packed(self.quick, &self.finished, &found.part);
         self.open_items
@@ -450,7 +485,7 @@ impl Book {
             self.deferred.truncate(deferred_length);
             return Err(error);
         }
-        self.open_items.remove(first, end);
+        self.open_items.remove_each(places);
         self.swept = both(self.swept, quiet);
         Ok(())
     }

@@ -2,12 +2,13 @@
 
 ghost use Rattle.std.specs.Prelude.{◌≡◌, ℕ, ◌+◌, ◌-◌, ◌<◌, ◌≤◌, ◌↔◌, [], ◌++◌, ◌∷◌, false, not, max, length, vec_len, take, drop, filter, count_by, is_ok, if◌then◌else◌, IfOk, OnOk, IfSome, IfNone, IsTrue, Some, slice_get, slice_index_or, All};
 ghost use Rattle.std.specs.Arc.{arc_value};
-ghost use Rattle.std.specs.List.{remove_range};
 ghost use Rattle.guest_code.specs.Program.{Program};
 ghost use Rattle.walk.specs.Items.{ItemView, AreOf, IsItem};
 ghost use Rattle.walk.specs.Walks.{items_at};
 ghost use Rattle.book.specs.Quick.{is_later};
 ghost use Rattle.book.specs.ItemLists.{all_of};
+ghost use Rattle.std.specs.List.{remove_range};
+ghost use Rattle.book.specs.Books.{remove_each, AreWithin, AreOpenAt};
 
 use crate::packed::{last_item, last_items, last_packed};
 use guest_code::program::Program;
@@ -194,8 +195,50 @@ impl ItemList {
         Ok(())
     }
 
+    // How many items are packed.
+    pub(crate) fn packed_length(&self) -> usize
+        ensures { result ≡ length self.now.packed }
+    {
+        self.packed.length()
+    }
+
+    // Looks for items from this place on.
+    pub(crate) fn look_from(&mut self, place: usize)
+        ensures { self.new ≡ self.old }
+    {
+        self.hint = place.saturating_sub(self.packed.length());
+    }
+
+    // Where the items at some places of a round stand, if they are found in their order and not
+    // packed: each is counted without those before it.
+    pub(crate) fn places_of(
+        &self,
+        alloc: Global,
+        items: &[Item],
+        places: &[usize],
+    ) -> Result<Option<Vec<usize>>, AllocError>
+        requires places { All (λ k. k < length items.now) places.now }
+        requires program { (p : Program) × AreOf p self.now.loose × AreOf p items.now }
+        ensures there { (p : Program) → IfOk result (λ o. IfSome o (λ v.
+            AreOpenAt (all_of p self.now) items.now places.now v.items)) }
+        ensures loose { IfOk result (λ o. IfSome o (λ v.
+            All (λ k. length self.now.packed ≤ k) v.items)) }
+    {
+        let packed = self.packed.length();
+        let mut found = Vec::with_capacity(alloc, places.len())?;
+        let mut start = self.hint.min(self.loose.len());
+        for k in 0..places.len() {
+            let Some(place) = find_behind(&self.loose, start, &items[places[k]]) else {
+                return Ok(None);
+            };
+            found.push(packed + place - k)?;
+            start = place + 1;
+        }
+        Ok(Some(found))
+    }
+
     // Takes out the items from one place to another, which aren't packed.
-    pub(crate) fn remove(&mut self, first: usize, end: usize)
+    fn remove(&mut self, first: usize, end: usize)
         requires loose { length self.old.packed ≤ first }
         requires range { first ≤ end }
         requires end { end ≤ length self.old.packed + length self.old.loose }
@@ -205,7 +248,25 @@ impl ItemList {
     {
         let packed = self.packed.length();
         self.loose.drain(first - packed..end - packed);
-        self.hint = first - packed;
+    }
+
+    // Takes out the items at these places, which aren't packed: each is counted without those before
+    // it. So the items of a range are all at one place, and are taken out at once.
+    pub(crate) fn remove_each(&mut self, places: &[usize])
+        requires loose { All (λ k. length self.old.packed ≤ k) places.now }
+        requires within { (p : Program) × AreWithin (all_of p self.old) places.now }
+        ensures items { (p : Program) →
+            all_of p self.new ≡ remove_each (all_of p self.old) places.now }
+        ensures packed { self.new.packed ≡ self.old.packed }
+    {
+        if let Some(first) = only_place(places) {
+            let _length = self.length();
+            return self.remove(first, first + places.len());
+        }
+        let packed = self.packed.length();
+        for k in 0..places.len() {
+            let _item = self.loose.remove(places[k] - packed);
+        }
     }
 
     // Puts items after the others. Mostly there is none.
@@ -272,6 +333,18 @@ impl ItemList {
             count_by (λ i. is_later schedule.now i.prefix) self.old.loose }
     {
         drop_later(&mut self.loose, schedule)
+    }
+}
+
+// The place that all of these are, if there is one.
+fn only_place(places: &[usize]) -> Option<usize>
+    ensures { IfSome result (λ q. (0 < length places.now) × All (λ k. k ≡ q) places.now) }
+{
+    let first = *places.first()?;
+    if places.iter().all(|place| *place == first) {
+        Some(first)
+    } else {
+        None
     }
 }
 
@@ -344,12 +417,26 @@ fn find(items: &VecDeque<Item>, first: usize, item: &Item) -> Option<usize>
     ensures none { IfNone result (All (λ i. i ≡ item.now → ⊥) items.now.items) }
 {
     let start = first.min(items.len());
+    match find_behind(items, start, item) {
+        Some(place) => Some(place),
+        None => find_before(items, start, item),
+    }
+}
+
+// Where an item stands among others of its program from a place on.
+fn find_behind(items: &VecDeque<Item>, start: usize, item: &Item) -> Option<usize>
+    requires { AreOf item.now.program items.now.items }
+    ensures some { IfSome result (λ k. (start ≤ k) ×
+        (k < length items.now.items) × (slice_get items.now.items k ≡ Some item.now)) }
+    ensures none { IfNone result ((j : ℕ) (d : ItemView) → start ≤ j → j < length items.now.items →
+        slice_index_or items.now.items j d ≡ item.now → ⊥) }
+{
     for place in start..items.len() {
         if is_at(items, place, item) {
             return Some(place);
         }
     }
-    find_before(items, start, item)
+    None
 }
 
 // Where an item stands among others of its program before a place.

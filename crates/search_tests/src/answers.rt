@@ -7,7 +7,7 @@ ghost use Rattle.std.specs.Prelude.{◌≤◌};
 ghost use Rattle.report.specs.Promises.{IsSearch};
 
 use crate::answers::devices::{FailingReader, FailingWriter};
-use answering::{Asked, Exploration, Fault, serve};
+use answering::{Asked, Exploration, Fault, ended, serve};
 use runner::{Options, Search};
 use std::alloc::{Alloc, Global};
 use std::io::Eprint;
@@ -57,7 +57,7 @@ fn reader_fails(
     };
     let mut out = Vec::new(alloc);
     let mut err = Vec::new(alloc);
-    let status = serve(rt, alloc, asked, &mut input, &mut out, &mut err);
+    let status = ended(serve(rt, asked, &mut input, &mut out, &mut err), &mut err);
     assert_eq!(rt; err.as_slice(), line);
     (status, out.len(), input.calls)
 }
@@ -74,7 +74,7 @@ fn writer_fails(
     let mut input = RACE.as_bytes();
     let mut out = FailingWriter::at(fails_at);
     let mut err = Vec::new(alloc);
-    let status = serve(rt, alloc, asked, &mut input, &mut out, &mut err);
+    let status = ended(serve(rt, asked, &mut input, &mut out, &mut err), &mut err);
     assert_eq!(rt; err.as_slice(), line);
     (status, out.calls)
 }
@@ -88,7 +88,7 @@ fn output(
     let mut input = RACE.as_bytes();
     let mut out = Vec::new(alloc);
     let mut err = Vec::new(alloc);
-    let _ = serve(rt, alloc, asked, &mut input, &mut out, &mut err);
+    let _ = serve(rt, asked, &mut input, &mut out, &mut err);
     assert!(rt; !out.is_empty() && err.is_empty());
     out
 }
@@ -155,7 +155,7 @@ fn status_alone(
     let mut input = RACE.as_bytes();
     let mut out = FailingWriter::at(0);
     let mut err = FailingWriter::at(0);
-    serve(rt, rt.alloc(), asked, &mut input, &mut out, &mut err)
+    ended(serve(rt, asked, &mut input, &mut out, &mut err), &mut err)
 }
 
 #[test]

@@ -1,2 +1,3 @@
 pub mod RoundItems
 pub mod Teams
+pub mod Kept

@@ -1,10 +1,11 @@
 //! What the workers of a search share under a lock.
 
-ghost use Rattle.std.specs.Prelude.{◌≡◌, ◌≤◌, IfSome};
+ghost use Rattle.std.specs.Prelude.{◌≡◌, ◌≤◌, [], IfSome};
 ghost use Rattle.std.specs.Option.{ForSome};
 ghost use Rattle.std.specs.Arc.{arc_value};
 ghost use Rattle.walk.specs.Items.{AreOf};
 ghost use Rattle.workers.specs.Teams.{IsOf};
+ghost use Rattle.workers.specs.declared.round.Round.{Round};
 ghost use Rattle.workers.specs.inner.Rounds.{IsRoundOf, AreKept};
 
 use crate::gate::Gate;
@@ -121,7 +122,7 @@ impl<N: Naming> Desk<N> {
     ///
     /// # Errors
     ///
-    /// `AllocError` where memory runs out; some of the walks are given up then.
+    /// `AllocError` where memory runs out; the walks are given up then.
     pub fn settle(
         &mut self,
         alloc: Global,
@@ -129,9 +130,11 @@ impl<N: Naming> Desk<N> {
         round: &Round,
     ) -> Result<(), AllocError>
         requires round { IsRoundOf N.program N.mode round.now }
+        requires walker { hand.old.walker ≡ N.program }
         requires kept { AreKept round.now hand.old }
         ensures walker { hand.new.walker ≡ hand.old.walker }
-        ensures count { hand.new.count ≡ 0 }
+        ensures places { hand.new.places.items ≡ [] }
+        ensures kept { (r : Round) → AreKept r hand.new }
     {
         hand.settle(alloc, &mut self.book, round)
     }

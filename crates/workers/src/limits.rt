@@ -13,3 +13,6 @@ pub const YIELDS: u32 = 50;
 /// From how many walks on a worker settles those that it keeps, if the book is free. It settles all of
 /// them at the end of a round.
 pub const SETTLED_WALKS: usize = 4;
+
+/// How many walks a worker keeps at most. It waits for the book where it keeps so many.
+pub const KEPT_WALKS: usize = 32;

@@ -1,13 +1,11 @@
 //! Books that are known to be of one search.
 
-ghost use Rattle.std.specs.Prelude.{◌≡◌, true, false, Ok, All};
+ghost use Rattle.std.specs.Prelude.{◌≡◌, true, Ok};
 ghost use Rattle.walk.specs.Items.{AreOf};
-ghost use Rattle.walk.specs.Walks.{IsWalked, found_walk};
-ghost use Rattle.book.specs.Books.{Settles, thinned};
+ghost use Rattle.book.specs.Books.{HaveFound, HaveSettled, thinned};
 ghost use Rattle.workers.specs.Teams.{IsOf};
 
 use book::books::Book;
-use book::errors::SettleError;
 use std::alloc::{AllocError, Global};
 use std::marker::{Brand, Model, PhantomData};
 use walk::found::Found;
@@ -90,8 +88,9 @@ impl<N: Naming> NamedBook<N> {
         self.book
     }
 
-    /// Settles what a walk of an item found. Answers whether the book took it: it doesn't where the
-    /// item isn't open. The memory of what was found serves a later walk.
+    /// Settles at once what walks of items of its last round found, one after another: of those at
+    /// these places of the round. Answers whether the book took it: it doesn't where one of the items
+    /// isn't open. The memory of what was found serves later walks.
     ///
     /// # Errors
     ///
@@ -99,22 +98,17 @@ impl<N: Naming> NamedBook<N> {
     pub fn settle(
         &mut self,
         alloc: Global,
-        item: &Item,
+        items: &[Item],
+        places: &[usize],
         found: &mut Found,
     ) -> Result<bool, AllocError>
-        requires program { item.now.program ≡ N.program }
-        requires walked { IsWalked (found_walk N.mode item.now found.old) }
-        ensures taken { result ≡ Ok true →
-            Settles self.old (found_walk N.mode item.now found.old) self.new }
-        ensures not_open { result ≡ Ok false → All (λ i. i ≡ item.now → ⊥) self.old.open_items }
+        requires items { AreOf N.program items.now }
+        requires walked { HaveFound N.program N.mode items.now places.now found.old }
+        ensures taken { (f : HaveFound N.program N.mode items.now places.now found.old) →
+            result ≡ Ok true → HaveSettled self.old f.walks self.new }
         ensures same { (result ≡ Ok true → ⊥) → self.new ≡ self.old }
     {
-        match self.book.settle_found(alloc, item, found) {
-            Ok(()) => Ok(true),
-            Err(SettleError::OutOfMemory) => Err(AllocError),
-            Err(SettleError::NotOpen) => Ok(false),
-            Err(SettleError::Stranger) => unreachable!(),
-        }
+        self.book.settle_all(alloc, items, places, found)
     }
 
     /// Goes from a round to the next where the search does so whatever the round found: some items

@@ -56,6 +56,7 @@ fn seated(
             ahead: None,
             drawn: 0,
             ending: Ending::Drawn,
+            apart: [0; 16],
         })?;
         number = number.wrapping_add(1);
     }

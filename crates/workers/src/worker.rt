@@ -1,8 +1,9 @@
 //! Workers, each in a thread of its own, who go from round to round.
 
-ghost use Rattle.std.specs.Prelude.{◌≡◌, ◌<◌, true, vec_len, Some, IfOk, IfErr};
+ghost use Rattle.std.specs.Prelude.{◌≡◌, ◌<◌, ◌≤◌, [], true, vec_len, Some, IfOk, IfErr, OnOk};
 ghost use Rattle.std.specs.List.{All, Any};
 ghost use Rattle.report.specs.declared.error.ExploreError.TheVariants as explore;
+ghost use Rattle.workers.specs.declared.limits.TheConstants.{KEPT_WALKS};
 ghost use Rattle.workers.specs.declared.worker.Ending.TheVariants.{Drawn, Stopped, OutOfMemory};
 ghost use Rattle.workers.specs.inner.Rounds.{IsRoundOf, IsOn, AreKept};
 
@@ -64,6 +65,9 @@ pub(crate) struct Worker {
     /// How many items of the round it drew of which the desk has not taken note yet.
     pub drawn: usize,
     pub ending: Ending,
+    /// What follows in memory is another worker's. So far apart no two share a line of a processor's
+    /// cache.
+    pub apart: [u64; 16],
 }
 
 impl Worker {
@@ -135,6 +139,9 @@ impl Worker {
     {
         self.hand.forget();
         let ending = self.walk_items(rt, shared, round);
+        if self.drawn == 0 {
+            return ending;
+        }
         match self.settle(rt, shared, round, ending.is_some()) {
             Ok(()) => ending,
             Err(AllocError) => Some(Ending::OutOfMemory),
@@ -146,7 +153,7 @@ impl Worker {
     //
     // # Errors
     //
-    // `AllocError` where memory runs out; some of the walks are given up then.
+    // `AllocError` where memory runs out; the walks are given up then.
     fn settle<N: Naming, G: Gate, R: Wait>(
         &mut self,
         rt: &R,
@@ -159,19 +166,18 @@ impl Worker {
         requires kept { AreKept round.now self.old.hand }
         ensures on { IsOn shared.now.board.id N.program self.new }
         ensures kept { AreKept round.now self.new.hand }
+        ensures places { self.new.hand.places.items ≡ [] }
     {
-        if self.drawn == 0 {
-            return Ok(());
-        }
         let desk = shared.desk(rt);
         self.settle_at(shared, round, desk, ends)
     }
 
-    // The same where the desk is free now, and nothing where it isn't.
+    // Settles the walks that it keeps of a round where the desk is free now, and does nothing where it
+    // isn't.
     //
     // # Errors
     //
-    // `AllocError` where memory runs out; some of the walks are given up then.
+    // `AllocError` where memory runs out; the walks are given up then.
     fn settle_if_free<N: Naming, G: Gate>(
         &mut self,
         shared: &Shared<N, G>,
@@ -182,6 +188,7 @@ impl Worker {
         requires kept { AreKept round.now self.old.hand }
         ensures on { IsOn shared.now.board.id N.program self.new }
         ensures kept { AreKept round.now self.new.hand }
+        ensures few { vec_len self.new.hand.places ≤ vec_len self.old.hand.places }
     {
         match shared.desk_if_free() {
             Some(desk) => self.settle_at(shared, round, desk, false),
@@ -189,12 +196,12 @@ impl Worker {
         }
     }
 
-    // The same at the desk. Where the last items of the round are done then, it ends the round and
-    // tells those who wait.
+    // Settles the walks that it keeps of a round at the desk. Where the last items of the round are
+    // done then, it ends the round and tells those who wait.
     //
     // # Errors
     //
-    // `AllocError` where memory runs out; some of the walks are given up then.
+    // `AllocError` where memory runs out; the walks are given up then.
     fn settle_at<N: Naming, G: Gate>(
         &mut self,
         shared: &Shared<N, G>,
@@ -207,6 +214,7 @@ impl Worker {
         requires kept { AreKept round.now self.old.hand }
         ensures on { IsOn shared.now.board.id N.program self.new }
         ensures kept { AreKept round.now self.new.hand }
+        ensures places { self.new.hand.places.items ≡ [] }
     {
         let drawn = mem::replace(&mut self.drawn, 0);
         let settled = desk.settle(shared.alloc, &mut self.hand, round);
@@ -222,11 +230,11 @@ impl Worker {
 
     // Settles its walks where the last one, of this item, found a bad schedule in a quick search,
     // and tells the other workers of the item: that is of this round alone, so the stretch ends with it.
-    // Else it settles some of them where the desk is free.
+    // Else it settles them where it keeps as many as it may, or some and the desk is free.
     //
     // # Errors
     //
-    // `AllocError` where memory runs out; some of the walks are given up then.
+    // `AllocError` where memory runs out; the walks are given up then.
     fn settle_early<N: Naming, G: Gate, R: Wait>(
         &mut self,
         rt: &R,
@@ -240,11 +248,14 @@ impl Worker {
         requires kept { AreKept round.now self.old.hand }
         ensures on { IsOn shared.now.board.id N.program self.new }
         ensures kept { AreKept round.now self.new.hand }
+        ensures room { OnOk result (vec_len self.new.hand.places < KEPT_WALKS) }
     {
         if round.quick && is_bad {
             self.settle(rt, shared, round, true)?;
             self.tells_of(&shared.board, round, item);
             Ok(())
+        } else if self.hand.is_full() {
+            self.settle(rt, shared, round, false)
         } else if self.hand.is_worth_a_lock() {
             self.settle_if_free(shared, round)
         } else {
@@ -263,6 +274,7 @@ impl Worker {
         requires round { IsRoundOf N.program N.mode round.now }
         requires on { IsOn shared.now.board.id N.program self.old }
         requires kept { AreKept round.now self.old.hand }
+        requires none { self.old.hand.places.items ≡ [] }
         ensures on { IsOn shared.now.board.id N.program self.new }
         ensures kept { AreKept round.now self.new.hand }
         ensures stopped { result ≡ Some Stopped → G.stops shared.now.gate.now ≡ true }

@@ -1,5 +1,6 @@
-use Rattle.std.proofs.Common.{◌≡◌, sym, subst, All}
+use Rattle.std.proofs.Common.{◌≡◌, ◌∙◌, ap, sym, subst, All}
 use Rattle.walk.specs.Items.{ItemView}
+use Rattle.book.specs.ItemLists.{all_of}
 use Rattle.book.specs.Books.{BookView, book_view}
 use Rattle.book.proofs.OpenItems.{loose_own}
 use Rattle.book.proofs.books.Book.next_round.Goals as goal
@@ -9,7 +10,8 @@ copy_from-requires-clause-program c =
     let i = c.self.inside in
     let b : BookView = book_view i.program i.mode i.finished i.open_items i.deferred i.quick
     i.dropped in
-    let own = loose_own b c.unpack_from.new.self (sym c.in_ok-unpack_from.ensures.same)
+    let own = loose_own b c.look_from.new.self
+    (sym (ap (all_of b.program) c.look_from.ensures ∙ c.in_ok-unpack_from.ensures.same))
     c.self.invariant.0 in (
       b.program,
       own,
@@ -22,7 +24,8 @@ returns-clause-program c =
     let i = c.self.inside in
     let b : BookView = book_view i.program i.mode i.finished i.open_items i.deferred i.quick
     i.dropped in
-    let own = loose_own b c.unpack_from.new.self (sym c.in_ok-unpack_from.ensures.same)
+    let own = loose_own b c.look_from.new.self
+    (sym (ap (all_of b.program) c.look_from.ensures ∙ c.in_ok-unpack_from.ensures.same))
     c.self.invariant.0 in
     subst (λ (v : BookView). All (λ (j : ItemView). j.program ≡ v.program) c.copy_from.new.items.items)
     c.self.view_is

@@ -1,7 +1,8 @@
 use Rattle.std.proofs.Common.{refl, ◌≡◌, ◌∙◌, ◌++◌, ◌≤◌, sym, ap, subst, arith, length}
-use Rattle.std.proofs.Common.{length-append, None, Bool}
+use Rattle.std.proofs.Common.{None, Bool}
 use Rattle.std.specs.Arc.{arc_value}
 use Rattle.std.specs.List.{All}
+use Rattle.std.proofs.lemmas.List.Elements.{All-weaker}
 use Rattle.guest_code.specs.Program.{Program}
 use Rattle.walk.specs.Items.{IsItem}
 use Rattle.walk.specs.Walks.{items_at}
@@ -9,8 +10,8 @@ use Rattle.walk.proofs.ListParts.{all_right}
 use Rattle.summary.specs.Summaries.{SummaryView}
 use Rattle.summary.proofs.SumsJoin.{join_first_bad}
 use Rattle.book.specs.ItemLists.{all_of}
-use Rattle.book.specs.Books.{BookView, book_view, Keeps, IsSwept, taken_over}
-use Rattle.book.proofs.PackedItems.{length-all}
+use Rattle.book.specs.Books.{BookView, book_view, Keeps, IsSwept, taken_in, remove_each, AreWithin}
+use Rattle.book.proofs.Lists.{within_more}
 use Rattle.book.proofs.Swept.{taken_swept}
 use Rattle.book.proofs.TakenOver.{grown, given_back, open_taken, taken_back, same_book, packs_none}
 use Rattle.book.proofs.TakenOver.{loose_after, none_there}
@@ -36,7 +37,8 @@ append_prefixes-requires c =
     subst (λ (p : Program). All IsItem (items_at p found.deferred))
     (sym (ap (λ (z : BookView). z.program) c.self.view_is))
     (all_right IsItem b.deferred (items_at b.program found.deferred)
-    (waiting_run (taken_over b c.args.first c.args.end found) c.requires.keeps))
+    (waiting_run (taken_in b (remove_each b.open_items c.args.places.now) found)
+    c.requires.keeps))
 
 pub invariant_of-self-in-Err : goal.invariant_of-self-in-Err
 invariant_of-self-in-Err c =
@@ -129,19 +131,26 @@ returns-in-Err-join_in_by c =
     (all_of p c.truncate-in-Err-join_in_by-2.new.self) c.in-Err-join_in_by.ensures left later
     ∙ c.self.view_is
 
-pub remove-requires-clause-end : goal.remove-requires-clause-end
-remove-requires-clause-end c =
+pub remove_each-requires-clause-loose : goal.remove_each-requires-clause-loose
+remove_each-requires-clause-loose c =
+    let n = c.in_ok-unpack_from.ensures.loose in
+    let m = c.first_loose.ensures.place in
+    let same = ap length c.in_ok-append.ensures.packed in
+    All-weaker (λ k. c.args.first ≤ k) (λ k. length c.append.new.self.packed ≤ k)
+    (λ k l. omega (arith, n, m, same, l)) c.args.places.now c.requires.first
+
+pub remove_each-requires-clause-within : goal.remove_each-requires-clause-within
+remove_each-requires-clause-within c =
     let p = arc_value c.self.inside.program in
-    let rest = c.args.found.now.rest.items in
-    omega (
-      arith,
-      length-all p c.append.new.self,
-      ap length (grown p c.unpack_from.new.self c.append.new.self rest
-          c.in_ok-append.ensures.packed c.in_ok-append.ensures.loose),
-      length-append (all_of p c.unpack_from.new.self) rest,
-      ap length c.unpack_from.ensures.same,
-      ap (λ z. length z.open_items) c.self.view_is,
-      c.requires.end,
+    let places = c.args.places.now in
+    let rest = c.args.found.now.rest.items in (
+      p,
+      subst (λ xs. AreWithin xs places) (sym (grown p c.unpack_from.new.self c.append.new.self rest
+          c.in_ok-append.ensures.packed c.in_ok-append.ensures.loose))
+          (within_more (all_of p c.unpack_from.new.self) rest places
+          (subst (λ xs. AreWithin xs places) (sym c.unpack_from.ensures.same)
+          (subst (λ (z : BookView). AreWithin z.open_items places) (sym c.self.view_is)
+          c.requires.within))),
     )
 
 pub invariant_of-self-2 : goal.invariant_of-self-2
@@ -150,37 +159,40 @@ invariant_of-self-2 c =
     c.self.inside.open_items c.self.inside.deferred c.self.inside.quick c.self.inside.dropped in
     let p = arc_value c.self.inside.program in
     let found = c.args.found.now in
-    let end : c.args.end ≤ length b.open_items =
-    subst (λ (z : BookView). c.args.end ≤ length z.open_items) (sym c.self.view_is) c.requires.end in
-    let items = open_taken p c.unpack_from.new.self c.append.new.self c.remove.new.self b.open_items
-    found.rest.items c.args.first c.args.end c.unpack_from.ensures.same
-    c.in_ok-append.ensures.packed c.in_ok-append.ensures.loose (c.remove.ensures.items p)
-    c.requires.range end in
+    let places = c.args.places.now in
+    let within = subst (λ (z : BookView). AreWithin z.open_items places) (sym c.self.view_is)
+    c.requires.within in
+    let items = open_taken p c.unpack_from.new.self c.append.new.self c.remove_each.new.self
+    b.open_items found.rest.items places c.unpack_from.ensures.same
+    c.in_ok-append.ensures.packed c.in_ok-append.ensures.loose (c.remove_each.ensures.items p)
+    within in
     let later : all_of p c.append_prefixes.new.self ≡ b.deferred ++ items_at p found.deferred =
     c.in_default.ensures.all ∙ (λ k. c.unpack_from-2.ensures.same k ++ items_at p found.deferred) in
     let new : BookView = record b {
       finished = c.join_in_by.new.self;
-      open_items = all_of p c.remove.new.self;
+      open_items = all_of p c.remove_each.new.self;
       deferred = all_of p c.append_prefixes.new.self;
     } in
-    let same : new ≡ taken_over b c.args.first c.args.end found =
+    let taken : BookView → BookView =
+    λ z. taken_in z (remove_each z.open_items places) found in
+    let same : new ≡ taken b =
     λ k. record b {
       finished = c.in_default-join_in_by.ensures k;
       open_items = items k;
       deferred = later k;
     } in (
-      subst Keeps (sym (same ∙ ap (λ z. taken_over z c.args.first c.args.end found) c.self.view_is))
+      subst Keeps (sym (same ∙ ap taken c.self.view_is))
           c.requires.keeps,
       subst (λ (z : BookView). IsSwept c.both-self-inside.result z) (sym same)
-          (subst (λ (x : Bool). IsSwept x (taken_over b c.args.first c.args.end found))
+          (subst (λ (x : Bool). IsSwept x (taken b))
           (sym c.both-self-inside.ensures)
-          (taken_swept c.self.inside.swept c.is_quiet-quiet.result b c.args.first c.args.end found
+          (taken_swept c.self.inside.swept c.is_quiet-quiet.result b places found
           c.self.invariant.1 c.is_quiet-quiet.ensures)),
       loose_after c.is_packed-packs.result c.self.inside.quick c.self.inside.finished.first_bad
-          found.part.first_bad c.join_in_by.new.self.first_bad c.remove.new.self.packed
+          found.part.first_bad c.join_in_by.new.self.first_bad c.remove_each.new.self.packed
           c.append_prefixes.new.self.packed c.is_packed-packs.ensures
           (λ n. (
-            c.remove.ensures.packed ∙ (c.in_ok-append.ensures.packed
+            c.remove_each.ensures.packed ∙ (c.in_ok-append.ensures.packed
                 ∙ none_there c.unpack_from.new.self.packed c.first_loose.result
                 c.in_ok-unpack_from.ensures.loose (c.first_loose.ensures.none n)),
             c.append_prefixes.ensures.packed n
@@ -197,26 +209,29 @@ returns c =
     c.self.inside.open_items c.self.inside.deferred c.self.inside.quick c.self.inside.dropped in
     let p = arc_value c.self.inside.program in
     let found = c.args.found.now in
-    let end : c.args.end ≤ length b.open_items =
-    subst (λ (z : BookView). c.args.end ≤ length z.open_items) (sym c.self.view_is) c.requires.end in
-    let items = open_taken p c.unpack_from.new.self c.append.new.self c.remove.new.self b.open_items
-    found.rest.items c.args.first c.args.end c.unpack_from.ensures.same
-    c.in_ok-append.ensures.packed c.in_ok-append.ensures.loose (c.remove.ensures.items p)
-    c.requires.range end in
+    let places = c.args.places.now in
+    let within = subst (λ (z : BookView). AreWithin z.open_items places) (sym c.self.view_is)
+    c.requires.within in
+    let items = open_taken p c.unpack_from.new.self c.append.new.self c.remove_each.new.self
+    b.open_items found.rest.items places c.unpack_from.ensures.same
+    c.in_ok-append.ensures.packed c.in_ok-append.ensures.loose (c.remove_each.ensures.items p)
+    within in
     let later : all_of p c.append_prefixes.new.self ≡ b.deferred ++ items_at p found.deferred =
     c.in_default.ensures.all ∙ (λ k. c.unpack_from-2.ensures.same k ++ items_at p found.deferred) in
     let new : BookView = record b {
       finished = c.join_in_by.new.self;
-      open_items = all_of p c.remove.new.self;
+      open_items = all_of p c.remove_each.new.self;
       deferred = all_of p c.append_prefixes.new.self;
     } in
-    let same : new ≡ taken_over b c.args.first c.args.end found =
+    let taken : BookView → BookView =
+    λ z. taken_in z (remove_each z.open_items places) found in
+    let same : new ≡ taken b =
     λ k. record b {
       finished = c.in_default-join_in_by.ensures k;
       open_items = items k;
       deferred = later k;
     } in
-    same ∙ ap (λ z. taken_over z c.args.first c.args.end found) c.self.view_is
+    same ∙ ap taken c.self.view_is
 
 pub invariant_of-self-in_err-append : goal.invariant_of-self-in_err-append
 invariant_of-self-in_err-append c =

@@ -1,8 +1,11 @@
-use Rattle.std.proofs.Common.{◌≡◌, ◌<◌, ◌≤◌, ◌-◌, ◌∙◌, ap, sym, subst, arith, length, slice_get, Some}
+use Rattle.std.proofs.Common.{◌≡◌, ◌<◌, ◌≤◌, ◌-◌, ◌∙◌, ap, sym, subst, arith, refl, length, slice_get, Some}
+use Rattle.std.proofs.lemmas.List.Elements.{All-weaker, All-take, All-replicate}
+use Rattle.book.proofs.Lists.{range_out}
 use Rattle.std.specs.Arc.{arc_value}
 use Rattle.walk.specs.Items.{ItemView}
 use Rattle.book.specs.ItemLists.{all_of}
-use Rattle.book.specs.Books.{BookView, book_view, Keeps, HaveWalked, HasWalkedRound, taken_over}
+use Rattle.book.specs.Books.{BookView, book_view, Keeps, HaveWalked, HasWalkedRound, taken_over, taken_in}
+use Rattle.book.specs.declared.limits.TheConstants.{ROUND}
 use Rattle.book.proofs.OpenItems.{open_own}
 use Rattle.book.proofs.TakenOver.{on_settled}
 use Rattle.book.proofs.Rounds.{none_walked, walked_kept, added_tried, round_goes_on, round_settled}
@@ -67,17 +70,24 @@ pub take_over-requires-clause-keeps : goal.take_over-requires-clause-keeps
 take_over-requires-clause-keeps c =
     let b : BookView = book_view c.self.inside.program c.self.inside.mode c.self.inside.finished
     c.self.inside.open_items c.self.inside.deferred c.self.inside.quick c.self.inside.dropped in
+    let p = arc_value c.self.inside.program in
+    let end = c.length-end.result in
     let first = c.saturating_sub-first.result in
     let place = c.loop-place.place in
     let start = c.saturating_sub-first.ensures in
     let least : first ≤ c.length-end.result = omega (arith, start) in
     let most = c.loop-place.auto.place-end least in
     let over : place ≡ c.length-end.result = omega (arith, most, c.loop-place-test.false) in
-    subst Keeps (sym (λ k. taken_over (((λ j. record b { open_items = c.unpack_from.ensures.same j })
+    let unpacked : BookView = record b { open_items = all_of p c.unpack_from.new.self } in
+    let out = range_out unpacked.open_items first end ROUND least
+    (omega (arith, c.length-end.ensures p, ap length c.unpack_from.ensures.same))
+    (omega (arith, start)) in
+    subst (λ left. Keeps (taken_in unpacked left c.loop-place.found)) (sym out.1)
+    (subst Keeps (sym (λ k. taken_over (((λ j. record b { open_items = c.unpack_from.ensures.same j })
     ∙ c.self.view_is) k) first (sym over k) c.loop-place.found))
     (walked_kept (place - first) c.args.self.now first c.args.quota
     (taken_over c.args.self.now first place c.loop-place.found)
-    (subst Keeps c.self.view_is c.self.invariant.0) c.loop-place.invariant.walked)
+    (subst Keeps c.self.view_is c.self.invariant.0) c.loop-place.invariant.walked))
 
 pub returns-clause-ok : goal.returns-clause-ok
 returns-clause-ok c =
@@ -91,10 +101,32 @@ returns-clause-ok c =
     let least : first ≤ end = omega (arith, start) in
     let most = c.loop-place.auto.place-end least in
     let unpacked : BookView = record b { open_items = all_of p c.unpack_from.new.self } in
+    let out = range_out unpacked.open_items first end ROUND least
+    (omega (arith, c.length-end.ensures p, ap length c.unpack_from.ensures.same))
+    (omega (arith, start)) in
     on_settled c.take_over.result c.take_over.new.self _ _
     (HasWalkedRound c.args.self.now c.args.quota c.take_over.new.self) c.take_over.ensures
-    (round_settled c.args.self.now unpacked c.take_over.new.self first end place c.args.quota
+    (λ is. round_settled c.args.self.now unpacked c.take_over.new.self first end place c.args.quota
     c.loop-place.found ((λ j. record b { open_items = c.unpack_from.ensures.same j })
     ∙ c.self.view_is)
     (c.length-end.ensures p ∙ ap (λ (z : BookView). length z.open_items) c.self.view_is)
-    start (omega (arith, most, c.loop-place-test.false)) c.loop-place.invariant.walked)
+    start (omega (arith, most, c.loop-place-test.false)) c.loop-place.invariant.walked
+    (is ∙ ap (λ left. taken_in unpacked left c.loop-place.found) out.1))
+
+pub take_over-requires-clause-first : goal.take_over-requires-clause-first
+take_over-requires-clause-first c =
+    let first = c.saturating_sub-first.result in
+    All-weaker (λ k. k ≡ first) (λ k. first ≤ k) (λ k e. omega (arith, e)) _
+    (All-take (λ k. k ≡ first) (c.length-end.result - first) _
+    (All-replicate (λ k. k ≡ first) 64 first refl))
+
+pub take_over-requires-clause-within : goal.take_over-requires-clause-within
+take_over-requires-clause-within c =
+    let b : BookView = book_view c.self.inside.program c.self.inside.mode c.self.inside.finished
+    c.self.inside.open_items c.self.inside.deferred c.self.inside.quick c.self.inside.dropped in
+    let p = arc_value c.self.inside.program in
+    let start = c.saturating_sub-first.ensures in
+    (range_out (all_of p c.unpack_from.new.self) c.saturating_sub-first.result c.length-end.result
+    ROUND (omega (arith, start))
+    (omega (arith, c.length-end.ensures p, ap length c.unpack_from.ensures.same))
+    (omega (arith, start))).0

@@ -1,4 +1,4 @@
-use Rattle.std.proofs.Common.{rules, ◌≡◌, ◌∙◌, ◌-◌, refl, sym, subst, length}
+use Rattle.std.proofs.Common.{rules, ◌≡◌, ◌-◌, refl, sym, subst, length}
 use Rattle.std.proofs.lemmas.List.Elements.{All-same}
 use Rattle.guest_code.specs.Program.{Program}
 use Rattle.walk.specs.Items.{ItemView, AreOf}

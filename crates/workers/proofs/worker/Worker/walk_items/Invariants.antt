@@ -1,3 +1,5 @@
+use Rattle.std.proofs.Common.{◌<◌, vec_len}
+use Rattle.workers.specs.declared.limits.TheConstants.{KEPT_WALKS}
 use Rattle.workers.specs.inner.Rounds.{IsOn, AreKept}
 use Rattle.workers.proofs.worker.Worker.walk_items.Given as goal
 
@@ -5,3 +7,4 @@ abbrev pub invariant-loop : goal.invariant-loop
 invariant-loop g l =
     (goal.iterator-loop g).can_next l.iterator' × (goal.iterator-loop g).is_finite l.iterator'
     × IsOn l.shared.board.id g.N.Naming.program l.self × AreKept l.round l.self.hand
+    × (vec_len l.self.hand.places < KEPT_WALKS)

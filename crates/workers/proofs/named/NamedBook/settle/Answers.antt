@@ -1,0 +1,28 @@
+use Rattle.std.proofs.Common.{sym, subst}
+use Rattle.book.specs.Books.{HaveSettled}
+use Rattle.workers.specs.Teams.{IsOf}
+use Rattle.workers.proofs.Kept.{found_in, settled_of, either_way}
+use Rattle.workers.proofs.named.NamedBook.settle.Goals as goal
+
+pub invariant_of-self : goal.invariant_of-self
+invariant_of-self g c =
+    let p = g.N.Naming.program in
+    let mode = g.N.Naming.mode in
+    let quick = g.N.Naming.quick in
+    let b = c.self.inside.book in
+    let new = c.settle_all.new.self in
+    let of = c.self.invariant in
+    let found = found_in p b.program mode b.mode c.args.items.now c.args.places.now c.args.found.now
+    of.program of.mode c.requires.walked in
+    either_way c.settle_all.result (IsOf new p mode quick)
+    (λ taken. settled_of p mode quick found.walks b new of (c.settle_all.ensures.taken found taken))
+    (λ kept. subst (λ z. IsOf z p mode quick) (sym (c.settle_all.ensures.same kept)) of)
+
+pub returns-clause-taken : goal.returns-clause-taken
+returns-clause-taken g c = λ f taken.
+    let b = c.self.inside.book in
+    let of = c.self.invariant in
+    subst (λ z. HaveSettled z f.walks c.settle_all.new.self) c.self.view_is
+    (c.settle_all.ensures.taken
+    (found_in g.N.Naming.program b.program g.N.Naming.mode b.mode c.args.items.now c.args.places.now
+    c.args.found.now of.program of.mode f) taken)
