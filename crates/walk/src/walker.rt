@@ -21,8 +21,6 @@ use std::sync::Arc;
 pub struct Walker {
     program: Arc<Program>,
     path: Path,
-    // The memory of walks that were settled, for the next ones.
-    spares: Vec<Found>,
 }
 
 impl Model for Walker {
@@ -47,19 +45,7 @@ impl Walker {
         ensures { IfOk result (λ w. w ≡ arc_value program) }
     {
         let path = Path::start(alloc, &program)?;
-        Ok(Walker {
-            program,
-            path,
-            spares: Vec::new(alloc),
-        })
-    }
-
-    /// Gives the walker the memory of a walk that was settled, for a later one. Where there is no
-    /// room for it, it is given back to the allocator.
-    pub fn reuse(&mut self, found: Found)
-        ensures { self.new ≡ self.old }
-    {
-        let _ = self.spares.push(found);
+        Ok(Walker { program, path })
     }
 
     /// Tries the first `quota` schedules of an item of the walker's program in a mode, or all where
@@ -86,10 +72,7 @@ impl Walker {
             IsPastBound mode item.now → w ≡ walk_past_bound mode item.now) }
         ensures walked { IfOk result IsWalked }
     {
-        let mut found = match self.spares.pop() {
-            Some(found) => found,
-            None => Found::new(alloc),
-        };
+        let mut found = Found::new(alloc);
         self.walk_into(alloc, &mut found, item, mode, quota)?;
         Ok(Walked::new(mode, item.try_clone(alloc)?, found))
     }

@@ -144,23 +144,31 @@ fn settle(alloc: Global, found: &mut Found) -> Result<(), AllocError> {
     finished.join_in_by(&mut hints, &mut found.part)
 }
 
-/// Walks an item, and gives the walker the memory of that walk.
-fn walk_and_reuse(alloc: Global, walker: &mut Walker, root: &Item) -> Result<(), Fail>
+/// Walks an item within a bound, in the memory of an earlier walk.
+fn walk_over(
+    alloc: Global,
+    walker: &mut Walker,
+    found: &mut Found,
+    root: &Item,
+    bound: u32,
+) -> Result<(), Fail>
     requires { root.now.program ≡ walker.old }
     ensures { walker.new ≡ walker.old }
 {
-    let mut found = walk_once(alloc, walker, root, Mode::Bounded(0))?.into_found();
-    settle(alloc, &mut found)?;
-    walker.reuse(found);
+    walker.walk_into(alloc, found, root, Mode::Bounded(bound), 256)?;
     Ok(())
 }
 
-/// What the walker finds within one preemption, and how many prefixes it puts off.
+/// What walks of an item within no preemption and then within one find, in one memory of which the
+/// first summary was joined out.
 fn found_again(alloc: Global, walker: &mut Walker, root: &Item) -> Result<(String, usize), Fail>
     requires { root.now.program ≡ walker.old }
 {
-    let walked = walk_once(alloc, walker, root, Mode::Bounded(1))?;
-    Ok((shown(alloc, walked.part())?, walked.deferred_length()))
+    let mut found = Found::new(alloc);
+    walk_over(alloc, walker, &mut found, root, 0)?;
+    settle(alloc, &mut found)?;
+    walk_over(alloc, walker, &mut found, root, 1)?;
+    Ok((shown(alloc, &found.part)?, found.deferred.length()))
 }
 
 #[test]
@@ -169,7 +177,6 @@ fn memory_is_used_again(rt: HostRuntime) -> Result<(), Fail> {
     let program = program_of(alloc, COUNTERS)?;
     let root = Item::root(alloc, Arc::try_clone(&program)?)?;
     let mut walker = Walker::new(alloc, program)?;
-    walk_and_reuse(alloc, &mut walker, &root)?;
     let (line, put_off) = found_again(alloc, &mut walker, &root)?;
     assert_eq!(rt;
         (line.as_str(), put_off),
