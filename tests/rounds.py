@@ -6,6 +6,7 @@ down who is asked about which item, and when a round ends. Expected numbers are 
 of one step each have n! complete schedules, all without a preemption; where a walk tries one schedule,
 there are as many walks as schedules. The last line is `N passed, M failed`.
 """
+import glob
 import json
 import math
 import os
@@ -14,6 +15,7 @@ import sys
 import tempfile
 
 HERE = os.path.dirname(os.path.abspath(__file__))
+EXAMPLES = sorted(glob.glob(os.path.join(HERE, "..", "examples", "**", "*.guest"), recursive=True))
 SECONDS = 120
 FULL = 64
 KEPT = ("bound", "kind", "preemptions", "schedule", "verdict")
@@ -86,7 +88,7 @@ class Trial:
 
     def heard(self, guest, search, workers, quota=1, limit=0, quick=False, does=("open", 0), size=0):
         """The rounds that the gate heard of, and the report; none where memory is refused."""
-        words = [self.listener, self.folder + "/" + guest, str(search), "quick" if quick else "whole",
+        words = [self.listener, os.path.join(self.folder, guest), str(search), "quick" if quick else "whole",
                  str(workers), str(quota), str(limit), does[0], str(does[1])]
         out, err, status = self.run(words, size)
         if status:
@@ -108,7 +110,7 @@ class Trial:
     def search(self, guest, *words):
         """What `ctxbound` writes and its status."""
         command, *others = words
-        return self.run([self.program, command, self.folder + "/" + guest] + [str(word) for word in others])
+        return self.run([self.program, command, os.path.join(self.folder, guest)] + [str(word) for word in others])
 
 
 def items(events, *kinds):
@@ -317,6 +319,18 @@ def bounds(trial):
     trial.check(max(left for _, left in rounds) > 1000, "few items are open")
 
 
+def examples(trial):
+    """Each example, within one preemption and without a bound: one report, whatever the workers and the quota."""
+    for guest in EXAMPLES:
+        for search, asked in ((1, ["explore", "--bound", 1]), ("unbounded", ["unbounded"])):
+            wanted = json.loads(trial.search(guest, asked[0], *asked[1:])[0])
+            for workers in (1, 2, 3, 8, 16):
+                for quota in (1, 3, 256):
+                    _, report = trial.heard(guest, search, workers, quota)
+                    trial.check(report == wanted, guest, workers, "workers, quota", quota, report, wanted)
+    trial.check(len(EXAMPLES) > 60, "few examples:", len(EXAMPLES))
+
+
 def words(trial):
     """The program: every number of workers, long reports and traces, texts of each length."""
     for guest, others, wanted in (("threads7", ["--bound", 0], 0), ("late", [], 1), ("late", ["--quick"], 1),
@@ -356,7 +370,8 @@ def main(program, listener):
         subprocess.run([os.environ.get("CC", "cc"), "-shared", "-fPIC", "-O1", "-o", folder + "/fail_alloc.so",
                         os.path.join(HERE, "fail_alloc.c"), "-ldl"], check=True)
         trial = Trial(os.path.abspath(program), os.path.abspath(listener), folder)
-        for part in (full_rounds, side_by_side, every_size, stops, without_board, hints, limits, bounds, words):
+        for part in (full_rounds, side_by_side, every_size, stops, without_board, hints, limits, bounds, words,
+                     examples):
             part(trial)
     print("%d passed, %d failed" % (trial.passed, trial.failed))
     return 1 if trial.failed else 0
