@@ -31,7 +31,7 @@ pub no_items : {X : Type 0} (xs : List X) → length xs ≡ 0 → xs ≡ []
 no_items [] e = refl
 no_items (x ∷ xs) e = absurd (omega arith)
 
--- an element behind the first ones of a list: where it is, and the list without it
+-- an element after the first ones of a list: where it is, and the list without it
 
 pub dropped_at : {X : Type 0} (xs : List X) (k : ℕ) (x : X) → k < length xs →
     slice_get xs k ≡ Some x → drop k xs ≡ x ∷ drop (suc k) xs
@@ -180,7 +180,7 @@ range_out xs first end most from to few =
     (All-replicate (λ k. k ≡ first) most first refl)) (omega (arith, over, to)) in
     (r.0, r.1 ∙ ap (remove_range xs first) over)
 
--- what is left begins with some elements, and goes on as the list does behind the last place
+-- what is left begins with some elements, and goes on as the list does after the last place
 pub record IsBehind {X : Type 0} (xs left : List X) (least behind count : ℕ) : Type 0 where
   pub front : List X
   pub is : left ≡ front ++ drop behind xs
