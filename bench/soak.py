@@ -64,7 +64,7 @@ def main(binary, minutes, seed):
     with tempfile.TemporaryDirectory() as folder:
         while time.monotonic() - began < 60 * minutes:
             words = asked(chance, folder)
-            if "--limit" not in words and words[0] == "unbounded" or words[-1] == "64":
+            if "--limit" not in words and (words[0] == "unbounded" or "64" in words):
                 words += ["--limit", "50000"]
             alone = search([binary] + words)
             many = search([binary] + words + ["--workers", str(chance.choice((2, 3, 4, 8, 16)))])
