@@ -8,7 +8,7 @@ ghost use Rattle.semantics.specs.declared.state.Action.TheVariants.{OnMutex, OnS
 ghost use Rattle.semantics.specs.declared.state.MutexAction.{MutexAction};
 ghost use Rattle.semantics.specs.declared.state.SemaphoreAction.TheVariants.{Acquire as Acquires};
 ghost use Rattle.semantics.specs.Machine.{Snapshot, queue_of, count_of, next_of, thread_at, start, action_of, action_at, retake_of, with_status};
-ghost use Rattle.semantics.specs.Mask.{has};
+ghost use Rattle.semantics.specs.Mask.{has, HasEnabled};
 ghost use Rattle.machine.specs.Refinement.{queued, IsControl, HasObjects};
 ghost use Rattle.machine.specs.inner.LocalRuns.{IsLandingOf};
 ghost use Rattle.machine.specs.inner.Parts.{IsFreeIn, IsIdle, IsApart, IsControlBut, IsMarked, Stands, Lands, IsTaking};
@@ -108,6 +108,14 @@ impl Control {
             lengths: [0; OBJECTS],
             queues: [0; OBJECTS],
         }
+    }
+
+    /// The set of the enabled threads.
+    pub fn enabled(&self) -> Mask
+        ensures { (p : Program) → (s : Snapshot) → IsControl p self.now s
+            → HasEnabled result p s }
+    {
+        self.enabled
     }
 
     // A thread that is at a mutex, which is free, takes it.

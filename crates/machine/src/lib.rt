@@ -21,8 +21,10 @@
 #![tactic(auto)]
 
 mod control;
+mod lane;
 mod local;
 mod machine;
 
 pub use crate::control::Control;
+pub use crate::lane::Lane;
 pub use crate::machine::Machine;

@@ -8,10 +8,11 @@ ghost use Rattle.schedules.specs.Sleep.{next_sleep_set};
 ghost use Rattle.semantics.specs.Reachable.{IsOf};
 ghost use Rattle.semantics.specs.Machine.{Snapshot, start, step, is_enabled, thread_at};
 ghost use Rattle.machine.specs.declared.machine.Machine.{Machine};
-ghost use Rattle.machine.specs.Refinement.{Shows};
+ghost use Rattle.machine.specs.Refinement.{Shows, IsLane};
 ghost use Rattle.machine.specs.inner.Opening.{IsOpening};
 
 use crate::control::Control;
+use crate::lane::Lane;
 use crate::local::Landing;
 use guest_code::limits::LOCALS;
 use guest_code::program::Program;
@@ -24,9 +25,9 @@ use std::alloc::{AllocError, Global};
 /// A state of a program, in a form that is fast to step and to copy.
 #[derive(Drop)]
 pub struct Machine {
-    pub(crate) control: Control,
+    pub control: Control,
     /// The values of the variables, and then for each thread the same number of locals.
-    pub(crate) values: Vec<i64>,
+    pub values: Vec<i64>,
     /// How many variables there are.
     pub(crate) fixed: usize,
     /// How many locals are kept for each thread: the most that one has.
@@ -107,6 +108,26 @@ impl Machine {
         Ok(machine)
     }
 
+    /// The lane of a thread.
+    #[inline(always)]
+    pub fn lane<'a>(&self, program: &'a Program, thread: u8) -> Lane<'a>
+        requires { thread < length program.now.threads }
+        ensures lane { IsLane result }
+        ensures program { result.program.now ≡ program.now }
+        ensures thread { result.thread ≡ thread }
+        ensures fixed { result.fixed ≡ self.now.fixed }
+        ensures width { result.width ≡ self.now.width }
+    {
+        program.keeps_limits();
+        Lane {
+            program,
+            code: program.code(thread),
+            thread,
+            fixed: self.fixed,
+            width: self.width,
+        }
+    }
+
     /// A step of an enabled thread. It takes no memory.
     #[inline(always)]
     pub fn step(&mut self, program: &Program, thread: u8)
@@ -119,16 +140,15 @@ impl Machine {
         ensures fixed { self.new.fixed ≡ self.old.fixed }
         ensures width { self.new.width ≡ self.old.width }
     {
-        let values = self.values.as_mut_slice();
-        self.control
-            .advance_over(program, values, self.fixed, self.width, thread);
+        let lane = self.lane(program, thread);
+        self.control.advance_over(self.values.as_mut_slice(), &lane);
     }
 
     /// The set of the enabled threads.
     pub fn enabled(&self) -> Mask
         ensures { (p : Program) → (s : Snapshot) → Shows p self.now s → HasEnabled result p s }
     {
-        self.control.enabled
+        self.control.enabled()
     }
 
     /// How a complete schedule to this state ends.

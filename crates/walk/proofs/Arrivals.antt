@@ -24,7 +24,7 @@ use Rattle.walk.specs.inner.Children.{mask_after, cost_of, costs}
 use Rattle.walk.specs.inner.Paths.{used_frames, IsNode, IsPath, state_at}
 use Rattle.walk.specs.inner.WalkerInvariant.{item_of, here, left_above, still_open, turns_left}
 use Rattle.walk.specs.inner.WalkerInvariant.{turns_from, turns_into, is_kept_at, is_past_at}
-use Rattle.walk.specs.inner.WalkerInvariant.{IsWithinAt, IsSpent, IsAwake, open_from, IsPlace}
+use Rattle.walk.specs.inner.WalkerInvariant.{IsWithinAt, IsAwake, open_from, IsPlace}
 use Rattle.walk.specs.inner.WalkerInvariant.{IsWalkedOn, IsSearch, IsGone, IsKept, IsOpened}
 use Rattle.walk.specs.inner.WalkerInvariant.{open_here, open_below}
 use Rattle.std.proofs.lemmas.List.{append-nil}
@@ -36,7 +36,7 @@ use Rattle.walk.proofs.WalkTurns.{step_enabled, kept_members, past_members, node
 use Rattle.walk.proofs.WalkTurns.{deferred_are}
 use Rattle.walk.proofs.WalkSteps.{walk_of, first_on, own_kept, join_beyond_on, leaf_on}
 use Rattle.walk.proofs.WalkSteps.{walked_node, over_none, over_some}
-use Rattle.walk.proofs.Turns.{costs-append, cost_two, children_cost, child_less}
+use Rattle.walk.proofs.Turns.{costs-append, cost_two, children_cost}
 
 -- these are enabled where it stands
 abbrev pub AreOn : Program → Path → Mask → Type 0
@@ -143,29 +143,28 @@ search_turned {b} mode i old new f rest others h o room same = record {
 }
 
 -- a node where something is enabled gives way to its children
-pub put_off : {b : Found} (mode : Mode) (i : ItemView) (t : Path) (f g : Found) (e past : Mask) →
-    IsWalkedOn b mode i f (open_here mode i.program t) → IsPath i.program t → AreOn i.program t e →
-    is_terminal i.program (state_of (here i.program t)) ≡ false →
-    ((u : ℕ) → has past u ≡ (has e u && is_past_at mode e t.node u)) →
+pub put_off : {b : Found} (mode : Mode) (i : ItemView) (w : List ℕ) (n : Node) (f g : Found)
+    (e past : Mask) (above : List ItemView) →
+    IsWalkedOn b mode i f (item_of i.program w n ∷ above) → IsNode i.program w e n →
+    IsOf i.program (state_at i.program w) → is_terminal i.program (state_at i.program w) ≡ false →
+    ((u : ℕ) → has past u ≡ (has e u && is_past_at mode e n u)) →
     g.part ≡ with_beyond f.part (f.part.beyond || not (is_empty (members_from past 0))) →
     g.rest.items ≡ f.rest.items →
-    g.deferred ≡ f.deferred ++ map (λ u. t.steps.items ++ u ∷ []) (members_from past 0) →
-    IsWalkedOn b mode i g (children mode (here i.program t) ++ left_above mode i.program t)
-put_off {b} mode i t f g e past h path on more passed part rest deferred = record {
+    g.deferred ≡ f.deferred ++ map (λ u. w ++ u ∷ []) (members_from past 0) →
+    IsWalkedOn b mode i g (children mode (item_of i.program w n) ++ above)
+put_off {b} mode i w n f g e past above h node of more passed part rest deferred = record {
   own = with_beyond h.own (h.own.beyond || passes_bound mode c);
   put = h.put ++ beside (past_steps mode c);
   walked = subst (λ (ds : List ItemView). IsWalked (walk_of mode i
-      (with_beyond h.own (h.own.beyond || passes_bound mode c))
-      (children mode c ++ left_above mode p t) ds))
+      (with_beyond h.own (h.own.beyond || passes_bound mode c)) (children mode c ++ above) ds))
       (sym (deferred_are mode c h.put))
-      (walked_node mode i c h.own (left_above mode p t) (items_at p h.put) (of_here p t path) more
-      h.walked);
+      (walked_node mode i c h.own above (items_at p h.put) of more h.walked);
   sound = h.sound;
   part = part
       ∙ (ap (λ (ts : List ℕ). with_beyond f.part (f.part.beyond || not (is_empty ts))) members
       ∙ (ap (λ (s : SummaryView). with_beyond s (s.beyond || passes_bound mode c)) h.part
       ∙ join_beyond_on b.part h.own (passes_bound mode c) h.sound
-      (own_kept mode i f (open_here mode p t) h)));
+      (own_kept mode i f (c ∷ above) h)));
   rest = rest ∙ h.rest;
   deferred = deferred ∙ ((λ k. h.deferred k ++ beside (members k))
       ∙ append_assoc b.deferred h.put (beside (past_steps mode c)));
@@ -175,14 +174,13 @@ put_off {b} mode i t f g e past h path on more passed part rest deferred = recor
     p = i.program
 
     c : ItemView
-    c = here p t
+    c = item_of p w n
 
     members : members_from past 0 ≡ past_steps mode c
-    members = past_members mode p t.steps.items e t.node past (node_of p t e path on)
-        (of_here p t path) passed
+    members = past_members mode p w e n past node of passed
 
     beside : List ℕ → List (List ℕ)
-    beside ts = map (λ u. t.steps.items ++ u ∷ []) ts
+    beside ts = map (λ u. w ++ u ∷ []) ts
 
 -- so the walk stands at its first child
 pub arrived_free : {b : Found} (mode : Mode) (i : ItemView) (old new : Path) (f : Found) (e : Mask)
@@ -198,7 +196,8 @@ arrived_free {b} mode i old new f e u us h on o kept free some room =
     record {
       place = place_turned p old new h.place o room;
       walked = subst (IsWalkedOn b mode i f) (sym (open_opened mode p old new e h.place on o kept))
-          (put_off mode i old f f e no_threads h.walked h.place.path on
+          (put_off mode i old.steps.items old.node f f e no_threads (left_above mode p old) h.walked
+          (node_of p old e h.place.path on) (of_here p old h.place.path)
           (here_goes_on p old e u us h.place.path on some)
           (λ t. empty_has t ∙ sym (free t))
           (ap (with_beyond f.part) (sym (ap (λ (ts : List ℕ). f.part.beyond || not (is_empty ts))
@@ -295,7 +294,7 @@ here_gone : (mode : Mode) (p : Program) (old new : Path) (u : ℕ) (asleep : Mas
 here_gone mode p old new u asleep e mask =
     λ k. record { program = p; prefix = e.steps k; mask = (e.asleep ∙ mask) k }
 
-pub gone_search : {b : Found} (mode : Mode) (i : ItemView) (old new : Path) (f : Found) (u : ℕ)
+gone_search : {b : Found} (mode : Mode) (i : ItemView) (old new : Path) (f : Found) (u : ℕ)
     (asleep : Mask) → IsSearch b mode i old f (open_below mode i.program old u) →
     IsPath i.program new → IsGone i.program old new u asleep
     → asleep ≡ mask_after mode (here i.program old) u →
@@ -314,6 +313,16 @@ gone_search {b} mode i old new f u asleep h path e mask =
           ∷ sym (e.left mode h.place.base) k) h.walked;
       shared = shared_entered old.steps.items new.steps.items u f h.shared e.steps;
     }
+
+pub gone_into : {b : Found} (mode : Mode) (i : ItemView) (old new : Path) (f : Found) (u : ℕ)
+    (asleep : Mask) (q : Program) → q ≡ i.program
+    → IsSearch b mode i old f (open_below mode i.program old u)
+    → IsPath q new → IsGone q old new u asleep → asleep ≡ mask_after mode (here q old) u
+    → IsSearch b mode i new f (open_here mode i.program new)
+gone_into mode i old new f u asleep q is h path gone mask =
+    gone_search mode i old new f u asleep h (subst (λ (r : Program). IsPath r new) is path)
+    (subst (λ (r : Program). IsGone r old new u asleep) is gone)
+    (mask ∙ ap (λ (r : Program). mask_after mode (here r old) u) is)
 
 -- how far there is to go from there
 pub gone_turns : (mode : Mode) (p : Program) (old new : Path) (u : ℕ) (asleep : Mask) →
@@ -367,19 +376,6 @@ kept_turns mode p old new u e =
     let k = e.depth in
     omega (arith, same, b, k)
 
--- a thread goes on alone
-pub alone_turns : (mode : Mode) (p : Program) (old new : Path) (u : ℕ) → IsTurned old new →
-    is_enabled p (state_at p old.steps.items) u ≡ true →
-    turns_into mode p new u ≤ turns_from mode p old
-unfolding turns_from turns_into
-alone_turns mode p old new u o on =
-    let a : cost_of (child_of mode (here p new) u) ≡ cost_of (child_of mode (here p old) u) =
-    ap (λ c. cost_of (child_of mode c u)) (here_turned p old new o) in
-    let b = ap costs (left_turned mode p old new o) in
-    let k = ap (λ fs. length fs) o.frames in
-    let less = child_less mode (here p old) u on in
-    omega (arith, a, b, k, less)
-
 -- it goes back to a node above
 pub retreated_search : {b : Found} (mode : Mode) (i : ItemView) (old new : Path) (f g : Found)
     (n : ℕ) → IsSearch b mode i old f (still_open mode i.program old) → IsPlace i.program new
@@ -418,49 +414,9 @@ retreated_search {b} mode i old new f g n h place same steps long found =
     right : (a b : ℕ) → min a b ≤ b
     right a b = grind arith
 
--- the steps stand in other memory
-steps_turned : (old new : Path) → new ≡ record old { steps = new.steps }
-    → new.steps.items ≡ old.steps.items → IsTurned old new
-steps_turned old new same steps = record {
-  steps = steps;
-  last = ap (λ (t : Path). t.node.last) same;
-  used = ap (λ (t : Path). t.node.used) same;
-  asleep = ap (λ (t : Path). t.node.asleep) same;
-  machine = ap (λ (t : Path). t.machine) same;
-  size = ap (λ (t : Path). t.size) same;
-  frames = ap (λ (t : Path). used_frames t) same;
-  words = ap (λ (t : Path). t.words.items) same;
-  base = ap (λ (t : Path). t.base) same;
-}
-
-pub run_turns : (mode : Mode) (p : Program) (old new : Path)
-    → new ≡ record old { steps = new.steps }
-    → new.steps.items ≡ old.steps.items → turns_from mode p new ≡ turns_from mode p old
-unfolding turns_from
-run_turns mode p old new same steps = let o = steps_turned old new same steps in
-    λ i. cost_of (here_turned p old new o i) + costs (left_turned mode p old new o i)
-    + length (o.frames i)
-
-pub followed_turns : (mode : Mode) (p : Program) (old new : Path) (u : ℕ)
-    → new ≡ record old { steps = new.steps }
-    → new.steps.items ≡ old.steps.items → is_enabled p (state_at p new.steps.items) u ≡ true
-    → turns_into mode p new u ≤ turns_from mode p old
-followed_turns mode p old new u same steps on =
-    alone_turns mode p old new u (steps_turned old new same steps)
-    (subst (λ (w : List ℕ). is_enabled p (state_at p w) u ≡ true) steps on)
-
--- where there is a bound nobody sleeps after a step, or before
+-- where there is a bound nobody sleeps after a step
 
 pub awake_after : (mode : Mode) (i : ItemView) (n : Node) (t : ℕ) → n.asleep ≡ mask_after mode i t
     → IsAwake mode n
 awake_after (Bounded bound) i n t e = e
 awake_after Reduced i n t e = tt
-
-pub awake_kept : (mode : Mode) (m n : Node) → IsAwake mode m → n.asleep ≡ m.asleep → IsAwake mode n
-awake_kept (Bounded bound) m n h e = e ∙ h
-awake_kept Reduced m n h e = tt
-
-pub spent_mask : (mode : Mode) (i : ItemView) (n : Node) (t : ℕ) → IsSpent mode n → IsAwake mode n
-    → n.asleep ≡ mask_after mode i t
-spent_mask (Bounded bound) i n t spent awake = awake
-spent_mask Reduced i n t spent awake = absurd spent

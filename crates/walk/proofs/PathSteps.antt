@@ -8,7 +8,7 @@ use Rattle.std.proofs.Math.Nat.{mul-le-mul_right}
 use Rattle.std.proofs.Math.Path.{transport}
 use Rattle.std.proofs.lemmas.Bool.{cases_order}
 use Rattle.std.proofs.lemmas.Bool.Decides.{nat_tests}
-use Rattle.std.proofs.lemmas.List.{drop-take, length-append, length-take-le, get_or-take, take-take}
+use Rattle.std.proofs.lemmas.List.{drop-take, length-append, length-take, length-take-le, get_or-take, take-take}
 use Rattle.std.proofs.lemmas.List.{get_or_append_left}
 use Rattle.std.proofs.Math.Seq.{take-length, get_or-append_seam}
 use Rattle.guest_code.specs.Program.{Program}
@@ -69,20 +69,58 @@ open_same mode p v w gs fs base (suc n) same takes = (λ i. head i
         (same (base + n) (omega arith))
         ∙ ap (λ u. open_at mode p u (frame_at fs (base + n)).node) (takes (base + n) (omega arith))
 
--- a step
+-- steps
 
-pub copies_go : (p : Program) (w : List ℕ) (t fixed width size : ℕ) (fs : List Frame) (ws : List ℤ)
-    → AreCopies p w fixed width size fs ws → 0 < length fs
-    → AreCopies p (w ++ t ∷ []) fixed width size fs ws
-copies_go p w t fixed width size fs ws h some = record {
-  each = λ k l. subst (λ v. IsCopy p v fixed width (frame_at fs k) (words_at size ws k))
-      (sym (take_front (frame_at fs k).steps w (t ∷ []) (h.within k l))) (h.each k l);
-  within = λ k l. let a = h.within k l in omega (arith, a, length-append w (t ∷ []));
+-- a list that goes on from another has its front
+pub front_more : {A : Type 0} (u v w : List A) (x : A) → take (length u) v ≡ u → w ≡ v ++ x ∷ []
+    → take (length u) w ≡ u
+front_more u v w x front more =
+    ap (take (length u)) more ∙ (take_front (length u) v (x ∷ [])
+    (let e = ap length front in let m = length-take (length u) v in omega (arith, e, m)) ∙ front)
+
+pub front_of : {A : Type 0} (u v : List A) (k : ℕ) → take (length u) v ≡ u → k ≤ length u
+    → take k v ≡ take k u
+front_of u v k front l = sym (take-take k (length u) v l) ∙ ap (take k) front
+
+-- the frames lie on a longer way, too
+pub copies_go : (p : Program) (w v : List ℕ) (fixed width size : ℕ) (fs : List Frame) (ws : List ℤ)
+    → AreCopies p w fixed width size fs ws → 0 < length fs → take (length w) v ≡ w
+    → AreCopies p v fixed width size fs ws
+copies_go p w v fixed width size fs ws h some front = record {
+  each = λ k l. subst (λ u. IsCopy p u fixed width (frame_at fs k) (words_at size ws k))
+      (sym (front_of w v (frame_at fs k).steps front (h.within k l))) (h.each k l);
+  within = λ k l. let a = h.within k l in
+      let e = ap length front in let m = length-take (length w) v in omega (arith, a, e, m);
   rising = h.rising;
   first = h.first;
   bottom = λ e. absurd (omega (arith, e, some));
   room = h.room;
 }
+
+-- the way goes on by some steps to where a machine of as many values shows the state
+pub path_on : (p : Program) (old new : Path) → IsPath p old → 0 < length (used_frames old)
+    → take (length old.steps.items) new.steps.items ≡ old.steps.items
+    → ReachesNode p new.steps.items new.node
+    → Shows p new.machine (state_at p new.steps.items)
+    → length new.machine.values.items ≡ length old.machine.values.items
+    → new.machine.fixed ≡ old.machine.fixed
+    → new.machine.width ≡ old.machine.width → new.size ≡ old.size
+    → (used_frames new) ≡ (used_frames old) → new.words.items ≡ old.words.items
+    → new.depth ≤ length new.frames.items → IsPath p new
+path_on p old new h some front reaches shows values fixed width size frames words room = record {
+  well_formed = h.well_formed;
+  reaches = reaches;
+  shows = shows;
+  size = size ∙ (h.size ∙ sym values);
+  frames = transport (λ i. AreCopies p new.steps.items (sym fixed i) (sym width i) (sym size i)
+      (sym frames i) (sym words i))
+      (copies_go p old.steps.items new.steps.items old.machine.fixed old.machine.width old.size
+      (used_frames old) old.words.items h.frames some front);
+  room = room;
+  count = length-take-le new.depth new.frames.items room;
+}
+
+-- a step
 
 pub path_gone : (p : Program) (old new : Path) (t : ℕ) → IsPath p old → 0 < length (used_frames old)
     → is_enabled p (state_at p old.steps.items) t ≡ true
@@ -96,24 +134,16 @@ pub path_gone : (p : Program) (old new : Path) (t : ℕ) → IsPath p old → 0 
     → (used_frames new) ≡ (used_frames old) → new.words.items ≡ old.words.items
     → new.depth ≤ length new.frames.items → IsPath p new
 path_gone p old new t h some enabled used steps last shows values fixed width size frames words
-    room = record {
-      well_formed = h.well_formed;
-      reaches = transport (λ i. Reaches p (sym steps i) (record {
-        state = state_at p (sym steps i);
-        last = sym last i;
-        preemptions = new.node.used;
-      }))
-          (reaches_parts p w _ t (state_at p (w ++ t ∷ [])) new.node.used h.reaches enabled push
-          used);
-      shows = subst (Shows p new.machine) (sym (ap (state_at p) steps ∙ push)) shows;
-      size = size ∙ (h.size ∙ sym values);
-      frames = transport (λ i. AreCopies p (sym steps i) (sym fixed i) (sym width i) (sym size i)
-          (sym frames i) (sym words i))
-          (copies_go p w t old.machine.fixed old.machine.width old.size (used_frames old)
-          old.words.items h.frames some);
-      room = room;
-      count = length-take-le new.depth new.frames.items room;
-    }
+    room = path_on p old new h some
+    (front_more w w new.steps.items t (take-length w) steps)
+    (transport (λ i. Reaches p (sym steps i) (record {
+      state = state_at p (sym steps i);
+      last = sym last i;
+      preemptions = new.node.used;
+    }))
+    (reaches_parts p w _ t (state_at p (w ++ t ∷ [])) new.node.used h.reaches enabled push used))
+    (subst (Shows p new.machine) (sym (ap (state_at p) steps ∙ push)) shows)
+    values fixed width size frames words room
   where
     w : List ℕ
     w = old.steps.items
@@ -121,16 +151,14 @@ path_gone p old new t h some enabled used steps last shows values fixed width si
     push : state_at p (w ++ t ∷ []) ≡ step p (state_at p w) t
     push = state_after-push p (start p) w t
 
-pub left_goes : (mode : Mode) (p : Program) (old : Path) (t : ℕ) (v : List ℕ) → IsPath p old
-    → old.base ≤ length (used_frames old) → v ≡ old.steps.items ++ t ∷ []
+pub left_goes : (mode : Mode) (p : Program) (old : Path) (v : List ℕ) → IsPath p old
+    → old.base ≤ length (used_frames old) → take (length old.steps.items) v ≡ old.steps.items
     → open_from mode p v (used_frames old) old.base (length (used_frames old) - old.base)
     ≡ left_above mode p old
-left_goes mode p old t v h above steps =
-    ap (λ w. open_from mode p w (used_frames old) old.base
-    (length (used_frames old) - old.base)) steps
-    ∙ open_same mode p (old.steps.items ++ t ∷ []) old.steps.items (used_frames old)
+left_goes mode p old v h above front =
+    open_same mode p v old.steps.items (used_frames old)
     (used_frames old) old.base (length (used_frames old) - old.base) (λ k l. refl)
-    (λ k l. take_front (frame_at (used_frames old) k).steps old.steps.items (t ∷ [])
+    (λ k l. front_of old.steps.items v (frame_at (used_frames old) k).steps front
     (h.frames.within k (omega (arith, l, above))))
 
 pub stays : (p : Program) (s : Snapshot) (t n : ℕ) → n ≡ n + one_if (preempts p s (Some t) t)

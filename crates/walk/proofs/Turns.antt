@@ -31,7 +31,7 @@ turns_two : (n : ℕ) → 2 ≤ turns n
 turns_two zero = omega arith
 turns_two (suc n) = omega arith
 
-turns_more : (m n : ℕ) → m ≤ n → turns m ≤ turns n
+pub turns_more : (m n : ℕ) → m ≤ n → turns m ≤ turns n
 turns_more zero n h = turns_two n
 turns_more (suc m) zero h = absurd (omega arith)
 turns_more (suc m) (suc n) h =

@@ -223,28 +223,6 @@ impl Path {
         Ok(())
     }
 
-    /// One more step of the thread of the last one, which is enabled: so it is no preemption. Those
-    /// who slept sleep on.
-    ///
-    /// # Errors
-    ///
-    /// `AllocError` where memory runs out; no step is taken then.
-    #[inline(always)]
-    pub fn go_on(&mut self, program: &Program, thread: u8) -> Result<(), AllocError>
-        requires path { IsPath program.now self.old }
-        requires frames { 0 < length (used_frames self.old) }
-        requires last { self.old.node.last ≡ Some thread }
-        requires enabled { is_enabled program.now
-            (state_at program.now self.old.steps.items) thread ≡ true }
-        ensures path { IsPath program.now self.new }
-        ensures gone { OnOk result
-            (IsGone program.now self.old self.new thread self.old.node.asleep) }
-    {
-        self.steps.push(thread)?;
-        self.machine.step(program, thread);
-        Ok(())
-    }
-
     // Goes back to the node of the last frame to which so many steps lead, or fewer. It keeps the
     // frame.
     fn go_back(&mut self, program: &Program, count: usize)

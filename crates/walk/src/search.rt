@@ -8,15 +8,19 @@ ghost use Rattle.semantics.specs.Mask.{has, members_from, no_threads};
 ghost use Rattle.walk.specs.Items.{IsItem};
 ghost use Rattle.summary.specs.Summaries.{with_beyond, greatest_count};
 ghost use Rattle.walk.specs.inner.Children.{child_of, mask_after, cost_of};
+ghost use Rattle.machine.specs.Refinement.{IsLane};
+ghost use Rattle.semantics.specs.Work.{work};
+ghost use Rattle.walk.specs.declared.path.Node.{Node};
 ghost use Rattle.walk.specs.inner.Paths.{IsPath, used_frames, state_at};
 ghost use Rattle.walk.specs.Walks.{HasAdded};
-ghost use Rattle.walk.specs.inner.WalkerInvariant.{IsPlace, Searches, GoesOn, IsKept, here, left_above, open_here, open_below, still_open, turns_left, turns_from, turns_into, is_kept_at, is_past_at, is_past_here, IsFree, IsSpent, is_spent_at, IsShared};
+ghost use Rattle.walk.specs.inner.WalkerInvariant.{IsPlace, Searches, GoesOn, IsKept, here, left_above, open_here, open_below, still_open, turns_left, turns_from, turns_into, is_kept_at, is_past_at, is_past_here, IsFree, IsSpent, is_spent_at, IsShared, IsAwake, IsAlone, PutsOff};
 
 use crate::found::Found;
 use crate::item::Item;
 use crate::mode::Mode;
 use crate::path::{Node, Path};
 use guest_code::program::Program;
+use machine::{Control, Lane};
 use semantics::mask::Mask;
 use std::alloc::{AllocError, Global};
 
@@ -141,7 +145,55 @@ fn without_first(set: Mask, first: u8) -> Mask
     set.with(first, false)
 }
 
+// The lane's thread goes on as long as it can, and the steps of the others are put off: the bound is
+// used up.
+#[inline(always)]
+fn run_alone(
+    lane: &Lane<'_>,
+    control: &mut Control,
+    values: &mut [i64],
+    steps: &mut Vec<u8>,
+    found: &mut Found,
+) -> Result<(), AllocError>
+    requires lane { IsLane lane.now }
+    requires alone { (bound : ℕ) × (n : Node)
+        × IsAlone lane.now bound n control.old values.old steps.old.items }
+    requires shared { IsShared steps.old.items found.old }
+    ensures alone { (bound : ℕ) → (n : Node)
+        → IsAlone lane.now bound n control.old values.old steps.old.items
+        → IsAlone lane.now bound n control.new values.new steps.new.items }
+    ensures size { length values.new ≡ length values.old }
+    ensures front { take (length steps.old.items) steps.new.items ≡ steps.old.items }
+    ensures shared { OnOk result (IsShared steps.new.items found.new) }
+    ensures walked { (bound : ℕ) → (n : Node)
+        → IsAlone lane.now bound n control.old values.old steps.old.items
+        → OnOk result (PutsOff lane.now.program.now bound n
+        steps.old.items found.old steps.new.items found.new) }
+    ensures over { OnOk result (is_enabled lane.now.program.now
+        (state_at lane.now.program.now steps.new.items) lane.now.thread ≡ false) }
+    ensures falls { work lane.now.program.now (state_at lane.now.program.now steps.new.items)
+        ≤ work lane.now.program.now (state_at lane.now.program.now steps.old.items) }
+    ensures tried { OnOk result (found.new.part.tried ≡ found.old.part.tried) }
+{
+    while control.enabled().has(lane.thread) {
+        found.defer(steps, control.enabled().with(lane.thread, false))?;
+        steps.push(lane.thread)?;
+        control.advance_over(values, lane);
+    }
+    Ok(())
+}
+
 impl Node {
+    // Whether the bound is used up.
+    fn is_spent(&self, mode: Mode) -> bool
+        ensures { result ≡ is_spent_at mode self.now }
+    {
+        match mode {
+            Mode::Bounded(bound) => self.used == bound,
+            Mode::Reduced => false,
+        }
+    }
+
     // The steps that are kept from here on are to be tried. None passes the bound.
     fn open(&mut self, enabled: Mask, mode: Mode)
         requires { (t : ℕ) → (has enabled t && is_past_at mode enabled self.old t) ≡ false }
@@ -159,10 +211,7 @@ impl Node {
     fn is_alone(&self, enabled: Mask, mode: Mode, thread: u8) -> bool
         ensures { result ≡ (is_spent_at mode self.now && has enabled thread) }
     {
-        match mode {
-            Mode::Bounded(bound) => self.used == bound && enabled.has(thread),
-            Mode::Reduced => false,
-        }
+        self.is_spent(mode) && enabled.has(thread)
     }
 }
 
@@ -282,10 +331,44 @@ impl Path {
         let program = item.program();
         let asleep = self.sleepers(program, mode, thread);
         self.go(program, thread, asleep)?;
-        while self.follow(found, item, mode, thread)? {
-            self.go_on(program, thread)?;
+        self.run_on(found, item, mode, thread)
+    }
+
+    // The thread of the last step goes on as long as only it may.
+    #[inline(always)]
+    fn run_on(
+        &mut self,
+        found: &mut Found,
+        item: &Item,
+        mode: Mode,
+        thread: u8,
+    ) -> Result<(), AllocError>
+        requires search { Searches mode item.now self.old found.old
+            (open_here mode item.now.program self.old) }
+        requires last { self.old.node.last ≡ Some thread }
+        requires awake { IsAwake mode self.old.node }
+        requires thread { thread < length item.now.program.threads }
+        ensures path { IsPath item.now.program self.new }
+        ensures search { let p = item.now.program in OnOk result (GoesOn mode item.now
+            self.old found.old (open_here mode p self.old)
+            self.new found.new (open_here mode p self.new)) }
+        ensures free { OnOk result (IsFree mode item.now.program self.new) }
+        ensures falls { OnOk result (turns_from mode item.now.program self.new
+            ≤ turns_from mode item.now.program self.old) }
+        ensures tried { OnOk result (found.new.part.tried ≡ found.old.part.tried) }
+    {
+        if !self.node.is_spent(mode) {
+            return Ok(());
         }
-        Ok(())
+        let lane = self.machine.lane(item.program(), thread);
+        let values = self.machine.values.as_mut_slice();
+        run_alone(
+            &lane,
+            &mut self.machine.control,
+            values,
+            &mut self.steps,
+            found,
+        )
     }
 
     // Where only this thread, which took the last step, may go on, it does.

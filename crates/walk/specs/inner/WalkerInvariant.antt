@@ -1,5 +1,5 @@
 -- What holds while a walk goes over the schedules of an item.
-use Rattle.std.specs.Prelude.{◌≡◌, ℕ, zero, suc, ◌+◌, ◌-◌, ◌<◌, ◌≤◌, Bool, false, not, ◌&&◌, nat_eq}
+use Rattle.std.specs.Prelude.{◌≡◌, ℕ, ℤ, zero, suc, ◌+◌, ◌-◌, ◌<◌, ◌≤◌, Bool, false, not, ◌&&◌, nat_eq}
 use Rattle.std.specs.Prelude.{nat_le, nat_lt, List, [], ◌∷◌, ◌++◌, length, take, Some}
 use Rattle.guest_code.specs.Program.{Program}
 use Rattle.semantics.specs.Mask.{has, no_threads, HasEnabled, members_from, one_if}
@@ -15,7 +15,10 @@ use Rattle.prefix_list.specs.PrefixLists.{last_of}
 use Rattle.summary.specs.Summaries.{SummaryView, IsSummary, join}
 use Rattle.walk.specs.Walks.{IsWalked, items_at}
 use Rattle.walk.specs.inner.Children.{child_of, children_of, cost_of, costs}
-use Rattle.walk.specs.inner.Paths.{used_frames, leaves, frame_at, state_at, IsPath}
+use Rattle.machine.specs.declared.control.Control.{Control}
+use Rattle.machine.specs.declared.lane.Lane.{Lane}
+use Rattle.machine.specs.Refinement.{IsState}
+use Rattle.walk.specs.inner.Paths.{used_frames, leaves, frame_at, state_at, IsPath, ReachesNode}
 
 -- the item of a node, to which these steps lead
 abbrev pub item_of : Program → List ℕ → Node → ItemView
@@ -179,3 +182,19 @@ pub record IsGone (p : Program) (old new : Path) (t : ℕ) (sleepers : Mask) : T
   pub frames : (used_frames new) ≡ (used_frames old)
   pub left : (mode : Mode) → old.base ≤ length (used_frames old)
       → left_above mode p new ≡ left_above mode p old
+
+-- the lane's thread stands where these steps lead, of which the last one is its own, and the bound is
+-- used up; the control and the values are those of the state there
+pub record IsAlone (l : Lane) (bound : ℕ) (n : Node) (c : Control) (values : List ℤ) (w : List ℕ)
+    : Type 0 where
+  pub shows : IsState l.program.now l.fixed l.width c values (state_at l.program.now w)
+  pub reaches : ReachesNode l.program.now w n
+  pub last : n.last ≡ Some l.thread
+  pub used : n.used ≡ bound
+  pub awake : n.asleep ≡ no_threads
+
+-- the walk went on from some steps to others, and put off what its bound puts off on the way
+abbrev pub PutsOff : Program → ℕ → Node → List ℕ → Found → List ℕ → Found → Type 0
+PutsOff p bound n v f w g = (before : Found) → (i : ItemView) → (above : List ItemView)
+    → i.program ≡ p → IsWalkedOn before (Bounded bound) i f (item_of p v n ∷ above)
+    → IsWalkedOn before (Bounded bound) i g (item_of p w n ∷ above)

@@ -3,7 +3,8 @@ use Rattle.semantics.specs.Mask.{one_if}
 use Rattle.schedules.proofs.Executions.{reaches_few}
 use Rattle.schedules.proofs.ScheduleLengths.{schedule_within}
 use Rattle.walk.specs.inner.Paths.{state_at}
-use Rattle.walk.proofs.PathSteps.{path_gone, left_goes, leaves_is}
+use Rattle.std.proofs.Math.Seq.{take-length}
+use Rattle.walk.proofs.PathSteps.{path_gone, left_goes, leaves_is, front_more}
 use Rattle.walk.proofs.path.Path.go.Goals as goal
 
 pub step-requires : goal.step-requires
@@ -35,6 +36,7 @@ returns-clause-gone c = record {
   asleep = c.step.ensures.asleep;
   base = refl;
   frames = refl;
-  left = λ mode above. left_goes mode c.args.program.now c.args.self.now c.args.thread _
-      c.requires.path above c.in_ok-push.ensures.items;
+  left = λ mode above. left_goes mode c.args.program.now c.args.self.now _ c.requires.path above
+      (front_more c.args.self.now.steps.items c.args.self.now.steps.items _ c.args.thread
+      (take-length c.args.self.now.steps.items) c.in_ok-push.ensures.items);
 }
