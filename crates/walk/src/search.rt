@@ -273,7 +273,6 @@ impl Path {
 
     // Where the bound is used up and the thread of the last step can go on, the steps of the others
     // are put off. Whether it is so.
-    #[inline(always)]
     fn follow(
         &mut self,
         found: &mut Found,
