@@ -1,3 +1,4 @@
 pub mod CommonSteps
 pub mod WayBytes
 pub mod PackedPrefixes
+pub mod ListFields

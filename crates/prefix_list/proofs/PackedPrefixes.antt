@@ -228,13 +228,6 @@ packed_more n b last first l m le (inr s) = inr (record {
   sound = more_room s.ways last l m s.sound le;
 })
 
--- the same bytes and the same last schedule, with as much room or more
-pub with_room : (n front : ℕ) (b last c top : List ℕ) (l m : ℕ) → l ≤ m → c ≡ b → top ≡ last →
-    (front ≤ length b) × IsPacked n (drop front b) last (take front b) l →
-    (front ≤ length c) × IsPacked n (drop front c) top (take front c) m
-with_room n front b last c top l m le e f h =
-    rw (e, f) (h.0, packed_more n (drop front b) last (take front b) l m le h.1)
-
 pub packed_before : (n : ℕ) (b last first : List ℕ) (l : ℕ) → IsPacked n b last first l → 0 < n
     → length (before b last) ≤ l
 packed_before n b last first l (inl e) more = absurd (omega arith)
@@ -314,7 +307,7 @@ pushed n b last first l rest c top t k m stack le fits fit e f g room short =
     })
 
 -- all steps but the last, and the last
-last_step : (w : List ℕ) (k x : ℕ) → length w ≡ k + 1 → x ≡ get_or w k x → drop k w ≡ x ∷ []
+pub last_step : (w : List ℕ) (k x : ℕ) → length w ≡ k + 1 → x ≡ get_or w k x → drop k w ≡ x ∷ []
 last_step w k x one read =
     let parts : w ≡ take k w ++ x ∷ [] =
     sym (take_all (k + 1) w (omega (arith, one)))
@@ -322,7 +315,7 @@ last_step w k x one read =
     ap (drop k) parts
     ∙ drop_at (take k w) (x ∷ []) k (omega (arith, one, length-take k w))
 
-set_last : (w : List ℕ) (k x : ℕ) → length w ≡ k + 1 → set w k x ≡ take k w ++ x ∷ []
+pub set_last : (w : List ℕ) (k x : ℕ) → length w ≡ k + 1 → set w k x ≡ take k w ++ x ∷ []
 set_last w k x one =
     sym (take_all (k + 1) (set w k x) (omega (arith, one, length-set w k x)))
     ∙ take_more_set w k x (omega (arith, one))
@@ -334,39 +327,14 @@ pushed_two b x y c d e f =
     f ∙ (ap (λ (w : List ℕ). w ++ y ∷ []) e ∙ append_assoc b (x ∷ []) (y ∷ []))
 
 -- the way back to a schedule that differs in its last step
-small_bytes : (x : ℕ) → x ∷ 17 ∷ [] ≡ way_bytes 1 (x ∷ [])
+pub small_bytes : (x : ℕ) → x ∷ 17 ∷ [] ≡ way_bytes 1 (x ∷ [])
 unfolding way_bytes
 small_bytes x = refl
 
--- a schedule that differs from the last in its last step goes on top
-pub replaced : (n : ℕ) (b last first : List ℕ) (l k x t : ℕ) (c : List ℕ)
-    → IsStack n b last first l → length last ≡ k + 1 → x ≡ get_or last k x
-    → c ≡ b ++ x ∷ 17 ∷ []
-    → Grown (n + 1) c (set last k t) first l (listed n b last ++ (take k last ++ t ∷ []) ∷ [])
-replaced n b last first l k x t c stack one read wrote =
-    let top = set_last last k t one in
-    let short = stack_short n b last first l stack in
-    pushed n b last first l (t ∷ []) c (set last k t) (x ∷ []) k l stack (omega (arith, one))
-    (omega arith) (omega arith) (sym (last_step last k x one read))
-    (wrote ∙ ap (λ (y : List ℕ). b ++ y) (small_bytes x)) top (omega arith)
-    (omega (arith, short, one, length-set last k t))
-
 -- the way back to a schedule that differs in its last step, from one that is a step longer
-long_bytes : (x : ℕ) → x ∷ 33 ∷ [] ≡ way_bytes 2 (x ∷ [])
+pub long_bytes : (x : ℕ) → x ∷ 33 ∷ [] ≡ way_bytes 2 (x ∷ [])
 unfolding way_bytes
 long_bytes x = refl
-
--- such a schedule goes on top
-pub replaced_by_two : (n : ℕ) (b last first : List ℕ) (l m k x t u : ℕ) (c top : List ℕ)
-    → IsStack n b last first l → length last ≡ k + 1 → x ≡ get_or last k x
-    → c ≡ b ++ x ∷ 33 ∷ [] → top ≡ set last k t ++ u ∷ [] → l ≤ m → length top ≤ m
-    → Grown (n + 1) c top first m (listed n b last ++ (take k last ++ t ∷ u ∷ []) ∷ [])
-replaced_by_two n b last first l m k x t u c top stack one read wrote made more short =
-    pushed n b last first l (t ∷ u ∷ []) c top (x ∷ []) k m stack (omega (arith, one))
-    (omega arith) (omega arith) (sym (last_step last k x one read))
-    (wrote ∙ ap (λ (y : List ℕ). b ++ y) (long_bytes x))
-    (made ∙ (ap (λ (w : List ℕ). w ++ u ∷ []) (set_last last k t one)
-    ∙ append_assoc (take k last) (t ∷ []) (u ∷ []))) more short
 
 -- a stack goes on top
 pub appended : (n k : ℕ) (b c last first end start : List ℕ) (l j : ℕ) (mid both top t : List ℕ)
@@ -401,11 +369,6 @@ pub taken_after : (p : List (List ℕ)) (last prefix : List ℕ) (k : ℕ) → l
     → p ++ (take k (last_of p) ++ take (length prefix - k) (drop k prefix)) ∷ [] ≡ p ++ prefix ∷ []
 taken_after p last prefix k e alike =
     rw (e, alike, take_rest prefix k, take-append-drop k prefix) refl
-
--- a list that counts none has none
-pub none_listed : (n : ℕ) (b last : List ℕ) (p : List (List ℕ)) → listed n b last ≡ p → n ≡ 0
-    → p ≡ []
-none_listed n b last p e none = sym e ∙ listed_none n b last none
 
 take_none : {X : Type 0} (k : ℕ) → take {A = X} k [] ≡ []
 take_none zero = refl
@@ -599,15 +562,6 @@ pub record Holds (n front : ℕ) (bytes last : List ℕ) (l : ℕ) (all : List (
   pub within : front ≤ length bytes
   pub packed : IsPacked n (drop front bytes) last (take front bytes) l
   pub view : listed n (drop front bytes) last ≡ all
-
-pub counted_few : (n front : ℕ) (bytes last : List ℕ) (l : ℕ) →
-    IsPacked n (drop front bytes) last (take front bytes) l → n ≤ length bytes + 1
-counted_few n front bytes last l packed =
-    omega (
-      arith,
-      packed_few n (drop front bytes) last (take front bytes) l packed,
-      length-drop front bytes,
-    )
 
 -- and it holds the same where longer ones are allowed
 pub held_more : (n front : ℕ) (b last : List ℕ) (l m : ℕ) (all : List (List ℕ)) → l ≤ m →

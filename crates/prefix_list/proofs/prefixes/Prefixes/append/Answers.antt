@@ -1,8 +1,9 @@
 use Rattle.std.proofs.lemmas.List.{take_at, append-nil, take_rest}
 use Rattle.prefix_list.proofs.WayBytes.{length-way}
-use Rattle.std.proofs.Common.{◌≡◌, ◌+◌, ◌-◌, ◌^◌, ◌<◌, ◌≤◌, ◌++◌, length, take, drop, vec_len, vec_capacity, refl, sym, ◌∙◌, ap, arith, append_assoc, length-append, length-take, length-drop}
+use Rattle.std.proofs.Common.{◌≡◌, ◌+◌, ◌-◌, ◌^◌, ◌<◌, ◌≤◌, ◌++◌, length, take, drop, vec_len, vec_capacity, refl, sym, ◌∙◌, ap, arith, append_assoc, length-append, length-take}
 use Rattle.prefix_list.specs.inner.Packed.{way_bytes, listed}
-use Rattle.prefix_list.proofs.PackedPrefixes.{with_room, if_ok, packed_stack, packed_few, counted_few, listed_none, stack_short, appended, Holds, grown_after}
+use Rattle.prefix_list.proofs.PackedPrefixes.{if_ok, packed_few, listed_none, stack_short, appended, Holds, grown_after}
+use Rattle.prefix_list.proofs.ListFields.{counted_few, stack_of, with_room, cut_short}
 use Rattle.prefix_list.proofs.prefixes.Prefixes.append.Goals as goal
 
 pub returns-then-other-eq0-clause-moved : goal.returns-then-other-eq0-clause-moved
@@ -36,7 +37,6 @@ grown_at c =
     let j = c.other.inside in
     let last = i.last.items in
     let b = drop i.front i.bytes.items in
-    let first = take i.front i.bytes.items in
     let ways = drop j.front j.bytes.items in
     let start = take j.front j.bytes.items in
     let k = c.shared_length-shared.result in
@@ -73,10 +73,7 @@ grown_at c =
       c.saturating_sub.ensures,
       c.len.ensures,
     ) in
-    let stack = packed_stack i.count b last first (vec_capacity i.last) c.self.invariant.1
-    (omega arith) in
-    let other = packed_stack j.count ways j.last.items start (vec_capacity j.last)
-    c.other.invariant.1 (omega arith) in
+    let other = stack_of j c.other.invariant (omega arith) in
     let fits : vec_len c.clear.new.self + length c.as_slice-2.result.now ≤ vec_capacity
     c.clear.new.self =
     omega (
@@ -93,19 +90,12 @@ grown_at c =
     refl) in
     let long : length start < 2 ^ 64 =
     omega (arith, count, c.other.invariant.0, j.bytes.ok.0, j.bytes.ok.1, j.bytes.small) in
-    let short : length t < 2 ^ 64 = omega (
-      arith,
-      ap length tail,
-      length-drop k last,
-      i.last.ok.0,
-      i.last.small,
-    ) in
     grown_after (i.count + j.count) i.front i.bytes.items (way ++ ways) _ _ _ _ c.self.invariant.0
     joined
-    (λ d e. appended i.count j.count b ways last first j.last.items start (vec_capacity i.last)
-    (vec_capacity j.last) (b ++ way) d c.extend_from_slice-2.new.self.items t k
-    (vec_capacity c.extend_from_slice-2.new.self) stack other low
-    within long short alike tail refl (e ∙ sym (append_assoc b way ways)) made
+    (λ d e. appended i.count j.count b ways last (take i.front i.bytes.items)
+    j.last.items start (vec_capacity i.last) (vec_capacity j.last) (b ++ way) d c.extend_from_slice-2.new.self.items t k
+    (vec_capacity c.extend_from_slice-2.new.self) (stack_of i c.self.invariant (omega arith)) other
+    low within long (cut_short i k t tail) alike tail refl (e ∙ sym (append_assoc b way ways)) made
     (omega (
       arith,
       c.reserve.ensures.capacity,
@@ -123,8 +113,7 @@ overflow_add-self c =
     let i = c.self.inside in
     let j = c.other.inside in
     let k = c.shared_length-shared.result in
-    let n = counted_few i.count i.front i.bytes.items i.last.items (vec_capacity i.last)
-    c.self.invariant.1 in
+    let n = counted_few i c.self.invariant in
     let m = packed_few j.count (drop j.front j.bytes.items) j.last.items
     (take j.front j.bytes.items) (vec_capacity j.last) c.other.invariant.1 in
     let t = take (length c.deref-2.result.now - k) (drop k c.deref-2.result.now) in
@@ -162,10 +151,8 @@ returns-clause-moved c = let j = c.other.inside in
 
 pub invariant_of-self-in_err-put_way : goal.invariant_of-self-in_err-put_way
 invariant_of-self-in_err-put_way c =
-    let i = c.self.inside in
-    with_room i.count i.front i.bytes.items i.last.items _ _ (vec_capacity i.last) _
-    (omega (arith, c.reserve.ensures.capacity)) c.in_err-put_way.ensures c.reserve.ensures.items
-    c.self.invariant
+    with_room c.self.inside _ _ _ c.self.invariant (omega (arith, c.reserve.ensures.capacity))
+    c.in_err-put_way.ensures c.reserve.ensures.items
 
 pub invariant_of-self-in-Err : goal.invariant_of-self-in-Err
 invariant_of-self-in-Err c =
@@ -176,5 +163,5 @@ invariant_of-self-in-Err c =
     (c.in-Err.ensures.items ∙ c.in_ok-put_way.ensures)
     ∙ take_at i.bytes.items _ c.len-len.result
     (omega (arith, c.len-len.ensures, i.bytes.ok.0))) in
-    with_room i.count i.front i.bytes.items i.last.items _ _ (vec_capacity i.last) _
-    (omega (arith, c.reserve.ensures.capacity)) cut c.reserve.ensures.items c.self.invariant
+    with_room i _ _ _ c.self.invariant (omega (arith, c.reserve.ensures.capacity)) cut
+    c.reserve.ensures.items

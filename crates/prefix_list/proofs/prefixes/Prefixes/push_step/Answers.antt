@@ -1,46 +1,30 @@
-use Rattle.std.proofs.Common.{◌≡◌, ◌+◌, ◌∷◌, [], ◌++◌, length, take, drop, set, refl, sym, ◌∙◌, ap, arith, vec_capacity}
-use Rattle.prefix_list.specs.inner.Packed.{listed}
+use Rattle.std.proofs.Common.{◌≡◌, ◌+◌, ◌∷◌, [], ◌++◌, length, take, set, arith, vec_capacity, length-set}
 use Rattle.prefix_list.specs.PrefixLists.{last_of}
-use Rattle.prefix_list.proofs.PackedPrefixes.{packed_stack, counted_few, Holds, grown_after, last_of_listed, pushed_two, replaced}
+use Rattle.prefix_list.proofs.PackedPrefixes.{Holds, set_last, small_bytes}
+use Rattle.prefix_list.proofs.ListFields.{more_counted, one_over}
 use Rattle.prefix_list.proofs.prefixes.Prefixes.push_step.Goals as goal
 
 pub overflow_add-self : goal.overflow_add-self
-overflow_add-self c =
-    let i = c.self.inside in
-    let n = counted_few i.count i.front i.bytes.items i.last.items (vec_capacity i.last)
-    c.self.invariant.1 in
-    omega (arith, n, i.bytes.ok.0, i.bytes.small)
+overflow_add-self c = omega (arith, more_counted c.self.inside c.self.invariant)
 
 grown : (c : goal.After-self-then-has_room_for_two-1)
     → Holds (c.self.inside.count + 1) c.self.inside.front
     c.push_reserved-then-has_room_for_two.new.self.items
     (set c.self.inside.last.items c.args.shared c.args.step) (vec_capacity c.self.inside.last)
-    (listed c.self.inside.count (drop c.self.inside.front c.self.inside.bytes.items)
-    c.self.inside.last.items
-    ++ (take c.args.shared c.self.inside.last.items ++ c.args.step ∷ []) ∷ [])
+    (c.args.self.now ++ (take c.args.shared (last_of c.args.self.now) ++ c.args.step ∷ []) ∷ [])
 grown c =
     let i = c.self.inside in
-    let b = drop i.front i.bytes.items in
-    let first = take i.front i.bytes.items in
-    let stack = packed_stack i.count b i.last.items first (vec_capacity i.last)
-    c.self.invariant.1 (omega arith) in
-    let one : length i.last.items ≡ c.args.shared + 1
+    let k = c.args.shared in
+    let one : length i.last.items ≡ k + 1
     = omega (arith, c.if-is_one_longer.ensures, i.last.ok.0) in
-    grown_after (i.count + 1) i.front i.bytes.items (c.index.result.now ∷ 17 ∷ []) _ _ _ _
-    c.self.invariant.0
-    (pushed_two i.bytes.items c.index.result.now 17 _ _ c.push_reserved.ensures.items
-    c.push_reserved-then-has_room_for_two.ensures.items)
-    (λ d wrote. replaced i.count b i.last.items first (vec_capacity i.last) c.args.shared
-    c.index.result.now c.args.step d stack one c.index.ensures wrote)
+    one_over i c.args.self.now (c.args.step ∷ []) _ _ _ k _ c.index.result.now 17 c.self.invariant
+    c.self.view_is (omega arith) one c.index.ensures c.push_reserved.ensures.items
+    c.push_reserved-then-has_room_for_two.ensures.items (small_bytes c.index.result.now)
+    (omega arith) (set_last i.last.items k c.args.step one) (omega arith)
+    (omega (arith, length-set i.last.items k c.args.step, i.last.ok.0, i.last.ok.1))
 
 pub invariant_of-self : goal.invariant_of-self
 invariant_of-self c = ((grown c).within, (grown c).packed)
 
 pub returns-then-has_room_for_two : goal.returns-then-has_room_for_two
-returns-then-has_room_for_two c =
-    let i = c.self.inside in
-    let last = i.last.items in
-    let is_last : last_of c.args.self.now ≡ last
-    = ap last_of (sym c.self.view_is) ∙ last_of_listed i.count (drop i.front i.bytes.items) last
-    (omega arith) in
-    (grown c).view ∙ (rw (c.self.view_is, is_last) refl)
+returns-then-has_room_for_two c = (grown c).view

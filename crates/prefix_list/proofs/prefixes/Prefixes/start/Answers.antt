@@ -1,5 +1,6 @@
 use Rattle.std.proofs.Common.{◌≡◌, ◌∷◌, [], length, ◌∙◌, refl, arith, vec_capacity, ap}
-use Rattle.prefix_list.proofs.PackedPrefixes.{if_ok, with_room, Holds, started_with}
+use Rattle.prefix_list.proofs.PackedPrefixes.{if_ok, Holds, started_with}
+use Rattle.prefix_list.proofs.ListFields.{with_room}
 use Rattle.prefix_list.proofs.prefixes.Prefixes.start.Goals as goal
 
 started : (c : goal.After-self-2-1) → Holds 1 (length c.args.prefix.now)
@@ -38,7 +39,5 @@ returns c = (started c).view
 
 pub invariant_of-self-in_err-reserve-2 : goal.invariant_of-self-in_err-reserve-2
 invariant_of-self-in_err-reserve-2 c =
-    let i = c.self.inside in
-    with_room i.count i.front i.bytes.items i.last.items _ _ (vec_capacity i.last) _
-    (omega (arith, c.reserve.ensures.capacity)) c.reserve-2.ensures.items c.reserve.ensures.items
-    c.self.invariant
+    with_room c.self.inside _ _ _ c.self.invariant (omega (arith, c.reserve.ensures.capacity))
+    c.reserve-2.ensures.items c.reserve.ensures.items
