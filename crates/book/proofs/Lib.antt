@@ -1,4 +1,5 @@
 pub mod Lists
+pub mod BookFields
 pub mod Later
 pub mod Parted
 pub mod Keeping

@@ -60,7 +60,7 @@ pub still_run : (p : Program) (r : List (List ℕ)) (read all : List ItemView) �
     items_at p r ++ read ≡ all → All IsItem all → All IsItem (items_at p r)
 still_run p r read all e h = all_left IsItem (items_at p r) read (subst (All IsItem) (sym e) h)
 
-pub last_runs : (p : Program) (r : List (List ℕ)) → 0 < length r → All IsItem (items_at p r) →
+last_runs : (p : Program) (r : List (List ℕ)) → 0 < length r → All IsItem (items_at p r) →
     IsItem (item_at p (last_of r))
 last_runs p r some h =
     All-head IsItem (item_at p (last_of r)) []
@@ -69,6 +69,26 @@ last_runs p r some h =
     (ap (items_at p) (last_apart r some)
     ∙ items_of_both p (take (length r - 1) r) (last_of r ∷ []))
     h))
+
+-- the item of an equal program and of a prefix that is the last of these
+last_is : (p q : Program) (r : List (List ℕ)) (w : List ℕ) → q ≡ p →
+    Some w ≡ slice_get r (length r - 1) → item_at q w ≡ item_at p (last_of r)
+last_is p q r w same e = λ k. item_at (same k) (sym (got r (length r - 1) w (sym e)) k)
+
+has_last : (r : List (List ℕ)) (w : List ℕ) → Some w ≡ slice_get r (length r - 1) → 0 < length r
+has_last [] w e = cc
+has_last (x ∷ r) w e = omega arith
+
+pub last_item_runs : {p q : Program} {w : List ℕ} (r : List (List ℕ)) → q ≡ p →
+    Some w ≡ slice_get r (length r - 1) → All IsItem (items_at p r) → IsItem (item_at q w)
+last_item_runs {p} {q} {w} r same e h =
+    subst IsItem (sym (last_is p q r w same e)) (last_runs p r (has_last r w e) h)
+
+pub last_item_made : {p q : Program} {w : List ℕ} {X : Type 0} (r : List (List ℕ))
+    (made : Result ItemView X) → q ≡ p → Some w ≡ slice_get r (length r - 1) →
+    IfOk made (λ i. i ≡ item_at q w) → IfOk made (λ i. i ≡ item_at p (last_of r))
+last_item_made {p} {q} {w} r made same e is =
+    subst (λ (x : ItemView). IfOk made (λ i. i ≡ x)) (last_is p q r w same e) is
 
 -- items that lie under another run
 pub below_run : (above : ItemView) (items : List ItemView) → All (IsBelow above) items →

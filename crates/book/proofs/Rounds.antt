@@ -1,8 +1,8 @@
 -- The items of a round, walked one after another and settled at once.
 use Rattle.std.proofs.Common.{◌≡◌, ℕ, zero, suc, ◌+◌, ◌-◌, ◌<◌, ◌≤◌, min, true, false, List, [], ◌∷◌, ◌++◌}
 use Rattle.std.proofs.Common.{length, take, drop, Some, slice_get, ap, ◌∙◌, sym, arith, subst}
-use Rattle.std.proofs.Common.{append_assoc}
-use Rattle.std.specs.List.{remove}
+use Rattle.std.proofs.Common.{append_assoc, replicate}
+use Rattle.std.specs.List.{remove, remove_range}
 use Rattle.std.proofs.lemmas.List.{append-nil}
 use Rattle.guest_code.specs.Program.{Program}
 use Rattle.summary.specs.Summaries.{SummaryView, IsSummary, nothing, join}
@@ -12,9 +12,10 @@ use Rattle.walk.specs.declared.found.Found.{Found}
 use Rattle.walk.specs.Walks.{HasAdded, items_at}
 use Rattle.walk.proofs.Splits.{split_kept}
 use Rattle.book.specs.Books.{BookView, Keeps, KeepsWhere, IsOpenAt, HasWalkedAt, HaveWalked}
-use Rattle.book.specs.Books.{HasWalkedRound, taken_over}
+use Rattle.book.specs.Books.{HasWalkedRound, taken_over, AreWithin, remove_each}
 use Rattle.book.specs.declared.limits.TheConstants.{ROUND}
-use Rattle.book.proofs.Lists.{dropped_at, got_behind, removed_behind, length_behind, none_out}
+use Rattle.book.proofs.Lists.{range_out, dropped_at, got_behind, removed_behind, length_behind, none_out}
+use Rattle.book.proofs.OpenItems.{open_own}
 use Rattle.book.proofs.Thinned.{settles_any}
 
 -- what is finished is a summary
@@ -86,6 +87,31 @@ next_walked b i first place quota f g from at of h = record {
     deferred = ap (λ xs. b.deferred ++ xs) (subst (λ (p : Program). items_at p g.deferred
         ≡ items_at p f.deferred ++ h.walk.deferred) (sym of) h.deferred)
         ∙ sym (append_assoc b.deferred (items_at b.program f.deferred) h.walk.deferred)
+
+-- an item of a list that is the open items is an open one, of the book's program
+pub open_at : (b : BookView) (items : List ItemView) (end place : ℕ) (i : ItemView) → Keeps b →
+    items ≡ b.open_items → end ≡ length b.open_items → place < end → slice_get items place ≡ Some i →
+    IsOpenAt b i place × (b.program ≡ i.program)
+open_at b items end place i h same count lt at =
+    let inside : place < length b.open_items = omega (arith, count, lt) in
+    let there : slice_get b.open_items place ≡ Some i =
+    ap (λ is. slice_get is place) (sym same) ∙ at in
+    ((inside, there), open_own b h place i inside there)
+
+-- a round goes from its first place to the end
+pub at_end : (first place end : ℕ) → first ≡ end - ROUND → (first ≤ end → place ≤ end) →
+    end ≤ place → place ≡ end
+at_end first place end start most over =
+    let m = most (omega (arith, start)) in omega (arith, m, over)
+
+-- its places are open ones, and this is left without them
+pub round_out : (items is : List ItemView) (first end : ℕ) → first ≡ end - ROUND →
+    end ≡ length is → items ≡ is → AreWithin items (take (end - first) (replicate ROUND first))
+    × (remove_each items (take (end - first) (replicate ROUND first))
+    ≡ remove_range items first end)
+round_out items is first end start count same =
+    range_out items first end ROUND (omega (arith, start)) (omega (arith, count, ap length same))
+    (omega (arith, start))
 
 -- so the book keeps what it does
 pub walked_kept : (n : ℕ) (old : BookView) (place quota : ℕ) (new : BookView) → Keeps old →

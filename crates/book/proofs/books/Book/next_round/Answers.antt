@@ -1,15 +1,15 @@
 use Rattle.std.proofs.Common.{◌≡◌, ◌∙◌, ap, sym, subst, All}
 use Rattle.walk.specs.Items.{ItemView}
 use Rattle.book.specs.ItemLists.{all_of}
-use Rattle.book.specs.Books.{BookView, book_view}
+use Rattle.book.specs.Books.{BookView}
+use Rattle.book.proofs.BookFields.{book_of}
 use Rattle.book.proofs.OpenItems.{loose_own}
 use Rattle.book.proofs.books.Book.next_round.Goals as goal
 
 pub copy_from-requires-clause-program : goal.copy_from-requires-clause-program
 copy_from-requires-clause-program c =
     let i = c.self.inside in
-    let b : BookView = book_view i.program i.mode i.finished i.open_items i.deferred i.quick
-    i.dropped in
+    let b = book_of i in
     let own = loose_own b c.look_from.new.self
     (sym (ap (all_of b.program) c.look_from.ensures ∙ c.in_ok-unpack_from.ensures.same))
     c.self.invariant.0 in (
@@ -22,8 +22,7 @@ copy_from-requires-clause-program c =
 pub returns-clause-program : goal.returns-clause-program
 returns-clause-program c =
     let i = c.self.inside in
-    let b : BookView = book_view i.program i.mode i.finished i.open_items i.deferred i.quick
-    i.dropped in
+    let b = book_of i in
     let own = loose_own b c.look_from.new.self
     (sym (ap (all_of b.program) c.look_from.ensures ∙ c.in_ok-unpack_from.ensures.same))
     c.self.invariant.0 in

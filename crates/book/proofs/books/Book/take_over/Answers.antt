@@ -10,7 +10,8 @@ use Rattle.walk.proofs.ListParts.{all_right}
 use Rattle.summary.specs.Summaries.{SummaryView}
 use Rattle.summary.proofs.SumsJoin.{join_first_bad}
 use Rattle.book.specs.ItemLists.{all_of}
-use Rattle.book.specs.Books.{BookView, book_view, Keeps, IsSwept, taken_in, remove_each, AreWithin}
+use Rattle.book.specs.Books.{BookView, Keeps, IsSwept, taken_in, remove_each, AreWithin}
+use Rattle.book.proofs.BookFields.{book_of}
 use Rattle.book.proofs.Lists.{within_more}
 use Rattle.book.proofs.Swept.{taken_swept}
 use Rattle.book.proofs.TakenOver.{grown, given_back, open_taken, taken_back, same_book, packs_none}
@@ -20,14 +21,12 @@ use Rattle.book.proofs.books.Book.take_over.Goals as goal
 
 pub unpack_from-requires : goal.unpack_from-requires
 unpack_from-requires c =
-    let b : BookView = book_view c.self.inside.program c.self.inside.mode c.self.inside.finished
-    c.self.inside.open_items c.self.inside.deferred c.self.inside.quick c.self.inside.dropped in
+    let b = book_of c.self.inside in
     open_run b c.self.inside.open_items refl c.self.invariant.0
 
 pub unpack_from-requires-2 : goal.unpack_from-requires-2
 unpack_from-requires-2 c =
-    let b : BookView = book_view c.self.inside.program c.self.inside.mode c.self.inside.finished
-    c.self.inside.open_items c.self.inside.deferred c.self.inside.quick c.self.inside.dropped in
+    let b = book_of c.self.inside in
     deferred_run b c.self.inside.deferred refl c.self.invariant.0
 
 pub append_prefixes-requires : goal.append_prefixes-requires
@@ -40,96 +39,80 @@ append_prefixes-requires c =
     (waiting_run (taken_in b (remove_each b.open_items c.args.places.now) found)
     c.requires.keeps))
 
-pub invariant_of-self-in-Err : goal.invariant_of-self-in-Err
-invariant_of-self-in-Err c =
-    let b : BookView = book_view c.self.inside.program c.self.inside.mode c.self.inside.finished
-    c.self.inside.open_items c.self.inside.deferred c.self.inside.quick c.self.inside.dropped in
-    let p = arc_value c.self.inside.program in
-    let left = given_back p c.unpack_from.new.self c.append.new.self c.truncate.new.self b.open_items
+-- the book is as before where what was deferred was refused
+not_deferred : (c : goal.After-truncate) → record (book_of c.self.inside) {
+  open_items = all_of (arc_value c.self.inside.program) c.truncate.new.self;
+  deferred = all_of (arc_value c.self.inside.program) c.append_prefixes.new.self;
+} ≡ book_of c.self.inside
+not_deferred c =
+    let b = book_of c.self.inside in
+    let p = b.program in
+    same_book b b.finished (all_of p c.truncate.new.self) (all_of p c.append_prefixes.new.self) refl
+    (given_back p c.unpack_from.new.self c.append.new.self c.truncate.new.self b.open_items
     c.args.found.now.rest.items c.length-open_length.result c.unpack_from.ensures.same
     c.in_ok-append.ensures.packed c.in_ok-append.ensures.loose (c.length-open_length.ensures p)
-    (c.truncate.ensures.items p) in
-    let same = same_book b b.finished (all_of p c.truncate.new.self)
-    (all_of p c.append_prefixes.new.self) refl left
-    (c.in-Err.ensures.all ∙ c.unpack_from-2.ensures.same) in (
-      subst Keeps (sym same) c.self.invariant.0,
-      subst (IsSwept c.self.inside.swept) (sym same) c.self.invariant.1,
-      λ q bad. (
-        c.truncate.ensures.none
-            (c.in_ok-append.ensures.packed ∙ c.unpack_from.ensures.none
-            (c.self.invariant.2 q bad).0),
-        (c.append_prefixes.ensures.packed (packs_none c.is_packed-packs.result c.self.inside.quick
-            c.self.inside.finished.first_bad c.args.found.now.part.first_bad
-            c.is_packed-packs.ensures q bad)
-            ∙ c.unpack_from-2.ensures.none (c.self.invariant.2 q bad).1),
-      ),
-    )
+    (c.truncate.ensures.items p)) (c.in-Err.ensures.all ∙ c.unpack_from-2.ensures.same)
+
+pub invariant_of-self-in-Err : goal.invariant_of-self-in-Err
+invariant_of-self-in-Err c = (
+  subst Keeps (sym (not_deferred c)) c.self.invariant.0,
+  subst (IsSwept c.self.inside.swept) (sym (not_deferred c)) c.self.invariant.1,
+  λ q bad. (
+    c.truncate.ensures.none
+        (c.in_ok-append.ensures.packed ∙ c.unpack_from.ensures.none (c.self.invariant.2 q bad).0),
+    (c.append_prefixes.ensures.packed (packs_none c.is_packed-packs.result c.self.inside.quick
+        c.self.inside.finished.first_bad c.args.found.now.part.first_bad
+        c.is_packed-packs.ensures q bad)
+        ∙ c.unpack_from-2.ensures.none (c.self.invariant.2 q bad).1),
+  ),
+)
 
 pub returns-in-Err : goal.returns-in-Err
-returns-in-Err c =
-    let b : BookView = book_view c.self.inside.program c.self.inside.mode c.self.inside.finished
-    c.self.inside.open_items c.self.inside.deferred c.self.inside.quick c.self.inside.dropped in
-    let p = arc_value c.self.inside.program in
-    let left = given_back p c.unpack_from.new.self c.append.new.self c.truncate.new.self b.open_items
-    c.args.found.now.rest.items c.length-open_length.result c.unpack_from.ensures.same
+returns-in-Err c = not_deferred c ∙ c.self.view_is
+
+-- and where the sum was refused
+not_joined : (c : goal.After-truncate-in-Err-join_in_by-2) → record (book_of c.self.inside) {
+  finished = c.join_in_by.new.self;
+  open_items = all_of (arc_value c.self.inside.program) c.truncate-in-Err-join_in_by.new.self;
+  deferred = all_of (arc_value c.self.inside.program) c.truncate-in-Err-join_in_by-2.new.self;
+} ≡ book_of c.self.inside
+not_joined c =
+    let b = book_of c.self.inside in
+    let p = b.program in
+    let found = c.args.found.now in
+    let open_items = c.truncate-in-Err-join_in_by in
+    let deferred = c.truncate-in-Err-join_in_by-2 in
+    same_book b c.join_in_by.new.self (all_of p open_items.new.self) (all_of p deferred.new.self)
+    c.in-Err-join_in_by.ensures
+    (given_back p c.unpack_from.new.self c.append.new.self open_items.new.self b.open_items
+    found.rest.items c.length-open_length.result c.unpack_from.ensures.same
     c.in_ok-append.ensures.packed c.in_ok-append.ensures.loose (c.length-open_length.ensures p)
-    (c.truncate.ensures.items p) in
-    same_book b b.finished (all_of p c.truncate.new.self)
-    (all_of p c.append_prefixes.new.self) refl left
-    (c.in-Err.ensures.all ∙ c.unpack_from-2.ensures.same) ∙ c.self.view_is
+    (open_items.ensures.items p))
+    (taken_back b.deferred (items_at p found.deferred) (all_of p c.append_prefixes.new.self)
+    (all_of p deferred.new.self) c.length-deferred_length.result
+    (c.in_default.ensures.all
+    ∙ ap (λ is. is ++ items_at p found.deferred) c.unpack_from-2.ensures.same)
+    (c.length-deferred_length.ensures p) (deferred.ensures.items p))
 
 pub invariant_of-self-in-Err-join_in_by : goal.invariant_of-self-in-Err-join_in_by
-invariant_of-self-in-Err-join_in_by c =
-    let b : BookView = book_view c.self.inside.program c.self.inside.mode c.self.inside.finished
-    c.self.inside.open_items c.self.inside.deferred c.self.inside.quick c.self.inside.dropped in
-    let p = arc_value c.self.inside.program in
-    let left = given_back p c.unpack_from.new.self c.append.new.self c.truncate-in-Err-join_in_by.new.self b.open_items
-    c.args.found.now.rest.items c.length-open_length.result c.unpack_from.ensures.same
-    c.in_ok-append.ensures.packed c.in_ok-append.ensures.loose (c.length-open_length.ensures p)
-    (c.truncate-in-Err-join_in_by.ensures.items p) in
-    let later : all_of p c.truncate-in-Err-join_in_by-2.new.self ≡ b.deferred =
-    taken_back b.deferred (items_at p c.args.found.now.deferred)
-    (all_of p c.append_prefixes.new.self) (all_of p c.truncate-in-Err-join_in_by-2.new.self)
-    c.length-deferred_length.result
-    (c.in_default.ensures.all
-    ∙ ap (λ is. is ++ items_at p c.args.found.now.deferred) c.unpack_from-2.ensures.same)
-    (c.length-deferred_length.ensures p) (c.truncate-in-Err-join_in_by-2.ensures.items p) in
-    let same = same_book b c.join_in_by.new.self (all_of p c.truncate-in-Err-join_in_by.new.self)
-    (all_of p c.truncate-in-Err-join_in_by-2.new.self) c.in-Err-join_in_by.ensures left later in (
-      subst Keeps (sym same) c.self.invariant.0,
-      subst (IsSwept c.self.inside.swept) (sym same) c.self.invariant.1,
-      λ q k. let bad : c.self.inside.finished.first_bad ≡ None → ⊥ =
-          λ e. k (ap (λ (z : SummaryView). z.first_bad) c.in-Err-join_in_by.ensures ∙ e) in (
-            c.truncate-in-Err-join_in_by.ensures.none
-                (c.in_ok-append.ensures.packed ∙ c.unpack_from.ensures.none
-                (c.self.invariant.2 q bad).0),
-            c.truncate-in-Err-join_in_by-2.ensures.none
-                (c.append_prefixes.ensures.packed (packs_none c.is_packed-packs.result
-                c.self.inside.quick c.self.inside.finished.first_bad
-                c.args.found.now.part.first_bad c.is_packed-packs.ensures q bad)
-                ∙ c.unpack_from-2.ensures.none (c.self.invariant.2 q bad).1),
-          ),
-    )
+invariant_of-self-in-Err-join_in_by c = (
+  subst Keeps (sym (not_joined c)) c.self.invariant.0,
+  subst (IsSwept c.self.inside.swept) (sym (not_joined c)) c.self.invariant.1,
+  λ q k. let bad : c.self.inside.finished.first_bad ≡ None → ⊥ =
+      λ e. k (ap (λ (z : SummaryView). z.first_bad) c.in-Err-join_in_by.ensures ∙ e) in (
+        c.truncate-in-Err-join_in_by.ensures.none
+            (c.in_ok-append.ensures.packed ∙ c.unpack_from.ensures.none
+            (c.self.invariant.2 q bad).0),
+        c.truncate-in-Err-join_in_by-2.ensures.none
+            (c.append_prefixes.ensures.packed (packs_none c.is_packed-packs.result
+            c.self.inside.quick c.self.inside.finished.first_bad
+            c.args.found.now.part.first_bad c.is_packed-packs.ensures q bad)
+            ∙ c.unpack_from-2.ensures.none (c.self.invariant.2 q bad).1),
+      ),
+)
 
 pub returns-in-Err-join_in_by : goal.returns-in-Err-join_in_by
-returns-in-Err-join_in_by c =
-    let b : BookView = book_view c.self.inside.program c.self.inside.mode c.self.inside.finished
-    c.self.inside.open_items c.self.inside.deferred c.self.inside.quick c.self.inside.dropped in
-    let p = arc_value c.self.inside.program in
-    let left = given_back p c.unpack_from.new.self c.append.new.self c.truncate-in-Err-join_in_by.new.self b.open_items
-    c.args.found.now.rest.items c.length-open_length.result c.unpack_from.ensures.same
-    c.in_ok-append.ensures.packed c.in_ok-append.ensures.loose (c.length-open_length.ensures p)
-    (c.truncate-in-Err-join_in_by.ensures.items p) in
-    let later : all_of p c.truncate-in-Err-join_in_by-2.new.self ≡ b.deferred =
-    taken_back b.deferred (items_at p c.args.found.now.deferred)
-    (all_of p c.append_prefixes.new.self) (all_of p c.truncate-in-Err-join_in_by-2.new.self)
-    c.length-deferred_length.result
-    (c.in_default.ensures.all
-    ∙ ap (λ is. is ++ items_at p c.args.found.now.deferred) c.unpack_from-2.ensures.same)
-    (c.length-deferred_length.ensures p) (c.truncate-in-Err-join_in_by-2.ensures.items p) in
-    same_book b c.join_in_by.new.self (all_of p c.truncate-in-Err-join_in_by.new.self)
-    (all_of p c.truncate-in-Err-join_in_by-2.new.self) c.in-Err-join_in_by.ensures left later
-    ∙ c.self.view_is
+returns-in-Err-join_in_by c = not_joined c ∙ c.self.view_is
 
 pub remove_each-requires-clause-loose : goal.remove_each-requires-clause-loose
 remove_each-requires-clause-loose c =
@@ -153,11 +136,16 @@ remove_each-requires-clause-within c =
           c.requires.within))),
     )
 
-pub invariant_of-self-2 : goal.invariant_of-self-2
-invariant_of-self-2 c =
-    let b : BookView = book_view c.self.inside.program c.self.inside.mode c.self.inside.finished
-    c.self.inside.open_items c.self.inside.deferred c.self.inside.quick c.self.inside.dropped in
-    let p = arc_value c.self.inside.program in
+-- the book where the walks are settled
+settled : (c : goal.After-self-2-1) → record (book_of c.self.inside) {
+  finished = c.join_in_by.new.self;
+  open_items = all_of (arc_value c.self.inside.program) c.remove_each.new.self;
+  deferred = all_of (arc_value c.self.inside.program) c.append_prefixes.new.self;
+} ≡ taken_in (book_of c.self.inside)
+    (remove_each (book_of c.self.inside).open_items c.args.places.now) c.args.found.now
+settled c =
+    let b = book_of c.self.inside in
+    let p = b.program in
     let found = c.args.found.now in
     let places = c.args.places.now in
     let within = subst (λ (z : BookView). AreWithin z.open_items places) (sym c.self.view_is)
@@ -166,27 +154,24 @@ invariant_of-self-2 c =
     b.open_items found.rest.items places c.unpack_from.ensures.same
     c.in_ok-append.ensures.packed c.in_ok-append.ensures.loose (c.remove_each.ensures.items p)
     within in
-    let later : all_of p c.append_prefixes.new.self ≡ b.deferred ++ items_at p found.deferred =
-    c.in_default.ensures.all ∙ (λ k. c.unpack_from-2.ensures.same k ++ items_at p found.deferred) in
-    let new : BookView = record b {
-      finished = c.join_in_by.new.self;
-      open_items = all_of p c.remove_each.new.self;
-      deferred = all_of p c.append_prefixes.new.self;
-    } in
-    let taken : BookView → BookView =
-    λ z. taken_in z (remove_each z.open_items places) found in
-    let same : new ≡ taken b =
     λ k. record b {
       finished = c.in_default-join_in_by.ensures k;
       open_items = items k;
-      deferred = later k;
-    } in (
-      subst Keeps (sym (same ∙ ap taken c.self.view_is))
-          c.requires.keeps,
-      subst (λ (z : BookView). IsSwept c.both-self-inside.result z) (sym same)
+      deferred = (c.in_default.ensures.all
+          ∙ (λ j. c.unpack_from-2.ensures.same j ++ items_at p found.deferred)) k;
+    }
+
+pub invariant_of-self-2 : goal.invariant_of-self-2
+invariant_of-self-2 c =
+    let b = book_of c.self.inside in
+    let found = c.args.found.now in
+    let taken : BookView → BookView =
+    λ z. taken_in z (remove_each z.open_items c.args.places.now) found in (
+      subst Keeps (sym (settled c ∙ ap taken c.self.view_is)) c.requires.keeps,
+      subst (λ (z : BookView). IsSwept c.both-self-inside.result z) (sym (settled c))
           (subst (λ (x : Bool). IsSwept x (taken b))
           (sym c.both-self-inside.ensures)
-          (taken_swept c.self.inside.swept c.is_quiet-quiet.result b places found
+          (taken_swept c.self.inside.swept c.is_quiet-quiet.result b c.args.places.now found
           c.self.invariant.1 c.is_quiet-quiet.ensures)),
       loose_after c.is_packed-packs.result c.self.inside.quick c.self.inside.finished.first_bad
           found.part.first_bad c.join_in_by.new.self.first_bad c.remove_each.new.self.packed
@@ -205,38 +190,13 @@ invariant_of-self-2 c =
 
 pub returns : goal.returns
 returns c =
-    let b : BookView = book_view c.self.inside.program c.self.inside.mode c.self.inside.finished
-    c.self.inside.open_items c.self.inside.deferred c.self.inside.quick c.self.inside.dropped in
-    let p = arc_value c.self.inside.program in
-    let found = c.args.found.now in
-    let places = c.args.places.now in
-    let within = subst (λ (z : BookView). AreWithin z.open_items places) (sym c.self.view_is)
-    c.requires.within in
-    let items = open_taken p c.unpack_from.new.self c.append.new.self c.remove_each.new.self
-    b.open_items found.rest.items places c.unpack_from.ensures.same
-    c.in_ok-append.ensures.packed c.in_ok-append.ensures.loose (c.remove_each.ensures.items p)
-    within in
-    let later : all_of p c.append_prefixes.new.self ≡ b.deferred ++ items_at p found.deferred =
-    c.in_default.ensures.all ∙ (λ k. c.unpack_from-2.ensures.same k ++ items_at p found.deferred) in
-    let new : BookView = record b {
-      finished = c.join_in_by.new.self;
-      open_items = all_of p c.remove_each.new.self;
-      deferred = all_of p c.append_prefixes.new.self;
-    } in
-    let taken : BookView → BookView =
-    λ z. taken_in z (remove_each z.open_items places) found in
-    let same : new ≡ taken b =
-    λ k. record b {
-      finished = c.in_default-join_in_by.ensures k;
-      open_items = items k;
-      deferred = later k;
-    } in
-    same ∙ ap taken c.self.view_is
+    settled c
+    ∙ ap (λ (z : BookView). taken_in z (remove_each z.open_items c.args.places.now)
+    c.args.found.now) c.self.view_is
 
 pub invariant_of-self-in_err-append : goal.invariant_of-self-in_err-append
 invariant_of-self-in_err-append c =
-    let b : BookView = book_view c.self.inside.program c.self.inside.mode c.self.inside.finished
-    c.self.inside.open_items c.self.inside.deferred c.self.inside.quick c.self.inside.dropped in
+    let b = book_of c.self.inside in
     let p = arc_value c.self.inside.program in
     let left : all_of p c.append.new.self ≡ b.open_items =
     (λ k. items_at p (c.in_err-append.ensures.packed k) ++ c.in_err-append.ensures.loose k)

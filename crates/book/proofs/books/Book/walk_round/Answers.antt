@@ -1,14 +1,12 @@
-use Rattle.std.proofs.Common.{◌≡◌, ◌<◌, ◌≤◌, ◌-◌, ◌∙◌, ap, sym, subst, arith, refl, length, slice_get, Some}
+use Rattle.std.proofs.Common.{◌≡◌, ◌≤◌, ◌-◌, ◌∙◌, ap, sym, subst, arith, refl, length}
 use Rattle.std.proofs.lemmas.List.Elements.{All-weaker, All-take, All-replicate}
-use Rattle.book.proofs.Lists.{range_out}
 use Rattle.std.specs.Arc.{arc_value}
 use Rattle.walk.specs.Items.{ItemView}
 use Rattle.book.specs.ItemLists.{all_of}
-use Rattle.book.specs.Books.{BookView, book_view, Keeps, HaveWalked, HasWalkedRound, taken_over, taken_in}
-use Rattle.book.specs.declared.limits.TheConstants.{ROUND}
-use Rattle.book.proofs.OpenItems.{open_own}
+use Rattle.book.specs.Books.{BookView, Keeps, HaveWalked, HasWalkedRound, taken_over, taken_in}
+use Rattle.book.proofs.BookFields.{book_of}
 use Rattle.book.proofs.TakenOver.{on_settled}
-use Rattle.book.proofs.Rounds.{none_walked, walked_kept, added_tried, round_goes_on, round_settled}
+use Rattle.book.proofs.Rounds.{open_at, at_end, round_out, none_walked, walked_kept, added_tried, round_goes_on, round_settled}
 use Rattle.book.proofs.books.Book.walk_round.Goals as goal
 
 pub loop-place-init : goal.loop-place-init
@@ -28,60 +26,44 @@ loop-place-init c =
 
 pub walk_on-requires-clause-program : goal.walk_on-requires-clause-program
 walk_on-requires-clause-program c =
-    let b : BookView = book_view c.self.inside.program c.self.inside.mode c.self.inside.finished
-    c.self.inside.open_items c.self.inside.deferred c.self.inside.quick c.self.inside.dropped in
-    let p = arc_value c.self.inside.program in
-    let place = c.loop-place.place in
-    let item : ItemView = c.loose_item-item.result.now in
-    let lt : place < length b.open_items =
-    omega (arith, c.length-end.ensures p, c.loop-place-test.true) in
-    let at : slice_get b.open_items place ≡ Some item =
-    ap (λ is. slice_get is place) (sym c.unpack_from.ensures.same) ∙ c.loose_item-item.ensures p in
-    sym (open_own b c.self.invariant.0 place item lt at)
+    let b = book_of c.self.inside in
+    let at = open_at b _ _ c.loop-place.place _ c.self.invariant.0 c.unpack_from.ensures.same
+    (c.length-end.ensures b.program) c.loop-place-test.true
+    (c.loose_item-item.ensures b.program) in
+    sym at.1
     ∙ (ap (λ (z : BookView). z.program) c.self.view_is ∙ (sym c.requires.walker
     ∙ sym c.loop-place.invariant.walker))
 
 pub loop-place-preserved : goal.loop-place-preserved
 loop-place-preserved c =
-    let b : BookView = book_view c.self.inside.program c.self.inside.mode c.self.inside.finished
-    c.self.inside.open_items c.self.inside.deferred c.self.inside.quick c.self.inside.dropped in
-    let p = arc_value c.self.inside.program in
-    let place = c.loop-place.place in
+    let b = book_of c.self.inside in
     let item : ItemView = c.loose_item-item.result.now in
     let from = c.loop-place.auto.place in
     let tried = c.loop-place.invariant.tried in
     let quota = c.ranges.quota.fits in
-    let lt : place < length b.open_items =
-    omega (arith, c.length-end.ensures p, c.loop-place-test.true) in
-    let at : slice_get b.open_items place ≡ Some item =
-    ap (λ is. slice_get is place) (sym c.unpack_from.ensures.same) ∙ c.loose_item-item.ensures p in
+    let at = open_at b _ _ c.loop-place.place item c.self.invariant.0 c.unpack_from.ensures.same
+    (c.length-end.ensures b.program) c.loop-place-test.true
+    (c.loose_item-item.ensures b.program) in
     let more = added_tried c.self.inside.mode item c.args.quota c.loop-place.found
     c.walk_on.new.found c.in_ok-walk_on.ensures.added in
     record {
       walker = c.walk_on.ensures.program ∙ c.loop-place.invariant.walker;
       tried = omega (arith, tried, more, quota);
-      walked = round_goes_on c.args.self.now b item c.saturating_sub-first.result place c.args.quota
-          c.loop-place.found c.walk_on.new.found c.self.view_is from (lt, at)
-          (open_own b c.self.invariant.0 place item lt at) c.in_ok-walk_on.ensures.added
-          c.loop-place.invariant.walked;
+      walked = round_goes_on c.args.self.now b item c.saturating_sub-first.result
+          c.loop-place.place c.args.quota c.loop-place.found c.walk_on.new.found c.self.view_is from
+          at.0 at.1 c.in_ok-walk_on.ensures.added c.loop-place.invariant.walked;
     }
 
 pub take_over-requires-clause-keeps : goal.take_over-requires-clause-keeps
 take_over-requires-clause-keeps c =
-    let b : BookView = book_view c.self.inside.program c.self.inside.mode c.self.inside.finished
-    c.self.inside.open_items c.self.inside.deferred c.self.inside.quick c.self.inside.dropped in
-    let p = arc_value c.self.inside.program in
-    let end = c.length-end.result in
+    let b = book_of c.self.inside in
     let first = c.saturating_sub-first.result in
     let place = c.loop-place.place in
-    let start = c.saturating_sub-first.ensures in
-    let least : first ≤ c.length-end.result = omega (arith, start) in
-    let most = c.loop-place.auto.place-end least in
-    let over : place ≡ c.length-end.result = omega (arith, most, c.loop-place-test.false) in
-    let unpacked : BookView = record b { open_items = all_of p c.unpack_from.new.self } in
-    let out = range_out unpacked.open_items first end ROUND least
-    (omega (arith, c.length-end.ensures p, ap length c.unpack_from.ensures.same))
-    (omega (arith, start)) in
+    let unpacked : BookView = record b { open_items = all_of b.program c.unpack_from.new.self } in
+    let over = at_end _ place _ c.saturating_sub-first.ensures c.loop-place.auto.place-end
+    c.loop-place-test.false in
+    let out = round_out unpacked.open_items b.open_items first _ c.saturating_sub-first.ensures
+    (c.length-end.ensures b.program) c.unpack_from.ensures.same in
     subst (λ left. Keeps (taken_in unpacked left c.loop-place.found)) (sym out.1)
     (subst Keeps (sym (λ k. taken_over (((λ j. record b { open_items = c.unpack_from.ensures.same j })
     ∙ c.self.view_is) k) first (sym over k) c.loop-place.found))
@@ -91,26 +73,20 @@ take_over-requires-clause-keeps c =
 
 pub returns-clause-ok : goal.returns-clause-ok
 returns-clause-ok c =
-    let b : BookView = book_view c.self.inside.program c.self.inside.mode c.self.inside.finished
-    c.self.inside.open_items c.self.inside.deferred c.self.inside.quick c.self.inside.dropped in
-    let p = arc_value c.self.inside.program in
-    let first = c.saturating_sub-first.result in
-    let end = c.length-end.result in
-    let place = c.loop-place.place in
-    let start = c.saturating_sub-first.ensures in
-    let least : first ≤ end = omega (arith, start) in
-    let most = c.loop-place.auto.place-end least in
+    let b = book_of c.self.inside in
+    let p = b.program in
     let unpacked : BookView = record b { open_items = all_of p c.unpack_from.new.self } in
-    let out = range_out unpacked.open_items first end ROUND least
-    (omega (arith, c.length-end.ensures p, ap length c.unpack_from.ensures.same))
-    (omega (arith, start)) in
+    let out = round_out unpacked.open_items b.open_items _ _ c.saturating_sub-first.ensures
+    (c.length-end.ensures p) c.unpack_from.ensures.same in
     on_settled c.take_over.result c.take_over.new.self _ _
     (HasWalkedRound c.args.self.now c.args.quota c.take_over.new.self) c.take_over.ensures
-    (λ is. round_settled c.args.self.now unpacked c.take_over.new.self first end place c.args.quota
-    c.loop-place.found ((λ j. record b { open_items = c.unpack_from.ensures.same j })
-    ∙ c.self.view_is)
+    (λ is. round_settled c.args.self.now unpacked c.take_over.new.self _ _ c.loop-place.place
+    c.args.quota c.loop-place.found
+    ((λ j. record b { open_items = c.unpack_from.ensures.same j }) ∙ c.self.view_is)
     (c.length-end.ensures p ∙ ap (λ (z : BookView). length z.open_items) c.self.view_is)
-    start (omega (arith, most, c.loop-place-test.false)) c.loop-place.invariant.walked
+    c.saturating_sub-first.ensures
+    (at_end _ c.loop-place.place _ c.saturating_sub-first.ensures c.loop-place.auto.place-end
+    c.loop-place-test.false) c.loop-place.invariant.walked
     (is ∙ ap (λ left. taken_in unpacked left c.loop-place.found) out.1))
 
 pub take_over-requires-clause-first : goal.take_over-requires-clause-first
@@ -122,11 +98,6 @@ take_over-requires-clause-first c =
 
 pub take_over-requires-clause-within : goal.take_over-requires-clause-within
 take_over-requires-clause-within c =
-    let b : BookView = book_view c.self.inside.program c.self.inside.mode c.self.inside.finished
-    c.self.inside.open_items c.self.inside.deferred c.self.inside.quick c.self.inside.dropped in
     let p = arc_value c.self.inside.program in
-    let start = c.saturating_sub-first.ensures in
-    (range_out (all_of p c.unpack_from.new.self) c.saturating_sub-first.result c.length-end.result
-    ROUND (omega (arith, start))
-    (omega (arith, c.length-end.ensures p, ap length c.unpack_from.ensures.same))
-    (omega (arith, start))).0
+    (round_out (all_of p c.unpack_from.new.self) _ c.saturating_sub-first.result _
+    c.saturating_sub-first.ensures (c.length-end.ensures p) c.unpack_from.ensures.same).0
