@@ -1,9 +1,16 @@
 -- A text that is read piece by piece.
-use Rattle.std.proofs.Common.{◌≡◌, ℕ, ◌+◌, ◌-◌, ◌<◌, ◌≤◌, ◌==◌, false, cond, List, [], ◌∷◌, ◌++◌, length, map, take, drop, replicate, get_or, refl, ap, ◌∙◌, sym, subst, arith, codes, append-nil, length-append, Option, Some, None, IsSome, zero, suc}
+use Rattle.std.proofs.Common.{◌≡◌, ℕ, ◌+◌, ◌-◌, ◌<◌, ◌≤◌, ◌==◌, Bool, false, cond, List, [], ◌∷◌, ◌++◌, length, map, take, drop, replicate, get_or, refl, ap, ◌∙◌, sym, subst, arith, codes, append-nil, length-append, Option, Some, None, IsSome, zero, suc}
 use Rattle.std.proofs.lemmas.List.{take-append-drop, drop_more, length-replicate, map_push}
 use Rattle.std.proofs.lemmas.List.Concat.{flat_map-append}
 use Rattle.std.proofs.lemmas.List.Sums.{sum_by-cons, sum_by-append}
 use Rattle.std.proofs.lemmas.List.Splits.{join_with_byte-slice_split}
+use Rattle.std.proofs.lemmas.Iterator.{YieldsList}
+use Rattle.std.proofs.lemmas.Iterator.Consumers.{YieldsList-at}
+use Rattle.std.proofs.lemmas.Iterator.Splits.{YieldsList-from_slice_split}
+use Rattle.std.specs.Slice.Iter as slice
+use Rattle.std.specs.Fn.{CalledAt}
+use denote.Param.Members.{Mut}
+use denote.Ref.{Bor}
 use Rattle.std.specs.List.{AllZip, slice_split, join_with_byte}
 use Rattle.std.specs.Option.{MatchOption}
 use Rattle.std.specs.Str.{bytes_eq}
@@ -15,6 +22,20 @@ use Rattle.replay.proofs.SpelledOnce.{piece_inside, steps_before, each_once}
 -- a text that isn't `-`, cut at its commas
 abbrev pub cuts : List ℕ → List (List ℕ)
 cuts text = slice_split (λ b. b == 44) text
+
+-- a split at each comma yields them
+pub yields_cuts : {F : Type 0} {s t : _} (g : Mut F (Bor ℕ × Unit {0}) Bool) {f : F} {text : List ℕ} →
+    t ≡ s → slice.split_rest s ≡ text → slice.split_done s ≡ false → slice.split_callee s ≡ f →
+    ((x : ℕ) (b : Bool) (q : F) → CalledAt g f x b q → (q ≡ f) × (b ≡ (x == 44))) →
+    YieldsList (slice.split_steps g) (λ x. x.now) t (cuts text)
+yields_cuts g {text = text} gives rest done closure tests =
+    YieldsList-at gives (YieldsList-from_slice_split g (λ b. b == 44) text rest done closure tests)
+
+-- the piece that comes after those before it
+abbrev pub IsNext : List ℕ → List (Bor (List ℕ)) → Bor (List ℕ) → Type 0
+IsNext text before piece = (map (λ x. x.now) before ≡ take (length before) (cuts text))
+    × (length before < length (cuts text))
+    × (piece.now ≡ get_or (cuts text) (length before) piece.now)
 
 pieces_are : (text : List ℕ) → bytes_eq text (codes "-") ≡ false → pieces_of text ≡ cuts text
 pieces_are text some = ap (λ b. cond b [] (cuts text)) some

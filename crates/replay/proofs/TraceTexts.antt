@@ -1,5 +1,5 @@
 -- Texts of lists, with one more element.
-use Rattle.std.proofs.Common.{◌≡◌, ℕ, ℤ, suc, ◌+◌, ◌<◌, List, [], ◌∷◌, ◌++◌, length, take, get_or, ap, ◌∙◌, sym, arith, append_assoc, append-nil, codes, length-take}
+use Rattle.std.proofs.Common.{◌≡◌, ℕ, ℤ, suc, ◌+◌, ◌<◌, List, [], ◌∷◌, ◌++◌, length, take, get_or, refl, ap, ◌∙◌, sym, arith, append_assoc, append-nil, codes, length-take}
 use Rattle.std.proofs.lemmas.List.{take_more, flat_map_more}
 use Rattle.std.specs.List.{flat_map}
 use Rattle.std.specs.Fmt.{decimal, signed_decimal}
@@ -8,33 +8,9 @@ use Rattle.replay.specs.declared.run.Line.{Line}
 use Rattle.replay.specs.Run.{Run}
 use Rattle.replay.specs.Trace.{start_line, step_line, step_lines, end_lines, values_text, thread_name, variable_name, act_text, preempt_text, stop_text, kind_text}
 
-pub step_lines-push : (p : Program) (k : ℕ) (lines : List Line) (line : Line) →
-    step_lines p k (lines ++ line ∷ []) ≡ step_lines p k lines ++ step_line p (k + length lines)
-    line
-step_lines-push p k [] line = let e : k ≡ k + 0 = omega arith in append-nil (step_line p k line)
-    ∙ ap (λ n. step_line p n line) e
-step_lines-push p k (first ∷ lines) line =
-    let e : k + 1 + length lines ≡ k + suc (length lines) = omega arith in
-    ap (λ text. step_line p k first ++ text)
-    (step_lines-push p (k + 1) lines line
-    ∙ ap (λ n. step_lines p (k + 1) lines ++ step_line p n line) e)
-    ∙ sym (append_assoc (step_line p k first) (step_lines p (k + 1) lines)
-    (step_line p (k + suc (length lines)) line))
-
 -- a variable with its value
-abbrev pub value_text : Program → ℕ → ℤ → List ℕ
+abbrev value_text : Program → ℕ → ℤ → List ℕ
 value_text p x v = codes " " ++ variable_name p x ++ codes "=" ++ signed_decimal v
-
-pub values_text-push : (p : Program) (x : ℕ) (vs : List ℤ) (v : ℤ) →
-    values_text p x (vs ++ v ∷ []) ≡ values_text p x vs ++ value_text p (x + length vs) v
-values_text-push p x [] v = let e : x ≡ x + 0 = omega arith in append-nil (value_text p x v)
-    ∙ ap (λ n. value_text p n v) e
-values_text-push p x (first ∷ vs) v =
-    let e : x + 1 + length vs ≡ x + suc (length vs) = omega arith in
-    ap (λ text. value_text p x first ++ text)
-    (values_text-push p (x + 1) vs v ∙ ap (λ n. values_text p (x + 1) vs ++ value_text p n v) e)
-    ∙ sym (append_assoc (value_text p x first) (values_text p (x + 1) vs)
-    (value_text p (x + suc (length vs)) v))
 
 -- text after text
 
@@ -91,16 +67,35 @@ starts_more p ts k old mid new name inside e f n =
     ∙ (flat_map_more (start_line p) old (take k ts) (get_or ts k 0)
     ∙ ap (λ us. old ++ flat_map (start_line p) us) (sym (take_more ts k 0 inside))))
 
+-- a text that tells each element with its place
+module _ {X : Type 0} (text : ℕ → List X → List ℕ) (one : ℕ → X → List ℕ)
+    (none : (k : ℕ) → text k [] ≡ [])
+    (first : (k : ℕ) (x : X) (xs : List X) → text k (x ∷ xs) ≡ one k x ++ text (k + 1) xs)
+  where
+    told_push : (k : ℕ) (xs : List X) (x : X) →
+        text k (xs ++ x ∷ []) ≡ text k xs ++ one (k + length xs) x
+    told_push k [] x =
+        let e : k + 0 ≡ k = omega arith in
+        rw (first k x [], none (k + 1), none k, e, append-nil (one k x)) refl
+    told_push k (y ∷ xs) x =
+        let e : k + suc (length xs) ≡ k + 1 + length xs = omega arith in
+        rw (first k y (xs ++ x ∷ []), first k y xs, told_push (k + 1) xs x, append_assoc, e) refl
+
+    told_more : (xs : List X) (k : ℕ) (old mid new : List ℕ) (d : X) → k < length xs →
+        mid ≡ old ++ text 0 (take k xs) → new ≡ mid ++ one k (get_or xs k d) →
+        new ≡ old ++ text 0 (take (k + 1) xs)
+    told_more xs k old mid new d inside e f =
+        let place : k ≡ 0 + length (take k xs) = let l = length-take k xs in omega (arith, l) in
+        appended old mid new (text 0 (take k xs)) (one k (get_or xs k d)) e f
+        ∙ ap (λ t. old ++ t)
+        (ap (λ n. text 0 (take k xs) ++ one n (get_or xs k d)) place
+        ∙ (sym (told_push 0 (take k xs) (get_or xs k d))
+        ∙ ap (text 0) (sym (take_more xs k d inside))))
+
 pub steps_more : (p : Program) (lines : List Line) (k : ℕ) (old mid new : List ℕ) (d : Line) →
     k < length lines → mid ≡ old ++ step_lines p 0 (take k lines) →
     new ≡ mid ++ step_line p k (get_or lines k d) → new ≡ old ++ step_lines p 0 (take (k + 1) lines)
-steps_more p lines k old mid new d inside e f =
-    let place : k ≡ 0 + length (take k lines) = let l = length-take k lines in omega (arith, l) in
-    appended old mid new (step_lines p 0 (take k lines)) (step_line p k (get_or lines k d)) e f
-    ∙ ap (λ text. old ++ text)
-    (ap (λ n. step_lines p 0 (take k lines) ++ step_line p n (get_or lines k d)) place
-    ∙ (sym (step_lines-push p 0 (take k lines) (get_or lines k d))
-    ∙ ap (step_lines p 0) (sym (take_more lines k d inside))))
+steps_more p = told_more (step_lines p) (step_line p) (λ k. refl) (λ k x xs. refl)
 
 pub values_more : (p : Program) (vs : List ℤ) (k : ℕ) (old mid named new name : List ℕ)
     (v d : ℤ) → k < length vs → mid ≡ old ++ values_text p 0 (take k vs) →
@@ -108,13 +103,7 @@ pub values_more : (p : Program) (vs : List ℤ) (k : ℕ) (old mid named new nam
     new ≡ named ++ (codes "=" ++ signed_decimal v) → v ≡ get_or vs k d →
     new ≡ old ++ values_text p 0 (take (k + 1) vs)
 values_more p vs k old mid named new name v d inside e g n h same =
-    let f : new ≡ mid ++ value_text p k (get_or vs k d) =
-    two_appended mid named new (codes " " ++ variable_name p k) (codes "=")
+    told_more (values_text p) (value_text p) (λ k. refl) (λ k x xs. refl) vs k old mid new d inside
+    e (two_appended mid named new (codes " " ++ variable_name p k) (codes "=")
     (signed_decimal (get_or vs k d)) (g ∙ ap (λ word. mid ++ (codes " " ++ word)) n)
-    (h ∙ ap (λ x. named ++ (codes "=" ++ signed_decimal x)) same) in
-    let place : k ≡ 0 + length (take k vs) = let l = length-take k vs in omega (arith, l) in
-    appended old mid new (values_text p 0 (take k vs)) (value_text p k (get_or vs k d)) e f
-    ∙ ap (λ text. old ++ text)
-    (ap (λ n. values_text p 0 (take k vs) ++ value_text p n (get_or vs k d)) place
-    ∙ (sym (values_text-push p 0 (take k vs) (get_or vs k d))
-    ∙ ap (values_text p 0) (sym (take_more vs k d inside))))
+    (h ∙ ap (λ x. named ++ (codes "=" ++ signed_decimal x)) same))

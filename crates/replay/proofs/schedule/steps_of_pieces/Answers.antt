@@ -1,30 +1,26 @@
-use Rattle.std.proofs.Common.{◌≡◌, ◌==◌, rules, tests, length, map}
-use Rattle.std.proofs.lemmas.Iterator.Consumers.{YieldsList-at}
-use Rattle.std.proofs.lemmas.Iterator.Splits.{YieldsList-from_slice_split}
-use Rattle.replay.proofs.ReadPieces.{cuts, is_piece_here, there_is_one, held_one, more_steps, steps_all, all_short}
+use Rattle.std.proofs.Common.{◌≡◌, rules, tests, length, map}
+use Rattle.replay.proofs.ReadPieces.{IsNext, yields_cuts, cuts, is_piece_here, there_is_one, held_one, more_steps, steps_all, all_short}
 use Rattle.replay.proofs.KnownItems.{turned, ended}
 use Rattle.replay.proofs.schedule.steps_of_pieces.Goals as goal
+use Rattle.replay.proofs.schedule.steps_of_pieces.Goals.{In-Some}
+
+-- the piece of a turn
+next_piece : (c : In-Some) → IsNext c.args.text.now c.loop-piece.yielded c.in-Some.piece
+next_piece c = turned c.loop-piece.yielded _ c.loop-piece.yielded_by _ _ _ c.in-Some.is
+    c.next.ensures.steps (yields_cuts _ c.into_iter-piece-iterator.ensures.into_iter_gives
+    c.split-piece-items.ensures.rest c.split-piece-items.ensures.done
+    c.split-piece-items.ensures.closure (λ x r q k. search (rules, tests)))
 
 pub unwrap-requires : goal.unwrap-requires
 unwrap-requires c =
-    let turn = turned c.loop-piece.yielded _ c.loop-piece.yielded_by _ _ _ c.in-Some.is
-    c.next.ensures.steps
-    (YieldsList-at c.into_iter-piece-iterator.ensures.into_iter_gives
-    (YieldsList-from_slice_split _ (λ b. b == 44) c.args.text.now
-    c.split-piece-items.ensures.rest c.split-piece-items.ensures.done
-    c.split-piece-items.ensures.closure (λ x r q k. search (rules, tests)))) in
+    let turn = next_piece (goal.at.unwrap-requires c).In-Some in
     there_is_one c.piece_of.result c.in-Some.piece.now c.piece_of.ensures
     (is_piece_here c.args.text.now (length c.loop-piece.yielded) c.in-Some.piece.now
     c.requires.some turn.1 turn.2 c.requires.readable)
 
 pub loop-piece-preserved : goal.loop-piece-preserved
 loop-piece-preserved c =
-    let turn = turned c.loop-piece.yielded _ c.loop-piece.yielded_by _ _ _ c.in-Some.is
-    c.next.ensures.steps
-    (YieldsList-at c.into_iter-piece-iterator.ensures.into_iter_gives
-    (YieldsList-from_slice_split _ (λ b. b == 44) c.args.text.now
-    c.split-piece-items.ensures.rest c.split-piece-items.ensures.done
-    c.split-piece-items.ensures.closure (λ x r q k. search (rules, tests)))) in
+    let turn = next_piece (goal.at.loop-piece-preserved c).In-Some in
     record {
       next = search rules;
       finite = search rules;
@@ -38,11 +34,9 @@ loop-piece-preserved c =
 -- all pieces
 all_read : (c : goal.In-None) → map (λ x. x.now) c.loop-piece.yielded ≡ cuts c.args.text.now
 all_read c = ended c.loop-piece.yielded _ c.loop-piece.yielded_by _ _ c.in-None.is
-    c.next.ensures.steps
-    (YieldsList-at c.into_iter-piece-iterator.ensures.into_iter_gives
-    (YieldsList-from_slice_split _ (λ b. b == 44) c.args.text.now
+    c.next.ensures.steps (yields_cuts _ c.into_iter-piece-iterator.ensures.into_iter_gives
     c.split-piece-items.ensures.rest c.split-piece-items.ensures.done
-    c.split-piece-items.ensures.closure (λ x r q k. search (rules, tests))))
+    c.split-piece-items.ensures.closure (λ x r q k. search (rules, tests)))
 
 pub returns-clause-value : goal.returns-clause-value
 returns-clause-value c =
