@@ -194,6 +194,11 @@ pub runs_through : (p : Program) (w : List ℕ) → Contains (complete_schedules
     → runs p (start p) w ≡ true
 runs_through p w c = ((complete_is p (start p) w).0 ((complete p (start p) w).1 c)).0
 
+-- so no place of it is one that can't run
+pub runs_on : (p : Program) (w : List ℕ) → Contains (complete_schedules p (start p)) w
+    → runs p (start p) w ≡ false → ⊥
+runs_on p w c stops = let goes = runs_through p w c in cc
+
 pub ends_somehow : (p : Program) (w : List ℕ) → Contains (complete_schedules p (start p)) w
     → kind_of p (state_after p (start p) w) ≡ Some (end_kind p w)
 ends_somehow p w c =
