@@ -17,7 +17,7 @@ use Rattle.guest_code.specs.Uses.{Use, kind_of, block_uses, declarations_uses, t
 use Rattle.std.specs.Option.{option_or}
 use Rattle.guest_code.specs.Program.{locals_view}
 use Rattle.guest_code.specs.Fault.{declares_refusal, first, too_long, no_threads, fault, Refuses}
-use Rattle.guest_code.specs.inner.Walk.{all_uses, passed, walk, fault_of}
+use Rattle.guest_code.specs.inner.Walk.{Checked, all_uses, passed, walk, fault_of}
 use Rattle.guest_code.proofs.UsesOneByOne.{passed_ok, passed_err, declaration_step, thread_step, threads_left, threads_not, body_leaves}
 
 refuses_same : (d : CheckError) (o : Option CheckError) → o ≡ Some d → Refuses d o
@@ -73,14 +73,23 @@ names_begin t ds u same also e = rw (same, also)
     (sym (threads_left (all_uses t) (tree_view t).declarations
     (threads_uses (tree_view t).threads) (passed_ok _ u (rw same at e))))
 
+-- the refusal of a thread's name, if there is one
+abbrev refusal_at : List tree.Declaration → List Thread → ℕ → Thread → Option CheckError
+refusal_at ds ts i x = declares_refusal kinds.Thread (name_view x.name)
+    (kind_in (uses ds (map thread_view (take i ts))) x.name.text.items) i
+
+-- what the walk of a thread's body comes to
+abbrev walked : List Use → Thread → Checked
+walked all x = walk all [] (block_uses false (block_view x.body.items))
+
+-- the first refusal from a thread on
+abbrev first_from : List Use → List tree.Declaration → List Thread → ℕ → Option CheckError
+first_from all ds ts i = first all (uses ds (map thread_view (take i ts)))
+    (threads_uses (map thread_view (drop i ts)))
+
 pub thread_not : (all : List Use) (ds : List tree.Declaration) (ts : List Thread) (i : ℕ)
     (x : Thread) (u : Unit {0}) (d : CheckError) (whole : Option CheckError) → i < length ts
-    → x ≡ get_or ts i x
-    → Err d ≡ passed
-    (declares_refusal kinds.Thread (name_view x.name)
-    (kind_in (uses ds (map thread_view (take i ts))) x.name.text.items) i) u
-    → first all (uses ds (map thread_view (take i ts)))
-    (threads_uses (map thread_view (drop i ts))) ≡ whole
+    → x ≡ get_or ts i x → Err d ≡ passed (refusal_at ds ts i x) u → first_from all ds ts i ≡ whole
     → Refuses d whole
 thread_not all ds ts i x u d whole lt is err h =
     refuses_same d whole
@@ -88,44 +97,25 @@ thread_not all ds ts i x u d whole lt is err h =
 
 pub body_not : (all : List Use) (ds : List tree.Declaration) (ts : List Thread) (i : ℕ)
     (x : Thread) (u : Unit {0}) (d : CheckError) (whole : Option CheckError) → i < length ts
-    → x ≡ get_or ts i x
-    → Ok u ≡ passed
-    (declares_refusal kinds.Thread (name_view x.name)
-    (kind_in (uses ds (map thread_view (take i ts))) x.name.text.items) i) u
-    → Refuses d (fault_of (walk all [] (block_uses false (block_view x.body.items))))
-    → first all (uses ds (map thread_view (take i ts)))
-    (threads_uses (map thread_view (drop i ts))) ≡ whole
-    → Refuses d whole
+    → x ≡ get_or ts i x → Ok u ≡ passed (refusal_at ds ts i x) u
+    → Refuses d (fault_of (walked all x)) → first_from all ds ts i ≡ whole → Refuses d whole
 body_not all ds ts i x u d whole lt is ok err h =
-    let same : whole ≡ option_or
-    (fault_of (walk all [] (block_uses false (block_view x.body.items))))
-    (first all (uses ds (map thread_view (take (i + 1) ts)))
-    (threads_uses (map thread_view (drop (i + 1) ts)))) = sym h
+    let same : whole ≡ option_or (fault_of (walked all x)) (first_from all ds ts (i + 1)) = sym h
     ∙ (thread_step all ds ts i x lt is ∙ option_or-none _ _ (passed_ok _ u ok)) in
-    rw same (refuses_or d (fault_of (walk all [] (block_uses false (block_view x.body.items))))
-    (first all (uses ds (map thread_view (take (i + 1) ts)))
-    (threads_uses (map thread_view (drop (i + 1) ts)))) err)
+    rw same (refuses_or d (fault_of (walked all x)) (first_from all ds ts (i + 1)) err)
 
 pub thread_goes : (all : List Use) (ds : List tree.Declaration) (ts : List Thread) (i : ℕ)
     (x : Thread) (u : Unit {0}) (ns : List (List ℕ)) (whole : Option CheckError) → i < length ts
-    → x ≡ get_or ts i x
-    → Ok u ≡ passed
-    (declares_refusal kinds.Thread (name_view x.name)
-    (kind_in (uses ds (map thread_view (take i ts))) x.name.text.items) i) u
-    → walk all [] (block_uses false (block_view x.body.items)) ≡ Ok ns
-    → first all (uses ds (map thread_view (take i ts)))
-    (threads_uses (map thread_view (drop i ts))) ≡ whole
-    → first all (uses ds (map thread_view (take (i + 1) ts)))
-    (threads_uses (map thread_view (drop (i + 1) ts))) ≡ whole
+    → x ≡ get_or ts i x → Ok u ≡ passed (refusal_at ds ts i x) u → walked all x ≡ Ok ns
+    → first_from all ds ts i ≡ whole → first_from all ds ts (i + 1) ≡ whole
 thread_goes all ds ts i x u ns whole lt is ok body h =
     sym (thread_step all ds ts i x lt is
     ∙ (option_or-none _ _ (passed_ok _ u ok) ∙ option_or-none _ _ (ap fault_of body))) ∙ h
 
 pub locals_go : (all : List Use) (vs new : List (Vec (Vec ℕ Global) Global))
     (v : Vec (Vec ℕ Global) Global) (ts : List Thread) (i : ℕ) (x : Thread) → i < length ts
-    → x ≡ get_or ts i x
-    → new ≡ vs ++ v ∷ [] → walk all [] (block_uses false (block_view x.body.items)) ≡ Ok
-    (locals_view v) → map locals_view vs ≡ map thread_locals (map thread_view (take i ts))
+    → x ≡ get_or ts i x → new ≡ vs ++ v ∷ [] → walked all x ≡ Ok (locals_view v)
+    → map locals_view vs ≡ map thread_locals (map thread_view (take i ts))
     → map locals_view new ≡ map thread_locals (map thread_view (take (i + 1) ts))
 locals_go all vs new v ts i x lt is e body h =
     let here : locals_view v ≡ thread_locals (thread_view x) = body_leaves all (thread_view x)

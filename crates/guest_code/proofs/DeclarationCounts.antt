@@ -11,7 +11,6 @@ use Rattle.guest_code.specs.declared.kinds.Kind.{Kind}
 use Rattle.guest_code.specs.declared.kinds.Kind.TheVariants as kinds
 use Rattle.guest_code.specs.declared.error.CheckError.{CheckError}
 use Rattle.guest_code.specs.declared.error.CheckError.TheVariants as errors
-use Rattle.guest_code.specs.Program.{Variable, Semaphore}
 use Rattle.guest_code.specs.Uses.{Use, declares, object, local, outside, kind_of, same, block_uses, declarations_uses, threads_uses, uses, kind_in, how_many, knows}
 use Rattle.std.specs.Option.{option_or}
 use Rattle.guest_code.specs.Fault.{limit_of, declares_refusal, refusal, first}
@@ -84,53 +83,48 @@ few all before (u ∷ us) k e le =
 
 -- ---- as many objects as declarations of their kind
 
-objects_many : {X : Type 0} (of : List ℕ → Object → Option X) (k : Kind)
-    → ((name : List ℕ) (o : Object) (xs : List X)
-    → length (cons_option (of name o) xs) ≡ (if same (kind_of o) k then suc (length xs) else
-    length xs)) → (ds : List Declaration)
-    → length (objects_by of ds) ≡ how_many k (declarations_uses ds)
+-- one object more of this kind is one more of what it stands for
+abbrev CountsOne : {X : Type 0} → (List ℕ → Object → Option X) → Kind → Type 0
+CountsOne {X} of k = (name : List ℕ) (o : Object) (xs : List X) → length
+    (cons_option (of name o) xs) ≡ (if same (kind_of o) k then suc (length xs) else length xs)
+
+-- and so they are as many
+abbrev CountsAll : {X : Type 0} → (List ℕ → Object → Option X) → Kind → Type 0
+CountsAll of k =
+    (ds : List Declaration) → length (objects_by of ds) ≡ how_many k (declarations_uses ds)
+
+objects_many : {X : Type 0} (of : List ℕ → Object → Option X) (k : Kind) → CountsOne of k
+    → CountsAll of k
 objects_many of k h [] = refl
 objects_many of k h (d ∷ ds) = h d.name.text d.object (objects_by of ds)
     ∙ ap (λ (n : ℕ). if same (kind_of d.object) k then suc n else n) (objects_many of k h ds)
 
-one_variable : (name : List ℕ) (o : Object) (xs : List Variable)
-    → length (cons_option (variable_of name o) xs) ≡ (if same (kind_of o) kinds.Variable then suc
-    (length xs) else length xs)
+one_variable : CountsOne variable_of kinds.Variable
 one_variable name (objects.Variable z) xs = refl
 one_variable name o xs = refl
 
-one_mutex : (name : List ℕ) (o : Object) (xs : List (List ℕ))
-    → length (cons_option (mutex_of name o) xs) ≡ (if same (kind_of o) kinds.Mutex then suc
-    (length xs) else length xs)
+one_mutex : CountsOne mutex_of kinds.Mutex
 one_mutex name objects.Mutex xs = refl
 one_mutex name o xs = refl
 
-one_condition : (name : List ℕ) (o : Object) (xs : List (List ℕ))
-    → length (cons_option (condition_of name o) xs)
-    ≡ (if same (kind_of o) kinds.Condition then suc (length xs) else length xs)
+one_condition : CountsOne condition_of kinds.Condition
 one_condition name objects.Condition xs = refl
 one_condition name o xs = refl
 
-one_semaphore : (name : List ℕ) (o : Object) (xs : List Semaphore)
-    → length (cons_option (semaphore_of name o) xs)
-    ≡ (if same (kind_of o) kinds.Semaphore then suc (length xs) else length xs)
+one_semaphore : CountsOne semaphore_of kinds.Semaphore
 one_semaphore name (objects.Semaphore n) xs = refl
 one_semaphore name o xs = refl
 
-pub many_variables : (ds : List Declaration) → length (objects_by variable_of ds) ≡ how_many
-    kinds.Variable (declarations_uses ds)
+pub many_variables : CountsAll variable_of kinds.Variable
 many_variables = objects_many variable_of kinds.Variable one_variable
 
-pub many_mutexes : (ds : List Declaration) → length (objects_by mutex_of ds) ≡ how_many
-    kinds.Mutex (declarations_uses ds)
+pub many_mutexes : CountsAll mutex_of kinds.Mutex
 many_mutexes = objects_many mutex_of kinds.Mutex one_mutex
 
-pub many_conditions : (ds : List Declaration) → length (objects_by condition_of ds) ≡ how_many
-    kinds.Condition (declarations_uses ds)
+pub many_conditions : CountsAll condition_of kinds.Condition
 many_conditions = objects_many condition_of kinds.Condition one_condition
 
-pub many_semaphores : (ds : List Declaration) → length (objects_by semaphore_of ds) ≡ how_many
-    kinds.Semaphore (declarations_uses ds)
+pub many_semaphores : CountsAll semaphore_of kinds.Semaphore
 many_semaphores = objects_many semaphore_of kinds.Semaphore one_semaphore
 
 -- ---- numbers in range

@@ -1,6 +1,6 @@
-use Rattle.std.proofs.Common.{arith, map, refl}
+use Rattle.std.proofs.Common.{arith, refl}
 use Rattle.std.proofs.lemmas.Result.{err_from_is_err_and}
-use Rattle.guest_syntax.specs.Tree.{declaration_view, name_view}
+use Rattle.guest_syntax.specs.Tree.{name_view}
 use Rattle.guest_code.specs.Program.{locals_view}
 use Rattle.guest_code.specs.inner.Walk.{all_uses}
 use Rattle.guest_code.proofs.CheckAnswers.{names_not, names_begin, thread_not, body_not, thread_goes, locals_go, few_go}
@@ -27,20 +27,14 @@ pub returns-in_err-check_new-clause-gives : goal.returns-in_err-check_new-clause
 returns-in_err-check_new-clause-gives c =
     let p = err_from_is_err_and c.from_residual-in_err-check_new.result
     c.from_residual-in_err-check_new.ensures.1 in
-    rw (p.1, p.2)
-    (thread_not (all_uses c.args.tree.now)
-    (map declaration_view c.declarations-declarations.result.now) c.threads-threads.result.now
-    c.loop-i.i c.index-threads-i.result tt c.in_err-check_new.field-0.0 _ c.loop-i-test.true
+    rw (p.1, p.2) (thread_not (all_uses c.args.tree.now) _ _ c.loop-i.i _ tt _ _ c.loop-i-test.true
     c.index-threads-i.is c.in_err-check_new.ensures c.loop-i.invariant.same)
 
 pub returns-in_err-check_body-clause-gives : goal.returns-in_err-check_body-clause-gives
 returns-in_err-check_body-clause-gives c =
     let p = err_from_is_err_and c.from_residual-in_err-check_body.result
     c.from_residual-in_err-check_body.ensures.1 in
-    rw (p.1, p.2)
-    (body_not (all_uses c.args.tree.now)
-    (map declaration_view c.declarations-declarations.result.now) c.threads-threads.result.now
-    c.loop-i.i c.index-threads-i.result tt c.in_err-check_body.field-0.0 _ c.loop-i-test.true
+    rw (p.1, p.2) (body_not (all_uses c.args.tree.now) _ _ c.loop-i.i _ tt _ _ c.loop-i-test.true
     c.index-threads-i.is c.in_ok-check_new.ensures c.in_err-check_body.ensures
     c.loop-i.invariant.same)
 
@@ -49,9 +43,7 @@ loop-i-preserved c =
     let small = few_go (name_view c.index-threads-i.result.name) _ c.loop-i.i tt
     c.in_ok-check_new.ensures in
     record {
-      same = thread_goes (all_uses c.args.tree.now)
-          (map declaration_view c.declarations-declarations.result.now)
-          c.threads-threads.result.now c.loop-i.i c.index-threads-i.result tt
+      same = thread_goes (all_uses c.args.tree.now) _ _ c.loop-i.i _ tt
           (locals_view c.in_ok-check_body.field-0) _ c.loop-i-test.true c.index-threads-i.is
           c.in_ok-check_new.ensures c.in_ok-check_body.ensures c.loop-i.invariant.same;
       locals = locals_go (all_uses c.args.tree.now) c.loop-i.all.items c.push.new.self.items
