@@ -42,7 +42,7 @@ use Rattle.walk.proofs.Filters.{filter_twice}
 use Rattle.walk.proofs.SharedSteps.{shared_same}
 use Rattle.walk.proofs.WalkTurns.{filter_alike, kept_alike}
 use Rattle.walk.proofs.Arrivals.{AreOn, node_of, put_off, IsTurned, place_turned, left_turned}
-use Rattle.walk.proofs.Arrivals.{here_turned, of_here}
+use Rattle.walk.proofs.Arrivals.{here_turned, of_here, turned_here}
 use Rattle.walk.proofs.PathSteps.{stays, left_goes}
 
 -- a number stands once among those from a first one on
@@ -150,6 +150,20 @@ module _ (bound : ℕ) (p : Program) (w : List ℕ) (e : Mask) (n : Node) (t : �
       (nat_eq t) all each
       ∙ only_here t 0 (length z.threads) (omega arith) (omega (arith, below)))
 
+-- both are so
+
+pub and_left : (a b : Bool) → (a && b) ≡ true → a ≡ true
+and_left true b h = refl
+and_left false b h = h
+
+pub and_right : (a b : Bool) → (a && b) ≡ true → b ≡ true
+and_right true b h = h
+and_right false b h = absurd (false≢true h)
+
+pub spent_is : (mode : Mode) (n : Node) → is_spent_at mode n ≡ true → IsSpent mode n
+spent_is (Bounded bound) n h = grind (arith, nat_tests, h)
+spent_is Reduced n h = absurd (false≢true h)
+
 -- it gives way to it, and the steps of the others are put off
 lone_walked : {b : Found} (bound : ℕ) (i : ItemView) (w : List ℕ) (n : Node) (f g : Found)
     (e past : Mask) (t : ℕ) (above : List ItemView) →
@@ -174,28 +188,31 @@ lone_walked {b} bound i w n f g e past t above h node of last used on out same p
     more : is_terminal i.program (state_at i.program w) ≡ false
     more = is_terminal-some i.program (state_at i.program w) t (sym (node.enabled t) ∙ on)
 
-pub lone_search : {b : Found} (mode : Mode) (i : ItemView) (old new : Path) (f g : Found)
-    (e past : Mask) (t : ℕ) → IsSearch b mode i old f (open_here mode i.program old) →
-    AreOn i.program old e →
-    IsTurned old new → old.node.last ≡ Some t → IsSpent mode old.node → has e t ≡ true →
+-- so a walk is that may take only that step
+pub lone_search : {b : Found} (mode : Mode) (i : ItemView) (old : Path) (steps : Vec ℕ Global)
+    (f g : Found) (e past : Mask) (t : ℕ) → IsSearch b mode i old f (open_here mode i.program old) →
+    AreOn i.program old e → steps.items ≡ old.steps.items → old.node.last ≡ Some t →
+    (is_spent_at mode old.node && has e t) ≡ true →
     has past t ≡ false → ((u : ℕ) → u ≢ t → has past u ≡ has e u) →
     g.part ≡ with_beyond f.part (f.part.beyond || not (is_empty (members_from past 0))) →
     g.rest ≡ f.rest →
     g.deferred ≡ f.deferred ++ map (λ u. old.steps.items ++ u ∷ []) (members_from past 0) →
-    IsShared old.steps.items g → new.depth ≤ length new.frames.items →
-    IsSearch b mode i new g (open_below mode i.program new t)
-lone_search Reduced i old new f g e past t h are o last spent on out same part rest deferred shared
-    room = absurd spent
-lone_search {b} (Bounded bound) i old new f g e past t h are o last spent on out same part rest
-    deferred shared room = record {
-      place = place_turned p old new h.place o room;
+    IsShared old.steps.items g →
+    IsSearch b mode i (record old { steps = steps }) g
+    (open_below mode i.program (record old { steps = steps }) t)
+lone_search Reduced i old steps f g e past t h are same last alone out others part rest deferred
+    shared = absurd (spent_is Reduced old.node (and_left false (has e t) alone))
+lone_search {b} (Bounded bound) i old steps f g e past t h are same last alone out others part rest
+    deferred shared = record {
+      place = place_turned p old new h.place turned h.place.path.room;
       walked = subst (IsWalkedOn b mode i g)
-          (λ k. child_of mode (sym (here_turned p old new o) k) t
-          ∷ sym (left_turned mode p old new o) k)
+          (λ k. child_of mode (sym (here_turned p old new turned) k) t
+          ∷ sym (left_turned mode p old new turned) k)
           (lone_walked bound i old.steps.items old.node f g e past t (left_above mode p old)
-          h.walked (node_of p old e h.place.path are) (of_here p old h.place.path) last spent on
-          out same part rest deferred);
-      shared = shared_same old.steps.items new.steps.items g shared o.steps;
+          h.walked (node_of p old e h.place.path are) (of_here p old h.place.path) last
+          (spent_is mode old.node (and_left (is_spent_at mode old.node) (has e t) alone))
+          (and_right (is_spent_at mode old.node) (has e t) alone) out others part rest deferred);
+      shared = shared_same old.steps.items steps.items g shared same;
     }
   where
     p : Program
@@ -203,6 +220,12 @@ lone_search {b} (Bounded bound) i old new f g e past t h are o last spent on out
 
     mode : Mode
     mode = Bounded bound
+
+    new : Path
+    new = record old { steps = steps }
+
+    turned : IsTurned old new
+    turned = turned_here old new same refl refl refl refl refl refl
 
 -- whether it can go on is in the set of the enabled threads
 pub lone_is : (l : Lane) (bound : ℕ) (n : Node) (c : Control) (vs : List ℤ) (w : List ℕ) (e : Mask)
@@ -315,20 +338,6 @@ went_alone {b} mode bound i old new f g is h path node base frames front put sha
     left = (λ k. open_from mode p new.steps.items (frames k) (base k)
         (length (frames k) - base k))
         ∙ left_goes mode p old new.steps.items h.place.path h.place.base front
-
--- both are so
-
-pub and_left : (a b : Bool) → (a && b) ≡ true → a ≡ true
-and_left true b h = refl
-and_left false b h = h
-
-pub and_right : (a b : Bool) → (a && b) ≡ true → b ≡ true
-and_right true b h = h
-and_right false b h = absurd (false≢true h)
-
-pub spent_is : (mode : Mode) (n : Node) → is_spent_at mode n ≡ true → IsSpent mode n
-spent_is (Bounded bound) n h = grind (arith, nat_tests, h)
-spent_is Reduced n h = absurd (false≢true h)
 
 -- where the bound is not used up, or the thread of the last step cannot go on, no step passes it
 

@@ -271,42 +271,6 @@ impl Path {
         }
     }
 
-    // Where the bound is used up and the thread of the last step can go on, the steps of the others
-    // are put off. Whether it is so.
-    fn follow(
-        &mut self,
-        found: &mut Found,
-        _item: &Item,
-        mode: Mode,
-        thread: u8,
-    ) -> Result<bool, AllocError>
-        requires search { Searches mode _item.now self.old found.old
-            (open_here mode _item.now.program self.old) }
-        requires last { self.old.node.last ≡ Some thread }
-        ensures place { IsPlace _item.now.program self.new }
-        ensures same { self.new ≡ record self.old { steps = self.new.steps } }
-        ensures steps { self.new.steps.items ≡ self.old.steps.items }
-        ensures tried { IfOk result (λ _. found.new.part.tried ≡ found.old.part.tried) }
-        ensures spent { IfOk result (λ alone. IsTrue alone → IsSpent mode self.new.node) }
-        ensures free { IfOk result (λ alone. IsFalse alone
-            → IsFree mode _item.now.program self.new) }
-        ensures alone { let p = _item.now.program in
-            IfOk result (λ alone. IsTrue alone → GoesOn mode _item.now
-            self.old found.old (open_here mode p self.old)
-            self.new found.new (open_below mode p self.new thread)) }
-        ensures over { let p = _item.now.program in
-            IfOk result (λ alone. IsFalse alone → GoesOn mode _item.now
-            self.old found.old (open_here mode p self.old)
-            self.new found.new (open_here mode p self.new)) }
-    {
-        let enabled = self.machine.enabled();
-        if self.node.is_alone(enabled, mode, thread) {
-            found.defer(&mut self.steps, enabled.with(thread, false))?;
-            return Ok(true);
-        }
-        Ok(false)
-    }
-
     // Takes a step into an open child, and goes on as long as only its thread may.
     #[inline(always)]
     fn run(
@@ -388,11 +352,12 @@ impl Path {
         ensures free { OnOk result (IsFree mode item.now.program self.new) }
         ensures tried { OnOk result (found.new.part.tried ≡ found.old.part.tried) }
     {
-        if self.follow(found, item, mode, thread)? {
-            self.run(found, item, mode, thread)
-        } else {
-            Ok(())
+        let enabled = self.machine.enabled();
+        if !self.node.is_alone(enabled, mode, thread) {
+            return Ok(());
         }
+        found.defer(&mut self.steps, enabled.with(thread, false))?;
+        self.run(found, item, mode, thread)
     }
 
     // Sets out from an item's own node: where only the thread of the last step may go on, it does.

@@ -1,15 +1,65 @@
+use Rattle.std.proofs.Common.{sym, ◌∙◌, ◌&&◌, ap, arith}
 use Rattle.std.proofs.lemmas.Result.{on_ok_weaker}
+use Rattle.semantics.proofs.WorkFalls.{enabled_below}
+use Rattle.semantics.specs.Mask.{has}
+use Rattle.walk.specs.inner.Paths.{state_at}
+use Rattle.walk.specs.inner.WalkerInvariant.{is_spent_at, here, left_above}
+use Rattle.walk.proofs.Arrivals.{within_at}
+use Rattle.walk.proofs.LoneSteps.{lone_search, and_right, free_alone}
+use Rattle.walk.proofs.WalkSteps.{first_on}
 use Rattle.walk.proofs.path.Path.run_from.Goals as goal
+
+pub with-requires : goal.with-requires
+with-requires c =
+    let p = c.args.item.now.program in
+    let t = c.args.self.now in
+    let path = c.requires.search.1.place.path in
+    let below = enabled_below p (state_at p t.steps.items) c.args.thread
+    (sym (c.enabled-enabled.ensures p (state_at p t.steps.items) path.shows c.args.thread)
+    ∙ (and_right (is_spent_at c.args.mode t.node) (has c.enabled-enabled.result c.args.thread)
+    (sym c.is_alone.ensures ∙ c.if-not-is_alone.false))) in
+    let few = path.shows.of.few in
+    omega (arith, below, few)
 
 pub run-requires : goal.run-requires
 run-requires c =
+    let p = c.args.item.now.program in
+    let t = c.args.self.now in
     let h = c.requires.search in
-    record { search = (h.0, c.in_ok-follow.ensures.alone c.if-branch.true h.0 h.1) }
+    record {
+      search = (
+        h.0,
+        lone_search c.args.mode c.args.item.now t c.defer.new.steps c.args.found.now
+            c.defer.new.self c.enabled-enabled.result c.with.result c.args.thread h.1
+            (c.enabled-enabled.ensures p (state_at p t.steps.items) c.requires.search.1.place.path.shows)
+            c.defer.ensures.steps c.requires.last (sym c.is_alone.ensures ∙ c.if-not-is_alone.false)
+            c.with.ensures.same c.with.ensures.others c.in_ok-defer.ensures.part c.defer.ensures.rest
+            c.in_ok-defer.ensures.deferred c.in_ok-defer.ensures.shared,
+      );
+    }
 
-pub returns-then-branch-clause-search : goal.returns-then-branch-clause-search
-returns-then-branch-clause-search c =
-    on_ok_weaker c.run.result
-    (λ went b h. went b (c.in_ok-follow.ensures.alone c.if-branch.true b h)) c.run.ensures.search
+pub returns-clause-search : goal.returns-clause-search
+returns-clause-search c =
+    let p = c.args.item.now.program in
+    let t = c.args.self.now in
+    on_ok_weaker c.run.result (λ went b h. went b
+    (lone_search c.args.mode c.args.item.now t c.defer.new.steps c.args.found.now
+    c.defer.new.self c.enabled-enabled.result c.with.result c.args.thread h
+    (c.enabled-enabled.ensures p (state_at p t.steps.items) c.requires.search.1.place.path.shows)
+    c.defer.ensures.steps c.requires.last (sym c.is_alone.ensures ∙ c.if-not-is_alone.false)
+    c.with.ensures.same c.with.ensures.others c.in_ok-defer.ensures.part c.defer.ensures.rest
+    c.in_ok-defer.ensures.deferred c.in_ok-defer.ensures.shared))
+    c.run.ensures.search
 
-pub returns-else-branch-clause-search : goal.returns-else-branch-clause-search
-returns-else-branch-clause-search c = c.in_ok-follow.ensures.over c.if-branch.false
+pub returns-then-not-is_alone-clause-free : goal.returns-then-not-is_alone-clause-free
+returns-then-not-is_alone-clause-free c =
+    let p = c.args.item.now.program in
+    let t = c.args.self.now in
+    let path = c.requires.search.1.place.path in
+    free_alone c.args.mode p t c.args.thread
+    (within_at c.args.mode p t path (first_on c.args.mode c.args.item.now (here p t)
+    c.args.found.now (left_above c.args.mode p t) c.requires.search.1.walked).within)
+    c.requires.last
+    (ap (λ b. is_spent_at c.args.mode t.node && b)
+    (sym (c.enabled-enabled.ensures p (state_at p t.steps.items) path.shows c.args.thread))
+    ∙ (sym c.is_alone.ensures ∙ c.if-not-is_alone.true))
