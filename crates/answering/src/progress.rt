@@ -50,17 +50,19 @@ impl fmt::Display for Line {
             bad,
             open_items,
             deferred,
+            lists,
         } = self.0;
         match bound {
             Some(bound) => write!(f, "bound {bound}: ")?,
             None => write!(f, "unbounded: ")?,
         }
         let (tried, bad) = (Grouped(tried), Grouped(bad));
-        let (open_items, deferred) = (Grouped(open_items as u64), Grouped(deferred as u64));
-        write!(
-            f,
-            "{tried} tried, {bad} bad, {open_items} open, {deferred} deferred"
-        )
+        let open_items = Grouped(open_items as u64);
+        write!(f, "{tried} tried, {bad} bad, {open_items} open")?;
+        if lists {
+            write!(f, ", {} deferred", Grouped(deferred as u64))?;
+        }
+        Ok(())
     }
 }
 

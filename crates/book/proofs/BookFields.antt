@@ -3,4 +3,5 @@ use Rattle.book.specs.declared.books.Book.TheInside.{Inside}
 use Rattle.book.specs.Books.{BookView, book_view}
 
 abbrev pub book_of : Inside → BookView
-book_of i = book_view i.program i.mode i.finished i.open_items i.deferred i.quick i.dropped
+book_of i =
+    book_view i.program i.mode i.finished i.open_items i.deferred i.lists i.quick i.dropped

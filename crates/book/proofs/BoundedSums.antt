@@ -18,7 +18,7 @@ use Rattle.summary.proofs.SumsJoin.{sum_kept, nothing_kept, join_kept, join_comm
 use Rattle.walk.proofs.WalkedItems.{HasItsOf, rest_has}
 use Rattle.walk.proofs.Splits.{split_sum, split_kept}
 use Rattle.book.specs.Quick.{IsBoundedBy}
-use Rattle.book.specs.Books.{BookView, ComeAfter, IsThinned, Keeps, KeepsWhere, IsClosed, book_schedules}
+use Rattle.book.specs.Books.{with_deferred, BookView, ComeAfter, IsThinned, Keeps, KeepsWhere, IsClosed, book_schedules}
 use Rattle.book.proofs.Keeping.{closes}
 use Rattle.book.proofs.Later.{begins_later, IsAfter, lesser_first, lesser_after, lesser_some, after_more}
 
@@ -187,30 +187,34 @@ thinned_found b t =
 -- what closed books tell
 
 pub never_dropped : (b : BookView) → Keeps b → b.quick ≡ false → b.dropped ≡ false
-never_dropped b h q = go b.dropped refl h
+never_dropped b h q = go b.dropped refl h.split
   where
-    go : (d : Bool) → b.dropped ≡ d → KeepsWhere d b → b.dropped ≡ false
+    go : (d : Bool) → b.dropped ≡ d → KeepsWhere d (with_deferred b h.put) → b.dropped ≡ false
     go true e t = absurd (let c : true ≡ false = sym t.quick ∙ q in cc)
     go false e k = e
 
 pub clean_kept_all : (b : BookView) → Keeps b → b.finished.first_bad ≡ None → b.dropped ≡ false
-clean_kept_all b h n = go b.dropped refl h
+clean_kept_all b h n = go b.dropped refl h.split
   where
-    go : (d : Bool) → b.dropped ≡ d → KeepsWhere d b → b.dropped ≡ false
+    go : (d : Bool) → b.dropped ≡ d → KeepsWhere d (with_deferred b h.put) → b.dropped ≡ false
     go true e t = absurd (let c : Some t.first ≡ None = sym t.found ∙ n in cc)
     go false e k = e
 
 pub closed_whole : (b : BookView) (p : Program) (mode : Mode) → Keeps b → b.dropped ≡ false →
     IsClosed b p mode → b.finished ≡ whole p mode
 closed_whole b p mode h d k =
-    closes b (subst (λ (z : Bool). KeepsWhere z b) d h) p mode k.2 k.1 k.0
+    let c : BookView = with_deferred b h.put in
+    closes c (subst (λ (z : Bool). KeepsWhere z c) d h.split) p mode k.2 k.1 k.0
 
 pub closed_bounded : (b : BookView) (p : Program) (mode : Mode) → Keeps b → IsClosed b p mode →
     IsBoundedBy b.finished (whole p mode)
-closed_bounded b p mode h k = go b.dropped refl h
+closed_bounded b p mode h k = go b.dropped refl h.split
   where
-    go : (d : Bool) → b.dropped ≡ d → KeepsWhere d b → IsBoundedBy b.finished (whole p mode)
+    c : BookView
+    c = with_deferred b h.put
+
+    go : (d : Bool) → b.dropped ≡ d → KeepsWhere d c → IsBoundedBy b.finished (whole p mode)
     go true e t =
-        subst (IsBoundedBy b.finished) (λ j. whole (k.2 j) (k.1 j)) (closes_thinned b t k.0)
+        subst (IsBoundedBy b.finished) (λ j. whole (k.2 j) (k.1 j)) (closes_thinned c t k.0)
     go false e s =
-        subst (IsBoundedBy b.finished) (closes b s p mode k.2 k.1 k.0) (bounded_itself b.finished)
+        subst (IsBoundedBy b.finished) (closes c s p mode k.2 k.1 k.0) (bounded_itself b.finished)

@@ -1,6 +1,7 @@
 -- Walks that were gathered, settled one after another.
 use Rattle.std.proofs.Common.{◌≡◌, ℕ, ◌<◌, zero, suc, List, [], ◌∷◌, ◌++◌, length, flat_map, Some, slice_get}
 use Rattle.std.proofs.Common.{refl, ap, ◌∙◌, sym, subst, arith, append_assoc, All}
+use Rattle.std.proofs.Common.{false, not, ◌&&◌}
 use Rattle.std.specs.List.{remove}
 use Rattle.std.proofs.lemmas.List.{append-nil}
 use Rattle.std.proofs.lemmas.List.Edits.{remove-append_left}
@@ -11,7 +12,8 @@ use Rattle.summary.proofs.SumsJoin.{join_assoc, join_nothing}
 use Rattle.walk.specs.Items.{ItemView, AreOf}
 use Rattle.walk.specs.declared.mode.Mode.{Mode}
 use Rattle.walk.specs.declared.found.Found.{Found}
-use Rattle.walk.specs.Walks.{WalkView}
+use Rattle.walk.specs.Walks.{WalkView, listed_if}
+use Rattle.walk.proofs.Listed.{listed_none, listed_both, listed_twice}
 use Rattle.book.specs.Books.{BookView, Keeps, IsOpenAt, AreOpenAt, AreWalksAt, HaveFound}
 use Rattle.book.specs.Books.{HaveSettled, settled, taken_in, remove_each, joined}
 use Rattle.book.proofs.PackedItems.{got-left}
@@ -49,7 +51,7 @@ after : BookView → List ItemView → List WalkView → BookView
 after b left ws = record b {
   finished = joined b.finished ws;
   open_items = left ++ flat_map (λ w. w.rest) ws;
-  deferred = b.deferred ++ flat_map (λ w. w.deferred) ws;
+  deferred = b.deferred ++ listed_if b.lists (flat_map (λ w. w.deferred) ws);
 }
 
 settled_after : (items : List ItemView) (ks qs : List ℕ) (ws : List WalkView) (b : BookView)
@@ -61,7 +63,7 @@ unfolding after
 settled_after items [] [] [] b xs come own is h w o =
     let same : after b (xs ++ come) [] ≡ b = λ k. record b {
       open_items = (append-nil (xs ++ come) ∙ sym is) k;
-      deferred = append-nil b.deferred k;
+      deferred = (ap (λ ds. b.deferred ++ ds) (listed_none b.lists) ∙ append-nil b.deferred) k;
     } in
     (same, subst Keeps (sym same) h)
 settled_after items [] [] (x ∷ ws) b xs come own is h w o = absurd w
@@ -89,7 +91,10 @@ settled_after items (k ∷ ks) (q ∷ qs) (x ∷ ws) b xs come own is h w o =
       finished = joined (join b.finished x.part) ws;
       open_items = (ap (λ ys. ys ++ rests) (sym (append_assoc left come x.rest))
           ∙ append_assoc (left ++ come) x.rest rests) j;
-      deferred = append_assoc b.deferred x.deferred (flat_map (λ y. y.deferred) ws) j;
+      deferred = (append_assoc b.deferred (listed_if b.lists x.deferred)
+          (listed_if b.lists (flat_map (λ y. y.deferred) ws))
+          ∙ ap (λ ds. b.deferred ++ ds)
+          (listed_both b.lists x.deferred (flat_map (λ y. y.deferred) ws))) j;
     } in (
       (
         next,
@@ -107,11 +112,11 @@ settled_after items (k ∷ ks) (q ∷ qs) (x ∷ ws) b xs come own is h w o =
 -- so what they found together settles them, one after another
 pub settled_together : (items : List ItemView) (ks qs : List ℕ) (found : Found) (b : BookView) →
     AreOf b.program items → Keeps b → AreOpenAt b.open_items items ks qs →
-    (f : HaveFound b.program b.mode items ks found) →
+    (b.lists && not found.lists) ≡ false → (f : HaveFound b.program b.mode items ks found) →
     HaveSettled b f.walks (taken_in b (remove_each b.open_items qs) found)
     × Keeps (taken_in b (remove_each b.open_items qs) found)
 unfolding after
-settled_together items ks qs found b own h o f =
+settled_together items ks qs found b own h o lists f =
     let r = settled_after items ks qs f.walks b b.open_items [] own (sym (append-nil b.open_items)) h
     f.of o in
     let left : List ItemView = remove_each b.open_items qs in
@@ -120,6 +125,7 @@ settled_together items ks qs found b own h o f =
       finished = (sym (ap (join b.finished) f.part ∙ (joined_on b.finished nothing f.walks
           ∙ ap (λ s. joined s f.walks) (join_nothing b.finished (finished_kept b h))))) k;
       open_items = append-nil left k ++ sym f.rest k;
-      deferred = b.deferred ++ sym f.deferred k;
+      deferred = b.deferred
+          ++ sym (ap (listed_if b.lists) f.deferred ∙ listed_twice b.lists found.lists lists _) k;
     } in
     (subst (HaveSettled b f.walks) same r.0, subst Keeps same r.1)

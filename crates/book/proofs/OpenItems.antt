@@ -1,25 +1,34 @@
 -- What the items of a book are: below the root, so of its program, and their prefixes run.
-use Rattle.std.proofs.Common.{◌≡◌, ℕ, ◌<◌, Bool, true, false, ◌++◌, length, get_or, slice_get, Some, sym, ◌∙◌, subst, append_assoc}
+use Rattle.std.proofs.Common.{◌≡◌, ℕ, ◌<◌, Bool, true, false, List, ◌++◌, length, get_or, slice_get, Some, sym, ◌∙◌, subst, append_assoc}
 use Rattle.std.specs.List.{All}
+use Rattle.std.proofs.lemmas.List.{append-nil}
 use Rattle.std.proofs.lemmas.List.Elements.{All-weaker}
 use Rattle.walk.specs.Items.{ItemView, AreOf, IsItem, root_of}
-use Rattle.walk.specs.Walks.{IsBelow, items_at}
+use Rattle.walk.specs.Walks.{IsBelow, items_at, listed_if}
 use Rattle.walk.proofs.ListParts.{all_left, all_right}
 use Rattle.book.specs.ItemLists.{ListView, all_of}
-use Rattle.book.specs.Books.{BookView, Keeps, KeepsWhere}
+use Rattle.book.specs.Books.{BookView, Keeps, KeepsWhere, with_deferred}
 use Rattle.book.proofs.PackedItems.{below_run, got-or}
 
 left_below : (b : BookView) → Keeps b →
     All (IsBelow (root_of b.program)) (b.open_items ++ b.deferred)
-left_below b h = go b.dropped h
+left_below b h = subst below (sym h.listed) (listed b.lists (go b.dropped h.split))
   where
-    go : (d : Bool) → KeepsWhere d b →
-        All (IsBelow (root_of b.program)) (b.open_items ++ b.deferred)
+    below : List ItemView → Type 0
+    below put = All (IsBelow (root_of b.program)) (b.open_items ++ put)
+
+    go : (d : Bool) → KeepsWhere d (with_deferred b h.put) → below h.put
     go true t =
-        all_right (IsBelow (root_of b.program)) t.gone (b.open_items ++ b.deferred)
+        all_right (IsBelow (root_of b.program)) t.gone (b.open_items ++ h.put)
         (subst (All (IsBelow (root_of b.program)))
-        (append_assoc t.gone b.open_items b.deferred) t.split.below)
+        (append_assoc t.gone b.open_items h.put) t.split.below)
     go false s = s.below
+
+    listed : (lists : Bool) → below h.put → below (listed_if lists h.put)
+    listed true all = all
+    listed false all =
+        subst (All (IsBelow (root_of b.program))) (sym (append-nil b.open_items))
+        (all_left (IsBelow (root_of b.program)) b.open_items h.put all)
 
 pub open_run : (b : BookView) (l : ListView) → b.open_items ≡ all_of b.program l → Keeps b →
     All IsItem (items_at b.program l.packed)

@@ -9,9 +9,10 @@ use Rattle.summary.specs.Summaries.{SummaryView, IsSummary, nothing, join}
 use Rattle.summary.proofs.SumsJoin.{join_assoc, join_nothing}
 use Rattle.walk.specs.Items.{ItemView, root_of}
 use Rattle.walk.specs.declared.found.Found.{Found}
-use Rattle.walk.specs.Walks.{HasAdded, items_at}
+use Rattle.walk.specs.Walks.{HasAdded, items_at, listed_if}
+use Rattle.walk.proofs.Listed.{listed_none, listed_more}
 use Rattle.walk.proofs.Splits.{split_kept}
-use Rattle.book.specs.Books.{BookView, Keeps, KeepsWhere, IsOpenAt, HasWalkedAt, HaveWalked}
+use Rattle.book.specs.Books.{BookView, Keeps, KeepsWhere, with_deferred, IsOpenAt, HasWalkedAt, HaveWalked}
 use Rattle.book.specs.Books.{HasWalkedRound, taken_over, AreWithin, remove_each}
 use Rattle.book.specs.declared.limits.TheConstants.{ROUND}
 use Rattle.book.proofs.Lists.{range_out, dropped_at, got_behind, removed_behind, length_behind, none_out}
@@ -20,12 +21,12 @@ use Rattle.book.proofs.Thinned.{settles_any}
 
 -- what is finished is a summary
 pub finished_kept : (b : BookView) → Keeps b → IsSummary b.finished
-finished_kept b h = go b.dropped h
+finished_kept b h = go b.dropped h.split
   where
-    go : (d : _) → KeepsWhere d b → IsSummary b.finished
+    go : (d : _) → KeepsWhere d (with_deferred b h.put) → IsSummary b.finished
     go true t =
-        split_kept b.mode (root_of b.program) b.finished (t.gone ++ b.open_items) b.deferred t.split
-    go false s = split_kept b.mode (root_of b.program) b.finished b.open_items b.deferred s
+        split_kept b.mode (root_of b.program) b.finished (t.gone ++ b.open_items) h.put t.split
+    go false s = split_kept b.mode (root_of b.program) b.finished b.open_items h.put s
 
 -- before the first walk nothing is to be settled
 pub none_walked : (b : BookView) (first : ℕ) (f : Found) → Keeps b → f.part ≡ nothing →
@@ -33,15 +34,17 @@ pub none_walked : (b : BookView) (first : ℕ) (f : Found) → Keeps b → f.par
 none_walked b first f h part rest deferred = λ k. record b {
   finished = (ap (join b.finished) part ∙ join_nothing b.finished (finished_kept b h)) k;
   open_items = ((λ j. none_out b.open_items first j ++ rest j) ∙ append-nil b.open_items) k;
-  deferred = (ap (λ (ps : List (List ℕ)). b.deferred ++ items_at b.program ps) deferred
-      ∙ append-nil b.deferred) k;
+  deferred = (ap (λ (ps : List (List ℕ)). b.deferred ++ listed_if b.lists (items_at b.program ps))
+      deferred
+      ∙ (ap (λ ds. b.deferred ++ ds) (listed_none b.lists) ∙ append-nil b.deferred)) k;
 }
 
 -- the next item of a round stands where the first one stood, once those before it are settled
 pub next_walked : (b : BookView) (i : ItemView) (first place quota : ℕ) (f g : Found) →
-    first ≤ place → IsOpenAt b i place → b.program ≡ i.program → HasAdded b.mode i quota f g →
+    first ≤ place → IsOpenAt b i place → b.program ≡ i.program → f.lists ≡ b.lists →
+    HasAdded b.mode i quota f g →
     HasWalkedAt (taken_over b first place f) first quota (taken_over b first (suc place) g)
-next_walked b i first place quota f g from at of h = record {
+next_walked b i first place quota f g from at of lists h = record {
   walk = h.walk;
   of = (sym h.in_mode, of ∙ ap (λ (j : ItemView). j.program) (sym h.of));
   is_open = (
@@ -82,11 +85,19 @@ next_walked b i first place quota f g from at of h = record {
         ∙ sym (ap (λ xs. xs ++ h.walk.rest) (ap (λ xs. remove xs first) open_is
         ∙ removed_behind b.open_items behind first i few))))
 
-    deferred : b.deferred ++ items_at b.program g.deferred
-        ≡ (b.deferred ++ items_at b.program f.deferred) ++ h.walk.deferred
-    deferred = ap (λ xs. b.deferred ++ xs) (subst (λ (p : Program). items_at p g.deferred
-        ≡ items_at p f.deferred ++ h.walk.deferred) (sym of) h.deferred)
-        ∙ sym (append_assoc b.deferred (items_at b.program f.deferred) h.walk.deferred)
+    added : items_at b.program g.deferred
+        ≡ items_at b.program f.deferred ++ listed_if b.lists h.walk.deferred
+    added = subst (λ (p : Program). items_at p g.deferred
+        ≡ items_at p f.deferred ++ listed_if b.lists h.walk.deferred) (sym of)
+        (h.deferred ∙ ap (λ l. items_at i.program f.deferred ++ listed_if l h.walk.deferred) lists)
+
+    deferred : b.deferred ++ listed_if b.lists (items_at b.program g.deferred)
+        ≡ (b.deferred ++ listed_if b.lists (items_at b.program f.deferred))
+        ++ listed_if b.lists h.walk.deferred
+    deferred = ap (λ xs. b.deferred ++ xs) (ap (listed_if b.lists) added
+        ∙ listed_more b.lists (items_at b.program f.deferred) h.walk.deferred)
+        ∙ sym (append_assoc b.deferred (listed_if b.lists (items_at b.program f.deferred))
+        (listed_if b.lists h.walk.deferred))
 
 -- an item of a list that is the open items is an open one, of the book's program
 pub open_at : (b : BookView) (items : List ItemView) (end place : ℕ) (i : ItemView) → Keeps b →
@@ -136,11 +147,11 @@ added_tried mode i quota f g h =
 
 -- so the round goes on
 pub round_goes_on : (old b : BookView) (i : ItemView) (first place quota : ℕ) (f g : Found) →
-    b ≡ old → first ≤ place → IsOpenAt b i place → b.program ≡ i.program →
+    b ≡ old → first ≤ place → IsOpenAt b i place → b.program ≡ i.program → f.lists ≡ b.lists →
     HasAdded b.mode i quota f g →
     HaveWalked (place - first) old first quota (taken_over old first place f) →
     HaveWalked (place + 1 - first) old first quota (taken_over old first (place + 1) g)
-round_goes_on old b i first place quota f g same from at of h before =
+round_goes_on old b i first place quota f g same from at of lists h before =
     let count : suc (place - first) ≡ place + 1 - first = omega (arith, from) in
     let after : suc place ≡ place + 1 = omega arith in
     subst (λ n. HaveWalked n old first quota (taken_over old first (place + 1) g)) count
@@ -149,7 +160,7 @@ round_goes_on old b i first place quota f g same from at of h before =
       before,
       subst (λ (z : BookView). HasWalkedAt (taken_over z first place f) first quota
           (taken_over z first (suc place) g)) same
-          (next_walked b i first place quota f g from at of h),
+          (next_walked b i first place quota f g from at of lists h),
     ))
 
 -- and where its last item was walked, all is settled at once

@@ -8,7 +8,7 @@ use Rattle.guest_code.specs.Program.{Program}
 use Rattle.summary.specs.Summaries.{SummaryView}
 use Rattle.walk.specs.Items.{ItemView}
 use Rattle.walk.specs.declared.found.Found.{Found}
-use Rattle.walk.specs.Walks.{items_at, found_walk}
+use Rattle.walk.specs.Walks.{items_at, found_walk, listed_if}
 use Rattle.book.specs.ItemLists.{ListView, all_of}
 use Rattle.book.specs.Books.{BookView, settled, taken_in, remove_each, AreWithin}
 use Rattle.book.proofs.Lists.{each_left}
@@ -57,7 +57,7 @@ pub settled_by_found : (b : BookView) (i : ItemView) (found : Found) (place : �
     b.program ≡ i.program →
     taken_in b (remove b.open_items place) found ≡ settled b (found_walk b.mode i found) place
 settled_by_found b i found place of = λ k. record (taken_in b (remove b.open_items place) found) {
-  deferred = b.deferred ++ items_at (of k) found.deferred;
+  deferred = b.deferred ++ listed_if b.lists (items_at (of k) found.deferred);
 }
 
 pub on_settled : (r : Result (Unit {0}) AllocError) (new then_new else_new : BookView)

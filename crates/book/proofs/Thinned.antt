@@ -6,10 +6,11 @@ use Rattle.schedules.specs.Order.{precedes, lesser}
 use Rattle.walk.specs.declared.mode.Mode.{Mode}
 use Rattle.summary.specs.Summaries.{join}
 use Rattle.walk.specs.Items.{ItemView, root_of}
-use Rattle.walk.specs.Walks.{WalkView, IsWalked, IsSplit}
+use Rattle.walk.specs.Walks.{WalkView, IsWalked, IsSplit, listed_if}
+use Rattle.walk.proofs.Listed.{listed_both}
 use Rattle.walk.proofs.Splits.{split_further}
 use Rattle.summary.proofs.SumsJoin.{join_first_bad}
-use Rattle.book.specs.Books.{BookView, ComeAfter, IsThinned, Keeps, KeepsWhere, IsWalkOf, IsOpenAt, settled, cannot_hold, drops, thinned}
+use Rattle.book.specs.Books.{BookView, ComeAfter, IsThinned, Keeps, KeepsWhere, with_deferred, IsWalkOf, IsOpenAt, settled, cannot_hold, drops, thinned}
 use Rattle.book.proofs.Keeping.{settles}
 use Rattle.book.proofs.Later.{later_precedes, lesser_some}
 use Rattle.book.proofs.Lists.{parted}
@@ -49,9 +50,10 @@ filter_true P f (x ∷ xs) h = go (f x) refl (filter_true P f xs h)
 
 -- dropping keeps what a book's type keeps
 
-pub thins : (b : BookView) (first : List ℕ) → b.quick ≡ true → b.finished.first_bad ≡ Some first →
-    Keeps b → Keeps (thinned b)
-thins b first q found h = go b.dropped refl (list_any (drops b) b.open_items) refl h
+thins_split : (b : BookView) (first : List ℕ) → b.quick ≡ true →
+    b.finished.first_bad ≡ Some first → KeepsWhere b.dropped b →
+    KeepsWhere (b.dropped || list_any (drops b) b.open_items) (thinned b)
+thins_split b first q found h = go b.dropped refl (list_any (drops b) b.open_items) refl h
   where
     later : ComeAfter first (dropped_items b)
     later = filter_true (λ i. precedes first i.prefix ≡ true) (drops b) b.open_items
@@ -87,10 +89,19 @@ thins b first q found h = go b.dropped refl (list_any (drops b) b.open_items) re
     }
     go false e false m s = subst (IsBookWith b) (sym (all_kept (drops b) b.open_items m)) s
 
+pub thins : (b : BookView) (first : List ℕ) → b.quick ≡ true → b.finished.first_bad ≡ Some first →
+    Keeps b → Keeps (thinned b)
+thins b first q found h = record {
+  put = h.put;
+  listed = h.listed;
+  split = thins_split (with_deferred b h.put) first q found h.split;
+}
+
 -- so does settling a walk
 
 settles_thinned : (b : BookView) (w : WalkView) (place : ℕ) → IsThinned b → IsWalked w →
-    IsWalkOf b w → IsOpenAt b w.item place → IsThinned (settled b w place)
+    IsWalkOf b w → IsOpenAt b w.item place →
+    IsThinned (with_deferred (settled b w place) (b.deferred ++ w.deferred))
 settles_thinned b w place t walk of at =
     let l = lesser_some t.first w.part.first_bad in
     record {
@@ -130,8 +141,14 @@ settles_thinned b w place t walk of at =
 
 pub settles_any : (b : BookView) (w : WalkView) (place : ℕ) → Keeps b → IsWalked w →
     IsWalkOf b w → IsOpenAt b w.item place → Keeps (settled b w place)
-settles_any b w place h walk of at = go b.dropped h
+settles_any b w place h walk of at = record {
+  put = h.put ++ w.deferred;
+  listed = ap (λ ds. ds ++ listed_if b.lists w.deferred) h.listed
+      ∙ listed_both b.lists h.put w.deferred;
+  split = go b.dropped h.split;
+}
   where
-    go : (d : Bool) → KeepsWhere d b → KeepsWhere d (settled b w place)
-    go true t = settles_thinned b w place t walk of at
-    go false s = settles b w place s walk of at
+    go : (d : Bool) → KeepsWhere d (with_deferred b h.put) →
+        KeepsWhere d (with_deferred (settled b w place) (h.put ++ w.deferred))
+    go true t = settles_thinned (with_deferred b h.put) w place t walk of at
+    go false s = settles (with_deferred b h.put) w place s walk of at

@@ -13,7 +13,7 @@ use Rattle.walk.specs.declared.mode.Mode.TheVariants.{Bounded, Reduced}
 use Rattle.summary.specs.Summaries.{SummaryView, nothing, join, with_beyond}
 use Rattle.walk.specs.Items.{ItemView, root_of, schedules_of}
 use Rattle.walk.specs.declared.found.Found.{Found}
-use Rattle.walk.specs.Walks.{WalkView, IsSplit, IsWalked, items_at, found_walk}
+use Rattle.walk.specs.Walks.{WalkView, IsSplit, IsWalked, items_at, found_walk, listed_if}
 use Rattle.book.specs.declared.limits.TheConstants.{ROUND}
 use Rattle.book.specs.Quick.{is_later}
 use Rattle.book.specs.ItemLists.{ListView, all_of}
@@ -23,26 +23,28 @@ use Rattle.book.specs.declared.errors.RaiseError.{RaiseError}
 use Rattle.book.specs.declared.errors.RaiseError.TheVariants.{StillOpen, Dropped, LastBound}
 
 -- what contracts see of a book: the summary of what is finished, the items that are still open,
--- those that wait for the next bound, whether the search is a quick one, and whether it dropped an
--- item
+-- those that wait for the next bound, whether these are listed, whether the search is a quick one, and
+-- whether it dropped an item
 pub record BookView : Type 0 where
   pub program : Program
   pub mode : Mode
   pub finished : SummaryView
   pub open_items : List ItemView
   pub deferred : List ItemView
+  pub lists : Bool
   pub quick : Bool
   pub dropped : Bool
 
 -- what contracts see of a book of these parts
 abbrev pub book_view : Arc Program Global → Mode → SummaryView → ListView → ListView → Bool →
-    Bool → BookView
-book_view program mode finished open_items deferred quick dropped = record {
+    Bool → Bool → BookView
+book_view program mode finished open_items deferred lists quick dropped = record {
   program = arc_value program;
   mode = mode;
   finished = finished;
   open_items = all_of (arc_value program) open_items;
   deferred = all_of (arc_value program) deferred;
+  lists = lists;
   quick = quick;
   dropped = dropped;
 }
@@ -71,9 +73,16 @@ abbrev pub KeepsWhere : Bool → BookView → Type 0
 KeepsWhere false b = IsBook b
 KeepsWhere true b = IsThinned b
 
--- what the type of a book keeps
-abbrev pub Keeps : BookView → Type 0
-Keeps b = KeepsWhere b.dropped b
+-- the book where its bound put off these
+abbrev pub with_deferred : BookView → List ItemView → BookView
+with_deferred b put = record b { deferred = put }
+
+-- what the type of a book keeps: that it is so with what its bound put off, whether it lists these
+-- or not
+pub record Keeps (b : BookView) : Type 0 where
+  pub put : List ItemView
+  pub listed : b.deferred ≡ listed_if b.lists put
+  pub split : KeepsWhere b.dropped (with_deferred b put)
 
 -- the book of a program of which nothing is known
 abbrev pub opening : Program → Mode → Bool → BookView
@@ -83,6 +92,7 @@ opening p mode quick = record {
   finished = nothing;
   open_items = root_of p ∷ [];
   deferred = [];
+  lists = true;
   quick = quick;
   dropped = false;
 }
@@ -121,10 +131,11 @@ abbrev pub settled : BookView → WalkView → ℕ → BookView
 settled b w place = record b {
   finished = join b.finished w.part;
   open_items = remove b.open_items place ++ w.rest;
-  deferred = b.deferred ++ w.deferred;
+  deferred = b.deferred ++ listed_if b.lists w.deferred;
 }
 
--- the walk's item leaves the open ones, its part is joined, its rest and what it deferred come last
+-- the walk's item leaves the open ones, its part is joined, its rest and what it deferred, where that is
+-- listed, come last
 pub record Settles (old : BookView) (w : WalkView) (new : BookView) : Type 0 where
   pub of : IsWalkOf old w
   pub place : ℕ
@@ -166,7 +177,7 @@ abbrev pub taken_in : BookView → List ItemView → Found → BookView
 taken_in b left found = record b {
   finished = join b.finished found.part;
   open_items = left ++ found.rest.items;
-  deferred = b.deferred ++ items_at b.program found.deferred;
+  deferred = b.deferred ++ listed_if b.lists (items_at b.program found.deferred);
 }
 
 -- so where the walks are of the open items in a range of places
@@ -212,7 +223,8 @@ pub record HaveFound (p : Program) (mode : Mode) (items : List ItemView) (places
   pub of : AreWalksAt mode items places walks
   pub part : found.part ≡ joined nothing walks
   pub rest : found.rest.items ≡ flat_map (λ w. w.rest) walks
-  pub deferred : items_at p found.deferred ≡ flat_map (λ w. w.deferred) walks
+  pub deferred : items_at p found.deferred
+      ≡ listed_if found.lists (flat_map (λ w. w.deferred) walks)
 
 -- the walks were settled, one after another
 abbrev pub HaveSettled : BookView → List WalkView → BookView → Type 0
@@ -240,11 +252,17 @@ raised b = record b {
   deferred = [];
 }
 
+-- the bound is the last one, where what it puts off is listed or not
+abbrev pub EndsAt : Bool → ℕ → Type 0
+EndsAt true bound = BOUND ≤ bound
+EndsAt false bound = Unit {0}
+
 -- a book is raised where nothing is open, no item was dropped, and its bound is not the last
 pub record Raises (old new : BookView) : Type 0 where
   pub closed : old.open_items ≡ []
   pub all : old.dropped ≡ false
   pub low : bound_of old.mode < BOUND
+  pub listed : old.lists ≡ true
   pub book : new ≡ raised old
 
 -- why a book is not raised
@@ -252,7 +270,7 @@ abbrev pub IsNotRaised : BookView → RaiseError → Type 0
 IsNotRaised b StillOpen = b.open_items ≡ [] → ⊥
 IsNotRaised b Dropped = (b.open_items ≡ []) × (b.dropped ≡ true)
 IsNotRaised b LastBound =
-    (b.open_items ≡ []) × (b.dropped ≡ false) × (BOUND ≤ bound_of b.mode)
+    (b.open_items ≡ []) × (b.dropped ≡ false) × EndsAt b.lists (bound_of b.mode)
 
 -- the book is of this program and mode, and nothing is open
 abbrev pub IsClosed : BookView → Program → Mode → Type 0

@@ -6,7 +6,7 @@ ghost use Rattle.std.specs.List.{remove};
 ghost use Rattle.walk.specs.declared.limits.TheConstants.{BOUND};
 ghost use Rattle.walk.specs.declared.mode.Mode.TheVariants.{Bounded};
 ghost use Rattle.walk.specs.Items.{whole, AreOf};
-ghost use Rattle.walk.specs.Walks.{IsWalked, found_walk};
+ghost use Rattle.walk.specs.Walks.{IsWalked, found_walk, listed_if};
 ghost use Rattle.book.specs.declared.limits.TheConstants.{ROUND};
 ghost use Rattle.book.specs.Quick.{IsBoundedBy};
 ghost use Rattle.book.specs.Books.{Keeps, drops, thinned, opening, IsWalkOf, IsFoundAt, HasWalkedRound, HaveFound, HaveSettled, taken_over, taken_in, remove_each, AreWithin, Settles, IsRefused, Raises, IsNotRaised, IsClosed, bound_of};
@@ -15,6 +15,7 @@ use crate::errors::{RaiseError, SettleError};
 use crate::item_list::{ItemList, is_later};
 use crate::limits::ROUND;
 use guest_code::program::Program;
+use prefix_list::Prefixes;
 use std::alloc::{AllocError, Global};
 use std::marker::Model;
 use std::mem;
@@ -33,7 +34,8 @@ use walk::walker::Walker;
 /// The type keeps that the program's summary is what is finished joined with the sums of the open
 /// items, that nothing is counted that was not tried, that every item is of the program, and that
 /// no schedule lies under two items. Where items were dropped from a quick book, they come after
-/// the first bad schedule that was found.
+/// the first bad schedule that was found. A book whose bound is made the last one doesn't list what
+/// the bound puts off: the type keeps that there is such a list.
 #[derive(Drop)]
 pub struct Book {
     program: Arc<Program>,
@@ -41,6 +43,8 @@ pub struct Book {
     finished: Summary,
     open_items: ItemList,
     deferred: ItemList,
+    // Whether what the bound puts off is listed.
+    lists: bool,
     quick: bool,
     dropped: bool,
     // Nothing that is open is to be dropped.
@@ -55,12 +59,12 @@ impl Model for Book {
 
     ghost Value = { BookView };
 
-    ghost view = { λ b. book_view b.program b.mode b.finished b.open_items b.deferred b.quick
-        b.dropped };
+    ghost view = { λ b. book_view b.program b.mode b.finished b.open_items b.deferred b.lists
+        b.quick b.dropped };
 
     ghost invariant = { λ b. Keeps (book_view b.program b.mode b.finished b.open_items b.deferred
-        b.quick b.dropped) × IsSwept b.swept
-        (book_view b.program b.mode b.finished b.open_items b.deferred b.quick b.dropped)
+        b.lists b.quick b.dropped) × IsSwept b.swept
+        (book_view b.program b.mode b.finished b.open_items b.deferred b.lists b.quick b.dropped)
         × IsLoose b.quick b.finished.first_bad b.open_items b.deferred };
 }
 
@@ -109,6 +113,7 @@ impl Book {
             finished: Summary::empty(alloc),
             open_items,
             deferred,
+            lists: true,
             quick,
             dropped: false,
             swept: false,
@@ -156,6 +161,13 @@ impl Book {
         ensures { IfOk result (λ i. slice_get self.now.open_items place ≡ Some i) }
     {
         self.open_items.item(alloc, &self.program, place)
+    }
+
+    /// Whether what the bound puts off is listed, for a next bound.
+    pub fn lists(&self) -> bool
+        ensures { result ≡ self.now.lists }
+    {
+        self.lists
     }
 
     /// How many items wait for the next bound.
@@ -385,8 +397,8 @@ impl Book {
 
     /// Settles at once what walks of items of the book's last round found, in its mode and one after
     /// another: of those at these places of the round. Answers whether it took them: it doesn't where
-    /// they aren't open in that order. No program is compared. The memory of what was found serves
-    /// later walks.
+    /// they aren't open in that order, or what they put off isn't listed and the book lists it. No
+    /// program is compared. The memory of what was found serves later walks.
     ///
     /// # Errors
     ///
@@ -406,6 +418,9 @@ impl Book {
             result ≡ Ok true → HaveSettled b f.walks self.new }
         ensures same { (result ≡ Ok true → ⊥) → self.new ≡ self.old }
     {
+        if self.lists && !found.lists {
+            return Ok(false);
+        }
         let Some(stand) = self.open_items.places_of(alloc, items, places)? else {
             return Ok(false);
         };
@@ -438,7 +453,7 @@ impl Book {
         let end = self.open_items.length();
         let first = end.saturating_sub(ROUND);
         self.open_items.unpack_from(alloc, &self.program, first)?;
-        walker.clear(found);
+        walker.clear(found, self.lists);
         for place in first..end {
             let item = self.open_items.loose_item(place);
             walker.walk_on(alloc, found, item, self.mode, quota)?;
@@ -448,8 +463,9 @@ impl Book {
     }
 
     // Settles what walks of the open items at these places, each counted without those before it,
-    // found, of which the memory is left; none stands before the first one. The lists grow first; then
-    // the sum is joined, which is the last that can be refused, and the items are taken out.
+    // found, of which the memory is left; none stands before the first one. The lists grow first, by
+    // what they list; then the sum is joined, which is the last that can be refused, and the items are
+    // taken out.
     fn take_over(
         &mut self,
         alloc: Global,
@@ -473,6 +489,7 @@ impl Book {
         let quiet = is_quiet(found);
         let open_length = self.open_items.length();
         self.open_items.append(alloc, &mut found.rest)?;
+        forget_unlisted(self.lists, &mut found.deferred);
         if let Err(error) = self
             .deferred
             .append_prefixes(alloc, &self.program, &mut found.deferred, packs)
@@ -490,13 +507,23 @@ impl Book {
         Ok(())
     }
 
+    /// Makes the bound the last one: what it put off is forgotten, and what it puts off isn't listed
+    /// any more. It takes no memory.
+    pub fn make_last(&mut self)
+        ensures { self.new ≡ record self.old { deferred = []; lists = false } }
+    {
+        self.deferred.truncate(0);
+        self.lists = false;
+    }
+
     /// Goes from a bound to the next: what is finished stays, `beyond` aside, and the items that
     /// waited are open. It takes no memory.
     ///
     /// # Errors
     ///
     /// `StillOpen` where an item is open, else `Dropped` where one was dropped, else `LastBound`
-    /// where the bound is the greatest or the mode has none. The book is as before then.
+    /// where the bound is the greatest or was made the last one, or the mode has none. The book is as
+    /// before then.
     pub fn raise(&mut self) -> Result<(), RaiseError>
         ensures ok { OnOk result (Raises self.old self.new) }
         ensures err { IfErr result (λ e. (self.new ≡ self.old) × IsNotRaised self.old e) }
@@ -507,6 +534,9 @@ impl Book {
         if self.dropped {
             return Err(RaiseError::Dropped);
         }
+        if !self.lists {
+            return Err(RaiseError::LastBound);
+        }
         let Some(mode) = next_mode(self.mode) else {
             return Err(RaiseError::LastBound);
         };
@@ -515,6 +545,15 @@ impl Book {
         self.swept = false;
         self.finished.forget_beyond();
         Ok(())
+    }
+}
+
+// Leaves out prefixes that aren't listed.
+fn forget_unlisted(lists: bool, prefixes: &mut Prefixes)
+    ensures { prefixes.new ≡ listed_if lists prefixes.old }
+{
+    if !lists {
+        prefixes.clear();
     }
 }
 

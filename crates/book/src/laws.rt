@@ -12,9 +12,17 @@ ghost use Rattle.walk.specs.Items.{ItemView, root_of, item_sums, is_under, whole
 ghost use Rattle.walk.specs.Walks.{IsBelow, IsDeferred, clear_of};
 ghost use Rattle.book.specs.declared.limits.TheConstants.{ROUND};
 ghost use Rattle.book.specs.Quick.{IsBoundedBy};
-ghost use Rattle.book.specs.Books.{BookView, IsBook, IsThinned, book_schedules, items_left, HasItsSchedules};
+ghost use Rattle.book.specs.Books.{BookView, Keeps, KeepsWhere, IsBook, IsThinned, book_schedules, items_left, HasItsSchedules};
 
 use crate::limits::ROUND;
+
+// All books.
+
+/// A book that lists what its bound puts off has all of it among the deferred items: without a drop
+/// it is a book as the next laws want it, else a thinned one.
+pub fn what_is_listed_is_all()
+    ensures { (b : BookView) → Keeps b → b.lists ≡ true → KeepsWhere b.dropped b }
+{}
 
 // Books from which nothing was dropped.
 

@@ -12,10 +12,11 @@ mode_bound (Bounded bound) = Some bound
 mode_bound Reduced = None
 
 -- the book's bound, and how many schedules are counted in it, how many of them are bad, and how many
--- items are open and wait for the next bound
+-- items are open and wait for the next bound, and whether these are listed
 pub record IsProgressOf (b : BookView) (p : Progress) : Type 0 where
   pub bound : p.bound ≡ mode_bound b.mode
   pub tried : p.tried ≡ b.finished.tried
   pub bad : p.bad ≡ cut (b.finished.failed + b.finished.stuck)
   pub open_items : p.open_items ≡ length b.open_items
   pub deferred : p.deferred ≡ length b.deferred
+  pub lists : p.lists ≡ b.lists

@@ -19,6 +19,8 @@ pub struct Progress {
     pub open_items: usize,
     /// How many prefixes wait for the next bound.
     pub deferred: usize,
+    /// Whether there is a next bound, for which they are listed.
+    pub lists: bool,
 }
 
 /// The bound of a mode, if it has one.
@@ -43,6 +45,7 @@ impl Progress {
             bad: finished.failed().saturating_add(finished.stuck()),
             open_items: book.open_length(),
             deferred: book.deferred_length(),
+            lists: book.lists(),
         }
     }
 }

@@ -10,7 +10,7 @@ use Rattle.walk.specs.declared.mode.Mode.{Mode}
 use Rattle.walk.specs.declared.mode.Mode.TheVariants.{Bounded, Reduced}
 use Rattle.summary.specs.Summaries.{SummaryView, end_kind}
 use Rattle.walk.specs.Items.{whole}
-use Rattle.book.specs.Books.{BookView, Keeps, KeepsWhere, bound_of}
+use Rattle.book.specs.Books.{BookView, Keeps, KeepsWhere, with_deferred, bound_of}
 use Rattle.report.specs.declared.options.Options.{Options}
 use Rattle.report.specs.declared.options.Search.{Search}
 use Rattle.report.specs.declared.options.Search.TheVariants.{UpTo, Unbounded}
@@ -140,11 +140,12 @@ bad_is_complete quick p Reduced sum w found some =
 
 -- a book has its items, whether it was thinned or not
 pub book_has_items : (b : BookView) → Keeps b → HasItems b.program b.mode b.finished
-book_has_items b keeps = go b.dropped keeps
+book_has_items b keeps = go b.dropped keeps.split
   where
-    go : (dropped : Bool) → KeepsWhere dropped b → HasItems b.program b.mode b.finished
-    go false book = (b.open_items, b.deferred, book)
-    go true thin = (thin.gone ++ b.open_items, b.deferred, thin.split)
+    go : (dropped : Bool) → KeepsWhere dropped (with_deferred b keeps.put)
+        → HasItems b.program b.mode b.finished
+    go false book = (b.open_items, keeps.put, book)
+    go true thin = (thin.gone ++ b.open_items, keeps.put, thin.split)
 
 -- the stage after the next raise
 

@@ -73,6 +73,7 @@ settled_less old new w s walk ends =
       program = ap (λ (b : BookView). b.program) s.book;
       mode = ap (λ (b : BookView). b.mode) s.book;
       quick = ap (λ (b : BookView). b.quick) s.book;
+      lists = ap (λ (b : BookView). b.lists) s.book;
       less = subst (λ (z : List ItemView). IsSmaller old.mode z old.open_items)
           (sym (ap (λ (b : BookView). b.open_items) s.book))
           (subst (λ (z : List ItemView). IsSmaller old.mode left z) (sym is)
@@ -100,6 +101,7 @@ less_again a b c x y = record {
   program = y.program ∙ x.program;
   mode = y.mode ∙ x.mode;
   quick = y.quick ∙ x.quick;
+  lists = y.lists ∙ x.lists;
   less = smaller_again a.mode a.open_items b.open_items c.open_items x.less
       (subst (λ (m : Mode). IsSmaller m c.open_items b.open_items) x.mode y.less);
 }
@@ -195,6 +197,7 @@ thinned_less old b l = record {
   program = l.program;
   mode = l.mode;
   quick = l.quick;
+  lists = l.lists;
   less = ⊎_elim (λ x. inl (omega (arith, x, a)))
       (λ x. dite (ℕ_discrete (schedule_count old.mode (kept_items b))
       (schedule_count old.mode b.open_items))
@@ -231,6 +234,7 @@ thinned_went b item d = go (list_any (drops b) b.open_items) refl
           program = refl;
           mode = refl;
           quick = refl;
+          lists = refl;
           less = dite (ℕ_discrete (schedule_count b.mode (kept_items b))
               (schedule_count b.mode b.open_items))
               (λ same. inr (same, n)) (λ d. inl (omega (arith, d, a)));
@@ -260,12 +264,13 @@ round_shrinks mode old new same (inl l) some fits =
 round_shrinks mode old new same (inr none) some fits =
     absurd (some (ap (λ (b : BookView). b.open_items) none.0 ∙ none.1))
 
-pub round_keeps : (old new : BookView) (p : Program) (mode : Mode) (quick : Bool)
-    → IsOf old p mode quick → Goes old new → IsOf new p mode quick
-round_keeps old new p mode quick of (inl l) = record {
+pub round_keeps : (old new : BookView) (p : Program) (mode : Mode) (quick lists : Bool)
+    → IsOf old p mode quick lists → Goes old new → IsOf new p mode quick lists
+round_keeps old new p mode quick lists of (inl l) = record {
   program = l.program ∙ of.program;
   mode = l.mode ∙ of.mode;
   quick = l.quick ∙ of.quick;
+  lists = l.lists ∙ of.lists;
 }
-round_keeps old new p mode quick of (inr none) =
-    subst (λ (b : BookView). IsOf b p mode quick) (sym none.0) of
+round_keeps old new p mode quick lists of (inr none) =
+    subst (λ (b : BookView). IsOf b p mode quick lists) (sym none.0) of

@@ -2,14 +2,12 @@
 
 ghost use Rattle.std.specs.Prelude.{◌≡◌, ◌≤◌, false, IfOk, IfErr, OnOk};
 ghost use Rattle.std.specs.Arc.{arc_value};
-ghost use Rattle.book.specs.Books.{opening};
 ghost use Rattle.report.specs.declared.error.ExploreError.TheVariants.{OutOfMemory};
 ghost use Rattle.report.specs.Promises.{IsSearch, IsReport};
-ghost use Rattle.runner.specs.inner.Judging.{IsFirstMode, IsStage, ComesAfter};
-ghost use Rattle.workers.specs.Teams.{IsOf};
+ghost use Rattle.runner.specs.inner.Judging.{IsFirstMode, IsStage, IsAt, ComesAfter};
 ghost use Rattle.runner.specs.inner.Shrinking.{Went, Goes};
 
-use crate::judge::{Next, Stage, judge};
+use crate::judge::{Next, Stage, begin_bound, judge};
 use book::books::Book;
 use book::errors::{RaiseError, SettleError};
 use guest_code::program::Program;
@@ -23,7 +21,7 @@ use walk::walker::Walker;
 use workers::{Gate, Open};
 
 // The mode that a search begins with.
-pub(crate) fn first_mode(search: Search) -> Mode
+fn first_mode(search: Search) -> Mode
     ensures { IsFirstMode search result }
 {
     match search {
@@ -32,22 +30,25 @@ pub(crate) fn first_mode(search: Search) -> Mode
     }
 }
 
-// The book of a program of which nothing is known, a quick one or not.
+// The book of a program of which nothing is known, where a search of it begins.
 pub(crate) fn open_book(
     alloc: Global,
     program: &Arc<Program>,
-    mode: Mode,
-    quick: bool,
+    options: Options,
 ) -> Result<Book, ExploreError>
-    ensures book { IfOk result (λ b. b ≡ opening (arc_value program.now) mode quick) }
+    ensures book { IfOk result (λ b. IsAt b (arc_value program.now) options b.mode) }
+    ensures stage { IfOk result (λ b. IsStage (arc_value program.now) options.search b.mode) }
     ensures error { IfErr result (λ e. e ≡ OutOfMemory) }
 {
     let program = Arc::try_clone(program)?;
-    if quick {
-        Ok(Book::open_quick(alloc, program, mode)?)
+    let mode = first_mode(options.search);
+    let mut book = if options.quick {
+        Book::open_quick(alloc, program, mode)?
     } else {
-        Ok(Book::open(alloc, program, mode)?)
-    }
+        Book::open(alloc, program, mode)?
+    };
+    begin_bound(&mut book, options.search);
+    Ok(book)
 }
 
 // The only worker of a search: its walker, and memory for what a walk finds.
@@ -141,7 +142,7 @@ fn search_mode<G: Gate>(
 ) -> Result<Next, ExploreError>
     requires quota { 1 ≤ stage.options.quota }
     requires stage { IsStage stage.program.now stage.options.search stage.mode }
-    requires of { IsOf book.old stage.program.now stage.mode stage.options.quick }
+    requires of { IsAt book.old stage.program.now stage.options stage.mode }
     requires walker { lone.old.walker ≡ stage.program.now }
     ensures walker { lone.new.walker ≡ lone.old.walker }
     ensures next { let s = stage.entry in
@@ -196,8 +197,7 @@ pub(crate) fn search_alone<G: Gate>(
     ensures report { IfOk result (IsReport false (arc_value program.now) options) }
     ensures error { IfErr result (λ e. e ≡ OutOfMemory) }
 {
-    let mode = first_mode(options.search);
-    let mut book = open_book(alloc, program, mode, options.quick)?;
+    let mut book = open_book(alloc, program, options)?;
     let mut lone = Lone {
         walker: Walker::new(alloc, Arc::try_clone(program)?)?,
         found: Found::new(alloc),
@@ -205,7 +205,7 @@ pub(crate) fn search_alone<G: Gate>(
     let stage = Stage {
         program,
         options,
-        mode,
+        mode: book.mode(),
     };
     search_bounds(alloc, stage, &mut book, &mut lone, gate)
 }
@@ -221,7 +221,7 @@ fn search_bounds<G: Gate>(
     requires search { IsSearch stage.options.search }
     requires quota { 1 ≤ stage.options.quota }
     requires stage { IsStage stage.program.now stage.options.search stage.mode }
-    requires of { IsOf book.old stage.program.now stage.mode stage.options.quick }
+    requires of { IsAt book.old stage.program.now stage.options stage.mode }
     requires walker { lone.old.walker ≡ stage.program.now }
     ensures report { let s = stage.entry in
         IfOk result (IsReport false s.program.now s.options) }
@@ -232,7 +232,10 @@ fn search_bounds<G: Gate>(
         match search_mode(alloc, Stage { mode, ..stage }, book, lone, gate)? {
             Next::Answer(report) => return Ok(report),
             Next::Raise => match book.raise() {
-                Ok(()) => mode = book.mode(),
+                Ok(()) => {
+                    mode = book.mode();
+                    begin_bound(book, stage.options.search);
+                }
                 Err(RaiseError::StillOpen) => unreachable!(),
                 Err(RaiseError::Dropped) => unreachable!(),
                 Err(RaiseError::LastBound) => unreachable!(),

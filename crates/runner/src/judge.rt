@@ -8,8 +8,7 @@ ghost use Rattle.book.specs.Books.{Keeps, IsClosed};
 ghost use Rattle.report.specs.declared.error.ExploreError.TheVariants.{OutOfMemory};
 ghost use Rattle.runner.specs.declared.judge.Next.TheVariants.{Answer};
 ghost use Rattle.report.specs.Reports.{HasItems, IsReached, IsCause};
-ghost use Rattle.runner.specs.inner.Judging.{IsModeOf, IsStage, IsLast, IsFound, IsBoundBelow, IsVerdictOn, ComesWhole, ComesOpen, Comes, report_in};
-ghost use Rattle.workers.specs.Teams.{IsOf};
+ghost use Rattle.runner.specs.inner.Judging.{IsModeOf, IsStage, IsLast, IsFound, IsBoundBelow, IsVerdictOn, IsAt, ComesWhole, ComesOpen, Comes, begun, report_in};
 ghost use Rattle.report.specs.Progress.{mode_bound};
 
 use book::books::Book;
@@ -125,6 +124,17 @@ fn is_last(search: Search, mode: Mode) -> bool
     }
 }
 
+/// Begins the bound of a book to which a search has come: what its last bound puts off isn't listed.
+pub(crate) fn begin_bound(book: &mut Book, search: Search)
+    requires mode { IsModeOf search book.old.mode }
+    requires lists { book.old.lists ≡ true }
+    ensures { book.new ≡ begun search book.old }
+{
+    if is_last(search, book.mode()) {
+        book.make_last();
+    }
+}
+
 // Why a search is cut short, if it is.
 fn cause_of(limit: Option<u64>, summary: &Summary, stopped: bool) -> Option<Cause>
     ensures some { IfSome result (λ cause. (may : Bool) →
@@ -229,7 +239,7 @@ pub(crate) fn judge(
     stopped: bool,
 ) -> Result<Next, ExploreError>
     requires stage { IsStage stage.program.now stage.options.search stage.mode }
-    requires of { IsOf book.now stage.program.now stage.mode stage.options.quick }
+    requires of { IsAt book.now stage.program.now stage.options stage.mode }
     ensures next { let s = stage.entry in
         IfOk result (λ n. (may : Bool) → (stopped ≡ true → may ≡ true) →
         Comes may s.program.now s.options s.mode book.now n) }

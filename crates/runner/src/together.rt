@@ -5,11 +5,10 @@ ghost use Rattle.std.specs.Arc.{arc_value};
 ghost use Rattle.report.specs.declared.error.ExploreError.TheVariants.{OutOfMemory};
 ghost use Rattle.workers.specs.declared.limits.TheConstants.{WORKERS};
 ghost use Rattle.report.specs.Promises.{IsSearch, IsReport};
-ghost use Rattle.runner.specs.inner.Judging.{IsStage, Follows};
-ghost use Rattle.workers.specs.Teams.{IsOf};
+ghost use Rattle.runner.specs.inner.Judging.{IsStage, IsAt, Follows};
 
-use crate::alone::{first_mode, open_book, search_alone};
-use crate::judge::{Next, Stage, judge};
+use crate::alone::{open_book, search_alone};
+use crate::judge::{Next, Stage, begin_bound, judge};
 use book::books::Book;
 use book::errors::RaiseError;
 use guest_code::program::Program;
@@ -31,7 +30,7 @@ fn after_round(
 ) -> Result<Option<Report>, ExploreError>
     requires search { IsSearch options.search }
     requires stage { IsStage program.now options.search book.old.mode }
-    requires of { IsOf book.old program.now book.old.mode options.quick }
+    requires of { IsAt book.old program.now options book.old.mode }
     ensures report { IfOk result (λ r. (may : Bool) → (stopped ≡ true → may ≡ true) →
         Follows may program.now options book.new r) }
     ensures error { IfErr result (λ e. e ≡ OutOfMemory) }
@@ -47,7 +46,10 @@ fn after_round(
         Next::Answer(report) => Ok(Some(report)),
         Next::Again => Ok(None),
         Next::Raise => match book.raise() {
-            Ok(()) => Ok(None),
+            Ok(()) => {
+                begin_bound(book, options.search);
+                Ok(None)
+            }
             Err(RaiseError::StillOpen) => unreachable!(),
             Err(RaiseError::Dropped) => unreachable!(),
             Err(RaiseError::LastBound) => unreachable!(),
@@ -91,7 +93,7 @@ pub fn explore<G: Gate, R: Threads + Wait + Sync>(
     if workers == 1 {
         return search_alone(alloc, program, options, gate);
     }
-    let book = open_book(alloc, program, first_mode(options.search), options.quick)?;
+    let book = open_book(alloc, program, options)?;
     let mut team = Team::new(alloc, book, workers)?;
     for _ in rt.forever() {
         let (next, ending) = team.walk_rounds(rt, alloc, gate, options)?;

@@ -428,6 +428,22 @@ fn books_are_raised_where_nothing_is_open(rt: HostRuntime) -> Result<(), Fail> {
     raise_twice(&rt, &mut book)
 }
 
+/// Walks the items of a book's last bound, after which it has the counters' two schedules and knows
+/// of others, lists none of them, and isn't raised.
+fn finish_last(rt: &(impl Abort + Alloc<A = Global>), book: &mut Book) -> Result<(), Fail> {
+    book.make_last();
+    finish(rt.alloc(), book, 256)?;
+    shows(rt, book, "2 true")?;
+    is_not_raised(rt, book, "book B5 LastBound")?;
+    Ok(())
+}
+
+#[test]
+fn the_last_bound_lists_nothing(rt: HostRuntime) -> Result<(), Fail> {
+    let mut book = book_of(rt.alloc(), COUNTERS, FIRST)?;
+    finish_last(&rt, &mut book)
+}
+
 /// Walks one schedule of a book's root, and settles the walk.
 fn start(alloc: Global, book: &mut Book) -> Result<(), Fail> {
     let program = Arc::try_clone(book.program())?;

@@ -1,7 +1,7 @@
 -- What arriving at a node does to a walk: the node gives way to its children, or is tried.
 use Rattle.std.proofs.Common.{◌≡◌, ℕ, ◌+◌, ◌-◌, ◌≤◌, true, false, ◌&&◌, ◌||◌, not}
 use Rattle.std.proofs.Common.{List, [], ◌∷◌, ◌++◌, length, take, map, ap, refl, ◌∙◌, sym}
-use Rattle.std.proofs.Common.{arith, subst, min, append_assoc}
+use Rattle.std.proofs.Common.{arith, subst, min}
 use Rattle.std.specs.List.{filter}
 use Rattle.guest_code.specs.Program.{Program}
 use Rattle.semantics.specs.Reachable.{IsOf}
@@ -25,9 +25,9 @@ use Rattle.walk.specs.inner.Paths.{used_frames, IsNode, IsPath, state_at}
 use Rattle.walk.specs.inner.WalkerInvariant.{item_of, here, left_above, still_open, turns_left}
 use Rattle.walk.specs.inner.WalkerInvariant.{turns_from, turns_into, is_kept_at, is_past_at}
 use Rattle.walk.specs.inner.WalkerInvariant.{IsWithinAt, IsAwake, open_from, IsPlace}
-use Rattle.walk.specs.inner.WalkerInvariant.{IsWalkedOn, IsSearch, IsGone, IsKept, IsOpened}
+use Rattle.walk.proofs.Listed.{put_none, put_same, put_more}
+use Rattle.walk.specs.inner.WalkerInvariant.{HasPut, IsWalkedOn, IsSearch, IsGone, IsKept, IsOpened}
 use Rattle.walk.specs.inner.WalkerInvariant.{open_here, open_below}
-use Rattle.std.proofs.lemmas.List.{append-nil}
 use Rattle.std.proofs.Math.Bool.{or-false}
 use Rattle.semantics.proofs.Masks.{empty_has, members_over}
 use Rattle.walk.proofs.SharedSteps.{shared_same, shared_kept, shared_entered, shared_back}
@@ -150,9 +150,9 @@ pub put_off : {b : Found} (mode : Mode) (i : ItemView) (w : List ℕ) (n : Node)
     ((u : ℕ) → has past u ≡ (has e u && is_past_at mode e n u)) →
     g.part ≡ with_beyond f.part (f.part.beyond || not (is_empty (members_from past 0))) →
     g.rest.items ≡ f.rest.items →
-    g.deferred ≡ f.deferred ++ map (λ u. w ++ u ∷ []) (members_from past 0) →
+    HasPut f (map (λ u. w ++ u ∷ []) (members_from past 0)) g →
     IsWalkedOn b mode i g (children mode (item_of i.program w n) ++ above)
-put_off {b} mode i w n f g e past above h node of more passed part rest deferred = record {
+put_off {b} mode i w n f g e past above h node of more passed part rest put = record {
   own = with_beyond h.own (h.own.beyond || passes_bound mode c);
   put = h.put ++ beside (past_steps mode c);
   walked = subst (λ (ds : List ItemView). IsWalked (walk_of mode i
@@ -166,8 +166,8 @@ put_off {b} mode i w n f g e past above h node of more passed part rest deferred
       ∙ join_beyond_on b.part h.own (passes_bound mode c) h.sound
       (own_kept mode i f (c ∷ above) h)));
   rest = rest ∙ h.rest;
-  deferred = deferred ∙ ((λ k. h.deferred k ++ beside (members k))
-      ∙ append_assoc b.deferred h.put (beside (past_steps mode c)));
+  deferred = put_more b f g h.put (beside (past_steps mode c)) h.deferred
+      (subst (λ (ts : List ℕ). HasPut f (beside ts) g) members put);
 }
   where
     p : Program
@@ -203,8 +203,8 @@ arrived_free {b} mode i old new f e u us h on o kept free some room =
           (ap (with_beyond f.part) (sym (ap (λ (ts : List ℕ). f.part.beyond || not (is_empty ts))
           none ∙ or-false f.part.beyond)))
           refl
-          (sym (ap (λ (ts : List ℕ). f.deferred ++ map (λ t. old.steps.items ++ t ∷ []) ts) none
-          ∙ append-nil f.deferred)));
+          (subst (λ (ts : List ℕ). HasPut f (map (λ t. old.steps.items ++ t ∷ []) ts) f) (sym none)
+          (put_none f f refl refl)));
       shared = shared_same old.steps.items new.steps.items f h.shared o.steps;
     }
   where
@@ -234,7 +234,7 @@ arrived_leaf {b} mode i old new f g e w v h on o kept none schedule view same pa
           (leaf_on mode i c f g (left_above mode p old)
           (here_is_over p old e h.place.path on none) h.walked
           (part ∙ (λ k. added f.part (schedule k) (view k)))
-          (ap (λ (x : Found). x.rest.items) same) deferred);
+          (ap (λ (x : Found). x.rest.items) same) (ap (λ (x : Found). x.lists) same) deferred);
       shared = shared_kept old.steps.items new.steps.items f g h.shared o.steps deferred
           (ap (λ (x : Found). x.shared) same);
     }
@@ -405,7 +405,7 @@ retreated_search {b} mode i old new f g n h place same steps long found =
       sound = w.sound;
       part = w.part;
       rest = w.rest;
-      deferred = w.deferred;
+      deferred = put_same b f (record f { shared = min f.shared n }) w.put w.deferred refl refl;
     }
 
     left : (a b : ℕ) → min a b ≤ a

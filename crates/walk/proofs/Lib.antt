@@ -3,6 +3,7 @@ pub mod Filters
 pub mod ListParts
 pub mod WalkedItems
 pub mod SharedSteps
+pub mod Listed
 pub mod Words
 pub mod PathSteps
 pub mod Splits

@@ -37,7 +37,7 @@ use Rattle.walk.specs.inner.Paths.{used_frames}
 use Rattle.walk.specs.inner.WalkerInvariant.{IsAlone, PutsOff, IsAwake, open_from}
 use Rattle.walk.specs.inner.WalkerInvariant.{item_of, here, left_above, is_kept_at, is_past_at}
 use Rattle.walk.specs.inner.WalkerInvariant.{IsWithinAt, IsFree, is_spent_at, IsSpent, IsSearch}
-use Rattle.walk.specs.inner.WalkerInvariant.{IsShared, IsWalkedOn, open_here, open_below}
+use Rattle.walk.specs.inner.WalkerInvariant.{HasPut, IsShared, IsWalkedOn, open_here, open_below}
 use Rattle.walk.proofs.Filters.{filter_twice}
 use Rattle.walk.proofs.SharedSteps.{shared_same}
 use Rattle.walk.proofs.WalkTurns.{filter_alike, kept_alike}
@@ -172,13 +172,13 @@ lone_walked : {b : Found} (bound : ℕ) (i : ItemView) (w : List ℕ) (n : Node)
     has past t ≡ false → ((u : ℕ) → u ≢ t → has past u ≡ has e u) →
     g.part ≡ with_beyond f.part (f.part.beyond || not (is_empty (members_from past 0))) →
     g.rest ≡ f.rest →
-    g.deferred ≡ f.deferred ++ map (λ u. w ++ u ∷ []) (members_from past 0) →
+    HasPut f (map (λ u. w ++ u ∷ []) (members_from past 0)) g →
     IsWalkedOn b (Bounded bound) i g (child_of (Bounded bound) (item_of i.program w n) t ∷ above)
-lone_walked {b} bound i w n f g e past t above h node of last used on out same part rest deferred =
+lone_walked {b} bound i w n f g e past t above h node of last used on out same part rest put =
     subst (λ (cs : List ItemView). IsWalkedOn b (Bounded bound) i g (cs ++ above)) kids
     (put_off (Bounded bound) i w n f g e past above h node of more
     (lone_past bound e past n t last used on out same) part
-    (ap (λ (r : Vec ItemView Global). r.items) rest) deferred)
+    (ap (λ (r : Vec ItemView Global). r.items) rest) put)
   where
     kids : children (Bounded bound) (item_of i.program w n)
         ≡ child_of (Bounded bound) (item_of i.program w n) t ∷ []
@@ -196,14 +196,14 @@ pub lone_search : {b : Found} (mode : Mode) (i : ItemView) (old : Path) (steps :
     has past t ≡ false → ((u : ℕ) → u ≢ t → has past u ≡ has e u) →
     g.part ≡ with_beyond f.part (f.part.beyond || not (is_empty (members_from past 0))) →
     g.rest ≡ f.rest →
-    g.deferred ≡ f.deferred ++ map (λ u. old.steps.items ++ u ∷ []) (members_from past 0) →
+    HasPut f (map (λ u. old.steps.items ++ u ∷ []) (members_from past 0)) g →
     IsShared old.steps.items g →
     IsSearch b mode i (record old { steps = steps }) g
     (open_below mode i.program (record old { steps = steps }) t)
-lone_search Reduced i old steps f g e past t h are same last alone out others part rest deferred
-    shared = absurd (spent_is Reduced old.node (and_left false (has e t) alone))
-lone_search {b} (Bounded bound) i old steps f g e past t h are same last alone out others part rest
-    deferred shared = record {
+lone_search Reduced i old steps f g e past t h are same last alone out others part rest put shared =
+    absurd (spent_is Reduced old.node (and_left false (has e t) alone))
+lone_search {b} (Bounded bound) i old steps f g e past t h are same last alone out others part rest put
+    shared = record {
       place = place_turned p old new h.place turned h.place.path.room;
       walked = subst (IsWalkedOn b mode i g)
           (λ k. child_of mode (sym (here_turned p old new turned) k) t
@@ -211,7 +211,7 @@ lone_search {b} (Bounded bound) i old steps f g e past t h are same last alone o
           (lone_walked bound i old.steps.items old.node f g e past t (left_above mode p old)
           h.walked (node_of p old e h.place.path are) (of_here p old h.place.path) last
           (spent_is mode old.node (and_left (is_spent_at mode old.node) (has e t) alone))
-          (and_right (is_spent_at mode old.node) (has e t) alone) out others part rest deferred);
+          (and_right (is_spent_at mode old.node) (has e t) alone) out others part rest put);
       shared = shared_same old.steps.items steps.items g shared same;
     }
   where
@@ -275,9 +275,9 @@ pub puts_off : (p : Program) (bound : ℕ) (n : Node) (u v w : List ℕ) (f g h 
     has past t ≡ false → ((x : ℕ) → x ≢ t → has past x ≡ has e x) →
     h.part ≡ with_beyond g.part (g.part.beyond || not (is_empty (members_from past 0))) →
     h.rest ≡ g.rest →
-    h.deferred ≡ g.deferred ++ map (λ x. v ++ x ∷ []) (members_from past 0) →
+    HasPut g (map (λ x. v ++ x ∷ []) (members_from past 0)) h →
     w ≡ v ++ t ∷ [] → PutsOff p bound n u f w h
-puts_off p bound n u v w f g h e past t put node of last used awake on out same part rest deferred
+puts_off p bound n u v w f g h e past t before_put node of last used awake on out same part rest put
     steps = λ before i above program walked.
     subst (λ (q : Program). IsNode q v e n → IsOf q (state_at q v)
     → IsWalkedOn before (Bounded bound) i g (item_of q v n ∷ above)
@@ -285,8 +285,8 @@ puts_off p bound n u v w f g h e past t put node of last used awake on out same 
     (λ its_node its_of k. subst (λ (c : ItemView). IsWalkedOn before (Bounded bound) i h (c ∷ above))
     (λ j. record { program = i.program; prefix = sym steps j; mask = sym awake j })
     (lone_walked bound i v n g h e past t above k its_node its_of last used on out same part rest
-    deferred))
-    node of (put before i above program walked)
+    put))
+    node of (before_put before i above program walked)
 
 -- a lane of the walk's machine, whose thread took the last step, where the bound is used up
 pub alone_here : (mode : Mode) (p : Program) (t : Path) (l : Lane) (u : ℕ) → IsPath p t

@@ -19,6 +19,7 @@ use Rattle.walk.specs.Walks.{WalkView, IsWalked, IsBelow, IsCut}
 use Rattle.walk.specs.inner.Children.{state_of, IsWithin, passes_bound, children, past_children}
 use Rattle.walk.specs.declared.found.Found.{Found}
 use Rattle.walk.specs.Walks.{items_at}
+use Rattle.walk.proofs.Listed.{put_same}
 use Rattle.walk.specs.inner.WalkerInvariant.{IsWalkedOn}
 use Rattle.walk.proofs.Splits.{split_kept}
 use Rattle.walk.proofs.WalkedFurther.{walked_further}
@@ -119,8 +120,9 @@ join_beyond_on a s past h k =
 pub leaf_on : {b : Found} (mode : Mode) (i c : ItemView) (f g : Found) (rest : List ItemView) →
     is_terminal c.program (state_of c) ≡ true → IsWalkedOn b mode i f (c ∷ rest) →
     g.part ≡ added f.part c.prefix (end_of c.program c.prefix) →
-    g.rest.items ≡ f.rest.items → g.deferred ≡ f.deferred → IsWalkedOn b mode i g rest
-leaf_on {b} mode i c f g rest over h part left deferred = record {
+    g.rest.items ≡ f.rest.items → g.lists ≡ f.lists → g.deferred ≡ f.deferred
+    → IsWalkedOn b mode i g rest
+leaf_on {b} mode i c f g rest over h part left lists deferred = record {
   own = added h.own c.prefix (end_of c.program c.prefix);
   put = h.put;
   walked = walked_leaf mode i c h.own rest (items_at i.program h.put) over h.walked;
@@ -128,7 +130,7 @@ leaf_on {b} mode i c f g rest over h part left deferred = record {
   part = part ∙ (ap (λ s. added s c.prefix (end_of c.program c.prefix)) h.part
       ∙ join_added c.program b.part h.own c.prefix h.sound (own_kept mode i f (c ∷ rest) h));
   rest = left ∙ h.rest;
-  deferred = deferred ∙ h.deferred;
+  deferred = put_same b f g h.put h.deferred lists deferred;
 }
 
 -- nothing is enabled, or something is

@@ -1,6 +1,6 @@
 //! What a walk finds.
 
-ghost use Rattle.std.specs.Prelude.{◌≡◌, []};
+ghost use Rattle.std.specs.Prelude.{◌≡◌, [], true};
 ghost use Rattle.summary.specs.Summaries.{nothing};
 ghost use Rattle.walk.specs.inner.WalkerInvariant.{IsShared};
 
@@ -16,24 +16,28 @@ pub struct Found {
     pub part: Summary,
     /// The items that were left, in order.
     pub rest: Vec<Item>,
-    /// The prefixes whose last step would be one preemption too many.
+    /// The prefixes whose last step would be one preemption too many, where they are listed.
     pub deferred: Prefixes,
+    /// Whether they are. At the last bound of a search nobody asks for them.
+    pub lists: bool,
     // While the walk goes on, so many of its steps begin the prefix that was put off last, too.
     pub(crate) shared: usize,
 }
 
 impl Found {
-    /// Nothing was found.
+    /// Nothing was found. What is put off is to be listed.
     pub fn new(alloc: Global) -> Found
         ensures part { result.part ≡ nothing }
         ensures rest { result.rest.items ≡ [] }
         ensures deferred { result.deferred ≡ [] }
+        ensures lists { result.lists ≡ true }
         ensures shared { result.shared ≡ 0 }
     {
         Found {
             part: Summary::empty(alloc),
             rest: Vec::new(alloc),
             deferred: Prefixes::new(alloc),
+            lists: true,
             shared: 0,
         }
     }
@@ -49,16 +53,19 @@ impl Found {
         };
     }
 
-    // Forgets what was found. End views go to this memory, all else is kept.
-    pub(crate) fn clear(&mut self, ends: &mut EndMemory)
+    // Forgets what was found. End views go to this memory, all else is kept. What is put off next is
+    // to be listed or not.
+    pub(crate) fn clear(&mut self, ends: &mut EndMemory, lists: bool)
         ensures part { self.new.part ≡ nothing }
         ensures rest { self.new.rest.items ≡ [] }
         ensures deferred { self.new.deferred ≡ [] }
+        ensures lists { self.new.lists ≡ lists }
         ensures shared { self.new.shared ≡ 0 }
     {
         self.part.clear(ends);
         self.rest.clear();
         self.deferred.clear();
+        self.lists = lists;
         self.shared = 0;
     }
 }

@@ -13,7 +13,7 @@ ghost use Rattle.semantics.specs.Work.{work};
 ghost use Rattle.walk.specs.declared.path.Node.{Node};
 ghost use Rattle.walk.specs.inner.Paths.{IsPath, used_frames, state_at};
 ghost use Rattle.walk.specs.Walks.{HasAdded};
-ghost use Rattle.walk.specs.inner.WalkerInvariant.{IsPlace, Searches, GoesOn, IsKept, here, left_above, open_here, open_below, still_open, turns_left, turns_from, turns_into, is_kept_at, is_past_at, is_past_here, IsFree, IsSpent, is_spent_at, IsShared, IsAwake, IsAlone, PutsOff};
+ghost use Rattle.walk.specs.inner.WalkerInvariant.{IsPlace, Searches, GoesOn, IsKept, here, left_above, open_here, open_below, still_open, turns_left, turns_from, turns_into, is_kept_at, is_past_at, is_past_here, IsFree, IsSpent, is_spent_at, IsShared, IsAwake, IsAlone, HasPut, PutsOff};
 
 use crate::found::Found;
 use crate::item::Item;
@@ -48,6 +48,7 @@ impl Found {
         ensures steps { steps.new.items ≡ steps.old.items }
         ensures rest { self.new.rest ≡ self.old.rest }
         ensures part { OnOk result (self.new.part ≡ with_beyond self.old.part true) }
+        ensures lists { self.new.lists ≡ self.old.lists }
         ensures deferred { OnOk result (self.new.deferred
             ≡ self.old.deferred ++ (steps.old.items ++ thread ∷ []) ∷ []) }
         ensures shared { OnOk result (IsShared steps.old.items self.new) }
@@ -93,6 +94,7 @@ impl Found {
         ensures steps { steps.new.items ≡ steps.old.items }
         ensures rest { self.new.rest ≡ self.old.rest }
         ensures part { OnOk result (self.new.part ≡ with_beyond self.old.part true) }
+        ensures lists { self.new.lists ≡ self.old.lists }
         ensures deferred { OnOk result (self.new.deferred ≡ self.old.deferred
             ++ map (λ t. steps.old.items ++ t ∷ []) (members_from past 0)) }
         ensures shared { OnOk result (IsShared steps.old.items self.new) }
@@ -101,7 +103,7 @@ impl Found {
         self.put_beside(steps, without_first(past, first))
     }
 
-    // Puts off the steps of these threads after the others. Often there is none.
+    // Puts off the steps of these threads after the others, where they are listed. Often there is none.
     #[inline(always)]
     pub(crate) fn defer(&mut self, steps: &mut Vec<u8>, past: Mask) -> Result<(), AllocError>
         requires { IsShared steps.old.items self.old }
@@ -109,14 +111,18 @@ impl Found {
         ensures rest { self.new.rest ≡ self.old.rest }
         ensures part { OnOk result (self.new.part ≡ with_beyond self.old.part
             (self.old.part.beyond || not (is_empty (members_from past 0)))) }
-        ensures deferred { OnOk result (self.new.deferred ≡ self.old.deferred
-            ++ map (λ t. steps.old.items ++ t ∷ []) (members_from past 0)) }
+        ensures put { OnOk result (HasPut self.old
+            (map (λ t. steps.old.items ++ t ∷ []) (members_from past 0)) self.new) }
         ensures shared { OnOk result (IsShared steps.old.items self.new) }
     {
-        match past.first_from(0) {
-            None => Ok(()),
-            Some(first) => self.put_off_all(steps, past, first),
+        let Some(first) = past.first_from(0) else {
+            return Ok(());
+        };
+        if !self.lists {
+            self.part.set_beyond();
+            return Ok(());
         }
+        self.put_off_all(steps, past, first)
     }
 
     // Whether fewer schedules were tried than the limit.

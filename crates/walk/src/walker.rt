@@ -100,18 +100,20 @@ impl Walker {
             found_walk mode item.now found.new ≡ walk_past_bound mode item.now) }
         ensures walked { OnOk result (IsWalked (found_walk mode item.now found.new)) }
     {
-        self.clear(found);
+        self.clear(found, true);
         self.walk_on(alloc, found, item, mode, quota)
     }
 
-    /// Forgets what walks found. Its memory serves other walks.
-    pub fn clear(&mut self, found: &mut Found)
+    /// Forgets what walks found. Its memory serves other walks, of which what they put off is to be
+    /// listed or not.
+    pub fn clear(&mut self, found: &mut Found, lists: bool)
         ensures program { self.new ≡ self.old }
         ensures part { found.new.part ≡ nothing }
         ensures rest { found.new.rest.items ≡ [] }
         ensures deferred { found.new.deferred ≡ [] }
+        ensures lists { found.new.lists ≡ lists }
     {
-        found.clear(&mut self.path.ends);
+        found.clear(&mut self.path.ends, lists);
     }
 
     /// Walks an item as [`Walker::walk_into`] does, and adds what is found to what other walks found.

@@ -9,7 +9,8 @@ use Rattle.summary.specs.Summaries.{SummaryView, nothing, join}
 use Rattle.walk.specs.Items.{ItemView}
 use Rattle.walk.specs.declared.mode.Mode.{Mode}
 use Rattle.walk.specs.declared.found.Found.{Found}
-use Rattle.walk.specs.Walks.{WalkView, HasAdded, IsWalked, items_at}
+use Rattle.walk.specs.Walks.{WalkView, HasAdded, IsWalked, items_at, listed_if}
+use Rattle.walk.proofs.Listed.{listed_none, listed_both}
 use Rattle.book.specs.Books.{BookView, AreWalksAt, HaveFound, HaveSettled, joined}
 use Rattle.workers.specs.Teams.{IsOf}
 
@@ -39,7 +40,7 @@ none_found p mode items f part rest deferred = record {
   of = tt;
   part = part;
   rest = rest;
-  deferred = ap (items_at p) deferred;
+  deferred = ap (items_at p) deferred ∙ sym (listed_none f.lists);
 }
 
 pub one_more_found : (p : Program) (mode : Mode) (items : List ItemView) (places : List ℕ)
@@ -53,20 +54,22 @@ one_more_found p mode items places place quota i f g h at of a = record {
   part = a.part ∙ (ap (λ s. join s a.walk.part) h.part ∙ sym (joined_more nothing h.walks a.walk));
   rest = a.rest ∙ (ap (λ xs. xs ++ a.walk.rest) h.rest
       ∙ sym (flat_more (λ w. w.rest) h.walks a.walk));
-  deferred = subst (λ (q : Program). items_at q g.deferred ≡ items_at q f.deferred ++ a.walk.deferred)
-      of a.deferred
-      ∙ (ap (λ xs. xs ++ a.walk.deferred) h.deferred
-      ∙ sym (flat_more (λ w. w.deferred) h.walks a.walk));
+  deferred = subst (λ (q : Program). items_at q g.deferred
+      ≡ items_at q f.deferred ++ listed_if f.lists a.walk.deferred) of a.deferred
+      ∙ (ap (λ xs. xs ++ listed_if f.lists a.walk.deferred) h.deferred
+      ∙ (listed_both f.lists (flat_map (λ w. w.deferred) h.walks) a.walk.deferred
+      ∙ (λ k. listed_if (sym a.lists k) (sym (flat_more (λ w. w.deferred) h.walks a.walk) k))));
 }
 
 -- a book where walks were settled is of the same search
-pub settled_of : (p : Program) (mode : Mode) (quick : Bool) (ws : List WalkView) (old new : BookView) →
-    IsOf old p mode quick → HaveSettled old ws new → IsOf new p mode quick
-settled_of p mode quick [] old new of h = subst (λ z. IsOf z p mode quick) (sym h) of
-settled_of p mode quick (w ∷ ws) old new of h =
-    settled_of p mode quick ws h.0 new
-    (subst (λ z. IsOf z p mode quick) (sym h.1.book)
-    (record { program = of.program; mode = of.mode; quick = of.quick })) h.2
+pub settled_of : (p : Program) (mode : Mode) (quick lists : Bool) (ws : List WalkView)
+    (old new : BookView) → IsOf old p mode quick lists → HaveSettled old ws new →
+    IsOf new p mode quick lists
+settled_of p mode quick lists [] old new of h = subst (λ z. IsOf z p mode quick lists) (sym h) of
+settled_of p mode quick lists (w ∷ ws) old new of h =
+    settled_of p mode quick lists ws h.0 new
+    (subst (λ z. IsOf z p mode quick lists) (sym h.1.book)
+    (record { program = of.program; mode = of.mode; quick = of.quick; lists = of.lists })) h.2
 
 pub either_way : (r : Result Bool AllocError) (P : Type 0) → (r ≡ Ok true → P) →
     ((r ≡ Ok true → ⊥) → P) → P
@@ -82,6 +85,7 @@ found_in p q mode other items places f same in_mode h = record {
   of = subst (λ (m : Mode). AreWalksAt m items places h.walks) (sym in_mode) h.of;
   part = h.part;
   rest = h.rest;
-  deferred = subst (λ (x : Program). items_at x f.deferred ≡ flat_map (λ w. w.deferred) h.walks)
+  deferred = subst (λ (x : Program). items_at x f.deferred
+      ≡ listed_if f.lists (flat_map (λ w. w.deferred) h.walks))
       (sym same) h.deferred;
 }

@@ -44,12 +44,13 @@ impl<N: Naming> Desk<N> {
     ///
     /// `AllocError` where memory runs out.
     pub fn new(alloc: Global, book: Book, options: Options) -> Result<Desk<N>, AllocError>
-        requires book { IsOf book N.program N.mode N.quick }
+        requires book { IsOf book N.program N.mode N.quick N.lists }
         requires quota { 1 ≤ options.quota }
     {
         let none = Round {
             mode: book.mode(),
             quick: book.is_quick(),
+            lists: book.lists(),
             quota: options.quota,
             turn: 0,
             first: 0,
@@ -70,7 +71,7 @@ impl<N: Naming> Desk<N> {
 
     /// The book.
     pub fn into_book(self) -> Book
-        ensures { IsOf result N.program N.mode N.quick }
+        ensures { IsOf result N.program N.mode N.quick N.lists }
     {
         self.book.into_book()
     }
@@ -107,6 +108,7 @@ impl<N: Naming> Desk<N> {
         let round = Round {
             mode: before.mode,
             quick: before.quick,
+            lists: before.lists,
             quota: before.quota,
             turn: before.turn.wrapping_add(1),
             first: before.first.wrapping_add(before.items.len() as u64),

@@ -36,13 +36,14 @@ impl Hand {
         })
     }
 
-    /// Forgets the walks that it keeps. Their memory serves later walks.
-    pub fn forget(&mut self)
+    /// Forgets the walks that it keeps. Their memory serves later walks, of which what they put off is
+    /// listed or not.
+    pub fn forget(&mut self, lists: bool)
         ensures walker { self.new.walker ≡ self.old.walker }
         ensures places { self.new.places.items ≡ [] }
         ensures kept { (r : Round) → AreKept r self.new }
     {
-        self.walker.clear(&mut self.found);
+        self.walker.clear(&mut self.found, lists);
         self.places.clear();
     }
 
@@ -89,7 +90,7 @@ impl Hand {
         ensures kept { AreKept round.now self.new }
     {
         if let Err(error) = self.walk_on(alloc, round, place) {
-            self.forget();
+            self.forget(round.lists);
             return Err(error);
         }
         Ok(self.found.part.first_bad().is_some())
@@ -116,7 +117,7 @@ impl Hand {
     {
         let (items, places) = (round.items.as_slice(), self.places.as_slice());
         let settled = book.settle(alloc, items, places, &mut self.found);
-        self.forget();
+        self.forget(round.lists);
         let _is_taken = settled?;
         Ok(())
     }

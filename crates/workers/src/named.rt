@@ -22,6 +22,8 @@ pub(crate) trait Naming {
     ghost mode: { Mode };
 
     ghost quick: { Bool };
+
+    ghost lists: { Bool };
 }
 
 // What stands here is never used: each call picks its own.
@@ -40,6 +42,8 @@ impl Naming for Brand {
     ghost mode = { Reduced };
 
     ghost quick = { false };
+
+    ghost lists = { false };
 }
 
 /// A book that is known to be of one search. So whoever gets it from a lock has nothing to compare.
@@ -58,13 +62,13 @@ impl<N: Naming> Model for NamedBook<N> {
 
     ghost view = { λ n. n.book };
 
-    ghost invariant = { λ n. IsOf n.book N.program N.mode N.quick };
+    ghost invariant = { λ n. IsOf n.book N.program N.mode N.quick N.lists };
 }
 
 impl<N: Naming> NamedBook<N> {
     /// A book of this search.
     pub fn new(book: Book) -> NamedBook<N>
-        requires { IsOf book N.program N.mode N.quick }
+        requires { IsOf book N.program N.mode N.quick N.lists }
         ensures { result ≡ book }
     {
         NamedBook {
@@ -83,14 +87,14 @@ impl<N: Naming> NamedBook<N> {
     /// The book.
     pub fn into_book(self) -> Book
         ensures same { result ≡ self }
-        ensures of { IsOf result N.program N.mode N.quick }
+        ensures of { IsOf result N.program N.mode N.quick N.lists }
     {
         self.book
     }
 
     /// Settles at once what walks of items of its last round found, one after another: of those at
     /// these places of the round. Answers whether the book took it: it doesn't where one of the items
-    /// isn't open. The memory of what was found serves later walks.
+    /// isn't open, or what the walks put off isn't listed as the book lists it. The memory of what was found serves later walks.
     ///
     /// # Errors
     ///

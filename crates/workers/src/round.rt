@@ -11,6 +11,8 @@ use walk::mode::Mode;
 pub(crate) struct Round {
     pub mode: Mode,
     pub quick: bool,
+    /// Whether what its walks put off is listed.
+    pub lists: bool,
     pub quota: u32,
     /// Which round of its stretch it is, counted from 1.
     pub turn: u64,

@@ -121,8 +121,8 @@ impl Stretch {
     ) -> Result<(Team, Ending), AllocError>
         requires quota { 1 ≤ options.quota }
         requires stretch { IsStretch N.program self }
-        requires book { IsOf self.book N.program N.mode N.quick }
-        ensures book { IfOk result (λ r. IsOf r.0.book N.program N.mode N.quick) }
+        requires book { IsOf self.book N.program N.mode N.quick N.lists }
+        ensures book { IfOk result (λ r. IsOf r.0.book N.program N.mode N.quick N.lists) }
         ensures team { IfOk result (λ r. IsTeam N.program r.0) }
         ensures stopped { IfOk result (λ r. r.1 ≡ Stopped → G.stops gate.now ≡ true) }
     {

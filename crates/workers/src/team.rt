@@ -41,7 +41,8 @@ fn walk_in_order<G: Gate>(
 ) -> Ending
     requires round { IsRoundOf walker.old round.now.mode round.now }
     ensures walker { walker.new ≡ walker.old }
-    ensures book { IsOf book.new book.old.program book.old.mode book.old.quick }
+    ensures book { let b = book.old in
+        IsOf book.new b.program b.mode b.quick b.lists }
     ensures stopped { result ≡ Stopped → G.stops gate.now ≡ true }
 {
     for k in 0..round.items.len() {
@@ -87,7 +88,8 @@ impl Team {
     ) -> Result<Ending, AllocError>
         requires quota { 1 ≤ quota }
         requires team { IsTeam self.old.book.program self.old }
-        ensures book { let b = self.old.book in IsOf self.new.book b.program b.mode b.quick }
+        ensures book { let b = self.old.book in
+            IsOf self.new.book b.program b.mode b.quick b.lists }
         ensures team { IsTeam self.old.book.program self.new }
         ensures stopped { IfOk result (λ e. e ≡ Stopped → G.stops gate.now ≡ true) }
     {
@@ -97,6 +99,7 @@ impl Team {
         let round = Round {
             mode: self.book.mode(),
             quick: self.book.is_quick(),
+            lists: self.book.lists(),
             quota,
             turn: 1,
             first: 0,
@@ -120,7 +123,7 @@ impl Team {
         requires quota { 1 ≤ options.quota }
         requires team { IsTeam self.book.program self }
         ensures book { let b = self.book in
-            IfOk result (λ r. IsOf r.0.book b.program b.mode b.quick) }
+            IfOk result (λ r. IsOf r.0.book b.program b.mode b.quick b.lists) }
         ensures team { IfOk result (λ r. IsTeam self.book.program r.0) }
         ensures stopped { IfOk result (λ r. r.1 ≡ Stopped → G.stops gate.now ≡ true) }
         ensures error { IfErr result (λ e. e ≡ OutOfMemory) }

@@ -137,7 +137,7 @@ impl Worker {
         ensures on { IsOn shared.now.board.id N.program self.new }
         ensures stopped { result ≡ Some Stopped → G.stops shared.now.gate.now ≡ true }
     {
-        self.hand.forget();
+        self.hand.forget(round.lists);
         let ending = self.walk_items(rt, shared, round);
         if self.drawn == 0 {
             return ending;

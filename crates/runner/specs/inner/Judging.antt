@@ -1,5 +1,5 @@
 -- What a round comes to.
-use Rattle.std.specs.Prelude.{◌≡◌, ◌≤◌, ◌<◌, ◌+◌, ◌-◌, ℕ, List, [], Bool, false}
+use Rattle.std.specs.Prelude.{◌≡◌, ◌≤◌, ◌<◌, ◌+◌, ◌-◌, ℕ, List, [], Bool, false, nat_lt}
 use Rattle.std.specs.Prelude.{Option, Some, None}
 use Rattle.guest_code.specs.Program.{Program}
 use Rattle.walk.specs.declared.mode.Mode.{Mode}
@@ -7,6 +7,7 @@ use Rattle.walk.specs.declared.mode.Mode.TheVariants.{Bounded, Reduced}
 use Rattle.schedules.specs.Schedules.{preemptions}
 use Rattle.summary.specs.Summaries.{SummaryView, end_kind}
 use Rattle.walk.specs.Items.{whole}
+use Rattle.walk.specs.Walks.{listed_if}
 use Rattle.book.specs.Books.{BookView}
 use Rattle.report.specs.declared.options.Options.{Options}
 use Rattle.report.specs.declared.options.Search.{Search}
@@ -57,6 +58,23 @@ IsLast (UpTo last) Reduced = ⊥
 IsLast Unbounded (Bounded bound) = ⊥
 IsLast Unbounded Reduced = Unit {0}
 
+-- what a mode puts off is listed, since the search goes on to another one
+abbrev pub lists_at : Search → Mode → Bool
+lists_at (UpTo last) (Bounded bound) = nat_lt bound last
+lists_at (UpTo last) Reduced = false
+lists_at Unbounded mode = false
+
+-- the book is that of a search of this program that has come to this mode
+abbrev pub IsAt : BookView → Program → Options → Mode → Type 0
+IsAt b p o mode = IsOf b p mode o.quick (lists_at o.search mode)
+
+-- the book where its bound begins: what it puts off is listed or not
+abbrev pub begun : Search → BookView → BookView
+begun search b = record b {
+  deferred = listed_if (lists_at search b.mode) b.deferred;
+  lists = lists_at search b.mode;
+}
+
 -- the bound below that of a mode, if there is one
 abbrev pub IsBoundBelow : Mode → Option ℕ → Type 0
 IsBoundBelow (Bounded bound) (Some below) = bound ≡ below + 1
@@ -105,14 +123,14 @@ Comes may p o mode book Again =
 -- what comes next after all rounds of a mode
 abbrev pub ComesAfter : Program → Options → Mode → BookView → Next → Type 0
 ComesAfter p o mode book (Answer r) = IsReport false p o r
-ComesAfter p o mode book Raise = IsOf book p mode o.quick × Comes false p o mode book Raise
+ComesAfter p o mode book Raise = IsAt book p o mode × Comes false p o mode book Raise
 ComesAfter p o mode book Again = ⊥
 
 -- what follows a round: a report, or another round, which is of the book
 abbrev pub Follows : Bool → Program → Options → BookView → Option Report → Type 0
 Follows may p o book (Some r) = IsReport may p o r
 Follows may p o book None =
-    IsStage p o.search book.mode × IsOf book p book.mode o.quick
+    IsStage p o.search book.mode × IsAt book p o book.mode
 
 -- how many bounds a search may still come to
 abbrev pub bounds_left : Search → Mode → ℕ

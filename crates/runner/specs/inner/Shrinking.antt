@@ -10,11 +10,13 @@ abbrev pub IsSmaller : Mode → List ItemView → List ItemView → Type 0
 IsSmaller mode a b = (schedule_count mode a < schedule_count mode b)
     ⊎ ((schedule_count mode a ≡ schedule_count mode b) × (length a < length b))
 
--- the book is of the same program and mode, a quick one or not as before, and has less left
+-- the book is of the same program and mode, a quick one and listing or not as before, and has less
+-- left
 pub record HasLess (old new : BookView) : Type 0 where
   pub program : new.program ≡ old.program
   pub mode : new.mode ≡ old.mode
   pub quick : new.quick ≡ old.quick
+  pub lists : new.lists ≡ old.lists
   pub less : IsSmaller old.mode new.open_items old.open_items
 
 -- the book is as before, and no item of it is this one

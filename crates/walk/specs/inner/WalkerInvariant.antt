@@ -13,7 +13,7 @@ use Rattle.walk.specs.declared.found.Found.{Found}
 use Rattle.walk.specs.Items.{ItemView}
 use Rattle.prefix_list.specs.PrefixLists.{last_of}
 use Rattle.summary.specs.Summaries.{SummaryView, IsSummary, join}
-use Rattle.walk.specs.Walks.{IsWalked, items_at}
+use Rattle.walk.specs.Walks.{IsWalked, items_at, listed_if}
 use Rattle.walk.specs.inner.Children.{child_of, children_of, cost_of, costs}
 use Rattle.machine.specs.declared.control.Control.{Control}
 use Rattle.machine.specs.declared.lane.Lane.{Lane}
@@ -68,6 +68,11 @@ pub record IsShared (steps : List ℕ) (f : Found) : Type 0 where
   pub fits : f.shared ≤ length steps
   pub same : take f.shared (last_of f.deferred) ≡ take f.shared steps
 
+-- these prefixes were put off after the others, where they are listed
+pub record HasPut (old : Found) (put : List (List ℕ)) (new : Found) : Type 0 where
+  pub lists : new.lists ≡ old.lists
+  pub deferred : new.deferred ≡ old.deferred ++ listed_if old.lists put
+
 -- what is found of an item is added to what was found before: a sum of its own and what is put off
 -- make a walk of the item that leaves these
 pub record IsWalkedOn (before : Found) (mode : Mode) (i : ItemView) (f : Found)
@@ -84,7 +89,7 @@ pub record IsWalkedOn (before : Found) (mode : Mode) (i : ItemView) (f : Found)
   pub sound : IsSummary before.part
   pub part : f.part ≡ join before.part own
   pub rest : f.rest.items ≡ before.rest.items
-  pub deferred : f.deferred ≡ before.deferred ++ put
+  pub deferred : HasPut before put f
 
 -- a walk of the item stands at a place where these items are open
 pub record IsSearch (before : Found) (mode : Mode) (i : ItemView) (t : Path) (f : Found)

@@ -3,7 +3,7 @@ use Rattle.std.specs.Result.{IsErrAnd}
 use Rattle.report.specs.declared.error.ExploreError.TheVariants.{OutOfMemory}
 use Rattle.runner.specs.declared.judge.Next.{Next}
 use Rattle.runner.specs.inner.Judging.{ComesAfter}
-use Rattle.runner.proofs.AfterRounds.{raised_less, raised_stage}
+use Rattle.runner.proofs.AfterRounds.{raised_less, raised_stage, begun_at}
 use Rattle.runner.proofs.alone.search_bounds.Goals as goal
 
 pub loop-report-smaller : goal.loop-report-smaller
@@ -11,7 +11,7 @@ loop-report-smaller g c =
     let o = c.args.stage.options in
     let comes = subst (λ (n : Next). ComesAfter c.args.stage.program.now o c.loop-report.mode
     c.search_mode.new.book n) c.in-Raise.is c.in_ok-report.ensures.next in
-    raised_less c.search_mode.new.book _ c.args.stage.program.now c.loop-report.mode _ o comes.0
+    raised_less c.search_mode.new.book _ c.args.stage.program.now o c.loop-report.mode _ comes.0
     comes.1.3 c.in-Ok.ensures.ok c.mode-mode.ensures
 
 pub loop-report-preserved : goal.loop-report-preserved
@@ -19,10 +19,11 @@ loop-report-preserved g c =
     let o = c.args.stage.options in
     let comes = subst (λ (n : Next). ComesAfter c.args.stage.program.now o c.loop-report.mode
     c.search_mode.new.book n) c.in-Raise.is c.in_ok-report.ensures.next in
-    let at = raised_stage c.search_mode.new.book _ c.args.stage.program.now c.loop-report.mode
-    c.mode-mode.result o comes.0 comes.1.3 c.in-Ok.ensures.ok c.mode-mode.ensures in
+    let at = raised_stage c.search_mode.new.book _ c.args.stage.program.now o c.loop-report.mode
+    c.mode-mode.result comes.0 comes.1.3 c.in-Ok.ensures.ok c.mode-mode.ensures in
     record {
-      of = at.1;
+      of = begun_at c.raise.new.self c.begin_bound.new.book c.args.stage.program.now o
+          c.mode-mode.result at.1 c.begin_bound.ensures;
       stage = at.0;
       walker = c.search_mode.ensures.walker ∙ c.loop-report.invariant.walker;
     }

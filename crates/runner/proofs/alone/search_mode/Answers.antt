@@ -1,6 +1,6 @@
 use Rattle.std.proofs.Common.{◌<◌, ◌^◌, subst, arith, length, false}
 use Rattle.runner.specs.declared.judge.Next.{Next}
-use Rattle.runner.specs.inner.Judging.{Comes}
+use Rattle.runner.specs.inner.Judging.{Comes, lists_at}
 use Rattle.runner.proofs.Shrinks.{round_shrinks, round_keeps}
 use Rattle.runner.proofs.alone.search_mode.Goals as goal
 
@@ -21,7 +21,8 @@ returns-in-Raise-clause-next g c =
     let s = c.args.stage in
     let b = c.walk_round.new.book in
     let next = c.in_ok-judge.ensures.next false (λ e. absurd cc) in (
-      round_keeps c.loop-book.book b s.program.now s.mode s.options.quick c.loop-book.invariant.of
+      round_keeps c.loop-book.book b s.program.now s.mode s.options.quick
+          (lists_at s.options.search s.mode) c.loop-book.invariant.of
           c.in_ok-walk_round.ensures.book,
       subst (λ (n : Next). Comes false s.program.now s.options s.mode b n) c.in-Raise.is next,
     )

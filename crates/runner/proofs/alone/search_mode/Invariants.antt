@@ -1,11 +1,11 @@
 use Rattle.std.proofs.Common.{◌≡◌, ◌*◌, ◌+◌, length}
 use Rattle.walk.specs.Items.{schedule_count}
-use Rattle.workers.specs.Teams.{IsOf}
+use Rattle.runner.specs.inner.Judging.{IsAt}
 use Rattle.runner.proofs.alone.search_mode.Given as goal
 
 abbrev pub invariant-loop-book : goal.invariant-loop-book
 invariant-loop-book g l = record {
-  of : IsOf l.book l.fn.stage.program.now l.fn.stage.mode l.fn.stage.options.quick;
+  of : IsAt l.book l.fn.stage.program.now l.fn.stage.options l.fn.stage.mode;
   walker : l.lone.walker ≡ l.fn.lone.walker;
 }
 

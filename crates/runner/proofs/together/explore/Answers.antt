@@ -2,8 +2,7 @@ use Rattle.std.proofs.Common.{rules, ◌≡◌, subst, refl, true, Option, None}
 use Rattle.guest_code.specs.Program.{Program}
 use Rattle.report.specs.declared.report.Report.{Report}
 use Rattle.report.specs.Promises.{IsReport}
-use Rattle.runner.specs.inner.Judging.{IsStage, Follows}
-use Rattle.workers.specs.Teams.{IsOf}
+use Rattle.runner.specs.inner.Judging.{IsStage, IsAt, Follows}
 use Rattle.workers.proofs.Teams.{same_hands}
 use Rattle.runner.proofs.together.explore.Goals as goal
 
@@ -31,7 +30,7 @@ loop-preserved g c =
       tt,
       tt,
       subst (λ (p : Program). IsStage p o.search c.after_round.new.book.mode) c.deref.ensures goes.0,
-      subst (λ (p : Program). IsOf c.after_round.new.book p c.after_round.new.book.mode o.quick)
+      subst (λ (p : Program). IsAt c.after_round.new.book p o c.after_round.new.book.mode)
           c.deref.ensures goes.1,
       same_hands _ _ c.in_ok-next.next _ refl of.program kept,
     )

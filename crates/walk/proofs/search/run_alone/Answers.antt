@@ -98,7 +98,7 @@ loop-found-preserved c =
           (c.loop-found.invariant.walked bound n h) (record { reaches = k.reaches; enabled = on })
           shows.of k.last k.used k.awake (on l.thread ∙ goes_on c) c.with.ensures.same
           c.with.ensures.others c.in_ok-defer.ensures.part c.in_ok-defer.ensures.rest
-          c.in_ok-defer.ensures.deferred (stepped c);
+          c.in_ok-defer.ensures.put (stepped c);
       falls = let k = less c in omega (arith, k, falls);
       tried = search rules;
     }

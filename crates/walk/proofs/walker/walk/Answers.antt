@@ -10,4 +10,4 @@ new-requires c =
     (sym c.in_ok-try_clone.ensures)
     (alone_added c.args.mode c.args.item.now c.args.quota c.new-found.result c.walk.new.found
     c.new-found.ensures.part c.new-found.ensures.rest c.new-found.ensures.deferred
-    c.in_ok-walk.ensures.added).walked
+    c.new-found.ensures.lists c.in_ok-walk.ensures.added).walked

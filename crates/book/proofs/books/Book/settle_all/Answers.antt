@@ -1,4 +1,4 @@
-use Rattle.std.proofs.Common.{refl, sym, subst, IfSome}
+use Rattle.std.proofs.Common.{rules, ◌≡◌, false, not, ◌&&◌, refl, sym, subst, IfSome}
 use Rattle.walk.specs.Items.{AreOf}
 use Rattle.book.specs.Books.{BookView, Keeps, AreOpenAt, HaveSettled}
 use Rattle.book.proofs.BookFields.{book_of}
@@ -33,6 +33,10 @@ there c =
     (subst at (sym c.as_slice.ensures.value)
     (subst (λ o. IfSome o (λ v. at v.items)) c.in-Some.is (c.in_ok-stand.ensures.there b.program)))
 
+-- the walks list what the book lists
+lists : (c : After-as_slice) → (c.args.self.now.lists && not c.args.found.now.lists) ≡ false
+lists c = search rules
+
 pub take_over-requires-clause-within : goal.take_over-requires-clause-within
 take_over-requires-clause-within c =
     open_within c.args.self.now.open_items c.args.items.now c.args.places.now
@@ -41,7 +45,7 @@ take_over-requires-clause-within c =
 pub take_over-requires-clause-keeps : goal.take_over-requires-clause-keeps
 take_over-requires-clause-keeps c =
     (settled_together c.args.items.now c.args.places.now _ c.args.found.now c.args.self.now
-    c.requires.program (subst Keeps c.self.view_is c.self.invariant.0) (there c)
+    c.requires.program (subst Keeps c.self.view_is c.self.invariant.0) (there c) (lists c)
     c.requires.walked).1
 
 pub returns-clause-taken : goal.returns-clause-taken
@@ -49,4 +53,5 @@ returns-clause-taken c = λ f taken.
     let at = there (goal.at.returns-clause-taken c).After-as_slice in
     subst (HaveSettled c.args.self.now f.walks) (sym c.in_ok-take_over.ensures)
     (settled_together c.args.items.now c.args.places.now _ c.args.found.now c.args.self.now
-    c.requires.program (subst Keeps c.self.view_is c.self.invariant.0) at f).0
+    c.requires.program (subst Keeps c.self.view_is c.self.invariant.0) at
+    (lists (goal.at.returns-clause-taken c).After-as_slice) f).0

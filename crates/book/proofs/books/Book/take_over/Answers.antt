@@ -3,9 +3,9 @@ use Rattle.std.proofs.Common.{None, Bool}
 use Rattle.std.specs.Arc.{arc_value}
 use Rattle.std.specs.List.{All}
 use Rattle.std.proofs.lemmas.List.Elements.{All-weaker}
-use Rattle.guest_code.specs.Program.{Program}
 use Rattle.walk.specs.Items.{IsItem}
-use Rattle.walk.specs.Walks.{items_at}
+use Rattle.walk.specs.Walks.{items_at, listed_if}
+use Rattle.walk.proofs.Listed.{listed_items}
 use Rattle.walk.proofs.ListParts.{all_right}
 use Rattle.summary.specs.Summaries.{SummaryView}
 use Rattle.summary.proofs.SumsJoin.{join_first_bad}
@@ -33,11 +33,14 @@ pub append_prefixes-requires : goal.append_prefixes-requires
 append_prefixes-requires c =
     let b = c.args.self.now in
     let found = c.args.found.now in
-    subst (λ (p : Program). All IsItem (items_at p found.deferred))
-    (sym (ap (λ (z : BookView). z.program) c.self.view_is))
-    (all_right IsItem b.deferred (items_at b.program found.deferred)
+    subst (λ ps. All IsItem (items_at (arc_value c.self.inside.program) ps))
+    (sym c.forget_unlisted.ensures)
+    (subst (λ (z : BookView). All IsItem (items_at z.program (listed_if z.lists found.deferred)))
+    (sym c.self.view_is)
+    (subst (All IsItem) (sym (listed_items b.program b.lists found.deferred))
+    (all_right IsItem b.deferred (listed_if b.lists (items_at b.program found.deferred))
     (waiting_run (taken_in b (remove_each b.open_items c.args.places.now) found)
-    c.requires.keeps))
+    c.requires.keeps))))
 
 -- the book is as before where what was deferred was refused
 not_deferred : (c : goal.After-truncate) → record (book_of c.self.inside) {
@@ -88,10 +91,10 @@ not_joined c =
     found.rest.items c.length-open_length.result c.unpack_from.ensures.same
     c.in_ok-append.ensures.packed c.in_ok-append.ensures.loose (c.length-open_length.ensures p)
     (open_items.ensures.items p))
-    (taken_back b.deferred (items_at p found.deferred) (all_of p c.append_prefixes.new.self)
+    (taken_back b.deferred (items_at p c.forget_unlisted.new.prefixes) (all_of p c.append_prefixes.new.self)
     (all_of p deferred.new.self) c.length-deferred_length.result
     (c.in_default.ensures.all
-    ∙ ap (λ is. is ++ items_at p found.deferred) c.unpack_from-2.ensures.same)
+    ∙ ap (λ is. is ++ items_at p c.forget_unlisted.new.prefixes) c.unpack_from-2.ensures.same)
     (c.length-deferred_length.ensures p) (deferred.ensures.items p))
 
 pub invariant_of-self-in-Err-join_in_by : goal.invariant_of-self-in-Err-join_in_by
@@ -158,7 +161,9 @@ settled c =
       finished = c.in_default-join_in_by.ensures k;
       open_items = items k;
       deferred = (c.in_default.ensures.all
-          ∙ (λ j. c.unpack_from-2.ensures.same j ++ items_at p found.deferred)) k;
+          ∙ (λ j. c.unpack_from-2.ensures.same j
+          ++ (ap (items_at p) c.forget_unlisted.ensures
+          ∙ listed_items p b.lists found.deferred) j)) k;
     }
 
 pub invariant_of-self-2 : goal.invariant_of-self-2

@@ -16,6 +16,7 @@ loop-place-init c =
     let count : 0 ≡ first - first = omega arith in
     record {
       walker = c.clear.ensures.program;
+      lists = c.clear.ensures.lists ∙ ap (λ (z : BookView). z.lists) c.self.view_is;
       tried = omega (arith, none);
       walked = subst (λ n. HaveWalked n c.args.self.now first c.args.quota
           (taken_over c.args.self.now first first c.clear.new.found)) count
@@ -48,10 +49,12 @@ loop-place-preserved c =
     c.walk_on.new.found c.in_ok-walk_on.ensures.added in
     record {
       walker = c.walk_on.ensures.program ∙ c.loop-place.invariant.walker;
+      lists = c.in_ok-walk_on.ensures.added.lists ∙ c.loop-place.invariant.lists;
       tried = omega (arith, tried, more, quota);
       walked = round_goes_on c.args.self.now b item c.saturating_sub-first.result
           c.loop-place.place c.args.quota c.loop-place.found c.walk_on.new.found c.self.view_is from
-          at.0 at.1 c.in_ok-walk_on.ensures.added c.loop-place.invariant.walked;
+          at.0 at.1 (c.loop-place.invariant.lists ∙ sym (ap (λ (z : BookView). z.lists) c.self.view_is))
+          c.in_ok-walk_on.ensures.added c.loop-place.invariant.walked;
     }
 
 pub take_over-requires-clause-keeps : goal.take_over-requires-clause-keeps

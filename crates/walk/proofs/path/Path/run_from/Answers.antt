@@ -34,7 +34,7 @@ run-requires c =
             (c.enabled-enabled.ensures p (state_at p t.steps.items) c.requires.search.1.place.path.shows)
             c.defer.ensures.steps c.requires.last (sym c.is_alone.ensures ∙ c.if-not-is_alone.false)
             c.with.ensures.same c.with.ensures.others c.in_ok-defer.ensures.part c.defer.ensures.rest
-            c.in_ok-defer.ensures.deferred c.in_ok-defer.ensures.shared,
+            c.in_ok-defer.ensures.put c.in_ok-defer.ensures.shared,
       );
     }
 
@@ -48,7 +48,7 @@ returns-clause-search c =
     (c.enabled-enabled.ensures p (state_at p t.steps.items) c.requires.search.1.place.path.shows)
     c.defer.ensures.steps c.requires.last (sym c.is_alone.ensures ∙ c.if-not-is_alone.false)
     c.with.ensures.same c.with.ensures.others c.in_ok-defer.ensures.part c.defer.ensures.rest
-    c.in_ok-defer.ensures.deferred c.in_ok-defer.ensures.shared))
+    c.in_ok-defer.ensures.put c.in_ok-defer.ensures.shared))
     c.run.ensures.search
 
 pub returns-then-not-is_alone-clause-free : goal.returns-then-not-is_alone-clause-free

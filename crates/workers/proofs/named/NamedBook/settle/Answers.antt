@@ -9,14 +9,15 @@ invariant_of-self g c =
     let p = g.N.Naming.program in
     let mode = g.N.Naming.mode in
     let quick = g.N.Naming.quick in
+    let lists = g.N.Naming.lists in
     let b = c.self.inside.book in
     let new = c.settle_all.new.self in
     let of = c.self.invariant in
     let found = found_in p b.program mode b.mode c.args.items.now c.args.places.now c.args.found.now
     of.program of.mode c.requires.walked in
-    either_way c.settle_all.result (IsOf new p mode quick)
-    (λ taken. settled_of p mode quick found.walks b new of (c.settle_all.ensures.taken found taken))
-    (λ kept. subst (λ z. IsOf z p mode quick) (sym (c.settle_all.ensures.same kept)) of)
+    either_way c.settle_all.result (IsOf new p mode quick lists)
+    (λ taken. settled_of p mode quick lists found.walks b new of (c.settle_all.ensures.taken found taken))
+    (λ kept. subst (λ z. IsOf z p mode quick lists) (sym (c.settle_all.ensures.same kept)) of)
 
 pub returns-clause-taken : goal.returns-clause-taken
 returns-clause-taken g c = λ f taken.

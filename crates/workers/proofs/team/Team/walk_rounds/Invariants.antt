@@ -6,4 +6,5 @@ ghosts-walk g a = record {
   program = a.self.book.program;
   mode = a.self.book.mode;
   quick = a.self.book.quick;
+  lists = a.self.book.lists;
 }
