@@ -7,8 +7,8 @@ use guest_code::program::Program;
 use std::alloc::Global;
 use std::sync::Arc;
 use summary::Summary;
-use walk::item::Item;
-use walk::mode::Mode;
+use items::item::Item;
+use items::mode::Mode;
 use walk::walked::Walked;
 use walk::walker::walk;
 

@@ -3,7 +3,7 @@ use Rattle.std.proofs.Common.{◌≡◌, ℕ, suc, ◌+◌, Bool, true, false, c
 use Rattle.std.specs.List.{filter, list_any, count_by}
 use Rattle.std.proofs.lemmas.Bool.Decides.{nat_tests}
 use Rattle.std.proofs.lemmas.List.Sums.{sum_by-append}
-use Rattle.walk.specs.Items.{ItemView}
+use Rattle.items.specs.Items.{ItemView}
 use Rattle.book.specs.Quick.{is_later}
 use Rattle.book.specs.Books.{BookView, Keeps, cannot_hold, drops, thinned}
 use Rattle.book.proofs.Thinned.{all_kept, thins}

@@ -9,11 +9,11 @@ use Rattle.std.proofs.lemmas.List.Elements.{All-nil, All-cons}
 use Rattle.guest_code.specs.Program.{Program}
 use Rattle.summary.specs.Summaries.{SummaryView, nothing, join}
 use Rattle.summary.proofs.SumsJoin.{join_assoc, join_nothing}
-use Rattle.walk.specs.Items.{ItemView, AreOf}
-use Rattle.walk.specs.declared.mode.Mode.{Mode}
+use Rattle.items.specs.Items.{ItemView, AreOf}
+use Rattle.items.specs.declared.mode.Mode.{Mode}
 use Rattle.walk.specs.declared.found.Found.{Found}
-use Rattle.walk.specs.Walks.{WalkView, listed_if}
-use Rattle.walk.proofs.Listed.{listed_none, listed_both, listed_twice}
+use Rattle.items.specs.Walks.{WalkView, listed_if}
+use Rattle.items.proofs.Listed.{listed_none, listed_both, listed_twice}
 use Rattle.book.specs.Books.{BookView, Keeps, IsOpenAt, AreOpenAt, AreWalksAt, HaveFound}
 use Rattle.book.specs.Books.{HaveSettled, settled, taken_in, remove_each, joined}
 use Rattle.book.proofs.PackedItems.{got-left}

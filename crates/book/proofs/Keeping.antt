@@ -2,14 +2,14 @@
 use Rattle.std.proofs.Common.{◌≡◌, ℕ, ◌+◌, ◌<◌, ◌≤◌, Bool, true, false, List, [], ◌++◌, take, drop, suc, refl, ap, sym, ◌∙◌, subst, arith}
 use Rattle.guest_code.specs.Program.{Program}
 use Rattle.schedules.specs.Schedules.{preemptions}
-use Rattle.walk.specs.declared.mode.Mode.{Mode}
-use Rattle.walk.specs.declared.mode.Mode.TheVariants.{Bounded, Reduced}
-use Rattle.walk.specs.declared.limits.TheConstants.{BOUND}
+use Rattle.items.specs.declared.mode.Mode.{Mode}
+use Rattle.items.specs.declared.mode.Mode.TheVariants.{Bounded, Reduced}
+use Rattle.items.specs.declared.limits.TheConstants.{BOUND}
 use Rattle.summary.specs.Summaries.{SummaryView, with_beyond}
-use Rattle.walk.specs.Items.{ItemView, root_of, whole}
-use Rattle.walk.specs.Walks.{WalkView, IsWalked, IsSplit, listed_if}
-use Rattle.walk.proofs.Listed.{listed_none}
-use Rattle.walk.proofs.Splits.{split_opening, split_further, split_next, split_closed}
+use Rattle.items.specs.Items.{ItemView, root_of, whole}
+use Rattle.items.specs.Walks.{WalkView, IsWalked, IsSplit, listed_if}
+use Rattle.items.proofs.Listed.{listed_none}
+use Rattle.items.proofs.Splits.{split_opening, split_further, split_next, split_closed}
 use Rattle.book.specs.Books.{BookView, IsBook, Keeps, KeepsWhere, with_deferred}
 use Rattle.book.specs.Books.{IsWalkOf, IsOpenAt, opening, settled, raised, bound_of}
 use Rattle.book.proofs.Lists.{parted}

@@ -3,9 +3,9 @@ use Rattle.std.proofs.Common.{◌≡◌, ℕ, ◌<◌, Bool, true, false, List, 
 use Rattle.std.specs.List.{All}
 use Rattle.std.proofs.lemmas.List.{append-nil}
 use Rattle.std.proofs.lemmas.List.Elements.{All-weaker}
-use Rattle.walk.specs.Items.{ItemView, AreOf, IsItem, root_of}
-use Rattle.walk.specs.Walks.{IsBelow, items_at, listed_if}
-use Rattle.walk.proofs.ListParts.{all_left, all_right}
+use Rattle.items.specs.Items.{ItemView, AreOf, IsItem, root_of}
+use Rattle.items.specs.Walks.{IsBelow, items_at, listed_if}
+use Rattle.items.proofs.ListParts.{all_left, all_right}
 use Rattle.book.specs.ItemLists.{ListView, all_of}
 use Rattle.book.specs.Books.{BookView, Keeps, KeepsWhere, with_deferred}
 use Rattle.book.proofs.PackedItems.{below_run, got-or}

@@ -7,10 +7,10 @@ use Rattle.std.proofs.lemmas.Bool.{cases_lt}
 use Rattle.std.proofs.lemmas.List.{reverse-append, take_all, drop_at, drop_all, drop-drop, drop-append-le, length-map, take-map, take-append-drop, get_or-take}
 use Rattle.guest_code.specs.Program.{Program}
 use Rattle.semantics.specs.Mask.{no_threads}
-use Rattle.walk.specs.Items.{ItemView, AreOf, IsItem, item_at}
+use Rattle.items.specs.Items.{ItemView, AreOf, IsItem, item_at}
 use Rattle.prefix_list.specs.PrefixLists.{last_of}
-use Rattle.walk.specs.Walks.{IsBelow, items_at}
-use Rattle.walk.proofs.ListParts.{all_left, all_right}
+use Rattle.items.specs.Walks.{IsBelow, items_at}
+use Rattle.items.proofs.ListParts.{all_left, all_right}
 use Rattle.book.specs.ItemLists.{ListView, all_of}
 
 pub got : (r : List (List ℕ)) (k : ℕ) (w : List ℕ) → slice_get r k ≡ Some w → get_or r k [] ≡ w

@@ -5,14 +5,14 @@ use Rattle.std.proofs.lemmas.List.Elements.{All-cons, All-append, All-head, All-
 use Rattle.std.proofs.lemmas.List.Folds.{list_any-append}
 use Rattle.schedules.specs.Schedules.{begins_with, preemptions}
 use Rattle.semantics.specs.Mask.{one_if}
-use Rattle.walk.specs.declared.mode.Mode.{Mode}
-use Rattle.walk.specs.declared.mode.Mode.TheVariants.{Bounded, Reduced}
+use Rattle.items.specs.declared.mode.Mode.{Mode}
+use Rattle.items.specs.declared.mode.Mode.TheVariants.{Bounded, Reduced}
 use Rattle.summary.specs.Summaries.{SummaryView, sum_of, with_beyond}
-use Rattle.walk.specs.Items.{ItemView, schedules_of, goes_beyond, covers, is_under}
-use Rattle.walk.specs.Walks.{IsBelow, IsCut, IsSplit}
-use Rattle.walk.proofs.ListParts.{all_left, all_right}
-use Rattle.walk.proofs.Covers.{covers-append, under-append}
-use Rattle.walk.proofs.WalkedItems.{HasItsOf}
+use Rattle.items.specs.Items.{ItemView, schedules_of, goes_beyond, covers, is_under}
+use Rattle.items.specs.Walks.{IsBelow, IsCut, IsSplit}
+use Rattle.items.proofs.ListParts.{all_left, all_right}
+use Rattle.items.proofs.Covers.{covers-append, under-append}
+use Rattle.items.proofs.WalkedItems.{HasItsOf}
 
 module _ (f : ItemView → Bool) where
   abbrev pub by_test : List ItemView → List ItemView

@@ -7,11 +7,12 @@ use Rattle.std.proofs.lemmas.List.{append-nil}
 use Rattle.guest_code.specs.Program.{Program}
 use Rattle.summary.specs.Summaries.{SummaryView, IsSummary, nothing, join}
 use Rattle.summary.proofs.SumsJoin.{join_assoc, join_nothing}
-use Rattle.walk.specs.Items.{ItemView, root_of}
+use Rattle.items.specs.Items.{ItemView, root_of}
 use Rattle.walk.specs.declared.found.Found.{Found}
-use Rattle.walk.specs.Walks.{HasAdded, items_at, listed_if}
-use Rattle.walk.proofs.Listed.{listed_none, listed_more}
-use Rattle.walk.proofs.Splits.{split_kept}
+use Rattle.items.specs.Walks.{items_at, listed_if}
+use Rattle.walk.specs.Founds.{HasAdded}
+use Rattle.items.proofs.Listed.{listed_none, listed_more}
+use Rattle.items.proofs.Splits.{split_kept}
 use Rattle.book.specs.Books.{BookView, Keeps, KeepsWhere, with_deferred, IsOpenAt, HasWalkedAt, HaveWalked}
 use Rattle.book.specs.Books.{HasWalkedRound, taken_over, AreWithin, remove_each}
 use Rattle.book.specs.declared.limits.TheConstants.{ROUND}

@@ -4,7 +4,7 @@ use Rattle.std.proofs.Common.{[], ◌∷◌, ◌++◌, None, refl, ap, ◌∙◌
 use Rattle.std.specs.List.{filter, list_any, remove}
 use Rattle.schedules.specs.Order.{lesser}
 use Rattle.summary.specs.Summaries.{join}
-use Rattle.walk.specs.Items.{ItemView}
+use Rattle.items.specs.Items.{ItemView}
 use Rattle.walk.specs.declared.found.Found.{Found}
 use Rattle.std.proofs.lemmas.List.Folds.{list_any-append}
 use Rattle.summary.proofs.LesserSchedules.{lesser_none}

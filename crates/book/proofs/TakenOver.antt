@@ -6,9 +6,10 @@ use Rattle.std.proofs.lemmas.List.{take_at}
 use Rattle.schedules.specs.Order.{lesser}
 use Rattle.guest_code.specs.Program.{Program}
 use Rattle.summary.specs.Summaries.{SummaryView}
-use Rattle.walk.specs.Items.{ItemView}
+use Rattle.items.specs.Items.{ItemView}
 use Rattle.walk.specs.declared.found.Found.{Found}
-use Rattle.walk.specs.Walks.{items_at, found_walk, listed_if}
+use Rattle.items.specs.Walks.{items_at, listed_if}
+use Rattle.walk.specs.Founds.{found_walk}
 use Rattle.book.specs.ItemLists.{ListView, all_of}
 use Rattle.book.specs.Books.{BookView, settled, taken_in, remove_each, AreWithin}
 use Rattle.book.proofs.Lists.{each_left}

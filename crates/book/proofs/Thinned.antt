@@ -3,12 +3,12 @@ use Rattle.std.proofs.Common.{◌≡◌, ℕ, suc, Bool, true, false, cond, ◌&
 use Rattle.std.specs.List.{filter, list_any, All}
 use Rattle.std.proofs.lemmas.List.Elements.{All-nil, All-cons, All-append, All-weaker}
 use Rattle.schedules.specs.Order.{precedes, lesser}
-use Rattle.walk.specs.declared.mode.Mode.{Mode}
+use Rattle.items.specs.declared.mode.Mode.{Mode}
 use Rattle.summary.specs.Summaries.{join}
-use Rattle.walk.specs.Items.{ItemView, root_of}
-use Rattle.walk.specs.Walks.{WalkView, IsWalked, IsSplit, listed_if}
-use Rattle.walk.proofs.Listed.{listed_both}
-use Rattle.walk.proofs.Splits.{split_further}
+use Rattle.items.specs.Items.{ItemView, root_of}
+use Rattle.items.specs.Walks.{WalkView, IsWalked, IsSplit, listed_if}
+use Rattle.items.proofs.Listed.{listed_both}
+use Rattle.items.proofs.Splits.{split_further}
 use Rattle.summary.proofs.SumsJoin.{join_first_bad}
 use Rattle.book.specs.Books.{BookView, ComeAfter, IsThinned, Keeps, KeepsWhere, with_deferred, IsWalkOf, IsOpenAt, settled, cannot_hold, drops, thinned}
 use Rattle.book.proofs.Keeping.{settles}

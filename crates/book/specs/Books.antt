@@ -7,13 +7,14 @@ use Rattle.std.specs.List.{remove, remove_range, list_any}
 use Rattle.guest_code.specs.Program.{Program}
 use Rattle.schedules.specs.Order.{precedes}
 use Rattle.schedules.specs.Schedules.{begins_with}
-use Rattle.walk.specs.declared.limits.TheConstants.{BOUND}
-use Rattle.walk.specs.declared.mode.Mode.{Mode}
-use Rattle.walk.specs.declared.mode.Mode.TheVariants.{Bounded, Reduced}
+use Rattle.items.specs.declared.limits.TheConstants.{BOUND}
+use Rattle.items.specs.declared.mode.Mode.{Mode}
+use Rattle.items.specs.declared.mode.Mode.TheVariants.{Bounded, Reduced}
 use Rattle.summary.specs.Summaries.{SummaryView, nothing, join, with_beyond}
-use Rattle.walk.specs.Items.{ItemView, root_of, schedules_of}
+use Rattle.items.specs.Items.{ItemView, root_of, schedules_of}
 use Rattle.walk.specs.declared.found.Found.{Found}
-use Rattle.walk.specs.Walks.{WalkView, IsSplit, IsWalked, items_at, found_walk, listed_if}
+use Rattle.items.specs.Walks.{WalkView, IsSplit, IsWalked, items_at, listed_if}
+use Rattle.walk.specs.Founds.{found_walk}
 use Rattle.book.specs.declared.limits.TheConstants.{ROUND}
 use Rattle.book.specs.Quick.{is_later}
 use Rattle.book.specs.ItemLists.{ListView, all_of}

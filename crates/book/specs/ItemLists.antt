@@ -3,8 +3,8 @@ use Rattle.std.specs.Prelude.{◌≡◌, ℕ, Bool, true, List, [], ◌++◌, Op
 use Rattle.std.specs.declared.alloc.Global.{Global}
 use Rattle.std.specs.declared.collections.VecDeque.{VecDeque}
 use Rattle.guest_code.specs.Program.{Program}
-use Rattle.walk.specs.Items.{ItemView}
-use Rattle.walk.specs.Walks.{items_at}
+use Rattle.items.specs.Items.{ItemView}
+use Rattle.items.specs.Walks.{items_at}
 
 -- what contracts see of a list of items: prefixes after which no thread sleeps, packed, and after
 -- them items as they are

@@ -3,8 +3,8 @@
 ghost use Rattle.std.specs.Prelude.{◌≡◌, ℕ, ◌+◌, ◌-◌, ◌<◌, ◌≤◌, ◌↔◌, [], ◌++◌, ◌∷◌, false, not, max, length, vec_len, take, drop, filter, count_by, is_ok, if◌then◌else◌, IfOk, OnOk, IfSome, IfNone, IsTrue, Some, slice_get, slice_index_or, All};
 ghost use Rattle.std.specs.Arc.{arc_value};
 ghost use Rattle.guest_code.specs.Program.{Program};
-ghost use Rattle.walk.specs.Items.{ItemView, AreOf, IsItem};
-ghost use Rattle.walk.specs.Walks.{items_at};
+ghost use Rattle.items.specs.Items.{ItemView, AreOf, IsItem};
+ghost use Rattle.items.specs.Walks.{items_at};
 ghost use Rattle.book.specs.Quick.{is_later};
 ghost use Rattle.book.specs.ItemLists.{all_of};
 ghost use Rattle.std.specs.List.{remove_range};
@@ -12,6 +12,7 @@ ghost use Rattle.book.specs.Books.{remove_each, AreWithin, AreOpenAt};
 
 use crate::packed::{last_item, last_items, last_packed};
 use guest_code::program::Program;
+use items::item::Item;
 use prefix_list::Prefixes;
 use semantics::mask::Mask;
 use std::alloc::{AllocError, Global};
@@ -19,7 +20,6 @@ use std::collections::VecDeque;
 use std::marker::Model;
 use std::mem;
 use std::sync::Arc;
-use walk::item::Item;
 
 /// A list of items of one program, which its holder knows: prefixes after which no thread sleeps
 /// are packed, a few bytes each, and items that came later or were asked for stand after them as

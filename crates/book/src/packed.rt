@@ -2,15 +2,15 @@
 
 ghost use Rattle.std.specs.Prelude.{◌≡◌, ◌-◌, ◌<◌, ◌≤◌, length, drop, IfOk, All};
 ghost use Rattle.std.specs.Arc.{arc_value};
-ghost use Rattle.walk.specs.Items.{IsItem, item_at};
+ghost use Rattle.items.specs.Items.{IsItem, item_at};
 ghost use Rattle.prefix_list.specs.PrefixLists.{last_of};
-ghost use Rattle.walk.specs.Walks.{items_at};
+ghost use Rattle.items.specs.Walks.{items_at};
 
 use guest_code::program::Program;
+use items::item::Item;
 use prefix_list::{LastFirst, Prefixes};
 use std::alloc::{AllocError, Global};
 use std::sync::Arc;
-use walk::item::Item;
 
 // The items of the last prefixes of a list, so many, in their order. The prefixes run.
 pub(crate) fn last_items(

@@ -23,6 +23,18 @@ impl Source<'_> {
         self.put_values(text, alloc, thread, instruction)
     }
 
+    // A word, a local's name and that of a variable.
+    fn put_access(
+        &self,
+        text: &mut Vec<u8>,
+        word: &[u8],
+        local: &[u8],
+        variable: usize,
+    ) -> Result<(), AllocError> {
+        put_both(text, word, local)?;
+        self.put_object(text, b" ", Object::Variable(variable))
+    }
+
     // The word of a statement, its local and its objects.
     fn put_word(
         &self,
@@ -32,8 +44,7 @@ impl Source<'_> {
     ) -> Result<(), AllocError> {
         match instruction {
             Instruction::Load { local, variable } => {
-                put_both(text, b"load ", self.local(thread, local))?;
-                self.put_object(text, b" ", Object::Variable(variable))
+                self.put_access(text, b"load ", self.local(thread, local), variable)
             }
             Instruction::Store { variable, .. } => {
                 self.put_object(text, b"store ", Object::Variable(variable))
@@ -42,18 +53,12 @@ impl Source<'_> {
                 local,
                 variable,
                 ..
-            } => {
-                put_both(text, b"add ", self.local(thread, local))?;
-                self.put_object(text, b" ", Object::Variable(variable))
-            }
+            } => { self.put_access(text, b"add ", self.local(thread, local), variable) }
             Instruction::Cas {
                 local,
                 variable,
                 ..
-            } => {
-                put_both(text, b"cas ", self.local(thread, local))?;
-                self.put_object(text, b" ", Object::Variable(variable))
-            }
+            } => { self.put_access(text, b"cas ", self.local(thread, local), variable) }
             Instruction::Lock(m) => self.put_object(text, b"lock ", Object::Mutex(m)),
             Instruction::Unlock(m) => self.put_object(text, b"unlock ", Object::Mutex(m)),
             Instruction::Wait { condition, mutex } => {

@@ -1,8 +1,8 @@
 -- What a report promises, by what was asked for and how the search ended.
 use Rattle.std.specs.Prelude.{◌≡◌, ◌≤◌, ℕ, Bool, true, Some, None}
 use Rattle.guest_code.specs.Program.{Program}
-use Rattle.walk.specs.declared.limits.TheConstants.{BOUND}
-use Rattle.walk.specs.declared.mode.Mode.TheVariants.{Bounded, Reduced}
+use Rattle.items.specs.declared.limits.TheConstants.{BOUND}
+use Rattle.items.specs.declared.mode.Mode.TheVariants.{Bounded, Reduced}
 use Rattle.summary.specs.Summaries.{SummaryView}
 use Rattle.report.specs.declared.options.Options.{Options}
 use Rattle.report.specs.declared.options.Search.{Search}

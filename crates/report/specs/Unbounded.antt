@@ -6,9 +6,9 @@ use Rattle.semantics.specs.declared.view.Kind.{Kind}
 use Rattle.semantics.specs.Machine.{start}
 use Rattle.schedules.specs.Schedules.{complete_schedules, preemptions}
 use Rattle.schedules.specs.Order.{precedes, end_of}
-use Rattle.walk.specs.declared.mode.Mode.TheVariants.{Reduced}
+use Rattle.items.specs.declared.mode.Mode.TheVariants.{Reduced}
 use Rattle.summary.specs.Summaries.{SummaryView, end_kind, sorted_views}
-use Rattle.walk.specs.Items.{whole}
+use Rattle.items.specs.Items.{whole}
 use Rattle.book.specs.Quick.{IsBoundedBy}
 use Rattle.report.specs.Reports.{IsBadSchedule}
 

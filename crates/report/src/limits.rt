@@ -1,6 +1,6 @@
 //! The limits of what is asked for.
 
-pub use walk::limits::BOUND;
+pub use items::limits::BOUND;
 
 /// How many complete schedules one walk tries at most, where nothing else is asked for.
 pub const QUOTA: u32 = 256;

@@ -4,7 +4,7 @@ ghost use Rattle.std.specs.Prelude.{◌≡◌};
 ghost use Rattle.report.specs.Progress.{IsProgressOf, mode_bound};
 
 use book::books::Book;
-use walk::mode::Mode;
+use items::mode::Mode;
 
 /// How far a search is after a round.
 #[derive(Clone, Copy, Debug)]

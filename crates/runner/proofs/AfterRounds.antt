@@ -3,9 +3,9 @@ use Rattle.std.proofs.Common.{◌≡◌, ◌∙◌, ◌+◌, ◌<◌, ◌≤◌,
 use Rattle.std.proofs.Common.{subst, arith}
 use Rattle.std.proofs.lemmas.Bool.Decides.{nat_tests}
 use Rattle.guest_code.specs.Program.{Program}
-use Rattle.walk.specs.declared.mode.Mode.{Mode}
-use Rattle.walk.specs.declared.mode.Mode.TheVariants.{Bounded, Reduced}
-use Rattle.walk.specs.declared.limits.TheConstants.{BOUND}
+use Rattle.items.specs.declared.mode.Mode.{Mode}
+use Rattle.items.specs.declared.mode.Mode.TheVariants.{Bounded, Reduced}
+use Rattle.items.specs.declared.limits.TheConstants.{BOUND}
 use Rattle.book.specs.Books.{BookView, EndsAt, Raises, thinned, bound_of}
 use Rattle.report.specs.declared.options.Options.{Options}
 use Rattle.report.specs.declared.options.Search.{Search}

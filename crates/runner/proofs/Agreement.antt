@@ -8,9 +8,9 @@ use Rattle.guest_code.specs.Program.{Program}
 use Rattle.semantics.specs.declared.view.Kind.{Kind}
 use Rattle.schedules.specs.Schedules.{preemptions}
 use Rattle.schedules.specs.Order.{precedes}
-use Rattle.walk.specs.declared.mode.Mode.TheVariants.{Bounded}
+use Rattle.items.specs.declared.mode.Mode.TheVariants.{Bounded}
 use Rattle.summary.specs.Summaries.{SummaryView, end_kind}
-use Rattle.walk.specs.Items.{whole}
+use Rattle.items.specs.Items.{whole}
 use Rattle.report.specs.declared.options.Options.{Options}
 use Rattle.report.specs.declared.options.Search.{Search}
 use Rattle.report.specs.declared.options.Search.TheVariants.{UpTo, Unbounded}

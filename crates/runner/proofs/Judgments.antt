@@ -5,11 +5,11 @@ use Rattle.std.specs.List.{Contains}
 use Rattle.guest_code.specs.Program.{Program}
 use Rattle.semantics.specs.Machine.{start}
 use Rattle.schedules.specs.Schedules.{complete_schedules, preemptions}
-use Rattle.walk.specs.declared.limits.TheConstants.{BOUND}
-use Rattle.walk.specs.declared.mode.Mode.{Mode}
-use Rattle.walk.specs.declared.mode.Mode.TheVariants.{Bounded, Reduced}
+use Rattle.items.specs.declared.limits.TheConstants.{BOUND}
+use Rattle.items.specs.declared.mode.Mode.{Mode}
+use Rattle.items.specs.declared.mode.Mode.TheVariants.{Bounded, Reduced}
 use Rattle.summary.specs.Summaries.{SummaryView, end_kind}
-use Rattle.walk.specs.Items.{whole}
+use Rattle.items.specs.Items.{whole}
 use Rattle.book.specs.Books.{BookView, Keeps, KeepsWhere, with_deferred, bound_of}
 use Rattle.report.specs.declared.options.Options.{Options}
 use Rattle.report.specs.declared.options.Search.{Search}

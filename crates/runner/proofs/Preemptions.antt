@@ -4,7 +4,7 @@ use Rattle.std.specs.List.{Contains}
 use Rattle.guest_code.specs.Program.{Program, IsWellFormed}
 use Rattle.semantics.specs.Machine.{start}
 use Rattle.schedules.specs.Schedules.{complete_schedules, preemptions}
-use Rattle.walk.proofs.Turns.{preemptions_limit}
+use Rattle.items.proofs.Turns.{preemptions_limit}
 use Rattle.runner.proofs.Promises.{runs_through}
 
 pub preemptions_fit : (p : Program) (w : List ℕ) → IsWellFormed p

@@ -14,9 +14,9 @@ use Rattle.schedules.proofs.LeastSchedule.{least_none, least_some}
 use Rattle.semantics.proofs.ListMembers.{in_contains, contains_in, in_filter, from_filter}
 use Rattle.schedules.proofs.StatedLaws.{complete}
 use Rattle.schedules.proofs.SchedulesUnderPrefix.{in_under, in_within, beyond_is, complete_is}
-use Rattle.walk.specs.declared.mode.Mode.TheVariants.{Bounded}
+use Rattle.items.specs.declared.mode.Mode.TheVariants.{Bounded}
 use Rattle.summary.specs.Summaries.{SummaryView, sum_of, end_kind}
-use Rattle.walk.specs.Items.{whole}
+use Rattle.items.specs.Items.{whole}
 use Rattle.report.specs.Reports.{IsBadSchedule, NoBadBelow, SomeExceeds, IsBad, IsClean}
 use Rattle.report.specs.Reports.{IsFinished, IsSummaryOf}
 use Rattle.runner.specs.inner.Judging.{HasPassedBounds}

@@ -9,11 +9,11 @@ use Rattle.std.proofs.lemmas.List.Elements.{All-nil, All-cons, All-weaker}
 use mathlib.Core.Logic.{dite}
 use native.Mathlib.Decide.{ℕ_discrete}
 use Rattle.guest_code.specs.Program.{Program}
-use Rattle.walk.specs.declared.mode.Mode.{Mode}
+use Rattle.items.specs.declared.mode.Mode.{Mode}
 use Rattle.summary.specs.Summaries.{cut}
-use Rattle.walk.specs.Items.{ItemView, schedule_count, schedules_of}
-use Rattle.walk.specs.Walks.{WalkView, IsWalked, tried_by}
-use Rattle.walk.proofs.WalkedItems.{walked_counts, walked_count}
+use Rattle.items.specs.Items.{ItemView, schedule_count, schedules_of}
+use Rattle.items.specs.Walks.{WalkView, IsWalked, tried_by}
+use Rattle.items.proofs.WalkedItems.{walked_counts, walked_count}
 use Rattle.book.specs.Books.{BookView, Settles, HasWalkedAt, HaveWalked, HasWalkedRound}
 use Rattle.book.specs.Books.{drops, thinned}
 use Rattle.book.specs.declared.limits.TheConstants.{ROUND}

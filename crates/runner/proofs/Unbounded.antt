@@ -12,11 +12,11 @@ use Rattle.semantics.specs.Waiters.{In}
 use Rattle.schedules.proofs.LeastSchedule.{least_none, least_some}
 use Rattle.semantics.proofs.ListMembers.{in_contains, contains_in, in_filter, from_filter}
 use Rattle.schedules.proofs.ReducedSchedules.{least_bad, ends_pass}
-use Rattle.walk.specs.declared.mode.Mode.TheVariants.{Reduced}
+use Rattle.items.specs.declared.mode.Mode.TheVariants.{Reduced}
 use Rattle.summary.specs.Summaries.{SummaryView, sum_of, end_kind, sorted_views}
-use Rattle.walk.specs.Items.{whole, root_of, kept_schedules}
+use Rattle.items.specs.Items.{whole, root_of, kept_schedules}
 use Rattle.summary.proofs.SortedViews.{sorted_views-alike}
-use Rattle.walk.proofs.WalkedItems.{root_pruned}
+use Rattle.items.proofs.WalkedItems.{root_pruned}
 use Rattle.report.specs.Reports.{IsSummaryOf}
 use Rattle.report.specs.Unbounded.{IsReducedSummary, IsReducedSummaryOf, IsFirstBad, HasNoBad}
 use Rattle.runner.proofs.Promises.{same_bad}

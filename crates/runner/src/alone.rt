@@ -11,12 +11,12 @@ use crate::judge::{Next, Stage, begin_bound, judge};
 use book::books::Book;
 use book::errors::{RaiseError, SettleError};
 use guest_code::program::Program;
+use items::item::Item;
+use items::mode::Mode;
 use report::{ExploreError, Options, Progress, Report, Search};
 use std::alloc::Global;
 use std::sync::Arc;
 use walk::found::Found;
-use walk::item::Item;
-use walk::mode::Mode;
 use walk::walker::Walker;
 use workers::{Gate, Open};
 

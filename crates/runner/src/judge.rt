@@ -14,13 +14,13 @@ ghost use Rattle.report.specs.Progress.{mode_bound};
 use book::books::Book;
 use guest_code::laws::programs_are_well_formed;
 use guest_code::program::Program;
+use items::mode::Mode;
 use replay::laws::one_place_is_the_first_bad;
 use replay::{ReplayError, Run, replay};
 use report::{Cause, ExploreError, Options, Report, Search, Verdict, mode_bound};
 use semantics::view::Kind;
 use std::alloc::Global;
 use summary::Summary;
-use walk::mode::Mode;
 
 /// Where a search is: its program, what it is asked for, and the mode that it has come to.
 #[derive(Clone, Copy)]

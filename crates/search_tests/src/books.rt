@@ -4,13 +4,13 @@ use book::books::Book;
 use guest_code::lowering::lower;
 use guest_code::program::Program;
 use guest_syntax::parse;
+use items::item::Item;
+use items::mode::Mode;
 use std::alloc::{Alloc, AllocError, Global};
 use std::process::Abort;
 use std::sync::Arc;
 use std::test::*;
 use walk::found::Found;
-use walk::item::Item;
-use walk::mode::Mode;
 use walk::walked::Walked;
 use walk::walker::{Walker, walk};
 

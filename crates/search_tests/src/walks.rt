@@ -16,9 +16,8 @@ use std::process::Abort;
 use std::sync::Arc;
 use std::test::*;
 use summary::Summary;
-use walk::item::Item;
-use walk::mode::Mode;
 use walk::walker::walk;
+use walk::{Item, Mode};
 
 /// Two threads that each add one to a variable, in two steps.
 const COUNTERS: &str =

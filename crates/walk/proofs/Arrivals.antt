@@ -10,22 +10,22 @@ use Rattle.semantics.specs.Ends.{is_terminal, is_empty, view_at}
 use Rattle.semantics.specs.View.{View}
 use Rattle.semantics.specs.Mask.{has, members_from, no_threads, HasEnabled}
 use Rattle.semantics.specs.declared.mask.Mask.{Mask}
-use Rattle.walk.specs.declared.mode.Mode.{Mode}
-use Rattle.walk.specs.declared.mode.Mode.TheVariants.{Bounded, Reduced}
+use Rattle.items.specs.declared.mode.Mode.{Mode}
+use Rattle.items.specs.declared.mode.Mode.TheVariants.{Bounded, Reduced}
 use Rattle.walk.specs.declared.path.Node.{Node}
 use Rattle.walk.specs.declared.path.Path.{Path}
 use Rattle.walk.specs.declared.found.Found.{Found}
 use Rattle.summary.specs.Summaries.{SummaryView, with_beyond, greatest_count, added}
-use Rattle.walk.specs.Items.{ItemView, IsItem}
-use Rattle.walk.specs.Walks.{IsWalked, items_at}
-use Rattle.walk.specs.inner.Children.{state_of, IsWithin, is_kept_step, kept_steps, past_steps}
-use Rattle.walk.specs.inner.Children.{passes_bound, child_of, children_of, children}
-use Rattle.walk.specs.inner.Children.{mask_after, cost_of, costs}
+use Rattle.items.specs.Items.{ItemView, IsItem}
+use Rattle.items.specs.Walks.{IsWalked, items_at}
+use Rattle.items.specs.Children.{state_of, IsWithin, is_kept_step, kept_steps, past_steps}
+use Rattle.items.specs.Children.{passes_bound, child_of, children_of, children}
+use Rattle.items.specs.Children.{mask_after, cost_of, costs}
 use Rattle.walk.specs.inner.Paths.{used_frames, IsNode, IsPath, state_at}
 use Rattle.walk.specs.inner.WalkerInvariant.{item_of, here, left_above, still_open, turns_left}
 use Rattle.walk.specs.inner.WalkerInvariant.{turns_from, turns_into, is_kept_at, is_past_at}
 use Rattle.walk.specs.inner.WalkerInvariant.{IsWithinAt, IsAwake, open_from, IsPlace}
-use Rattle.walk.proofs.Listed.{put_none, put_same, put_more}
+use Rattle.walk.proofs.Puts.{put_none, put_same, put_more}
 use Rattle.walk.specs.inner.WalkerInvariant.{HasPut, IsWalkedOn, IsSearch, IsGone, IsKept, IsOpened}
 use Rattle.walk.specs.inner.WalkerInvariant.{open_here, open_below}
 use Rattle.std.proofs.Math.Bool.{or-false}
@@ -36,7 +36,7 @@ use Rattle.walk.proofs.WalkTurns.{step_enabled, kept_members, past_members, node
 use Rattle.walk.proofs.WalkTurns.{deferred_are}
 use Rattle.walk.proofs.WalkSteps.{walk_of, first_on, own_kept, join_beyond_on, leaf_on}
 use Rattle.walk.proofs.WalkSteps.{walked_node, over_none, over_some}
-use Rattle.walk.proofs.Turns.{costs-append, cost_two, children_cost}
+use Rattle.items.proofs.Turns.{costs-append, cost_two, children_cost}
 
 -- these are enabled where it stands
 abbrev pub AreOn : Program → Path → Mask → Type 0

@@ -22,23 +22,23 @@ use Rattle.semantics.specs.Mask.{has, members_from, no_threads, one_if, HasEnabl
 use Rattle.semantics.specs.Work.{up_from}
 use Rattle.semantics.proofs.TerminalStates.{is_terminal-some}
 use Rattle.semantics.proofs.WorkFalls.{enabled_below}
-use Rattle.walk.specs.declared.mode.Mode.{Mode}
-use Rattle.walk.specs.declared.mode.Mode.TheVariants.{Bounded, Reduced}
+use Rattle.items.specs.declared.mode.Mode.{Mode}
+use Rattle.items.specs.declared.mode.Mode.TheVariants.{Bounded, Reduced}
 use Rattle.walk.specs.declared.path.Node.{Node}
 use Rattle.walk.specs.declared.path.Path.{Path}
 use Rattle.walk.specs.declared.found.Found.{Found}
 use Rattle.std.specs.declared.alloc.Global.{Global}
 use Rattle.std.specs.declared.vec.Vec.{Vec}
 use Rattle.summary.specs.Summaries.{with_beyond}
-use Rattle.walk.specs.Items.{ItemView}
-use Rattle.walk.specs.inner.Children.{is_kept_step, kept_steps, child_of, children_of, children}
+use Rattle.items.specs.Items.{ItemView}
+use Rattle.items.specs.Children.{is_kept_step, kept_steps, child_of, children_of, children}
 use Rattle.walk.specs.inner.Paths.{leaves, leaves_last, state_at, IsNode, IsPath, ReachesNode}
 use Rattle.walk.specs.inner.Paths.{used_frames}
 use Rattle.walk.specs.inner.WalkerInvariant.{IsAlone, PutsOff, IsAwake, open_from}
 use Rattle.walk.specs.inner.WalkerInvariant.{item_of, here, left_above, is_kept_at, is_past_at}
 use Rattle.walk.specs.inner.WalkerInvariant.{IsWithinAt, IsFree, is_spent_at, IsSpent, IsSearch}
 use Rattle.walk.specs.inner.WalkerInvariant.{HasPut, IsShared, IsWalkedOn, open_here, open_below}
-use Rattle.walk.proofs.Filters.{filter_twice}
+use Rattle.items.proofs.Filters.{filter_twice}
 use Rattle.walk.proofs.SharedSteps.{shared_same}
 use Rattle.walk.proofs.WalkTurns.{filter_alike, kept_alike}
 use Rattle.walk.proofs.Arrivals.{AreOn, node_of, put_off, IsTurned, place_turned, left_turned}

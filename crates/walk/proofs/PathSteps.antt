@@ -25,11 +25,11 @@ use Rattle.schedules.proofs.UnfoldingUnderPrefix.{state_after-push}
 use Rattle.walk.specs.declared.path.Frame.{Frame}
 use Rattle.walk.specs.declared.path.Path.{Path}
 use Rattle.walk.specs.declared.path.Node.{Node}
-use Rattle.walk.specs.declared.mode.Mode.{Mode}
+use Rattle.items.specs.declared.mode.Mode.{Mode}
 use Rattle.walk.specs.inner.Paths.{used_frames, words_at, state_at, ReachesNode, leaves_last}
 use Rattle.walk.specs.inner.Paths.{IsPath, IsCopy, AreCopies, frame_at, no_frame}
 use Rattle.walk.specs.inner.WalkerInvariant.{open_at, open_from, left_above, still_open, here}
-use Rattle.walk.specs.inner.Children.{children_of}
+use Rattle.items.specs.Children.{children_of}
 
 take_front : {A : Type 0} (n : ℕ) (xs ys : List A) → n ≤ length xs → take n (xs ++ ys) ≡ take n xs
 take_front zero xs ys l = refl

@@ -10,20 +10,20 @@ use Rattle.semantics.specs.Machine.{Snapshot}
 use Rattle.semantics.specs.Ends.{is_terminal, is_empty, enabled}
 use Rattle.schedules.specs.Order.{end_of}
 use Rattle.schedules.specs.Schedules.{preemptions}
-use Rattle.walk.specs.declared.mode.Mode.{Mode}
-use Rattle.walk.specs.declared.mode.Mode.TheVariants.{Bounded, Reduced}
+use Rattle.items.specs.declared.mode.Mode.{Mode}
+use Rattle.items.specs.declared.mode.Mode.TheVariants.{Bounded, Reduced}
 use Rattle.summary.specs.Summaries.{SummaryView, IsSummary, nothing, sum_of, join, with_beyond}
 use Rattle.summary.specs.Summaries.{added}
-use Rattle.walk.specs.Items.{ItemView, IsItem}
-use Rattle.walk.specs.Walks.{WalkView, IsWalked, IsBelow, IsCut}
-use Rattle.walk.specs.inner.Children.{state_of, IsWithin, passes_bound, children, past_children}
+use Rattle.items.specs.Items.{ItemView, IsItem}
+use Rattle.items.specs.Walks.{WalkView, IsWalked, IsBelow, IsCut}
+use Rattle.items.specs.Children.{state_of, IsWithin, passes_bound, children, past_children}
 use Rattle.walk.specs.declared.found.Found.{Found}
-use Rattle.walk.specs.Walks.{items_at}
-use Rattle.walk.proofs.Listed.{put_same}
+use Rattle.items.specs.Walks.{items_at}
+use Rattle.walk.proofs.Puts.{put_same}
 use Rattle.walk.specs.inner.WalkerInvariant.{IsWalkedOn}
-use Rattle.walk.proofs.Splits.{split_kept}
-use Rattle.walk.proofs.WalkedFurther.{walked_further}
-use Rattle.walk.proofs.ItemsWalked.{leaf_walked, node_walked}
+use Rattle.items.proofs.Splits.{split_kept}
+use Rattle.items.proofs.WalkedFurther.{walked_further}
+use Rattle.items.proofs.ItemsWalked.{leaf_walked, node_walked}
 use Rattle.summary.proofs.PartsJoin.{join_past, join_leaf}
 use Rattle.summary.proofs.SumsJoin.{join_assoc, join_kept}
 

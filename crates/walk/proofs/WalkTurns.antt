@@ -16,15 +16,15 @@ use Rattle.semantics.proofs.Masks.{members_enabled}
 use Rattle.semantics.proofs.WorkFalls.{disabled_past}
 use Rattle.schedules.proofs.UnfoldingUnderPrefix.{preemptions-push}
 use Rattle.schedules.proofs.Executions.{runs_at}
-use Rattle.walk.specs.declared.mode.Mode.{Mode}
+use Rattle.items.specs.declared.mode.Mode.{Mode}
 use Rattle.walk.specs.declared.path.Node.{Node}
-use Rattle.walk.specs.declared.mode.Mode.TheVariants.{Bounded, Reduced}
-use Rattle.walk.specs.Items.{ItemView, item_at}
-use Rattle.walk.proofs.Filters.{filter_twice}
+use Rattle.items.specs.declared.mode.Mode.TheVariants.{Bounded, Reduced}
+use Rattle.items.specs.Items.{ItemView, item_at}
+use Rattle.items.proofs.Filters.{filter_twice}
 use Rattle.walk.proofs.PathSteps.{leaves_is}
-use Rattle.walk.proofs.Children.{reduced_past}
-use Rattle.walk.specs.inner.Children.{child_of, children_of, past_children, kept_steps, past_steps}
-use Rattle.walk.specs.inner.Children.{is_kept_step, is_past_step}
+use Rattle.items.proofs.Children.{reduced_past}
+use Rattle.items.specs.Children.{child_of, children_of, past_children, kept_steps, past_steps}
+use Rattle.items.specs.Children.{is_kept_step, is_past_step}
 use Rattle.walk.specs.inner.Paths.{leaves, IsNode, state_at}
 use Rattle.walk.specs.inner.WalkerInvariant.{item_of, is_kept_at, is_past_at}
 

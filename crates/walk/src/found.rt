@@ -4,7 +4,7 @@ ghost use Rattle.std.specs.Prelude.{◌≡◌, [], true};
 ghost use Rattle.summary.specs.Summaries.{nothing};
 ghost use Rattle.walk.specs.inner.WalkerInvariant.{IsShared};
 
-use crate::item::Item;
+use items::item::Item;
 use prefix_list::{Prefixes, shared_length};
 use std::alloc::Global;
 use summary::{EndMemory, Summary};

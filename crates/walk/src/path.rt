@@ -6,7 +6,7 @@ ghost use Rattle.semantics.specs.Machine.{start, is_enabled};
 ghost use Rattle.schedules.specs.Schedules.{runs};
 ghost use Rattle.semantics.specs.Mask.{one_if};
 ghost use Rattle.walk.specs.inner.Paths.{IsPath, used_frames, frame_at, leaves, state_at};
-ghost use Rattle.walk.specs.declared.mode.Mode.{Mode};
+ghost use Rattle.items.specs.declared.mode.Mode.{Mode};
 ghost use Rattle.walk.specs.inner.WalkerInvariant.{IsOpened, IsGone, left_above, still_open};
 
 use guest_code::laws::programs_are_well_formed;

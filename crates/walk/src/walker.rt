@@ -3,14 +3,15 @@
 ghost use Rattle.std.specs.Prelude.{◌≡◌, ◌+◌, ◌<◌, ◌≤◌, [], IfOk, OnOk};
 ghost use Rattle.std.specs.Arc.{arc_value};
 ghost use Rattle.summary.specs.Summaries.{nothing, greatest_count};
-ghost use Rattle.walk.specs.Walks.{IsWalked, IsPastBound, HasAdded, found_walk, walk_past_bound};
+ghost use Rattle.items.specs.Walks.{IsWalked, IsPastBound, walk_past_bound};
+ghost use Rattle.walk.specs.Founds.{HasAdded, found_walk};
 
 use crate::found::Found;
-use crate::item::Item;
-use crate::mode::Mode;
 use crate::path::Path;
 use crate::walked::Walked;
 use guest_code::program::Program;
+use items::item::Item;
+use items::mode::Mode;
 use std::alloc::{AllocError, Global};
 use std::marker::Model;
 use std::sync::Arc;

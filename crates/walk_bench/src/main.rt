@@ -11,8 +11,8 @@ use std::alloc::Global;
 use std::fs;
 use std::process::ExitCode;
 use std::sync::Arc;
-use walk::item::Item;
-use walk::mode::Mode;
+use items::item::Item;
+use items::mode::Mode;
 use walk::walked::Walked;
 use walk::walker::walk;
 

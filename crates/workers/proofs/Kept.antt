@@ -6,11 +6,12 @@ use Rattle.std.proofs.lemmas.List.{append-nil}
 use Rattle.std.proofs.lemmas.Grind.{flat_map-append}
 use Rattle.guest_code.specs.Program.{Program}
 use Rattle.summary.specs.Summaries.{SummaryView, nothing, join}
-use Rattle.walk.specs.Items.{ItemView}
-use Rattle.walk.specs.declared.mode.Mode.{Mode}
+use Rattle.items.specs.Items.{ItemView}
+use Rattle.items.specs.declared.mode.Mode.{Mode}
 use Rattle.walk.specs.declared.found.Found.{Found}
-use Rattle.walk.specs.Walks.{WalkView, HasAdded, IsWalked, items_at, listed_if}
-use Rattle.walk.proofs.Listed.{listed_none, listed_both}
+use Rattle.items.specs.Walks.{WalkView, IsWalked, items_at, listed_if}
+use Rattle.walk.specs.Founds.{HasAdded}
+use Rattle.items.proofs.Listed.{listed_none, listed_both}
 use Rattle.book.specs.Books.{BookView, AreWalksAt, HaveFound, HaveSettled, joined}
 use Rattle.workers.specs.Teams.{IsOf}
 

@@ -3,9 +3,9 @@ use Rattle.std.proofs.Common.{◌≡◌, ◌∙◌, ℕ, ◌<◌, Bool, true, fa
 use Rattle.std.proofs.Common.{ap, sym, length, get_or, drop}
 use Rattle.std.specs.List.{All}
 use Rattle.std.proofs.lemmas.List.Elements.{All-weaker, All-drop}
-use Rattle.walk.specs.Items.{ItemView, root_of, AreOf}
-use Rattle.walk.specs.Walks.{IsBelow}
-use Rattle.walk.proofs.ListParts.{all_left, all_right}
+use Rattle.items.specs.Items.{ItemView, root_of, AreOf}
+use Rattle.items.specs.Walks.{IsBelow}
+use Rattle.items.proofs.ListParts.{all_left, all_right}
 use Rattle.book.specs.Books.{BookView, Keeps, KeepsWhere, with_deferred}
 
 keeps_below : (dropped : Bool) (b : BookView) → KeepsWhere dropped b

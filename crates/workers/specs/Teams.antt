@@ -1,7 +1,7 @@
 -- What a team of workers keeps from one stretch of rounds to the next.
 use Rattle.std.specs.Prelude.{◌≡◌, ◌≤◌, ◌<◌, Bool, All, vec_len}
 use Rattle.guest_code.specs.Program.{Program}
-use Rattle.walk.specs.declared.mode.Mode.{Mode}
+use Rattle.items.specs.declared.mode.Mode.{Mode}
 use Rattle.book.specs.Books.{BookView}
 use Rattle.workers.specs.declared.limits.TheConstants.{WORKERS}
 use Rattle.workers.specs.declared.team.Team.{Team}

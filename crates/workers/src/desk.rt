@@ -3,7 +3,7 @@
 ghost use Rattle.std.specs.Prelude.{◌≡◌, ◌≤◌, [], IfSome};
 ghost use Rattle.std.specs.Option.{ForSome};
 ghost use Rattle.std.specs.Arc.{arc_value};
-ghost use Rattle.walk.specs.Items.{AreOf};
+ghost use Rattle.items.specs.Items.{AreOf};
 ghost use Rattle.workers.specs.Teams.{IsOf};
 ghost use Rattle.workers.specs.declared.round.Round.{Round};
 ghost use Rattle.workers.specs.inner.Rounds.{IsRoundOf, AreKept};
@@ -13,11 +13,11 @@ use crate::hand::Hand;
 use crate::named::{NamedBook, Naming};
 use crate::round::Round;
 use book::books::Book;
+use items::item::Item;
 use report::{Options, Progress};
 use std::alloc::{AllocError, Global};
 use std::mem;
 use std::sync::Arc;
-use walk::item::Item;
 
 /// The book of a search, and its round.
 #[derive(Drop)]

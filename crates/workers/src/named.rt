@@ -1,21 +1,21 @@
 //! Books that are known to be of one search.
 
 ghost use Rattle.std.specs.Prelude.{◌≡◌, true, Ok};
-ghost use Rattle.walk.specs.Items.{AreOf};
+ghost use Rattle.items.specs.Items.{AreOf};
 ghost use Rattle.book.specs.Books.{HaveFound, HaveSettled, thinned};
 ghost use Rattle.workers.specs.Teams.{IsOf};
 
 use book::books::Book;
+use items::item::Item;
 use std::alloc::{AllocError, Global};
 use std::marker::{Brand, Model, PhantomData};
 use walk::found::Found;
-use walk::item::Item;
 
 /// Which search a book is of. Each stretch of rounds picks it.
 pub(crate) trait Naming {
     ghost use Rattle.std.specs.Prelude.{Bool};
     ghost use Rattle.guest_code.specs.Program.{Program};
-    ghost use Rattle.walk.specs.declared.mode.Mode.{Mode};
+    ghost use Rattle.items.specs.declared.mode.Mode.{Mode};
 
     ghost program: { Program };
 
@@ -29,7 +29,7 @@ pub(crate) trait Naming {
 // What stands here is never used: each call picks its own.
 impl Naming for Brand {
     ghost use Rattle.std.specs.Prelude.{[], false};
-    ghost use Rattle.walk.specs.declared.mode.Mode.TheVariants.{Reduced};
+    ghost use Rattle.items.specs.declared.mode.Mode.TheVariants.{Reduced};
 
     ghost program = { record {
       variables = [];

@@ -3,8 +3,8 @@
 ghost use Rattle.std.specs.Prelude.{◌<◌, vec_len, IfSome};
 
 use board::NONE_TOLD;
-use walk::item::Item;
-use walk::mode::Mode;
+use items::item::Item;
+use items::mode::Mode;
 
 /// The items of a round, and how they are walked. Nobody changes it while workers have it.
 #[derive(Drop)]

@@ -15,12 +15,12 @@ use crate::named::Naming;
 use crate::round::Round;
 use crate::shared::Shared;
 use board::{Board, Seat};
+use items::item::Item;
 use report::ExploreError;
 use std::alloc::AllocError;
 use std::sync::{MutexGuard, Wait};
 use std::thread::Threads;
 use std::{mem, thread};
-use walk::item::Item;
 
 /// How a worker, or all of them, ended.
 #[derive(Clone, Copy, Debug, PartialEq, Eq)]

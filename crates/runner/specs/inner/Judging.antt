@@ -2,12 +2,12 @@
 use Rattle.std.specs.Prelude.{◌≡◌, ◌≤◌, ◌<◌, ◌+◌, ◌-◌, ℕ, List, [], Bool, false, nat_lt}
 use Rattle.std.specs.Prelude.{Option, Some, None}
 use Rattle.guest_code.specs.Program.{Program}
-use Rattle.walk.specs.declared.mode.Mode.{Mode}
-use Rattle.walk.specs.declared.mode.Mode.TheVariants.{Bounded, Reduced}
+use Rattle.items.specs.declared.mode.Mode.{Mode}
+use Rattle.items.specs.declared.mode.Mode.TheVariants.{Bounded, Reduced}
 use Rattle.schedules.specs.Schedules.{preemptions}
 use Rattle.summary.specs.Summaries.{SummaryView, end_kind}
-use Rattle.walk.specs.Items.{whole}
-use Rattle.walk.specs.Walks.{listed_if}
+use Rattle.items.specs.Items.{whole}
+use Rattle.items.specs.Walks.{listed_if}
 use Rattle.book.specs.Books.{BookView}
 use Rattle.report.specs.declared.options.Options.{Options}
 use Rattle.report.specs.declared.options.Search.{Search}

@@ -1,7 +1,7 @@
 -- How a search ends.
 use Rattle.std.specs.Prelude.{◌≡◌, ◌<◌, ◌⊎◌, List, [], length, All, Result, Ok, Err}
-use Rattle.walk.specs.declared.mode.Mode.{Mode}
-use Rattle.walk.specs.Items.{ItemView, schedule_count}
+use Rattle.items.specs.declared.mode.Mode.{Mode}
+use Rattle.items.specs.Items.{ItemView, schedule_count}
 use Rattle.book.specs.Books.{BookView}
 use Rattle.report.specs.declared.error.ExploreError.{ExploreError}
 

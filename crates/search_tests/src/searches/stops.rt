@@ -7,6 +7,8 @@ ghost use Rattle.workers.specs.declared.limits.TheConstants.{WORKERS};
 use crate::searches::gates::{Holding, Passing, StopsOne};
 use guest_code::lowering::lower;
 use guest_syntax::parse;
+use items::item::Item;
+use items::mode::Mode;
 use runner::{Gate, Options, Search, explore_text, report_text};
 use std::alloc::{Alloc, Global};
 use std::process::Abort;
@@ -14,8 +16,6 @@ use std::sync::atomic::Ordering;
 use std::sync::{Arc, Wait};
 use std::test::*;
 use std::thread::Threads;
-use walk::item::Item;
-use walk::mode::Mode;
 use walk::walker::walk;
 
 /// Three threads that each store to a variable of their own: six schedules, without a preemption.

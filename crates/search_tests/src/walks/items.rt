@@ -7,9 +7,8 @@ use std::process::Abort;
 use std::sync::Arc;
 use std::test::*;
 use walk::found::Found;
-use walk::item::Item;
-use walk::mode::Mode;
 use walk::walker::walk;
+use walk::{Item, Mode};
 
 /// What the walk of the counters' schedules that begin with a prefix finds within a bound.
 fn found_after(alloc: Global, prefix: &[u8], bound: u32) -> Result<String, Fail> {

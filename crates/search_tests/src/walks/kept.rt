@@ -11,10 +11,9 @@ use std::sync::Arc;
 use std::test::*;
 use summary::{EndHints, Summary};
 use walk::found::Found;
-use walk::item::Item;
-use walk::mode::Mode;
 use walk::walked::Walked;
 use walk::walker::Walker;
+use walk::{Item, Mode};
 
 /// What a kept walker makes of an item.
 fn walk_once(

@@ -5,7 +5,7 @@ use guest_code::limits::THREADS;
 use std::alloc::{Alloc, Global};
 use std::process::Abort;
 use std::test::*;
-use walk::mode::Mode;
+use walk::Mode;
 
 /// Two threads of 256 steps each.
 const LONG: &str =

@@ -2,7 +2,7 @@
 
 use crate::walks::{CALLED, COUNTERS, CROSSED, LATE, counted, finds};
 use std::test::*;
-use walk::mode::Mode;
+use walk::Mode;
 
 /// Three threads that store to variables of their own: all orders of their steps lead to one state.
 const APART: &str =

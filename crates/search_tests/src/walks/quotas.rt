@@ -8,10 +8,9 @@ use std::process::Abort;
 use std::test::*;
 use summary::{EndHints, Summary};
 use walk::found::Found;
-use walk::item::Item;
-use walk::mode::Mode;
 use walk::walked::Walked;
 use walk::walker::walk;
+use walk::{Item, Mode};
 
 /// More walks than any of these tests needs.
 const WALKS: usize = 1000;

@@ -1,9 +1,9 @@
 //! Walks of roots within a bound.
 
 use crate::walks::{ALL_KINDS, CALLED, COUNTERS, CROSSED, LATE, finds};
+use items::limits::BOUND;
 use std::test::*;
-use walk::limits::BOUND;
-use walk::mode::Mode;
+use walk::Mode;
 
 /// The second thread fails where the first comes first.
 const SECOND_FAILS: &str = "var x; thread A { store x 1; } thread B { load r x; assert r == 0; }";

@@ -4,17 +4,17 @@ use Rattle.std.specs.Prelude.{nat_le, nat_lt, List, [], ◌∷◌, ◌++◌, len
 use Rattle.guest_code.specs.Program.{Program}
 use Rattle.semantics.specs.Mask.{has, no_threads, HasEnabled, members_from, one_if}
 use Rattle.semantics.specs.declared.mask.Mask.{Mask}
-use Rattle.walk.specs.declared.mode.Mode.{Mode}
-use Rattle.walk.specs.declared.mode.Mode.TheVariants.{Bounded, Reduced}
+use Rattle.items.specs.declared.mode.Mode.{Mode}
+use Rattle.items.specs.declared.mode.Mode.TheVariants.{Bounded, Reduced}
 use Rattle.walk.specs.declared.path.Node.{Node}
 use Rattle.walk.specs.declared.path.Frame.{Frame}
 use Rattle.walk.specs.declared.path.Path.{Path}
 use Rattle.walk.specs.declared.found.Found.{Found}
-use Rattle.walk.specs.Items.{ItemView}
+use Rattle.items.specs.Items.{ItemView}
 use Rattle.prefix_list.specs.PrefixLists.{last_of}
 use Rattle.summary.specs.Summaries.{SummaryView, IsSummary, join}
-use Rattle.walk.specs.Walks.{IsWalked, items_at, listed_if}
-use Rattle.walk.specs.inner.Children.{child_of, children_of, cost_of, costs}
+use Rattle.items.specs.Walks.{IsWalked, items_at, listed_if}
+use Rattle.items.specs.Children.{child_of, children_of, cost_of, costs}
 use Rattle.machine.specs.declared.control.Control.{Control}
 use Rattle.machine.specs.declared.lane.Lane.{Lane}
 use Rattle.machine.specs.Refinement.{IsState}

@@ -2,8 +2,8 @@
 use Rattle.std.specs.Prelude.{◌≡◌, ◌≤◌, ◌<◌, ◌*◌, ◌^◌, All, vec_len}
 use Rattle.guest_code.specs.Program.{Program}
 use Rattle.board.specs.Board.{BoardId}
-use Rattle.walk.specs.Items.{AreOf}
-use Rattle.walk.specs.declared.mode.Mode.{Mode}
+use Rattle.items.specs.Items.{AreOf}
+use Rattle.items.specs.declared.mode.Mode.{Mode}
 use Rattle.book.specs.Books.{HaveFound}
 use Rattle.workers.specs.declared.limits.TheConstants.{WORKERS}
 use Rattle.workers.specs.declared.hand.Hand.{Hand}

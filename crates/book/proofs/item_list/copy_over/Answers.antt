@@ -1,6 +1,6 @@
 use Rattle.std.proofs.Common.{rules, ◌≡◌, ◌∙◌, ◌<◌, ◌-◌, ◌+◌, ◌++◌, ◌∷◌, [], ap, sym, arith, get_or, length, take}
 use Rattle.guest_code.specs.Program.{Program}
-use Rattle.walk.specs.Items.{ItemView}
+use Rattle.items.specs.Items.{ItemView}
 use Rattle.std.proofs.lemmas.List.Elements.{All-get_or, All-weaker}
 use Rattle.book.proofs.Lists.{one_more}
 use Rattle.book.proofs.item_list.copy_over.Goals as goal

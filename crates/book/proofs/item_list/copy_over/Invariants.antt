@@ -1,6 +1,6 @@
 use Rattle.std.proofs.Common.{◌≡◌, ◌≤◌, ◌-◌, take, drop, length}
 use Rattle.guest_code.specs.Program.{Program}
-use Rattle.walk.specs.Items.{AreOf}
+use Rattle.items.specs.Items.{AreOf}
 use Rattle.book.proofs.item_list.copy_over.Given as goal
 
 abbrev pub invariant-loop-place : goal.invariant-loop-place

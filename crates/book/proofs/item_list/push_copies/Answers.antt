@@ -1,5 +1,5 @@
 use Rattle.std.proofs.Common.{rules, ◌≡◌, ◌-◌, ◌∙◌, ◌++◌, ◌∷◌, [], ap, arith, append_assoc, get_or, take, drop}
-use Rattle.walk.specs.Items.{ItemView}
+use Rattle.items.specs.Items.{ItemView}
 use Rattle.book.proofs.Lists.{one_more}
 use Rattle.book.proofs.item_list.push_copies.Goals as goal
 

@@ -1,10 +1,10 @@
 use Rattle.std.proofs.Common.{◌++◌, [], arith}
 use Rattle.schedules.specs.Schedules.{begins_with}
-use Rattle.walk.specs.Items.{root_of}
-use Rattle.walk.specs.Walks.{IsBelow}
-use Rattle.walk.proofs.ListParts.{all_left, all_right}
-use Rattle.walk.proofs.Covers.{at_most_one, covers-append}
-use Rattle.walk.proofs.WalkedItems.{HasItsOf, one_place, rest_has}
+use Rattle.items.specs.Items.{root_of}
+use Rattle.items.specs.Walks.{IsBelow}
+use Rattle.items.proofs.ListParts.{all_left, all_right}
+use Rattle.items.proofs.Covers.{at_most_one, covers-append}
+use Rattle.items.proofs.WalkedItems.{HasItsOf, one_place, rest_has}
 use Rattle.book.specs.Books.{items_left}
 use Rattle.book.proofs.laws.dropping_keeps_the_open.Goals as goal
 

@@ -1,5 +1,5 @@
-use Rattle.walk.specs.Items.{root_of}
-use Rattle.walk.proofs.Splits.{split_sum}
+use Rattle.items.specs.Items.{root_of}
+use Rattle.items.proofs.Splits.{split_sum}
 use Rattle.book.proofs.laws.finished_and_open_join.Goals as goal
 
 pub returns : goal.returns

@@ -1,7 +1,7 @@
 use Rattle.std.proofs.Common.{[], arith}
 use Rattle.schedules.specs.Schedules.{begins_with}
-use Rattle.walk.proofs.Covers.{at_most_one}
-use Rattle.walk.proofs.WalkedItems.{one_place}
+use Rattle.items.proofs.Covers.{at_most_one}
+use Rattle.items.proofs.WalkedItems.{one_place}
 use Rattle.book.specs.Books.{items_left}
 use Rattle.book.proofs.laws.none_is_under_two.Goals as goal
 

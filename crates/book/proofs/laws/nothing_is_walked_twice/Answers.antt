@@ -1,9 +1,9 @@
 use Rattle.std.proofs.Common.{subst, ◌≤◌, arith, []}
 use Rattle.schedules.specs.Schedules.{preemptions}
-use Rattle.walk.specs.declared.mode.Mode.{Mode}
-use Rattle.walk.specs.Items.{root_of}
-use Rattle.walk.specs.Walks.{IsSplit}
-use Rattle.walk.proofs.Splits.{split_full}
+use Rattle.items.specs.declared.mode.Mode.{Mode}
+use Rattle.items.specs.Items.{root_of}
+use Rattle.items.specs.Walks.{IsSplit}
+use Rattle.items.proofs.Splits.{split_full}
 use Rattle.book.proofs.laws.nothing_is_walked_twice.Goals as goal
 
 pub returns : goal.returns

@@ -1,7 +1,7 @@
-use Rattle.walk.specs.Items.{root_of}
-use Rattle.walk.specs.Walks.{IsBelow}
-use Rattle.walk.proofs.ListParts.{all_left}
-use Rattle.walk.proofs.WalkedItems.{rest_has}
+use Rattle.items.specs.Items.{root_of}
+use Rattle.items.specs.Walks.{IsBelow}
+use Rattle.items.proofs.ListParts.{all_left}
+use Rattle.items.proofs.WalkedItems.{rest_has}
 use Rattle.book.proofs.laws.open_have_their_schedules.Goals as goal
 
 pub returns-clause-below : goal.returns-clause-below

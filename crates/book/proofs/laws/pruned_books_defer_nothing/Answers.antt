@@ -1,7 +1,7 @@
 use Rattle.std.proofs.Common.{subst}
-use Rattle.walk.specs.declared.mode.Mode.{Mode}
-use Rattle.walk.specs.Items.{root_of}
-use Rattle.walk.specs.Walks.{IsCut}
+use Rattle.items.specs.declared.mode.Mode.{Mode}
+use Rattle.items.specs.Items.{root_of}
+use Rattle.items.specs.Walks.{IsCut}
 use Rattle.book.proofs.laws.pruned_books_defer_nothing.Goals as goal
 
 pub returns : goal.returns

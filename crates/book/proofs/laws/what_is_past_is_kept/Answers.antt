@@ -3,10 +3,10 @@ use Rattle.semantics.specs.Machine.{start}
 use Rattle.schedules.specs.Schedules.{preemptions}
 use Rattle.schedules.proofs.SchedulesUnderPrefix.{in_under}
 use Rattle.schedules.proofs.StatedLaws.{complete}
-use Rattle.walk.specs.declared.mode.Mode.{Mode}
-use Rattle.walk.specs.Items.{root_of}
-use Rattle.walk.specs.Walks.{IsBelow, IsCut}
-use Rattle.walk.proofs.ListParts.{all_right}
+use Rattle.items.specs.declared.mode.Mode.{Mode}
+use Rattle.items.specs.Items.{root_of}
+use Rattle.items.specs.Walks.{IsBelow, IsCut}
+use Rattle.items.proofs.ListParts.{all_right}
 use Rattle.book.proofs.laws.what_is_past_is_kept.Goals as goal
 
 pub returns-clause-all : goal.returns-clause-all

@@ -1,6 +1,6 @@
 use Rattle.std.proofs.Common.{◌≡◌, ◌+◌, ◌++◌, length, reverse}
 use Rattle.std.specs.Arc.{arc_value}
-use Rattle.walk.specs.Walks.{items_at}
+use Rattle.items.specs.Walks.{items_at}
 use Rattle.book.proofs.packed.last_items.Given as goal
 
 abbrev pub invariant-loop : goal.invariant-loop

@@ -1,6 +1,6 @@
 use Rattle.std.proofs.Common.{rules, ◌≡◌, sym, subst}
 use Rattle.std.specs.Arc.{arc_value}
-use Rattle.walk.specs.declared.mode.Mode.{Mode}
+use Rattle.items.specs.declared.mode.Mode.{Mode}
 use Rattle.runner.specs.inner.Judging.{IsStage}
 use Rattle.runner.proofs.Judgments.{first_stage}
 use Rattle.runner.proofs.alone.open_book.Goals as goal

@@ -1,5 +1,5 @@
 use Rattle.std.proofs.Common.{◌≡◌, ◌*◌, ◌+◌, length}
-use Rattle.walk.specs.Items.{schedule_count}
+use Rattle.items.specs.Items.{schedule_count}
 use Rattle.runner.specs.inner.Judging.{IsAt}
 use Rattle.runner.proofs.alone.search_mode.Given as goal
 

@@ -1,7 +1,7 @@
 use Rattle.std.proofs.Common.{◌≡◌, sym, ap, ◌∙◌, subst, refl, true, false}
 use Rattle.book.specs.Books.{BookView, IsNotRaised, Raises}
 use Rattle.book.specs.declared.errors.RaiseError.{RaiseError}
-use Rattle.walk.specs.declared.mode.Mode.{Mode}
+use Rattle.items.specs.declared.mode.Mode.{Mode}
 use Rattle.workers.specs.Teams.{IsOf}
 use Rattle.runner.specs.declared.judge.Next.{Next}
 use Rattle.runner.specs.declared.judge.Next.TheVariants.{Raise}

@@ -1,6 +1,7 @@
 use Rattle.std.proofs.Common.{sym, subst}
-use Rattle.walk.specs.Items.{ItemView}
-use Rattle.walk.specs.Walks.{IsWalked, found_walk}
+use Rattle.items.specs.Items.{ItemView}
+use Rattle.items.specs.Walks.{IsWalked}
+use Rattle.walk.specs.Founds.{found_walk}
 use Rattle.walk.proofs.Walks.{alone_added}
 use Rattle.walk.proofs.walker.walk.Goals as goal
 

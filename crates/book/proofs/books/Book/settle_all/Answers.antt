@@ -1,5 +1,5 @@
 use Rattle.std.proofs.Common.{rules, ◌≡◌, false, not, ◌&&◌, refl, sym, subst, IfSome}
-use Rattle.walk.specs.Items.{AreOf}
+use Rattle.items.specs.Items.{AreOf}
 use Rattle.book.specs.Books.{BookView, Keeps, AreOpenAt, HaveSettled}
 use Rattle.book.proofs.BookFields.{book_of}
 use Rattle.book.proofs.Lists.{open_within}

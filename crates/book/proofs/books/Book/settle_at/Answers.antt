@@ -1,6 +1,6 @@
 use Rattle.std.proofs.Common.{◌≤◌, [], arith, refl, sym, subst}
 use Rattle.std.proofs.lemmas.List.Elements.{All-nil, All-cons}
-use Rattle.walk.specs.Walks.{found_walk}
+use Rattle.walk.specs.Founds.{found_walk}
 use Rattle.book.specs.Books.{Keeps}
 use Rattle.book.proofs.TakenOver.{settled_by_found}
 use Rattle.book.proofs.Thinned.{settles_any}

@@ -1,6 +1,6 @@
 use Rattle.std.proofs.Common.{refl, ◌≡◌, ◌∙◌, ap, subst}
 use Rattle.guest_code.specs.Program.{Program}
-use Rattle.walk.specs.Items.{AreOf}
+use Rattle.items.specs.Items.{AreOf}
 use Rattle.book.specs.Books.{BookView}
 use Rattle.book.proofs.BookFields.{book_of}
 use Rattle.book.proofs.OpenItems.{loose_own}

@@ -3,10 +3,10 @@ use Rattle.std.proofs.Common.{None, Bool}
 use Rattle.std.specs.Arc.{arc_value}
 use Rattle.std.specs.List.{All}
 use Rattle.std.proofs.lemmas.List.Elements.{All-weaker}
-use Rattle.walk.specs.Items.{IsItem}
-use Rattle.walk.specs.Walks.{items_at, listed_if}
-use Rattle.walk.proofs.Listed.{listed_items}
-use Rattle.walk.proofs.ListParts.{all_right}
+use Rattle.items.specs.Items.{IsItem}
+use Rattle.items.specs.Walks.{items_at, listed_if}
+use Rattle.items.proofs.Listed.{listed_items}
+use Rattle.items.proofs.ListParts.{all_right}
 use Rattle.summary.specs.Summaries.{SummaryView}
 use Rattle.summary.proofs.SumsJoin.{join_first_bad}
 use Rattle.book.specs.ItemLists.{all_of}

@@ -1,7 +1,7 @@
 use Rattle.std.proofs.Common.{◌≡◌, ◌≤◌, ◌-◌, ◌∙◌, ap, sym, subst, arith, refl, length}
 use Rattle.std.proofs.lemmas.List.Elements.{All-weaker, All-take, All-replicate}
 use Rattle.std.specs.Arc.{arc_value}
-use Rattle.walk.specs.Items.{ItemView}
+use Rattle.items.specs.Items.{ItemView}
 use Rattle.book.specs.ItemLists.{all_of}
 use Rattle.book.specs.Books.{BookView, Keeps, HaveWalked, HasWalkedRound, taken_over, taken_in}
 use Rattle.book.proofs.BookFields.{book_of}

@@ -1,8 +1,8 @@
 use Rattle.std.proofs.Common.{◌≡◌, ◌∙◌, ◌-◌, ◌+◌, ◌++◌, ap, sym, subst, arith, drop, length, List, OnOk}
 use Rattle.std.proofs.lemmas.List.{length-map}
 use Rattle.std.proofs.Math.Seq.{drop-append-add}
-use Rattle.walk.specs.Items.{ItemView, item_at, AreOf}
-use Rattle.walk.specs.Walks.{items_at}
+use Rattle.items.specs.Items.{ItemView, item_at, AreOf}
+use Rattle.items.specs.Walks.{items_at}
 use Rattle.book.specs.ItemLists.{ListView, all_of}
 use Rattle.book.proofs.item_list.ItemList.copy_from.Goals as goal
 

@@ -1,8 +1,8 @@
 use Rattle.std.proofs.Common.{◌≡◌, ◌-◌, ◌∙◌, ◌++◌, ap, arith, length, drop, sym, min}
 use Rattle.std.specs.Arc.{arc_value}
 use Rattle.std.proofs.lemmas.List.{length-map}
-use Rattle.walk.specs.Items.{item_at}
-use Rattle.walk.specs.Walks.{items_at}
+use Rattle.items.specs.Items.{item_at}
+use Rattle.items.specs.Walks.{items_at}
 use Rattle.book.specs.ItemLists.{all_of}
 use Rattle.book.proofs.PackedItems.{last_of_both}
 use Rattle.book.proofs.item_list.ItemList.last.Goals as goal

@@ -3,7 +3,7 @@ use Rattle.std.specs.List.{All}
 use Rattle.std.proofs.Math.Seq.{take-suc}
 use Rattle.std.proofs.lemmas.List.Elements.{All-nil, All-cons, All-append}
 use Rattle.guest_code.specs.Program.{Program}
-use Rattle.walk.specs.Items.{ItemView}
+use Rattle.items.specs.Items.{ItemView}
 use Rattle.book.specs.ItemLists.{all_of}
 use Rattle.book.specs.Books.{remove_each, AreOpenAt}
 use Rattle.book.proofs.PackedItems.{length-all, got-or, got-loose}

@@ -1,5 +1,5 @@
 use Rattle.std.proofs.Common.{◌≡◌, ◌-◌, ◌∙◌, ◌++◌, ap, arith, length, take}
-use Rattle.walk.specs.Walks.{items_at}
+use Rattle.items.specs.Walks.{items_at}
 use Rattle.book.specs.ItemLists.{all_of}
 use Rattle.book.proofs.PackedItems.{cut-both}
 use Rattle.book.proofs.item_list.ItemList.truncate.Goals as goal

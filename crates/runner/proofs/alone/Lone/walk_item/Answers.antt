@@ -1,6 +1,7 @@
 use Rattle.std.proofs.Common.{rules, ◌≡◌, inl, sym, subst, true, Ok}
-use Rattle.walk.specs.declared.mode.Mode.{Mode}
-use Rattle.walk.specs.Walks.{IsWalked, found_walk}
+use Rattle.items.specs.declared.mode.Mode.{Mode}
+use Rattle.items.specs.Walks.{IsWalked}
+use Rattle.walk.specs.Founds.{found_walk}
 use Rattle.book.specs.Books.{BookView, drops}
 use Rattle.runner.specs.inner.Shrinking.{HasLess, Went}
 use Rattle.runner.proofs.Shrinks.{walk_ends, settled_less, thinned_less, thinned_went}

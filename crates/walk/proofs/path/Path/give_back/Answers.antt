@@ -4,11 +4,11 @@ use Rattle.guest_code.specs.Program.{Program}
 use Rattle.semantics.specs.Machine.{start, is_enabled}
 use Rattle.schedules.specs.Schedules.{runs}
 use Rattle.walk.proofs.Arrivals.{child_enabled}
-use Rattle.walk.specs.Items.{IsItem}
+use Rattle.items.specs.Items.{IsItem}
 use Rattle.walk.specs.inner.Paths.{state_at}
-use Rattle.walk.specs.inner.Children.{children_of, child_of, costs}
+use Rattle.items.specs.Children.{children_of, child_of, costs}
 use Rattle.walk.specs.inner.WalkerInvariant.{here, left_above, turns_left}
-use Rattle.walk.proofs.Turns.{cost_two}
+use Rattle.items.proofs.Turns.{cost_two}
 use Rattle.walk.proofs.path.Path.give_back.Goals as goal
 
 pub returns-in_ok-push-in-Some-clause-items : goal.returns-in_ok-push-in-Some-clause-items

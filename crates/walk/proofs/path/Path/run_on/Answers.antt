@@ -6,15 +6,15 @@ use Rattle.guest_code.specs.Program.{Program}
 use Rattle.semantics.specs.Machine.{is_enabled}
 use Rattle.semantics.specs.Work.{work}
 use Rattle.machine.specs.Refinement.{IsState}
-use Rattle.walk.specs.declared.mode.Mode.TheVariants.{Bounded}
+use Rattle.items.specs.declared.mode.Mode.TheVariants.{Bounded}
 use Rattle.walk.specs.declared.path.Path.{Path}
-use Rattle.walk.specs.inner.Children.{costs}
+use Rattle.items.specs.Children.{costs}
 use Rattle.walk.specs.inner.Paths.{ReachesNode, state_at}
 use Rattle.walk.specs.inner.WalkerInvariant.{IsAlone, PutsOff, here, is_spent_at, left_above, turns_from}
 use Rattle.walk.proofs.Arrivals.{within_at}
 use Rattle.walk.proofs.LoneSteps.{alone_here, went_alone, spent_is, free_alone}
 use Rattle.walk.proofs.PathSteps.{path_on, left_goes}
-use Rattle.walk.proofs.Turns.{turns_more}
+use Rattle.items.proofs.Turns.{turns_more}
 use Rattle.walk.proofs.WalkSteps.{first_on}
 use Rattle.walk.proofs.path.Path.run_on.Goals as goal
 

@@ -1,7 +1,7 @@
 use Rattle.std.proofs.Common.{rules, ◌≡◌, ◌-◌, refl, sym, subst, length}
 use Rattle.std.proofs.lemmas.List.Elements.{All-same}
 use Rattle.guest_code.specs.Program.{Program}
-use Rattle.walk.specs.Items.{ItemView, AreOf}
+use Rattle.items.specs.Items.{ItemView, AreOf}
 use Rattle.workers.proofs.RoundItems.{of_program}
 use Rattle.workers.proofs.team.Team.walk_round.Goals as goal
 

@@ -1,0 +1,16 @@
+use Rattle.std.proofs.Common.{subst}
+use Rattle.items.specs.declared.mode.Mode.{Mode}
+use Rattle.items.specs.Walks.{IsCut}
+use Rattle.items.proofs.laws.what_is_past_is_kept.Goals as goal
+
+pub returns-clause-all : goal.returns-clause-all
+returns-clause-all c = λ w bound h e.
+    (subst (λ (m : Mode). IsCut m w.item w.rest w.deferred) e h.split.cut).all
+
+pub returns-clause-within : goal.returns-clause-within
+returns-clause-within c = λ w bound h e.
+    (subst (λ (m : Mode). IsCut m w.item w.rest w.deferred) e h.split.cut).within
+
+pub returns-clause-past : goal.returns-clause-past
+returns-clause-past c = λ w bound h e.
+    (subst (λ (m : Mode). IsCut m w.item w.rest w.deferred) e h.split.cut).past

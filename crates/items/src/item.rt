@@ -1,0 +1,193 @@
+//! Items of a search: each stands for the complete schedules that begin with its prefix.
+
+ghost use Rattle.std.specs.Prelude.{◌≡◌, ◌++◌, ◌∷◌, [], ◌↔◌, true, IfOk, IfErr, OnOk, OnErr, IsTrue, MatchResult};
+ghost use Rattle.std.specs.Arc.{arc_value};
+ghost use Rattle.replay.specs.Run.{ReplayErrorMeans};
+ghost use Rattle.items.specs.Items.{IsItem, item_at, root_of};
+
+use crate::limits::INLINE_STEPS;
+use guest_code::program::Program;
+use replay::{ReplayError, replay};
+use semantics::mask::Mask;
+use smallvec::SmallVec;
+use std::alloc::{AllocError, Global};
+use std::marker::Model;
+use std::sync::Arc;
+
+/// A program, a prefix that runs in it, and the threads that sleep after the prefix.
+#[derive(Drop)]
+pub struct Item {
+    program: Arc<Program>,
+    prefix: SmallVec<u8, INLINE_STEPS>,
+    mask: Mask,
+}
+
+impl Model for Item {
+    ghost use Rattle.items.specs.Items.{ItemView, IsItem, item_view};
+
+    ghost Value = { ItemView };
+
+    ghost view = { λ i. item_view i.program i.prefix.items i.mask };
+
+    ghost invariant = { λ i. IsItem (item_view i.program i.prefix.items i.mask) };
+}
+
+impl Item {
+    /// The item of all schedules of a program.
+    ///
+    /// # Errors
+    ///
+    /// None so far, since it takes no memory.
+    pub fn root(alloc: Global, program: Arc<Program>) -> Result<Item, AllocError>
+        ensures { MatchResult result (λ i. i ≡ root_of (arc_value program)) (λ _. ⊥) }
+    {
+        Ok(Item {
+            program,
+            prefix: SmallVec::new(alloc),
+            mask: Mask::empty(),
+        })
+    }
+
+    /// The item of the schedules that begin with a prefix.
+    ///
+    /// # Errors
+    ///
+    /// `NoSuchThread` or `NotEnabled` with the first place of the prefix at which no step can be
+    /// taken, `OutOfMemory` where memory runs out.
+    pub fn at(alloc: Global, program: Arc<Program>, prefix: &[u8]) -> Result<Item, ReplayError>
+        ensures item { IfOk result (λ i. i ≡ item_at (arc_value program) prefix.now) }
+        ensures error { IfErr result (ReplayErrorMeans (arc_value program) prefix.now) }
+        ensures runs { IfOk result IsItem }
+    {
+        replay(alloc, &program, prefix)?;
+        let prefix = SmallVec::from_slice(alloc, prefix)?;
+        Ok(Item {
+            program,
+            prefix,
+            mask: Mask::empty(),
+        })
+    }
+
+    /// The item of the schedules that begin with a prefix that is known to run: it isn't replayed.
+    ///
+    /// # Errors
+    ///
+    /// `AllocError` where memory runs out.
+    pub fn running(alloc: Global, program: Arc<Program>, prefix: &[u8]) -> Result<Item, AllocError>
+        requires { IsItem (item_at (arc_value program) prefix.now) }
+        ensures { IfOk result (λ i. i ≡ item_at (arc_value program) prefix.now) }
+    {
+        let prefix = SmallVec::from_slice(alloc, prefix)?;
+        Ok(Item {
+            program,
+            prefix,
+            mask: Mask::empty(),
+        })
+    }
+
+    /// Whether the two are of equal programs and have equal prefixes and masks.
+    pub fn is_same(&self, other: &Item) -> bool
+        ensures { IsTrue result ↔ (self.now ≡ other.now) }
+    {
+        self.prefix.as_slice() == other.prefix.as_slice()
+            && same_masks(self.mask, other.mask)
+            && self.program.is_same(&other.program)
+    }
+
+    /// An equal item, of the same program.
+    ///
+    /// # Errors
+    ///
+    /// `AllocError` where memory runs out.
+    pub fn try_clone(&self, alloc: Global) -> Result<Item, AllocError>
+        ensures { IfOk result (λ i. i ≡ self.now) }
+    {
+        let program = Arc::try_clone(&self.program)?;
+        let prefix = SmallVec::from_slice(alloc, self.prefix.as_slice())?;
+        Ok(Item {
+            program,
+            prefix,
+            mask: self.mask,
+        })
+    }
+
+    /// Becomes equal to another item of the same program. The memory of its prefix serves the new
+    /// one.
+    ///
+    /// # Errors
+    ///
+    /// `AllocError` where memory runs out. It is the item of all schedules of its program then.
+    pub fn try_clone_from(&mut self, other: &Item) -> Result<(), AllocError>
+        requires { self.old.program ≡ other.now.program }
+        ensures item { OnOk result (self.new ≡ other.now) }
+        ensures root { OnErr result (self.new ≡ root_of self.old.program) }
+    {
+        self.mask = Mask::empty();
+        self.prefix.clear();
+        self.prefix.extend_from_slice(other.prefix.as_slice())?;
+        self.mask = other.mask;
+        Ok(())
+    }
+
+    /// The item of the same program after these steps and one more, where these threads sleep.
+    ///
+    /// # Errors
+    ///
+    /// `AllocError` where memory runs out.
+    pub fn further(
+        &self,
+        alloc: Global,
+        steps: &[u8],
+        thread: u8,
+        mask: Mask,
+    ) -> Result<Item, AllocError>
+        requires { IsItem (record {
+          program = self.now.program;
+          prefix = steps.now ++ thread ∷ [];
+          mask = mask;
+        }) }
+        ensures { IfOk result (λ i. i ≡ record {
+          program = self.now.program;
+          prefix = steps.now ++ thread ∷ [];
+          mask = mask;
+        }) }
+    {
+        let program = Arc::try_clone(&self.program)?;
+        let mut prefix = SmallVec::from_slice(alloc, steps)?;
+        prefix.push(thread)?;
+        Ok(Item {
+            program,
+            prefix,
+            mask,
+        })
+    }
+
+    /// The program.
+    pub fn program(&self) -> &Program
+        ensures { result.now ≡ self.now.program }
+    {
+        &self.program
+    }
+
+    /// The steps that each of the item's schedules begins with.
+    pub fn prefix(&self) -> &[u8]
+        ensures prefix { result.now ≡ self.now.prefix }
+        ensures runs { IsItem self.now }
+    {
+        self.prefix.as_slice()
+    }
+
+    /// The threads that sleep after the prefix.
+    pub fn mask(&self) -> Mask
+        ensures { result ≡ self.now.mask }
+    {
+        self.mask
+    }
+}
+
+// Whether the same threads are in both.
+fn same_masks(first: Mask, second: Mask) -> bool
+    ensures { IsTrue result ↔ (first ≡ second) }
+{
+    first == second
+}

@@ -1,5 +1,0 @@
-use Rattle.walk.proofs.WalkedItems.{walked_apart}
-use Rattle.walk.proofs.laws.none_is_under_two.Goals as goal
-
-pub returns : goal.returns
-returns c = walked_apart
