@@ -1,6 +1,6 @@
-mod items;
 mod kept;
 mod long;
+mod prefixes;
 mod pruned;
 mod quotas;
 mod roots;
