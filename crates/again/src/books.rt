@@ -4,11 +4,11 @@ use board::Board;
 use book::books::Book;
 use book::errors::SettleError;
 use guest_code::program::Program;
+use items::item::Item;
+use items::mode::Mode;
 use std::alloc::Global;
 use std::sync::Arc;
 use summary::Summary;
-use items::item::Item;
-use items::mode::Mode;
 use walk::walked::Walked;
 use walk::walker::walk;
 

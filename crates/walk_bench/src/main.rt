@@ -7,12 +7,12 @@ ghost use Rattle.std.specs.Prelude.{◌≡◌, length};
 
 use guest_code::lowering::lower;
 use guest_syntax::parse;
+use items::item::Item;
+use items::mode::Mode;
 use std::alloc::Global;
 use std::fs;
 use std::process::ExitCode;
 use std::sync::Arc;
-use items::item::Item;
-use items::mode::Mode;
 use walk::walked::Walked;
 use walk::walker::walk;
 
