@@ -102,8 +102,8 @@ next_walked b i first place quota f g from at of lists h = record {
 
 -- an item of a list that is the open items is an open one, of the book's program
 pub open_at : (b : BookView) (items : List ItemView) (end place : ℕ) (i : ItemView) → Keeps b →
-    items ≡ b.open_items → end ≡ length b.open_items → place < end → slice_get items place ≡ Some i →
-    IsOpenAt b i place × (b.program ≡ i.program)
+    items ≡ b.open_items → end ≡ length b.open_items → place < end →
+    slice_get items place ≡ Some i → IsOpenAt b i place × (b.program ≡ i.program)
 open_at b items end place i h same count lt at =
     let inside : place < length b.open_items = omega (arith, count, lt) in
     let there : slice_get b.open_items place ≡ Some i =

@@ -24,8 +24,8 @@ use Rattle.book.specs.declared.errors.RaiseError.{RaiseError}
 use Rattle.book.specs.declared.errors.RaiseError.TheVariants.{StillOpen, Dropped, LastBound}
 
 -- what contracts see of a book: the summary of what is finished, the items that are still open,
--- those that wait for the next bound, whether these are listed, whether the search is a quick one, and
--- whether it dropped an item
+-- those that wait for the next bound, whether these are listed, whether the search is a quick one,
+-- and whether it dropped an item
 pub record BookView : Type 0 where
   pub program : Program
   pub mode : Mode
@@ -135,8 +135,8 @@ settled b w place = record b {
   deferred = b.deferred ++ listed_if b.lists w.deferred;
 }
 
--- the walk's item leaves the open ones, its part is joined, its rest and what it deferred, where that is
--- listed, come last
+-- the walk's item leaves the open ones, its part is joined, its rest and what it deferred, where that
+-- is listed, come last
 pub record Settles (old : BookView) (w : WalkView) (new : BookView) : Type 0 where
   pub of : IsWalkOf old w
   pub place : ℕ

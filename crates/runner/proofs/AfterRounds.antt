@@ -55,8 +55,8 @@ not_at_last b p o mode known of can ends =
     (of.lists ∙ goes_on_listing p o.search mode can) ends))
 
 -- the mode of a raised book
-raised_mode : (old new : BookView) (p : Program) (o : Options) (mode next : Mode) → IsAt old p o mode
-    → Raises old new → next ≡ new.mode → next ≡ Bounded (bound_of mode + 1)
+raised_mode : (old new : BookView) (p : Program) (o : Options) (mode next : Mode)
+    → IsAt old p o mode → Raises old new → next ≡ new.mode → next ≡ Bounded (bound_of mode + 1)
 raised_mode old new p o mode next of raise same =
     same ∙ ap (λ (b : BookView). b.mode) raise.book
     ∙ ap (λ (m : Mode). Bounded (bound_of m + 1)) of.mode

@@ -202,8 +202,8 @@ pub lone_search : {b : Found} (mode : Mode) (i : ItemView) (old : Path) (steps :
     (open_below mode i.program (record old { steps = steps }) t)
 lone_search Reduced i old steps f g e past t h are same last alone out others part rest put shared =
     absurd (spent_is Reduced old.node (and_left false (has e t) alone))
-lone_search {b} (Bounded bound) i old steps f g e past t h are same last alone out others part rest put
-    shared = record {
+lone_search {b} (Bounded bound) i old steps f g e past t h are same last alone out others part rest
+    put shared = record {
       place = place_turned p old new h.place turned h.place.path.room;
       walked = subst (IsWalkedOn b mode i g)
           (λ k. child_of mode (sym (here_turned p old new turned) k) t

@@ -6,7 +6,8 @@ use Rattle.book.specs.Books.{BookView}
 use Rattle.workers.specs.declared.limits.TheConstants.{WORKERS}
 use Rattle.workers.specs.declared.team.Team.{Team}
 
--- the book is of this program and mode, a quick one or not, and lists what its bound puts off or not
+-- the book is of this program and mode, a quick one or not, and lists what its bound puts off or
+-- not
 pub record IsOf (b : BookView) (p : Program) (m : Mode) (q l : Bool) : Type 0 where
   pub program : b.program ≡ p
   pub mode : b.mode ≡ m

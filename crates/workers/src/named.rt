@@ -94,7 +94,8 @@ impl<N: Naming> NamedBook<N> {
 
     /// Settles at once what walks of items of its last round found, one after another: of those at
     /// these places of the round. Answers whether the book took it: it doesn't where one of the items
-    /// isn't open, or what the walks put off isn't listed as the book lists it. The memory of what was found serves later walks.
+    /// isn't open, or what the walks put off isn't listed and the book lists it. The memory of what was
+    /// found serves later walks.
     ///
     /// # Errors
     ///

@@ -91,8 +91,8 @@ not_joined c =
     found.rest.items c.length-open_length.result c.unpack_from.ensures.same
     c.in_ok-append.ensures.packed c.in_ok-append.ensures.loose (c.length-open_length.ensures p)
     (open_items.ensures.items p))
-    (taken_back b.deferred (items_at p c.forget_unlisted.new.prefixes) (all_of p c.append_prefixes.new.self)
-    (all_of p deferred.new.self) c.length-deferred_length.result
+    (taken_back b.deferred (items_at p c.forget_unlisted.new.prefixes)
+    (all_of p c.append_prefixes.new.self) (all_of p deferred.new.self) c.length-deferred_length.result
     (c.in_default.ensures.all
     ∙ ap (λ is. is ++ items_at p c.forget_unlisted.new.prefixes) c.unpack_from-2.ensures.same)
     (c.length-deferred_length.ensures p) (deferred.ensures.items p))

@@ -53,7 +53,8 @@ loop-place-preserved c =
       tried = omega (arith, tried, more, quota);
       walked = round_goes_on c.args.self.now b item c.saturating_sub-first.result
           c.loop-place.place c.args.quota c.loop-place.found c.walk_on.new.found c.self.view_is from
-          at.0 at.1 (c.loop-place.invariant.lists ∙ sym (ap (λ (z : BookView). z.lists) c.self.view_is))
+          at.0 at.1
+          (c.loop-place.invariant.lists ∙ sym (ap (λ (z : BookView). z.lists) c.self.view_is))
           c.in_ok-walk_on.ensures.added c.loop-place.invariant.walked;
     }
 

@@ -31,7 +31,8 @@ run-requires c =
         h.0,
         lone_search c.args.mode c.args.item.now t c.defer.new.steps c.args.found.now
             c.defer.new.self c.enabled-enabled.result c.with.result c.args.thread h.1
-            (c.enabled-enabled.ensures p (state_at p t.steps.items) c.requires.search.1.place.path.shows)
+            (c.enabled-enabled.ensures p (state_at p t.steps.items)
+            c.requires.search.1.place.path.shows)
             c.defer.ensures.steps c.requires.last (sym c.is_alone.ensures ∙ c.if-not-is_alone.false)
             c.with.ensures.same c.with.ensures.others c.in_ok-defer.ensures.part c.defer.ensures.rest
             c.in_ok-defer.ensures.put c.in_ok-defer.ensures.shared,
