@@ -136,8 +136,7 @@ fn turn(code: &[Instruction], own: &mut [i64], at: &mut Landing) -> bool
             true
         }
         Instruction::SkipIfZero(e, n) => {
-            let skip = if is_zero_at(own, e) { *n } else { 0 };
-            pass(code, at, skip);
+            pass(code, at, if is_zero_at(own, e) { *n } else { 0 });
             true
         }
         Instruction::Skip(n) => {
