@@ -288,7 +288,7 @@ module _ (mode : Mode) (item i : ItemView) (f part : SummaryView)
 -- schedules past the bound
 
 module _ (p : Program) (bound : ℕ) where
-  -- whoever begins with a prefix past the bound is past it
+  -- a schedule that begins with a prefix past the bound is past it
   past_after : (prefix v : List ℕ) → runs p (start p) prefix ≡ true →
       bound < preemptions p prefix → is_complete p (start p) v ≡ true →
       begins_with prefix v ≡ true → bound < preemptions p v

@@ -138,7 +138,7 @@ opened_more p s k c d there opened lands = record {
     back t h = subst (λ ts. HasThreadAt p d s t (get_or ts t missing_thread))
         (set-get_or s.threads k missing_thread) h
 
--- the locals of one thread more, behind the others
+-- the locals of one thread more, after those of the others
 
 module _ (w k f : ℕ) (xs ys : List ℤ) (long : length xs ≡ f + k * w) (more : length ys ≡ w) where
   rest : length (drop f xs) ≡ k * w

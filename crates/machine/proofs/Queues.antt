@@ -10,7 +10,7 @@ use Rattle.machine.specs.Refinement.{queued}
 use Rattle.machine.specs.inner.Parts.{IsControlBut}
 use Rattle.machine.proofs.Lists.{by_place}
 
--- a thread behind the others: its four bits are the lowest, and each of the others moves up
+-- a thread joins at the end: its four bits are the lowest, and each of the others moves up
 queued_more : (n q x t : ℕ) → x / 2 ^ (4 * 0) % 16 ≡ t
     → ((j : ℕ) → j < n → x / 2 ^ (4 * suc j) % 16 ≡ q / 2 ^ (4 * j) % 16)
     → queued (suc n) x ≡ queued n q ++ t ∷ []

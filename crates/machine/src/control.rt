@@ -71,7 +71,7 @@ fn counts_of(program: &Program) -> [u16; OBJECTS]
     counts
 }
 
-// A queue of this length with a thread behind the others.
+// A queue of this length with a thread put at its end.
 fn joined(queue: u64, thread: u8, _length: u8) -> u64
     requires thread { thread < THREADS }
     requires room { _length < THREADS }

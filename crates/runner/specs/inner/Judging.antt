@@ -58,7 +58,7 @@ IsLast (UpTo last) Reduced = ⊥
 IsLast Unbounded (Bounded bound) = ⊥
 IsLast Unbounded Reduced = Unit {0}
 
--- what a mode puts off is listed, since the search goes on to another one
+-- whether what a mode puts off is listed: it is where the search may go on to another bound
 abbrev pub lists_at : Search → Mode → Bool
 lists_at (UpTo last) (Bounded bound) = nat_lt bound last
 lists_at (UpTo last) Reduced = false
