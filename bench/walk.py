@@ -3,9 +3,11 @@
 
 It runs the built `walk_bench` on a guest in a mode, a bound or `reduced`, and prints what the walk
 tried, the least user time of five runs, schedules a second, how many prefixes the bound put off, and
-how many bytes of memory the run held for each of them, where they are a million or more. OTHER is another explorer to measure beside it, a program that takes
-`explore GUEST --bound BOUND` or `unbounded GUEST`; its time is given with the ratio. Without guests
-it walks `bench/four_by_five.guest`, whose schedules have 20 steps each, at rising bounds.
+how many bytes of memory the run held for each of them, where they are a million or more. OTHER is
+another explorer to measure beside it, a program that takes `explore GUEST --bound BOUND` or
+`unbounded GUEST` and lists nothing of what its last bound puts off. So a walk that lists nothing is
+timed as well, and the ratio is of that one's time to OTHER's. Without guests it walks
+`bench/four_by_five.guest`, whose schedules have 20 steps each, at rising bounds.
 """
 import os
 import sys
@@ -67,8 +69,9 @@ def line(guest, mode, other):
     text = "%-18s %8s %11d %9.3f %13.0f %11d %9s" % (
         name, mode, tried, seconds, tried / max(seconds, 1e-6), deferred, each)
     if other:
+        unlisted = least([BINARY, guest, mode, "unlisted"])[1]
         beside = least(other_words(other, guest, mode))[1]
-        text += " %9.3f %6.2f" % (beside, seconds / max(beside, 1e-6))
+        text += " %9.3f %9.3f %6.2f" % (unlisted, beside, unlisted / max(beside, 1e-6))
     return text
 
 
@@ -77,7 +80,7 @@ def main(words):
     cases = list(zip(words[1::2], words[2::2])) or [(GUEST, str(bound)) for bound in range(5)]
     head = "%-18s %8s %11s %9s %13s %11s %9s" % (
         "guest", "mode", "schedules", "seconds", "schedules/s", "deferred", "bytes/def")
-    print(head + (" %9s %6s" % ("other", "ratio") if other else ""))
+    print(head + (" %9s %9s %6s" % ("unlisted", "other", "ratio") if other else ""))
     for guest, mode in cases:
         print(line(guest, mode, other), flush=True)
 

@@ -1,6 +1,8 @@
 //! What is answered to what was asked, as a value: the bytes for each stream, and the status.
 
-ghost use Rattle.std.specs.Prelude.{◌≡◌};
+ghost use Rattle.std.specs.Prelude.{◌≡◌, ◌++◌, codes, IfOk, IfErr};
+ghost use Rattle.report.specs.ReportText.{report_text};
+ghost use Rattle.answering.specs.declared.fault.Fault.TheVariants.{Memory};
 ghost use Rattle.answering.specs.Answer.{ReplayMeans, ExplorationMeans, TracedMeans, IsAnswerTo};
 ghost use Rattle.answering.specs.Status.{replay_status, verdict_status};
 ghost use Rattle.answering.specs.Serve.{IsWritten};
@@ -11,7 +13,7 @@ use crate::progress::Teller;
 use guest_code::lowering::lower;
 use guest_syntax::parse;
 use replay::{replay, schedule_from, schedule_text, trace_text};
-use runner::{Verdict, report_text};
+use runner::{Report, Verdict, report_text};
 use semantics::view::Kind;
 use std::alloc::Global;
 use std::io;
@@ -60,6 +62,16 @@ pub fn replay_status(kind: Option<Kind>) -> u8
     }
 }
 
+// The text of a report, and a line feed.
+fn report_line(alloc: Global, report: &Report) -> Result<Vec<u8>, Fault>
+    ensures line { IfOk result (λ v. v.items ≡ report_text report.now ++ codes "\n") }
+    ensures memory { IfErr result (λ e. e ≡ Memory) }
+{
+    let mut line = report_text(alloc, report)?;
+    line.push(b'\n')?;
+    Ok(line)
+}
+
 /// The report of a search of the program that `text` spells, by as many workers as asked for, and a
 /// line feed.
 ///
@@ -82,10 +94,8 @@ pub fn explore_text<R: Threads + Wait + Sync + Eprint>(
     } = asked;
     let gate = Teller::new(rt, progress);
     let report = runner::explore_text(rt, alloc, text, options, workers, &gate)?;
-    let mut output = report_text(alloc, &report)?;
-    output.push(b'\n')?;
     Ok(Printed {
-        output,
+        output: report_line(alloc, &report)?,
         status: verdict_status(&report.verdict),
     })
 }
@@ -106,8 +116,7 @@ pub fn explore_and_trace<R: Threads + Wait + Sync + Eprint>(
 {
     let gate = Teller::new(rt, asked.progress);
     let report = runner::explore_text(rt, alloc, text, asked.options, asked.workers, &gate)?;
-    let mut output = report_text(alloc, &report)?;
-    output.push(b'\n')?;
+    let mut output = report_line(alloc, &report)?;
     if let Some(schedule) = report.schedule() {
         let schedule = schedule_text(alloc, schedule)?;
         let trace = replay_text(alloc, text, schedule.as_slice())?;

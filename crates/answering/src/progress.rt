@@ -1,6 +1,6 @@
 //! How far a search is, told on standard error while it goes on.
 
-use runner::{Answer, Gate, Progress};
+use runner::{Gate, Progress};
 use std::fmt;
 use std::io::Eprint;
 use std::sync::atomic::{AtomicU64, Ordering};
@@ -99,12 +99,6 @@ impl<R: Eprint + Sync> Gate for Teller<'_, R> {
     fn may_stop(&self) -> bool {
         false
     }
-
-    fn before(&self, _worker: u32, _item: u64) -> Answer {
-        Answer::Go
-    }
-
-    fn walked(&self, _worker: u32, _item: u64) {}
 
     fn round_ended(&self, progress: Progress) {
         let bound = match progress.bound {

@@ -42,6 +42,7 @@ pub fn explanation_html(
     source: &Source<'_>,
     search: Option<Value>,
 ) -> Result<Vec<u8>, AllocError> {
+    let mut page = Vec::from_slice(alloc, PAGE_BEGIN.as_bytes())?;
     let teller = Teller {
         alloc,
         explanation,
@@ -50,7 +51,6 @@ pub fn explanation_html(
     let mut members = teller.members(search)?;
     teller.put(&mut members, "source", teller.text(source.text)?)?;
     let data = Value::Object(members).to_vec(alloc)?;
-    let mut page = Vec::from_slice(alloc, PAGE_BEGIN.as_bytes())?;
     put_data(&mut page, data.as_slice())?;
     page.extend_from_slice(PAGE_END.as_bytes())?;
     Ok(page)

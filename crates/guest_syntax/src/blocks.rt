@@ -4,7 +4,7 @@ ghost use Rattle.std.specs.Prelude.{◌≡◌, ◌<◌, length, map, IfOk, optio
 ghost use Rattle.guest_syntax.specs.reader.Gives.{Gives};
 ghost use Rattle.guest_syntax.specs.reader.TokenViews.{kind_view};
 ghost use Rattle.guest_syntax.specs.Tree.{stmt_view, placed_view, block_view};
-ghost use Rattle.guest_syntax.specs.reader.Reads.{IsPlaceOf, Reads, StaysIn, TakesToken};
+ghost use Rattle.guest_syntax.specs.reader.Reads.{IsPlaceOf, Parses, Reads, StaysIn, TakesToken};
 ghost use Rattle.guest_syntax.specs.reader.Items.{all_from};
 ghost use Rattle.guest_syntax.specs.reader.Statements.{is_else, choice_from, repeat_from, statement_by, turn_from, block_from};
 
@@ -68,9 +68,7 @@ fn repetition<'a>(
     text: Cursor<'a>,
     room: u32,
 ) -> Result<(Statement, Cursor<'a>), SyntaxError>
-    ensures gives { Reads stmt_view result (repeat_from (block_from room)) text.entry }
-    ensures within { StaysIn result text.entry }
-    ensures shorter { TakesToken result text.entry }
+    ensures { Parses stmt_view result (repeat_from (block_from room)) text.entry }
 {
     let (times, text) = times(text)?;
     let (body, text) = block(alloc, text, room)?;
@@ -87,9 +85,7 @@ fn statement<'a>(
     room: u32,
 ) -> Result<(Statement, Cursor<'a>), SyntaxError>
     requires place { IsPlaceOf text at }
-    ensures gives { Reads stmt_view result (statement_by (block_from room) keyword) text.entry }
-    ensures within { StaysIn result text.entry }
-    ensures shorter { TakesToken result text.entry }
+    ensures { Parses stmt_view result (statement_by (block_from room) keyword) text.entry }
 {
     match keyword {
         Keyword::If => choice(alloc, text, room),
@@ -106,9 +102,7 @@ fn turn<'a>(
     text: Cursor<'a>,
     room: u32,
 ) -> Result<(Option<Placed>, Cursor<'a>), SyntaxError>
-    ensures gives { Reads (option_map placed_view) result (turn_from (block_from room)) text.entry }
-    ensures within { StaysIn result text.entry }
-    ensures shorter { TakesToken result text.entry }
+    ensures { Parses (option_map placed_view) result (turn_from (block_from room)) text.entry }
 {
     let (token, after) = token(text)?;
     match token.kind {
@@ -154,9 +148,7 @@ pub fn block<'a>(
     text: Cursor<'a>,
     room: u32,
 ) -> Result<(Vec<Placed>, Cursor<'a>), SyntaxError>
-    ensures gives { Reads (λ x. block_view x.items) result (block_from room) text.entry }
-    ensures within { StaysIn result text.entry }
-    ensures shorter { TakesToken result text.entry }
+    ensures { Parses (λ x. block_view x.items) result (block_from room) text.entry }
 {
     let (brace, after) = symbol(text, Symbol::Open)?;
     if room == 0 {

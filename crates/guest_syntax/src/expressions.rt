@@ -4,7 +4,7 @@ ghost use Rattle.std.specs.Prelude.{◌≡◌, ◌<◌, ◌≤◌, length, IfOk}
 ghost use Rattle.guest_syntax.specs.reader.Gives.{Gives};
 ghost use Rattle.guest_syntax.specs.reader.TokenViews.{kind_view, token_view};
 ghost use Rattle.guest_syntax.specs.Tree.{operand_view, expr_view};
-ghost use Rattle.guest_syntax.specs.reader.Reads.{IsTokenOf, rest_of, Reads, StaysIn, TakesToken};
+ghost use Rattle.guest_syntax.specs.reader.Reads.{IsTokenOf, rest_of, Parses, Reads, StaysIn};
 ghost use Rattle.guest_syntax.specs.reader.Expressions.{literal_by, literal_from, operand_from, op_of, expr_from};
 
 use crate::cursor::Cursor;
@@ -36,9 +36,7 @@ fn literal_after<'a>(token: Token, after: Cursor<'a>) -> Result<(i64, Cursor<'a>
 /// A number, or a number after a minus.
 #[tactic(auto, unfolding(crate::specs::reader::Expressions::literal_from))]
 pub fn literal<'a>(text: Cursor<'a>) -> Result<(i64, Cursor<'a>), SyntaxError>
-    ensures gives { Reads (λ x. x) result literal_from text.entry }
-    ensures within { StaysIn result text.entry }
-    ensures shorter { TakesToken result text.entry }
+    ensures { Parses (λ x. x) result literal_from text.entry }
 {
     let (token, after) = token(text)?;
     literal_after(token, after)
@@ -47,9 +45,7 @@ pub fn literal<'a>(text: Cursor<'a>) -> Result<(i64, Cursor<'a>), SyntaxError>
 /// A local or a literal.
 #[tactic(auto, unfolding(crate::specs::reader::Expressions::operand_from))]
 pub fn operand<'a>(alloc: Global, text: Cursor<'a>) -> Result<(Operand, Cursor<'a>), SyntaxError>
-    ensures gives { Reads operand_view result operand_from text.entry }
-    ensures within { StaysIn result text.entry }
-    ensures shorter { TakesToken result text.entry }
+    ensures { Parses operand_view result operand_from text.entry }
 {
     let (token, after) = token(text)?;
     if let Kind::Name(bytes) = token.kind {
@@ -81,9 +77,7 @@ fn op_of(kind: Kind) -> Option<Op>
 /// An operand, or two with an operator between them.
 #[tactic(auto, unfolding(crate::specs::reader::Expressions::expr_from))]
 pub fn expr<'a>(alloc: Global, text: Cursor<'a>) -> Result<(Expr, Cursor<'a>), SyntaxError>
-    ensures gives { Reads expr_view result expr_from text.entry }
-    ensures within { StaysIn result text.entry }
-    ensures shorter { TakesToken result text.entry }
+    ensures { Parses expr_view result expr_from text.entry }
 {
     let (left, following) = operand(alloc, text)?;
     let (token, after) = token(following)?;

@@ -5,7 +5,7 @@ ghost use Rattle.guest_syntax.specs.reader.Gives.{Gives};
 ghost use Rattle.guest_syntax.specs.Tree.{declaration_view, thread_view, tree_view};
 ghost use Rattle.guest_syntax.specs.Place.{start};
 ghost use Rattle.guest_syntax.specs.Answers.{RefusalIn};
-ghost use Rattle.guest_syntax.specs.reader.Reads.{rest_of, Reads, StaysIn, TakesToken, ItemTakesToken};
+ghost use Rattle.guest_syntax.specs.reader.Reads.{rest_of, Parses, Reads, StaysIn, ItemTakesToken};
 ghost use Rattle.guest_syntax.specs.reader.Items.{all_from};
 ghost use Rattle.guest_syntax.specs.reader.Trees.{variable_from, plain_from, semaphore_from, declaration_turn, thread_from, thread_turn, tree_from};
 
@@ -23,9 +23,7 @@ use std::alloc::Global;
 /// A variable, after its keyword.
 #[tactic(auto, unfolding(crate::specs::reader::Trees::variable_from))]
 fn variable<'a>(alloc: Global, text: Cursor<'a>) -> Result<(Declaration, Cursor<'a>), SyntaxError>
-    ensures gives { Reads declaration_view result variable_from text.entry }
-    ensures within { StaysIn result text.entry }
-    ensures shorter { TakesToken result text.entry }
+    ensures { Parses declaration_view result variable_from text.entry }
 {
     let (name, text) = name(alloc, text)?;
     let (token, after) = token(text)?;
@@ -51,9 +49,7 @@ fn plain<'a>(
     object: Object,
     text: Cursor<'a>,
 ) -> Result<(Declaration, Cursor<'a>), SyntaxError>
-    ensures gives { Reads declaration_view result (plain_from object) text.entry }
-    ensures within { StaysIn result text.entry }
-    ensures shorter { TakesToken result text.entry }
+    ensures { Parses declaration_view result (plain_from object) text.entry }
 {
     let (name, text) = one_name(alloc, text)?;
     Ok((Declaration { name, object }, text))
@@ -62,9 +58,7 @@ fn plain<'a>(
 /// A semaphore, after its keyword.
 #[tactic(auto, unfolding(crate::specs::reader::Trees::semaphore_from))]
 fn semaphore<'a>(alloc: Global, text: Cursor<'a>) -> Result<(Declaration, Cursor<'a>), SyntaxError>
-    ensures gives { Reads declaration_view result semaphore_from text.entry }
-    ensures within { StaysIn result text.entry }
-    ensures shorter { TakesToken result text.entry }
+    ensures { Parses declaration_view result semaphore_from text.entry }
 {
     let (name, text) = name(alloc, text)?;
     let (_, text) = symbol(text, Symbol::Assign)?;
@@ -122,9 +116,7 @@ fn declarations<'a>(
 /// A thread, after its keyword.
 #[tactic(auto, unfolding(crate::specs::reader::Trees::thread_from))]
 fn thread<'a>(alloc: Global, text: Cursor<'a>) -> Result<(Thread, Cursor<'a>), SyntaxError>
-    ensures gives { Reads thread_view result thread_from text.entry }
-    ensures within { StaysIn result text.entry }
-    ensures shorter { TakesToken result text.entry }
+    ensures { Parses thread_view result thread_from text.entry }
 {
     let (name, text) = name(alloc, text)?;
     let (body, text) = block(alloc, text, DEPTH + 1)?;

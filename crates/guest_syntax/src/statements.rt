@@ -3,7 +3,7 @@
 ghost use Rattle.std.specs.Prelude.{◌≡◌, ◌<◌, length, IfOk};
 ghost use Rattle.guest_syntax.specs.reader.Gives.{Gives};
 ghost use Rattle.guest_syntax.specs.Tree.{name_view, stmt_view};
-ghost use Rattle.guest_syntax.specs.reader.Reads.{IsPlaceOf, Reads, StaysIn, TakesToken};
+ghost use Rattle.guest_syntax.specs.reader.Reads.{IsPlaceOf, Parses};
 ghost use Rattle.guest_syntax.specs.reader.Statements.{one_name_from, two_names_from, store_from, add_from, cas_from, set_from, assert_from, named_by, simple_by};
 
 use crate::cursor::Cursor;
@@ -18,9 +18,7 @@ use std::alloc::Global;
 /// A name, and the mark that ends what it is in.
 #[tactic(auto, unfolding(crate::specs::reader::Statements::one_name_from))]
 pub fn one_name<'a>(alloc: Global, text: Cursor<'a>) -> Result<(Name, Cursor<'a>), SyntaxError>
-    ensures gives { Reads name_view result one_name_from text.entry }
-    ensures within { StaysIn result text.entry }
-    ensures shorter { TakesToken result text.entry }
+    ensures { Parses name_view result one_name_from text.entry }
 {
     let (name, text) = name(alloc, text)?;
     let (_, text) = symbol(text, Symbol::End)?;
@@ -30,9 +28,7 @@ pub fn one_name<'a>(alloc: Global, text: Cursor<'a>) -> Result<(Name, Cursor<'a>
 /// Two names, and the mark that ends their statement.
 #[tactic(auto, unfolding(crate::specs::reader::Statements::two_names_from))]
 fn two_names<'a>(alloc: Global, text: Cursor<'a>) -> Result<((Name, Name), Cursor<'a>), SyntaxError>
-    ensures gives { Reads (λ x. (name_view x.0, name_view x.1)) result two_names_from text.entry }
-    ensures within { StaysIn result text.entry }
-    ensures shorter { TakesToken result text.entry }
+    ensures { Parses (λ x. (name_view x.0, name_view x.1)) result two_names_from text.entry }
 {
     let (first, text) = name(alloc, text)?;
     let (second, text) = name(alloc, text)?;
@@ -42,9 +38,7 @@ fn two_names<'a>(alloc: Global, text: Cursor<'a>) -> Result<((Name, Name), Curso
 
 #[tactic(auto, unfolding(crate::specs::reader::Statements::store_from))]
 fn store<'a>(alloc: Global, text: Cursor<'a>) -> Result<(Statement, Cursor<'a>), SyntaxError>
-    ensures gives { Reads stmt_view result store_from text.entry }
-    ensures within { StaysIn result text.entry }
-    ensures shorter { TakesToken result text.entry }
+    ensures { Parses stmt_view result store_from text.entry }
 {
     let (variable, text) = name(alloc, text)?;
     let (value, text) = operand(alloc, text)?;
@@ -54,9 +48,7 @@ fn store<'a>(alloc: Global, text: Cursor<'a>) -> Result<(Statement, Cursor<'a>),
 
 #[tactic(auto, unfolding(crate::specs::reader::Statements::add_from))]
 fn add<'a>(alloc: Global, text: Cursor<'a>) -> Result<(Statement, Cursor<'a>), SyntaxError>
-    ensures gives { Reads stmt_view result add_from text.entry }
-    ensures within { StaysIn result text.entry }
-    ensures shorter { TakesToken result text.entry }
+    ensures { Parses stmt_view result add_from text.entry }
 {
     let (local, text) = name(alloc, text)?;
     let (variable, text) = name(alloc, text)?;
@@ -72,9 +64,7 @@ fn add<'a>(alloc: Global, text: Cursor<'a>) -> Result<(Statement, Cursor<'a>), S
 
 #[tactic(auto, unfolding(crate::specs::reader::Statements::cas_from))]
 fn cas<'a>(alloc: Global, text: Cursor<'a>) -> Result<(Statement, Cursor<'a>), SyntaxError>
-    ensures gives { Reads stmt_view result cas_from text.entry }
-    ensures within { StaysIn result text.entry }
-    ensures shorter { TakesToken result text.entry }
+    ensures { Parses stmt_view result cas_from text.entry }
 {
     let (local, text) = name(alloc, text)?;
     let (variable, text) = name(alloc, text)?;
@@ -92,9 +82,7 @@ fn cas<'a>(alloc: Global, text: Cursor<'a>) -> Result<(Statement, Cursor<'a>), S
 
 #[tactic(auto, unfolding(crate::specs::reader::Statements::set_from))]
 fn set<'a>(alloc: Global, text: Cursor<'a>) -> Result<(Statement, Cursor<'a>), SyntaxError>
-    ensures gives { Reads stmt_view result set_from text.entry }
-    ensures within { StaysIn result text.entry }
-    ensures shorter { TakesToken result text.entry }
+    ensures { Parses stmt_view result set_from text.entry }
 {
     let (local, text) = name(alloc, text)?;
     let (value, text) = expr(alloc, text)?;
@@ -104,9 +92,7 @@ fn set<'a>(alloc: Global, text: Cursor<'a>) -> Result<(Statement, Cursor<'a>), S
 
 #[tactic(auto, unfolding(crate::specs::reader::Statements::assert_from))]
 fn assertion<'a>(alloc: Global, text: Cursor<'a>) -> Result<(Statement, Cursor<'a>), SyntaxError>
-    ensures gives { Reads stmt_view result assert_from text.entry }
-    ensures within { StaysIn result text.entry }
-    ensures shorter { TakesToken result text.entry }
+    ensures { Parses stmt_view result assert_from text.entry }
 {
     let (test, text) = expr(alloc, text)?;
     let (_, text) = symbol(text, Symbol::End)?;
@@ -121,9 +107,7 @@ fn named<'a>(
     text: Cursor<'a>,
 ) -> Result<(Statement, Cursor<'a>), SyntaxError>
     requires place { IsPlaceOf text at }
-    ensures gives { Reads stmt_view result (named_by keyword) text.entry }
-    ensures within { StaysIn result text.entry }
-    ensures shorter { TakesToken result text.entry }
+    ensures { Parses stmt_view result (named_by keyword) text.entry }
 {
     match keyword {
         Keyword::Lock => {
@@ -162,9 +146,7 @@ pub fn simple<'a>(
     text: Cursor<'a>,
 ) -> Result<(Statement, Cursor<'a>), SyntaxError>
     requires place { IsPlaceOf text at }
-    ensures gives { Reads stmt_view result (simple_by keyword) text.entry }
-    ensures within { StaysIn result text.entry }
-    ensures shorter { TakesToken result text.entry }
+    ensures { Parses stmt_view result (simple_by keyword) text.entry }
 {
     match keyword {
         Keyword::Load => {

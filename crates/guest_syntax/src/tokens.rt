@@ -7,7 +7,7 @@ ghost use Rattle.guest_syntax.specs.Tree.{name_view};
 ghost use Rattle.guest_syntax.specs.declared.cursor.Cursor.{Cursor};
 ghost use Rattle.guest_syntax.specs.declared.limits.TheConstants.{REPEATS};
 ghost use Rattle.guest_syntax.specs.Tokens.{symbol};
-ghost use Rattle.guest_syntax.specs.reader.Reads.{IsPlaceOf, IsTokenOf, IsEndOf, StaysAt, rest_of, Reads, StaysIn, TakesToken, ItemTakesToken};
+ghost use Rattle.guest_syntax.specs.reader.Reads.{IsPlaceOf, IsTokenOf, IsEndOf, StaysAt, rest_of, Parses, Reads, StaysIn, TakesToken, ItemTakesToken};
 ghost use Rattle.guest_syntax.specs.reader.SingleTokens.{next_at, token_at, symbol_from, name_from, number_in, number_from, times_from};
 
 use crate::cursor::Cursor;
@@ -65,9 +65,7 @@ pub fn symbol<'a>(text: Cursor<'a>, wanted: Symbol) -> Result<(Pos, Cursor<'a>),
 /// A name.
 #[tactic(auto, unfolding(crate::specs::reader::SingleTokens::name_from))]
 pub fn name<'a>(alloc: Global, text: Cursor<'a>) -> Result<(Name, Cursor<'a>), SyntaxError>
-    ensures gives { Reads name_view result name_from text.entry }
-    ensures within { StaysIn result text.entry }
-    ensures shorter { TakesToken result text.entry }
+    ensures { Parses name_view result name_from text.entry }
 {
     let (token, after) = token(text)?;
     match token.kind {
@@ -98,9 +96,7 @@ pub fn number_in(token: Token, limit: u64) -> Result<u64, SyntaxError>
 #[tactic(auto, unfolding(crate::specs::reader::SingleTokens::number_from))]
 pub fn number<'a>(text: Cursor<'a>, limit: u64) -> Result<(u64, Cursor<'a>), SyntaxError>
     requires least { REPEATS ≤ limit }
-    ensures gives { Reads (λ x. x) result (number_from limit) text.entry }
-    ensures within { StaysIn result text.entry }
-    ensures shorter { TakesToken result text.entry }
+    ensures parses { Parses (λ x. x) result (number_from limit) text.entry }
     ensures limit { IfOk result (λ x. x.0 ≤ limit) }
 {
     let (token, after) = token(text)?;
@@ -111,9 +107,7 @@ pub fn number<'a>(text: Cursor<'a>, limit: u64) -> Result<(u64, Cursor<'a>), Syn
 /// How often a block is repeated.
 #[tactic(auto, unfolding(crate::specs::reader::SingleTokens::times_from))]
 pub fn times<'a>(text: Cursor<'a>) -> Result<(u8, Cursor<'a>), SyntaxError>
-    ensures gives { Reads (λ x. x) result times_from text.entry }
-    ensures within { StaysIn result text.entry }
-    ensures shorter { TakesToken result text.entry }
+    ensures { Parses (λ x. x) result times_from text.entry }
 {
     let (token, after) = token(text)?;
     let times = number_in(token, REPEATS)?;

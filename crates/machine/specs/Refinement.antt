@@ -53,7 +53,7 @@ at_mutex c m = slice_index_or c.mutexes m no_threads
 abbrev pub at_semaphore : Control → ℕ → Mask
 at_semaphore c k = slice_index_or c.semaphores k no_threads
 
--- so many threads of a queue that is kept as a number, four bits for each, the last one lowest
+-- the threads of a queue of this length that is kept as a number: four bits for each, the last lowest
 abbrev pub queued : ℕ → ℕ → List ℕ
 queued zero bits = []
 queued (suc n) bits = bits / 2 ^ (4 * n) % 16 ∷ queued n bits

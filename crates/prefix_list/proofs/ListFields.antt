@@ -3,7 +3,7 @@ use Rattle.std.proofs.Common.{◌≡◌, ℕ, ◌+◌, ◌^◌, ◌<◌, ◌≤�
 use Rattle.prefix_list.specs.declared.prefixes.Prefixes.TheInside.{Inside}
 use Rattle.prefix_list.specs.inner.Packed.{IsPacked, IsStack, way_bytes, listed}
 use Rattle.prefix_list.specs.PrefixLists.{last_of}
-use Rattle.prefix_list.proofs.PackedPrefixes.{Holds, packed_stack, packed_few, packed_more, listed_none, last_of_listed, last_step, pushed, pushed_two, grown_after}
+use Rattle.prefix_list.proofs.PackedPrefixes.{Holds, packed_stack, packed_few, packed_more, listed_none, last_of_listed, pushed, grown_after}
 
 -- the invariant of a list
 abbrev pub IsHeld : Inside → Type 0
@@ -76,14 +76,3 @@ one_more i p rest c top t k m held e some low tail long wrote made room fits =
     (λ d w. pushed i.count (drop i.front i.bytes.items) i.last.items (take i.front i.bytes.items)
     (vec_capacity i.last) rest d top t k m (stack_of i held some) low long (cut_short i k t tail)
     tail w made room fits))
-
--- the same in place of the last one's last step, where the way back is two bytes
-pub one_over : (i : Inside) (p : List (List ℕ)) (rest b c top : List ℕ) (k m x y : ℕ) → IsHeld i
-    → list_of i ≡ p → 0 < i.count → length i.last.items ≡ k + 1 → x ≡ get_or i.last.items k x
-    → b ≡ i.bytes.items ++ x ∷ [] → c ≡ b ++ y ∷ [] → x ∷ y ∷ [] ≡ way_bytes (length rest) (x ∷ [])
-    → length rest < 2 ^ 64 → top ≡ take k i.last.items ++ rest → vec_capacity i.last ≤ m
-    → length top ≤ m → Holds (i.count + 1) i.front c top m (p ++ (take k (last_of p) ++ rest) ∷ [])
-one_over i p rest b c top k m x y held e some one read wrote more way long =
-    one_more i p rest c top (x ∷ []) k m held e some (omega (arith, one))
-    (sym (last_step i.last.items k x one read)) long
-    (pushed_two i.bytes.items x y b c wrote more ∙ ap (λ w. i.bytes.items ++ w) way)

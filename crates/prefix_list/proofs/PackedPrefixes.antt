@@ -1,6 +1,6 @@
 -- How a stack of schedules grows, shrinks, and goes on top of another.
-use Rattle.std.proofs.Common.{◌≡◌, ℕ, suc, ◌+◌, ◌-◌, ◌^◌, ◌<◌, ◌≤◌, List, [], ◌∷◌, ◌++◌, length, take, drop, refl, sym, ◌∙◌, ap, arith, append_assoc, length-append, length-take, length-drop, zero, inl, inr, Result, Ok, Err, cond, is_ok, OnOk, IsOk, Some, slice_get, slice_index_or, subst, ⊎_elim, min, true, false, nat_lt, set, get_or, length-set}
-use Rattle.std.proofs.lemmas.List.{append-nil, take_at, length_push, take-append-drop, get_or_push, take_rest, take-take, take_all, take_more, take_more_set, drop_at, drop_all, drop-take, drop-append-le, take-append-le}
+use Rattle.std.proofs.Common.{◌≡◌, ℕ, suc, ◌+◌, ◌-◌, ◌^◌, ◌<◌, ◌≤◌, List, [], ◌∷◌, ◌++◌, length, take, drop, refl, sym, ◌∙◌, ap, arith, append_assoc, length-append, length-take, length-drop, zero, inl, inr, Result, Ok, Err, cond, is_ok, OnOk, IsOk, Some, slice_get, slice_index_or, subst, ⊎_elim, min, true, false, nat_lt, set, get_or}
+use Rattle.std.proofs.lemmas.List.{append-nil, take_at, length_push, take-append-drop, get_or_push, take_rest, take-take, take_all, drop_all, drop-take, drop-append-le, take-append-le}
 use Rattle.std.proofs.lemmas.Bool.{cases_lt}
 use Rattle.prefix_list.specs.inner.Packed.{Way, IsPacked, way_bytes, ways_bytes, first_by, AreWays, IsStack, back, listed, before, below_of, tail_of, start_of, end_of, dropped_of, head_of}
 use Rattle.prefix_list.specs.PrefixLists.{last_of, common_length}
@@ -305,36 +305,6 @@ pushed n b last first l rest c top t k m stack le fits fit e f g room short =
           (omega (arith, ap length g, short)) fits fit leads;
       view = listed_push n b t (length rest) last s fits fit leads;
     })
-
--- all steps but the last, and the last
-pub last_step : (w : List ℕ) (k x : ℕ) → length w ≡ k + 1 → x ≡ get_or w k x → drop k w ≡ x ∷ []
-last_step w k x one read =
-    let parts : w ≡ take k w ++ x ∷ [] =
-    sym (take_all (k + 1) w (omega (arith, one)))
-    ∙ (take_more w k x (omega (arith, one)) ∙ ap (λ (y : ℕ). take k w ++ y ∷ []) (sym read)) in
-    ap (drop k) parts
-    ∙ drop_at (take k w) (x ∷ []) k (omega (arith, one, length-take k w))
-
-pub set_last : (w : List ℕ) (k x : ℕ) → length w ≡ k + 1 → set w k x ≡ take k w ++ x ∷ []
-set_last w k x one =
-    sym (take_all (k + 1) (set w k x) (omega (arith, one, length-set w k x)))
-    ∙ take_more_set w k x (omega (arith, one))
-
--- two bytes, one after the other
-pub pushed_two : (b : List ℕ) (x y : ℕ) (c d : List ℕ) → c ≡ b ++ x ∷ [] → d ≡ c ++ y ∷ []
-    → d ≡ b ++ x ∷ y ∷ []
-pushed_two b x y c d e f =
-    f ∙ (ap (λ (w : List ℕ). w ++ y ∷ []) e ∙ append_assoc b (x ∷ []) (y ∷ []))
-
--- the way back to a schedule that differs in its last step
-pub small_bytes : (x : ℕ) → x ∷ 17 ∷ [] ≡ way_bytes 1 (x ∷ [])
-unfolding way_bytes
-small_bytes x = refl
-
--- the way back to a schedule that differs in its last step, from one that is a step longer
-pub long_bytes : (x : ℕ) → x ∷ 33 ∷ [] ≡ way_bytes 2 (x ∷ [])
-unfolding way_bytes
-long_bytes x = refl
 
 -- a stack goes on top
 pub appended : (n k : ℕ) (b c last first end start : List ℕ) (l j : ℕ) (mid both top t : List ℕ)

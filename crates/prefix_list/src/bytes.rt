@@ -43,22 +43,6 @@ pub fn shared_length(a: &[u8], b: &[u8]) -> usize
     n
 }
 
-// Whether a prefix has one step more than so many.
-#[inline(always)]
-pub fn is_one_longer(prefix: &Vec<u8>, steps: usize) -> bool
-    ensures { IsTrue result → vec_len prefix.now ≡ steps + 1 }
-{
-    !prefix.is_empty() && prefix.len() - 1 == steps
-}
-
-// Whether there is room for two more bytes.
-#[inline(always)]
-pub fn has_room_for_two(bytes: &Vec<u8>) -> bool
-    ensures { IsTrue result → vec_len bytes.now + 2 ≤ vec_capacity bytes.now }
-{
-    bytes.capacity() - bytes.len() >= 2
-}
-
 // Puts bytes after the others, where there is room.
 #[inline(always)]
 pub fn put_reserved(bytes: &mut Vec<u8>, more: &[u8])
@@ -87,8 +71,8 @@ pub fn put_few(bytes: &mut Vec<u8>, more: &[u8]) -> Result<(), AllocError>
     Ok(())
 }
 
-// Whether a prefix that begins as the last one does, so many steps, and then goes on with the rest
-// is put after it by a short way back, and there is room for both.
+// Whether a prefix that shares its first steps with the last one, this many, and goes on with the rest is
+// put after it by a short way back, and there is room for both.
 #[inline(always)]
 pub fn is_short(bytes: &Vec<u8>, last: &Vec<u8>, shared: usize, rest: &[u8]) -> bool
     ensures shared { IsTrue result → shared ≤ vec_len last.now }

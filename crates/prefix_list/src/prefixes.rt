@@ -4,20 +4,12 @@ ghost use Rattle.std.specs.Prelude.{◌≡◌, ℕ, ◌-◌, ◌^◌, ◌<◌, �
 ghost use Rattle.prefix_list.specs.PrefixLists.{last_of};
 
 use crate::bytes::{
-    has_room_for_two, is_one_longer, is_short, put_few, put_reserved, put_short_way, put_way,
-    shared_length, step_back, top,
+    is_short, put_few, put_reserved, put_short_way, put_way, shared_length, step_back, top,
 };
 use crate::seeker::Seeker;
 use std::alloc::{AllocError, Global};
 use std::marker::Model;
 use std::mem;
-
-// What ends the way back from a prefix to one that differs in its last step: one step to take away,
-// one to put back.
-const LAST_REPLACED: u8 = 17;
-
-// The same for one that is a step longer: two to take away, one to put back.
-const ONE_FOR_TWO: u8 = 33;
 
 // A list begins with room for prefixes that are so much longer than the first, and for some ways
 // back, so that a short one seldom grows.
@@ -153,21 +145,13 @@ impl Prefixes {
     }
 
     /// Puts a prefix after the others that begins as the last one does, so many steps, and then
-    /// goes on with the rest. It compares nothing.
+    /// goes on with the rest. It compares nothing. Mostly the way back is short, and there is room.
     ///
     /// # Errors
     ///
     /// `AllocError` where memory runs out; the list is then as before.
-    pub fn push_after(&mut self, shared: usize, rest: &[u8]) -> Result<(), AllocError>
-        ensures { self.new ≡ (if is_ok result
-            then self.old ++ (take shared (last_of self.old) ++ rest.now) ∷ [] else self.old) }
-    {
-        self.push_by(shared, rest)
-    }
-
-    // The same, written into its callers. Mostly the way back is short, and there is room.
     #[inline(always)]
-    fn push_by(&mut self, shared: usize, rest: &[u8]) -> Result<(), AllocError>
+    pub fn push_after(&mut self, shared: usize, rest: &[u8]) -> Result<(), AllocError>
         ensures { self.new ≡ (if is_ok result
             then self.old ++ (take shared (last_of self.old) ++ rest.now) ∷ [] else self.old) }
     {
@@ -181,7 +165,7 @@ impl Prefixes {
         self.push_long(shared, rest)
     }
 
-    // The same in every case, out of the way of the usual one.
+    // Puts a prefix after the others where the way back is long, or there is no room yet.
     #[inline(never)]
     fn push_long(&mut self, shared: usize, rest: &[u8]) -> Result<(), AllocError>
         ensures { self.new ≡ (if is_ok result
@@ -197,74 +181,6 @@ impl Prefixes {
         let _ = put_few(&mut self.last, rest);
         self.count += 1;
         Ok(())
-    }
-
-    /// Puts a prefix after the others that begins as the last one does, so many steps, and then goes
-    /// on with one step. Mostly that step takes the place of the last prefix's last one, and there
-    /// is room for the way back.
-    ///
-    /// # Errors
-    ///
-    /// `AllocError` where memory runs out; the list is then as before.
-    #[inline(always)]
-    pub fn push_step(&mut self, shared: usize, step: u8) -> Result<(), AllocError>
-        ensures { self.new ≡ (if is_ok result
-            then self.old ++ (take shared (last_of self.old) ++ step ∷ []) ∷ [] else self.old) }
-    {
-        if self.count != 0 && is_one_longer(&self.last, shared) && has_room_for_two(&self.bytes) {
-            self.bytes.push_reserved(self.last[shared]);
-            self.bytes.push_reserved(LAST_REPLACED);
-            self.last[shared] = step;
-            self.count += 1;
-            return Ok(());
-        }
-        self.push_any_step(shared, step)
-    }
-
-    // The same in every case, out of the way of the usual one.
-    #[inline(never)]
-    fn push_any_step(&mut self, shared: usize, step: u8) -> Result<(), AllocError>
-        ensures { self.new ≡ (if is_ok result
-            then self.old ++ (take shared (last_of self.old) ++ step ∷ []) ∷ [] else self.old) }
-    {
-        self.push_by(shared, &[step])
-    }
-
-    /// Puts a prefix after the others as [`Prefixes::push_step`] does, with two steps: mostly the
-    /// first takes the place of the last prefix's last one.
-    ///
-    /// # Errors
-    ///
-    /// `AllocError` where memory runs out; the list is then as before.
-    #[inline(always)]
-    pub fn push_two(&mut self, shared: usize, step: u8, next: u8) -> Result<(), AllocError>
-        ensures { self.new ≡ (if is_ok result
-            then self.old ++ (take shared (last_of self.old) ++ step ∷ next ∷ []) ∷ []
-            else self.old) }
-    {
-        if self.count != 0
-            && is_one_longer(&self.last, shared)
-            && has_room_for_two(&self.bytes)
-            && self.last.len() < self.last.capacity()
-        {
-            self.bytes.push_reserved(self.last[shared]);
-            self.bytes.push_reserved(ONE_FOR_TWO);
-            self.last[shared] = step;
-            self.last.push_reserved(next);
-            self.count += 1;
-            return Ok(());
-        }
-        self.push_any_two(shared, step, next)
-    }
-
-    // The same in every case, out of the way of the usual one.
-    #[inline(never)]
-    fn push_any_two(&mut self, shared: usize, step: u8, next: u8) -> Result<(), AllocError>
-        ensures { self.new ≡ (if is_ok result
-            then self.old ++ (take shared (last_of self.old) ++ step ∷ next ∷ []) ∷ []
-            else self.old) }
-    {
-        self.push_by(shared, &[step, next])
     }
 
     // Puts the first prefix in.

@@ -23,7 +23,7 @@ impl<'a> Seeker<'a> {
         self.shared == self.steps && self.steps == wanted.len()
     }
 
-    // The same at the prefix before, by the way on top of the bytes.
+    // The seeker at the prefix before, by the way on top of the bytes.
     pub fn before(&self, wanted: &[u8]) -> Seeker<'a>
         requires shared { self.now.shared ≤ length wanted.now }
         requires fits { self.now.steps - dropped_of self.now.bytes.now

@@ -1,12 +1,10 @@
 //! Executions of schedules, and pairs of steps that are independent or not.
 
 ghost use Rattle.std.specs.Prelude.{◌≤◌, length, IfOk};
-ghost use Rattle.semantics.specs.Reachable.{IsOf};
 ghost use Rattle.schedules.specs.Execution.{IsExecutionOf};
 
-use guest_code::lowering::lower;
+use crate::runs::{program_of, state_after};
 use guest_code::program::Program;
-use guest_syntax::parse;
 use schedules::execution::Execution;
 use schedules::independence::{independent, sleepers_after};
 use semantics::mask::Mask;
@@ -18,30 +16,6 @@ use std::test::*;
 /// Two threads that each add one to a variable.
 const COUNTERS: &[u8] =
     b"var x; thread A { load r x; set r r + 1; store x r; } thread B { load r x; set r r + 1; store x r; }";
-
-fn program(alloc: Global, text: &[u8]) -> Result<Program, Fail> {
-    Ok(lower(alloc, &parse(alloc, text)?)?)
-}
-
-// The state after a schedule each of whose threads is enabled in its turn.
-fn state_after(
-    rt: &impl Abort,
-    alloc: Global,
-    p: &Program,
-    schedule: &[u8],
-) -> Result<State, AllocError>
-    ensures { IfOk result (IsOf p.now) }
-{
-    let mut state = State::start(alloc, p)?;
-    for t in schedule {
-        assert!(rt;
-            state.enabled(p).has(*t),
-            "{t} of {schedule:?} is not enabled"
-        );
-        state.step(p, *t);
-    }
-    Ok(state)
-}
 
 // The execution of a schedule each of whose threads is enabled in its turn.
 fn execution_of(
@@ -110,7 +84,8 @@ fn check_execution(rt: &impl Abort, execution: &Execution, row: &Turns) {
     );
 }
 
-// So has the execution of a row's schedule, and its copy; its variables are those of the state.
+// The execution of a row's schedule, and its copy, have the last thread and the preemptions of the row;
+// its variables are those of the state.
 fn check_turns(rt: &impl Abort, alloc: Global, p: &Program, row: &Turns) -> Result<(), Fail> {
     let execution = execution_of(rt, alloc, p, row.schedule)?;
     check_execution(rt, &execution, row);
@@ -128,7 +103,7 @@ fn check_turns(rt: &impl Abort, alloc: Global, p: &Program, row: &Turns) -> Resu
 
 #[test]
 fn preemptions_of_executions(rt: HostRuntime) -> Result<(), Fail> {
-    let p = program(rt.alloc(), COUNTERS)?;
+    let p = program_of(rt.alloc(), COUNTERS)?;
     for row in &TURNS {
         check_turns(&rt, rt.alloc(), &p, row)?;
     }
@@ -137,7 +112,7 @@ fn preemptions_of_executions(rt: HostRuntime) -> Result<(), Fail> {
 
 #[test]
 fn what_would_preempt(rt: HostRuntime) -> Result<(), Fail> {
-    let p = program(rt.alloc(), COUNTERS)?;
+    let p = program_of(rt.alloc(), COUNTERS)?;
     let execution = execution_of(&rt, rt.alloc(), &p, &[0])?;
     assert!(rt; execution.preempts(&p, 1));
     assert!(rt; !execution.preempts(&p, 0));
@@ -217,7 +192,7 @@ fn is_pair_apart(alloc: Global, p: &Program) -> Result<Option<bool>, AllocError>
 
 // The opening steps of a text's two threads are independent, or not.
 fn check_pair(rt: &impl Abort, alloc: Global, text: &[u8], apart: bool) -> Result<(), Fail> {
-    let p = program(alloc, text)?;
+    let p = program_of(alloc, text)?;
     assert!(rt; p.threads() == 2);
     assert_eq!(rt; is_pair_apart(alloc, &p)?, Some(apart));
     Ok(())

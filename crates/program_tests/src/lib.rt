@@ -18,6 +18,8 @@ mod refusals;
 #[cfg(test)]
 mod replays;
 #[cfg(test)]
+mod runs;
+#[cfg(test)]
 mod states;
 #[cfg(test)]
 mod texts;

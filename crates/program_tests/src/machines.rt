@@ -5,9 +5,8 @@ ghost use Rattle.semantics.specs.Machine.{Snapshot, is_enabled, step};
 ghost use Rattle.semantics.specs.Reachable.{IsOf};
 ghost use Rattle.machine.specs.Refinement.{Shows};
 
-use guest_code::lowering::lower;
+use crate::runs::program_of;
 use guest_code::program::Program;
-use guest_syntax::parse;
 use machine::Machine;
 use schedules::independence::sleepers_after;
 use semantics::mask::Mask;
@@ -61,10 +60,6 @@ const ROWS: [Row; 9] = [
         depth: 1,
     },
 ];
-
-fn program(alloc: Global, text: &[u8]) -> Result<Program, Fail> {
-    Ok(lower(alloc, &parse(alloc, text)?)?)
-}
 
 // The machine answers what the state does.
 fn check_same(rt: &impl Abort, p: &Program, machine: &Machine, state: &State)
@@ -140,7 +135,7 @@ fn check_schedule(
 #[test]
 fn all_schedules_of_small_programs(rt: HostRuntime) -> Result<(), Fail> {
     for row in &ROWS {
-        let p = program(rt.alloc(), row.text)?;
+        let p = program_of(rt.alloc(), row.text)?;
         for schedule in 0..(p.threads() as u32).saturating_pow(row.depth) {
             check_schedule(&rt, rt.alloc(), &p, schedule, row.depth)?;
         }
@@ -150,7 +145,7 @@ fn all_schedules_of_small_programs(rt: HostRuntime) -> Result<(), Fail> {
 
 // Who sleeps after each step of a program's opening, as the plain state has it.
 fn check_sleepers(rt: &impl Abort, alloc: Global, text: &[u8]) -> Result<(), Fail> {
-    let p = program(alloc, text)?;
+    let p = program_of(alloc, text)?;
     let state = State::start(alloc, &p)?;
     let machine = Machine::start(alloc, &p)?;
     let enabled = state.enabled(&p);

@@ -1,3 +1,6 @@
+//! Programs of texts: their first faults, their parts and code, and where their instructions come from.
+
+use crate::runs::program_of;
 use guest_code::error::CheckError;
 use guest_code::laws::{
     first_fault_is_first, limits_are, places_are_in_their_threads, programs_are_well_formed,
@@ -118,12 +121,6 @@ fn fullest(alloc: Global) -> Result<String, Fail> {
     Ok(text)
 }
 
-/// The program of a text that spells a tree.
-fn program_of(alloc: Global, text: &str) -> Result<Program, Fail> {
-    let tree = parse(alloc, text.as_bytes())?;
-    Ok(lower(alloc, &tree)?)
-}
-
 /// A thread with 32 blocks of a hundred copies each inside one another, and this in the innermost.
 fn nested(alloc: Global, innermost: &str) -> Result<String, Fail> {
     let mut text = String::from_str(alloc, "thread A { ")?;
@@ -200,7 +197,7 @@ fn nested_copies_are_too_long(rt: HostRuntime) -> Result<(), Fail> {
 #[test]
 fn nested_copies_of_nothing(rt: HostRuntime) -> Result<(), Fail> {
     let text = nested(rt.alloc(), "")?;
-    let program = program_of(rt.alloc(), &text)?;
+    let program = program_of(rt.alloc(), text.as_bytes())?;
     assert_eq!(rt; program.code(0).len(), 0);
     Ok(())
 }
@@ -209,7 +206,7 @@ fn nested_copies_of_nothing(rt: HostRuntime) -> Result<(), Fail> {
 fn nine_threads(rt: HostRuntime) -> Result<(), Fail> {
     let text =
         "thread A { } thread B { } thread C { } thread D { } thread E { } thread F { } thread G { } thread H { } thread I { }";
-    let program = program_of(rt.alloc(), text)?;
+    let program = program_of(rt.alloc(), text.as_bytes())?;
     assert_eq!(rt; program.threads(), 9);
     Ok(())
 }
@@ -249,7 +246,7 @@ fn check_fullest_threads(rt: &impl Abort, program: &Program) {
 #[test]
 fn largest_programs(rt: HostRuntime) -> Result<(), Fail> {
     let text = fullest(rt.alloc())?;
-    let program = program_of(rt.alloc(), text.as_str())?;
+    let program = program_of(rt.alloc(), text.as_bytes())?;
     limits_are();
     programs_are_well_formed(&program);
     check_fullest_objects(&rt, &program);
@@ -260,7 +257,7 @@ fn largest_programs(rt: HostRuntime) -> Result<(), Fail> {
 #[test]
 fn jumps(rt: HostRuntime) -> Result<(), Fail> {
     let text = "var x; thread A { repeat 2 { if r { leave; } else { load q x; } } store x 1; }";
-    let program = program_of(rt.alloc(), text)?;
+    let program = program_of(rt.alloc(), text.as_bytes())?;
     let test = Expression::Single(Value::Local(0));
     let load = Instruction::Load {
         local: 1,
@@ -289,7 +286,7 @@ fn jumps(rt: HostRuntime) -> Result<(), Fail> {
 #[test]
 fn atomic_updates(rt: HostRuntime) -> Result<(), Fail> {
     let text = "var x; var y; thread A { set q 0; cas r y s t; add s y q; add s x -1; }";
-    let program = program_of(rt.alloc(), text)?;
+    let program = program_of(rt.alloc(), text.as_bytes())?;
     let set = Instruction::Set {
         local: 0,
         value: Expression::Single(Value::Literal(0)),
@@ -341,7 +338,7 @@ fn check_mutexes_conditions_and_threads(rt: &impl Abort, program: &Program) {
 
 #[test]
 fn parts(rt: HostRuntime) -> Result<(), Fail> {
-    let program = program_of(rt.alloc(), PARTS)?;
+    let program = program_of(rt.alloc(), PARTS.as_bytes())?;
     check_variables_and_semaphores(&rt, &program);
     check_mutexes_conditions_and_threads(&rt, &program);
     Ok(())
@@ -349,7 +346,7 @@ fn parts(rt: HostRuntime) -> Result<(), Fail> {
 
 #[test]
 fn code_is_shown(rt: HostRuntime) -> Result<(), Fail> {
-    let program = program_of(rt.alloc(), PARTS)?;
+    let program = program_of(rt.alloc(), PARTS.as_bytes())?;
     assert_eq!(rt; program.threads(), 2);
     let shown = format!(in rt.alloc(); "{:?}", program.code(1))?;
     assert_eq!(rt;

@@ -1,9 +1,7 @@
 //! Spellings of schedules, and one run with its trace. More runs and
 //! traces are tested through the program.
 
-use guest_code::lowering::lower;
-use guest_code::program::Program;
-use guest_syntax::parse;
+use crate::runs::program_of;
 use replay::{Act, Line, Run, ScheduleError, replay, schedule_from, schedule_text, trace_text};
 use semantics::state::Stop;
 use semantics::view::Kind;
@@ -188,12 +186,6 @@ fn reads_and_writes_the_longest_schedule(rt: HostRuntime) -> Result<(), Fail> {
     let written = schedule_text(rt.alloc(), longest.as_slice())?;
     assert_eq!(rt; written.as_slice(), b"0x32768".as_slice());
     Ok(())
-}
-
-/// The program that a text spells.
-fn program_of(alloc: Global, text: &[u8]) -> Result<Program, Fail> {
-    let tree = parse(alloc, text)?;
-    Ok(lower(alloc, &tree)?)
 }
 
 /// Replays a schedule of a text's program, and answers its trace.

@@ -3,13 +3,12 @@
 
 mod undoing;
 
-ghost use Rattle.std.specs.Prelude.{◌≤◌, ◌<◌, length, IfOk};
+ghost use Rattle.std.specs.Prelude.{◌≤◌, ◌<◌, length};
 ghost use Rattle.semantics.specs.Machine.{is_enabled};
 ghost use Rattle.semantics.specs.Reachable.{IsOf};
 
-use guest_code::lowering::lower;
+use crate::runs::{program_of, state_after};
 use guest_code::program::{Program, Value};
-use guest_syntax::parse;
 use semantics::mask::Mask;
 use semantics::state::{Action, State, Status, Stop, VariableAction};
 use semantics::view::{EndView, Kind};
@@ -206,30 +205,6 @@ const ENDS: [End; 28] = [
     },
 ];
 
-fn program(alloc: Global, text: &[u8]) -> Result<Program, Fail> {
-    Ok(lower(alloc, &parse(alloc, text)?)?)
-}
-
-// The state after a schedule each of whose threads is enabled in its turn.
-fn state_after(
-    rt: &impl Abort,
-    alloc: Global,
-    p: &Program,
-    schedule: &[u8],
-) -> Result<State, AllocError>
-    ensures { IfOk result (IsOf p.now) }
-{
-    let mut state = State::start(alloc, p)?;
-    for t in schedule {
-        assert!(rt;
-            state.enabled(p).has(*t),
-            "{t} of {schedule:?} is not enabled"
-        );
-        state.step(p, *t);
-    }
-    Ok(state)
-}
-
 // The schedule to the state ends as the row says.
 fn check_end(rt: &impl Abort, p: &Program, state: &State, row: &End)
     requires { IsOf p.now state.now }
@@ -248,7 +223,7 @@ fn check_view(rt: &impl Abort, view: Option<&EndView>, row: &End) {
 
 // The schedule of a row ends as the row says.
 fn check_row(rt: &impl Abort, alloc: Global, row: &End) -> Result<(), Fail> {
-    let p = program(alloc, row.text)?;
+    let p = program_of(alloc, row.text)?;
     let state = state_after(rt, alloc, &p, row.schedule)?;
     check_end(rt, &p, &state, row);
     let view = state.view(alloc, &p)?;
@@ -281,7 +256,7 @@ fn check_stop_after_one_step(
     text: &[u8],
     stop: Stop,
 ) -> Result<(), Fail> {
-    let p = program(alloc, text)?;
+    let p = program_of(alloc, text)?;
     let state = state_after(rt, alloc, &p, &[0])?;
     check_stop(rt, &p, &state, stop);
     Ok(())
@@ -325,7 +300,7 @@ fn check_only_last(rt: &impl Abort, enabled: Mask) {
 
 #[test]
 fn sixteen_threads_run(rt: HostRuntime) -> Result<(), Fail> {
-    let p = program(rt.alloc(), SIXTEEN)?;
+    let p = program_of(rt.alloc(), SIXTEEN)?;
     assert_eq!(rt; p.threads(), 16);
     let opening = State::start(rt.alloc(), &p)?;
     check_only_last(&rt, opening.enabled(&p));
@@ -365,7 +340,7 @@ fn check_threads(rt: &impl Abort, p: &Program, state: &State)
 
 #[test]
 fn what_a_thread_is_about_to_do(rt: HostRuntime) -> Result<(), Fail> {
-    let p = program(
+    let p = program_of(
         rt.alloc(),
         b"var x; thread A { set r 5; store x r; } thread B { }",
     )?;
@@ -414,7 +389,7 @@ fn check_places_and_locals(rt: &impl Abort, p: &Program, state: &State)
 
 #[test]
 fn what_objects_and_threads_hold(rt: HostRuntime) -> Result<(), Fail> {
-    let p = program(rt.alloc(), HOLDING)?;
+    let p = program_of(rt.alloc(), HOLDING)?;
     let state = state_after(&rt, rt.alloc(), &p, &[0, 0, 1, 1, 2, 2])?;
     check_owners_and_counts(&rt, &p, &state);
     check_queues(&rt, &p, &state);

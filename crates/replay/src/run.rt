@@ -244,7 +244,7 @@ pub fn act_of(state: &State, program: &Program, thread: u8, action: Action) -> A
     }
 }
 
-// The same for a variable.
+// What a thread is about to do with a variable.
 fn act_on_variable(state: &State, thread: u8, variable: usize, action: VariableAction) -> Act
     requires thread { thread < length state.now.threads }
     requires variable { variable < length state.now.vars }

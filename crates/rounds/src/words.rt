@@ -2,22 +2,10 @@
 
 ghost use Rattle.std.specs.Prelude.{◌≤◌, IfSome};
 ghost use Rattle.report.specs.Promises.{IsSearch};
-ghost use Rattle.workers.specs.declared.limits.TheConstants.{WORKERS};
-ghost use Rattle.rounds.specs.inner.Asked.{IsSearch-prop};
 
 use crate::gate::Does;
+use answering::Exploration;
 use runner::{BOUND, Options, Search, WORKERS};
-
-/// A search, and by how many workers.
-#[derive(Clone, Copy, Debug)]
-pub struct Exploration {
-    pub options: Options,
-    pub workers: u32,
-    ghost search: { IsSearch options.search } by { IsSearch-prop options.search },
-    ghost quota: { 1 ≤ options.quota },
-    ghost some: { 1 ≤ workers },
-    ghost few: { workers ≤ WORKERS },
-}
 
 /// What the words ask for.
 #[derive(Debug, Drop)]
@@ -67,7 +55,11 @@ fn exploration_of(words: &[String]) -> Option<Exploration> {
         quota,
         quick: words.get(3)?.as_str() == "quick",
     };
-    Some(Exploration { options, workers })
+    Some(Exploration {
+        options,
+        workers,
+        progress: false,
+    })
 }
 
 // What the gate does.

@@ -45,7 +45,8 @@ pub fn explore_text_alone(
     explore_alone(alloc, &program, options)
 }
 
-/// The same by several workers, from 1 to [`WORKERS`](crate::WORKERS); see [`explore`].
+/// The report of a search of the program that a text spells, by several workers, from 1 to
+/// [`WORKERS`](crate::WORKERS); see [`explore`].
 ///
 /// # Errors
 ///

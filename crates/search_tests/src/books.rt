@@ -1,9 +1,8 @@
 ghost use Rattle.std.specs.Prelude.{◌≡◌, ◌≤◌};
 
+use crate::walks::program_of;
 use book::books::Book;
-use guest_code::lowering::lower;
 use guest_code::program::Program;
-use guest_syntax::parse;
 use items::item::Item;
 use items::mode::Mode;
 use std::alloc::{Alloc, AllocError, Global};
@@ -22,19 +21,12 @@ const COUNTERS: &str =
 const WRITERS: &str =
     "var x; var y; var z; thread A { store x 1; } thread B { store y 1; } thread C { store z 1; }";
 
-/// The same, where the first thread fails after its write.
+/// Three threads that each write a variable of their own, and the first fails after its write.
 const FAILING: &str =
     "var x; var y; var z; thread A { store x 1; assert 0; } thread B { store y 1; } thread C { store z 1; }";
 
 /// No preemption.
 const FIRST: Mode = Mode::Bounded(0);
-
-/// The program of a text that is well formed.
-fn program_of(alloc: Global, text: &str) -> Result<Arc<Program>, Fail> {
-    let tree = parse(alloc, text.as_bytes())?;
-    let program = lower(alloc, &tree)?;
-    Ok(Arc::new(alloc, program)?)
-}
 
 /// The book of a text's program at a bound, where all is open.
 fn book_of(alloc: Global, text: &str, mode: Mode) -> Result<Book, Fail> {

@@ -2,7 +2,6 @@
 
 mod gates;
 mod stops;
-mod worker_counts;
 
 ghost use Rattle.std.specs.Prelude.{◌≤◌};
 ghost use Rattle.report.specs.Promises.{IsSearch};

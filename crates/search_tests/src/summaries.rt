@@ -36,7 +36,7 @@ fn done_and_stuck(alloc: Global) -> Result<Summary, Fail> {
 }
 
 /// A summary in one line: tried, failed, stuck, beyond, the first bad schedule, the end views.
-fn shown(alloc: Global, summary: &Summary) -> Result<String, Fail> {
+pub fn shown(alloc: Global, summary: &Summary) -> Result<String, Fail> {
     let mut line = format!(in alloc;
         "{} {} {} {} {:?}",
         summary.tried(),

@@ -1,21 +1,19 @@
 mod kept;
 mod long;
 mod prefixes;
-mod pruned;
 mod quotas;
 mod roots;
 
 ghost use Rattle.std.specs.Prelude.{◌≤◌};
 
+use crate::summaries::shown;
 use guest_code::lowering::lower;
 use guest_code::program::Program;
 use guest_syntax::parse;
-use semantics::view::EndView;
 use std::alloc::{Alloc, Global};
 use std::process::Abort;
 use std::sync::Arc;
 use std::test::*;
-use summary::Summary;
 use walk::walker::walk;
 use walk::{Item, Mode};
 
@@ -43,36 +41,14 @@ const ALL_KINDS: &str =
     "var x; mutex m; cond c; sem s = 0; thread A { lock m; wait c m; load r x; unlock m; assert r; } thread B { lock m; store x 1; signal c; unlock m; release s; } thread C { repeat 2 { acquire s; set k k + 1; if k == 1 { leave; } else { assert 0; } } broadcast c; }";
 
 /// The program that a text spells.
-fn program_of(alloc: Global, text: &str) -> Result<Arc<Program>, Fail> {
+pub fn program_of(alloc: Global, text: &str) -> Result<Arc<Program>, Fail> {
     let tree = parse(alloc, text.as_bytes())?;
     Ok(Arc::new(alloc, lower(alloc, &tree)?)?)
 }
 
 /// The item of all schedules of the program that a text spells.
-fn root_of(alloc: Global, text: &str) -> Result<Item, Fail> {
+pub fn root_of(alloc: Global, text: &str) -> Result<Item, Fail> {
     Ok(Item::root(alloc, program_of(alloc, text)?)?)
-}
-
-/// A summary in one line: tried, failed, stuck, beyond, the first bad schedule, the end views.
-fn shown(alloc: Global, summary: &Summary) -> Result<String, Fail> {
-    let mut line = format!(in alloc;
-        "{} {} {} {} {:?}",
-        summary.tried(),
-        summary.failed(),
-        summary.stuck(),
-        summary.beyond(),
-        summary.first_bad()
-    )?;
-    add_ends(&mut line, summary.ends())?;
-    Ok(line)
-}
-
-/// Adds end views to a line: of each, how the schedules ended and with which variables.
-fn add_ends(line: &mut String, ends: &[EndView]) -> Result<(), Fail> {
-    for end in ends {
-        write!(line, " {:?} {:?}", end.kind(), end.vars())?;
-    }
-    Ok(())
 }
 
 /// What the walk of an item finds.
@@ -114,6 +90,6 @@ fn finds(
     want: &str,
 ) -> Result<(), Fail> {
     let line = found_at(rt.alloc(), text, mode)?;
-    assert_eq!(rt; line.as_str(), want);
+    assert_eq!(rt; line.as_str(), want, "{mode:?}, {text}");
     Ok(())
 }

@@ -371,7 +371,7 @@ fn search_view(ends: &[EndView], kind: Kind, values: &[i64]) -> Result<usize, us
     ends.binary_search_by(|end| EndView::compare_parts(kind, values, end).reverse())
 }
 
-// The same, by a hint where it is right.
+// Where the view of a kind and values stands or belongs: at the hint's place, if the hint is right.
 fn find_view(
     ends: &[EndView],
     hints: &mut EndHints,

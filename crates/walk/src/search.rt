@@ -25,22 +25,6 @@ use semantics::mask::Mask;
 use std::alloc::{AllocError, Global};
 
 impl Found {
-    // Puts the prefix of these steps and one of a thread after the others, by what they share with
-    // the last one put off.
-    #[inline(never)]
-    fn put_in(&mut self, steps: &mut Vec<u8>, thread: u8) -> Result<(), AllocError>
-        requires { IsShared steps.old.items self.old }
-        ensures steps { steps.new.items ≡ steps.old.items }
-        ensures same { self.new ≡ record self.old { deferred = self.new.deferred } }
-        ensures deferred { OnOk result (self.new.deferred
-            ≡ self.old.deferred ++ (steps.old.items ++ thread ∷ []) ∷ []) }
-    {
-        steps.push(thread)?;
-        let pushed = self.deferred.push_after(self.shared, &steps[self.shared..]);
-        steps.pop();
-        pushed
-    }
-
     // Puts off the step of a thread after the others.
     #[inline(always)]
     fn put_off(&mut self, steps: &mut Vec<u8>, thread: u8) -> Result<(), AllocError>
@@ -54,13 +38,10 @@ impl Found {
         ensures shared { OnOk result (IsShared steps.old.items self.new) }
         ensures here { OnOk result (self.new.shared ≡ length steps.old.items) }
     {
-        match steps.len() - self.shared {
-            0 => self.deferred.push_step(self.shared, thread)?,
-            1 => self
-                .deferred
-                .push_two(self.shared, steps[self.shared], thread)?,
-            _ => self.put_in(steps, thread)?,
-        }
+        steps.push(thread)?;
+        let pushed = self.deferred.push_after(self.shared, &steps[self.shared..]);
+        steps.pop();
+        pushed?;
         self.part.set_beyond();
         self.shared = steps.len();
         Ok(())
@@ -78,7 +59,7 @@ impl Found {
     {
         let mut left = past;
         while let Some(thread) = left.first_from(0) {
-            self.deferred.push_step(self.shared, thread)?;
+            self.deferred.push_after(self.shared, &[thread])?;
             left = without_first(left, thread);
         }
         Ok(())
@@ -506,7 +487,7 @@ impl Path {
         Ok(())
     }
 
-    // The same, where each mode has a loop of its own, in which it is known.
+    // Searches as `search_in` does, by a loop for each mode, in which the mode is known.
     #[inline(never)]
     fn search(
         &mut self,

@@ -78,8 +78,8 @@ impl Walker {
         Ok(Walked::new(mode, item.try_clone(alloc)?, found))
     }
 
-    /// The same, for a caller that has the item: what is found takes the place of what another walk
-    /// found, in its memory, and no item is copied.
+    /// Walks an item as [`Walker::walk`] does, for a caller that has the item: what is found takes the
+    /// place of what another walk found, in its memory, and no item is copied.
     ///
     /// # Errors
     ///

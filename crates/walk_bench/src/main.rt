@@ -1,6 +1,9 @@
 //! Walks the schedules of a guest program within a bound, or those that sleep sets leave, and
 //! prints how many there are and how many prefixes the bound put off. It is here to be timed by
 //! `bench/walk.py`, and is no part of the product.
+//!
+//! The words are a file, a bound or `reduced`, and `unlisted` where what the bound puts off is not to be
+//! listed, as at the last bound of a search; then none is counted.
 #![tactic(auto)]
 
 ghost use Rattle.std.specs.Prelude.{◌≡◌, length};
@@ -13,8 +16,8 @@ use std::alloc::Global;
 use std::fs;
 use std::process::ExitCode;
 use std::sync::Arc;
-use walk::walked::Walked;
-use walk::walker::walk;
+use walk::found::Found;
+use walk::walker::Walker;
 
 /// What a walk counted.
 #[derive(Clone, Copy, Debug)]
@@ -26,29 +29,33 @@ struct Counts {
 }
 
 /// How many schedules were tried, failed and got stuck, and how many prefixes were put off.
-fn counts_of(walked: &Walked) -> Counts
-    ensures tried { result.tried ≡ walked.now.part.tried }
-    ensures failed { result.failed ≡ walked.now.part.failed }
-    ensures stuck { result.stuck ≡ walked.now.part.stuck }
-    ensures deferred { result.deferred ≡ length walked.now.deferred }
+fn counts_of(found: &Found) -> Counts
+    ensures tried { result.tried ≡ found.now.part.tried }
+    ensures failed { result.failed ≡ found.now.part.failed }
+    ensures stuck { result.stuck ≡ found.now.part.stuck }
+    ensures deferred { result.deferred ≡ length found.now.deferred }
 {
-    let part = walked.part();
     Counts {
-        tried: part.tried(),
-        failed: part.failed(),
-        stuck: part.stuck(),
-        deferred: walked.deferred_length(),
+        tried: found.part.tried(),
+        failed: found.part.failed(),
+        stuck: found.part.stuck(),
+        deferred: found.deferred.length(),
     }
 }
 
-/// The counts of one walk of all schedules in a mode: none where the text spells no program, or
-/// memory ran out.
-fn walk_all(alloc: Global, text: &[u8], mode: Mode) -> Option<Counts> {
+/// The counts of one walk of all schedules in a mode, which lists what it puts off or not: none where
+/// the text spells no program, or memory ran out.
+fn walk_all(alloc: Global, text: &[u8], mode: Mode, lists: bool) -> Option<Counts> {
     let tree = parse(alloc, text).ok()?;
-    let program = lower(alloc, &tree).ok()?;
-    let item = Item::root(alloc, Arc::new(alloc, program).ok()?).ok()?;
-    let walked = walk(alloc, &item, mode, u32::MAX).ok()?;
-    Some(counts_of(&walked))
+    let program = Arc::new(alloc, lower(alloc, &tree).ok()?).ok()?;
+    let item = Item::root(alloc, Arc::try_clone(&program).ok()?).ok()?;
+    let mut walker = Walker::new(alloc, program).ok()?;
+    let mut found = Found::new(alloc);
+    walker.clear(&mut found, lists);
+    walker
+        .walk_on(alloc, &mut found, &item, mode, u32::MAX)
+        .ok()?;
+    Some(counts_of(&found))
 }
 
 /// A bound, or `reduced`.
@@ -59,16 +66,17 @@ fn mode_of(word: &str) -> Option<Mode> {
     Some(Mode::Bounded(word.parse().ok()?))
 }
 
-/// The words are the program's name, a file and a mode.
-fn asked(rt: &HostRuntime) -> Option<(Vec<u8>, Mode)> {
+/// What the words ask for: the text of the file, the mode, and whether what is put off is listed.
+fn asked(rt: &HostRuntime) -> Option<(Vec<u8>, Mode, bool)> {
     let words: Vec<String> = std::env::args(rt).ok()?.collect(rt.alloc()).ok()?;
     let text = fs::read(rt, words.get(1)?.as_str()).ok()?;
     let mode = mode_of(words.get(2)?.as_str())?;
-    Some((text, mode))
+    let is_listed = words.get(3).is_none();
+    Some((text, mode, is_listed))
 }
 
 fn main(rt: HostRuntime) -> ExitCode {
-    let Some((text, mode)) = asked(&rt) else {
+    let Some((text, mode, lists)) = asked(&rt) else {
         return ExitCode::from(2);
     };
     let Some(
@@ -78,7 +86,7 @@ fn main(rt: HostRuntime) -> ExitCode {
             stuck,
             deferred,
         },
-    ) = walk_all(rt.alloc(), text.as_slice(), mode)
+    ) = walk_all(rt.alloc(), text.as_slice(), mode, lists)
     else {
         return ExitCode::FAILURE;
     };

@@ -120,7 +120,8 @@ impl<N: Naming> Desk<N> {
         Ok(())
     }
 
-    /// Settles the walks that a hand keeps of a round.
+    /// Settles the walks that a hand keeps of a round, all at once, and the hand keeps none then. Where
+    /// one of the items isn't open they are given up.
     ///
     /// # Errors
     ///
@@ -138,7 +139,11 @@ impl<N: Naming> Desk<N> {
         ensures places { hand.new.places.items ≡ [] }
         ensures kept { (r : Round) → AreKept r hand.new }
     {
-        hand.settle(alloc, &mut self.book, round)
+        let (items, places) = (round.items.as_slice(), hand.places.as_slice());
+        let settled = self.book.settle(alloc, items, places, &mut hand.found);
+        hand.forget(round.lists);
+        let _is_taken = settled?;
+        Ok(())
     }
 
     /// Takes note that so many more items of the round are settled or given up, and whether the

@@ -27,12 +27,15 @@ pub trait Gate: Sync {
         ensures { result ≡ stops self.now };
 
     /// Whether a worker goes on to an item, which has this number in its round. Workers and items
-    /// are counted from 0.
-    fn before(&self, worker: u32, item: u64) -> Answer
-        ensures { result ≡ Stop → stops self.now ≡ true };
+    /// are counted from 0. A gate that doesn't say lets each worker go on.
+    fn before(&self, _worker: u32, _item: u64) -> Answer
+        ensures { result ≡ Stop → stops self.now ≡ true }
+    {
+        Answer::Go
+    }
 
     /// Is told that a worker has walked an item. The walk is not settled yet.
-    fn walked(&self, worker: u32, item: u64);
+    fn walked(&self, _worker: u32, _item: u64) {}
 
     /// Is told how far the search is after a round, when all its items are done and before another one
     /// begins. No worker is at an item then, so none may be waited for. This is told by a single worker,
@@ -52,10 +55,4 @@ impl Gate for Open {
     fn may_stop(&self) -> bool {
         false
     }
-
-    fn before(&self, _worker: u32, _item: u64) -> Answer {
-        Answer::Go
-    }
-
-    fn walked(&self, _worker: u32, _item: u64) {}
 }

@@ -7,7 +7,6 @@ ghost use Rattle.workers.specs.declared.round.Round.{Round};
 ghost use Rattle.workers.specs.inner.Rounds.{IsRoundOf, AreKept};
 
 use crate::limits::{KEPT_WALKS, SETTLED_WALKS};
-use crate::named::{NamedBook, Naming};
 use crate::round::Round;
 use guest_code::program::Program;
 use std::alloc::{AllocError, Global};
@@ -94,31 +93,5 @@ impl Hand {
             return Err(error);
         }
         Ok(self.found.part.first_bad().is_some())
-    }
-
-    /// Settles the walks that it keeps in the round's book, all at once, and keeps none then. Where one
-    /// of the items isn't open they are given up.
-    ///
-    /// # Errors
-    ///
-    /// `AllocError` where memory runs out; the walks are given up then.
-    pub fn settle<N: Naming>(
-        &mut self,
-        alloc: Global,
-        book: &mut NamedBook<N>,
-        round: &Round,
-    ) -> Result<(), AllocError>
-        requires round { IsRoundOf N.program N.mode round.now }
-        requires walker { self.old.walker ≡ N.program }
-        requires kept { AreKept round.now self.old }
-        ensures walker { self.new.walker ≡ self.old.walker }
-        ensures places { self.new.places.items ≡ [] }
-        ensures kept { (r : Round) → AreKept r self.new }
-    {
-        let (items, places) = (round.items.as_slice(), self.places.as_slice());
-        let settled = book.settle(alloc, items, places, &mut self.found);
-        self.forget(round.lists);
-        let _is_taken = settled?;
-        Ok(())
     }
 }

@@ -56,6 +56,14 @@ abbrev pub StaysIn : {X : Type 0} → Result (X × Cursor) SyntaxError → Curso
 StaysIn (Ok x) text = x.1.text.now ≡ text.text.now
 StaysIn (Err e) text = RefusalIn start text.text.now e
 
+-- what was read is what the reader gives, and at least one token; the cursor that is answered is in
+-- the same text, and a refusal is at a place of it
+pub record Parses {X Y : Type 0} (view : X → Y) (result : Result (X × Cursor) SyntaxError)
+    (reader : List Token → Read Y) (text : Cursor) : Type 0 where
+  pub gives : Reads view result reader text
+  pub within : StaysIn result text
+  pub shorter : TakesToken result text
+
 -- a refusal is at a place of the cursor's text
 abbrev pub StaysAt : {X : Type 0} → Result X SyntaxError → Cursor → Type 0
 StaysAt result text = IfErr result (RefusalIn start text.text.now)

@@ -4,7 +4,7 @@ ghost use Rattle.std.specs.Prelude.{IsTrue};
 ghost use Rattle.semantics.specs.Machine.{is_enabled};
 ghost use Rattle.semantics.specs.Reachable.{IsOf};
 
-use crate::states::program;
+use crate::runs::program_of;
 use guest_code::program::Program;
 use semantics::state::State;
 use std::alloc::{AllocError, Global};
@@ -76,14 +76,14 @@ fn goes_back(
     Ok(())
 }
 
-// So it is with each step of a schedule of a text's program.
+// Each step of a schedule of a text's program is taken back.
 fn check_going_back(
     rt: &impl Abort,
     alloc: Global,
     text: &[u8],
     schedule: &[u8],
 ) -> Result<(), Fail> {
-    let p = program(alloc, text)?;
+    let p = program_of(alloc, text)?;
     goes_back(rt, alloc, &p, schedule)?;
     Ok(())
 }

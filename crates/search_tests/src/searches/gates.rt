@@ -40,8 +40,6 @@ impl Gate for Passing {
             Answer::Stop
         }
     }
-
-    fn walked(&self, _worker: u32, _item: u64) {}
 }
 
 /// Stops the second worker alone.
@@ -63,8 +61,6 @@ impl Gate for StopsOne {
             _ => Answer::Go,
         }
     }
-
-    fn walked(&self, _worker: u32, _item: u64) {}
 }
 
 /// Counts the walks, and keeps the worker of the second one waiting until so many have ended, or it
@@ -94,10 +90,6 @@ impl Gate for Holding {
 
     fn may_stop(&self) -> bool {
         false
-    }
-
-    fn before(&self, _worker: u32, _item: u64) -> Answer {
-        Answer::Go
     }
 
     fn walked(&self, _worker: u32, _item: u64) {

@@ -5,15 +5,13 @@ ghost use Rattle.report.specs.Promises.{IsSearch};
 ghost use Rattle.workers.specs.declared.limits.TheConstants.{WORKERS};
 
 use crate::searches::gates::{Holding, Passing, StopsOne};
-use guest_code::lowering::lower;
-use guest_syntax::parse;
-use items::item::Item;
+use crate::walks::root_of;
 use items::mode::Mode;
 use runner::{Gate, Options, Search, explore_text, report_text};
 use std::alloc::{Alloc, Global};
 use std::process::Abort;
+use std::sync::Wait;
 use std::sync::atomic::Ordering;
-use std::sync::{Arc, Wait};
 use std::test::*;
 use std::thread::Threads;
 use walk::walker::walk;
@@ -43,7 +41,7 @@ const STOPPED_AFTER_TWO: &str =
     r#"{"bound":0,"cause":"stopped","ends":[{"kind":"done","vars":[1,1,1]}],"failed":0,"finished":null,"schedule":null,"stuck":0,"tried":2,"verdict":"incomplete"}"#;
 
 /// The text of the report of a search.
-pub fn searched<G: Gate>(
+fn searched<G: Gate>(
     rt: &(impl Threads + Wait + Sync + Alloc<A = Global>),
     text: &str,
     options: Options,
@@ -161,18 +159,10 @@ fn two_walks_are_out_at_once(rt: HostRuntime) -> Result<(), Fail> {
     Ok(())
 }
 
-/// The item of all schedules of the four threads.
-fn root_of_four(alloc: Global) -> Result<Item, Fail> {
-    let tree = parse(alloc, FOUR.as_bytes())?;
-    let program = lower(alloc, &tree)?;
-    let program = Arc::new(alloc, program)?;
-    Ok(Item::root(alloc, program)?)
-}
-
 /// How many walks of the four threads are made in the first two rounds: one of all of them, which
 /// tries one schedule, and one of each item that it leaves.
 fn first_walks(alloc: Global) -> Result<u64, Fail> {
-    let root = root_of_four(alloc)?;
+    let root = root_of(alloc, FOUR)?;
     let walked = walk(alloc, &root, Mode::Bounded(0), 1)?;
     Ok((walked.rest_length() as u64).saturating_add(1))
 }

@@ -3,7 +3,8 @@
 ghost use Rattle.std.specs.Prelude.{◌≡◌};
 ghost use Rattle.std.specs.Arc.{arc_value};
 
-use crate::walks::{COUNTERS, program_of, shown};
+use crate::summaries::shown;
+use crate::walks::{COUNTERS, program_of};
 use guest_code::program::Program;
 use std::alloc::{Alloc, AllocError, Global};
 use std::process::Abort;
@@ -15,20 +16,7 @@ use walk::walked::Walked;
 use walk::walker::Walker;
 use walk::{Item, Mode};
 
-/// What a kept walker makes of an item.
-fn walk_once(
-    alloc: Global,
-    walker: &mut Walker,
-    item: &Item,
-    mode: Mode,
-) -> Result<Walked, AllocError>
-    requires { item.now.program ≡ walker.old }
-    ensures { walker.new ≡ walker.old }
-{
-    walker.walk(alloc, item, mode, 256)
-}
-
-/// The same. Where memory is refused once, the walker is asked again.
+/// What a kept walker makes of an item. Where memory is refused once, it is asked again.
 fn walked_by(
     alloc: Global,
     walker: &mut Walker,
@@ -38,9 +26,9 @@ fn walked_by(
     requires { item.now.program ≡ walker.old }
     ensures { walker.new ≡ walker.old }
 {
-    match walk_once(alloc, walker, item, mode) {
+    match walker.walk(alloc, item, mode, 256) {
         Ok(walked) => Ok(walked),
-        Err(_) => walk_once(alloc, walker, item, mode),
+        Err(_) => walker.walk(alloc, item, mode, 256),
     }
 }
 

@@ -1,6 +1,7 @@
 //! Walks of items after a prefix, what a bound puts off, and prefixes that don't run.
 
-use crate::walks::{COUNTERS, found, program_of, shown};
+use crate::summaries::shown;
+use crate::walks::{COUNTERS, found, program_of};
 use prefix_list::Prefixes;
 use std::alloc::{Alloc, Global};
 use std::process::Abort;
@@ -53,7 +54,8 @@ fn finds_after(
     Ok(())
 }
 
-/// Compares the same, with the prefixes that the bound put off.
+/// Compares what the walk of the schedules after a prefix finds within a bound, with the prefixes that
+/// the bound puts off.
 fn puts_off(
     rt: &(impl Abort + Alloc<A = Global>),
     prefix: &[u8],
@@ -61,50 +63,64 @@ fn puts_off(
     want: &str,
 ) -> Result<(), Fail> {
     let line = found_and_put_off(rt.alloc(), prefix, bound)?;
-    assert_eq!(rt; line.as_str(), want);
+    assert_eq!(rt; line.as_str(), want, "{prefix:?}, {bound}");
     Ok(())
 }
 
 #[test]
-fn after_one_step_without_preemption(rt: HostRuntime) -> Result<(), Fail> {
-    finds_after(&rt, &[0], 0, "1 0 0 true None Done [2]")
-}
-
-#[test]
-fn after_one_step_within_one(rt: HostRuntime) -> Result<(), Fail> {
-    finds_after(&rt, &[0], 1, "2 0 0 true None Done [1] Done [2]")
-}
-
-#[test]
-fn after_one_step_within_two(rt: HostRuntime) -> Result<(), Fail> {
+fn walks_after_one_step(rt: HostRuntime) -> Result<(), Fail> {
+    finds_after(&rt, &[0], 0, "1 0 0 true None Done [2]")?;
+    finds_after(&rt, &[0], 1, "2 0 0 true None Done [1] Done [2]")?;
     finds_after(&rt, &[0], 2, "3 0 0 false None Done [1] Done [2]")
 }
 
-#[test]
-fn a_prefix_past_the_bound(rt: HostRuntime) -> Result<(), Fail> {
-    puts_off(&rt, &[0, 1], 0, "0 0 0 true None")
+/// A prefix, a bound, and what the walk of the schedules after the prefix finds within the bound, with
+/// what the bound puts off.
+struct Row {
+    prefix: &'static [u8],
+    bound: u32,
+    found: &'static str,
 }
 
-#[test]
-fn what_bound_0_puts_off(rt: HostRuntime) -> Result<(), Fail> {
-    puts_off(
-        &rt,
-        &[],
-        0,
-        "2 0 0 true None Done [2]; Some([1, 0]); Some([0, 1])",
-    )
-}
+const PUT_OFF: [Row; 6] = [
+    Row {
+        prefix: &[0, 1],
+        bound: 0,
+        found: "0 0 0 true None",
+    },
+    Row {
+        prefix: &[],
+        bound: 0,
+        found: "2 0 0 true None Done [2]; Some([1, 0]); Some([0, 1])",
+    },
+    Row {
+        prefix: &[0, 1],
+        bound: 1,
+        found: "1 0 0 true None Done [1]; Some([0, 1, 0])",
+    },
+    Row {
+        prefix: &[1, 0],
+        bound: 1,
+        found: "1 0 0 true None Done [1]; Some([1, 0, 1])",
+    },
+    Row {
+        prefix: &[0, 1, 0],
+        bound: 2,
+        found: "1 0 0 false None Done [1]",
+    },
+    Row {
+        prefix: &[1, 0, 1],
+        bound: 2,
+        found: "1 0 0 false None Done [1]",
+    },
+];
 
 #[test]
-fn what_bound_1_puts_off(rt: HostRuntime) -> Result<(), Fail> {
-    puts_off(&rt, &[0, 1], 1, "1 0 0 true None Done [1]; Some([0, 1, 0])")?;
-    puts_off(&rt, &[1, 0], 1, "1 0 0 true None Done [1]; Some([1, 0, 1])")
-}
-
-#[test]
-fn bound_2_puts_nothing_off(rt: HostRuntime) -> Result<(), Fail> {
-    puts_off(&rt, &[0, 1, 0], 2, "1 0 0 false None Done [1]")?;
-    puts_off(&rt, &[1, 0, 1], 2, "1 0 0 false None Done [1]")
+fn what_bounds_put_off(rt: HostRuntime) -> Result<(), Fail> {
+    for row in &PUT_OFF {
+        puts_off(&rt, row.prefix, row.bound, row.found)?;
+    }
+    Ok(())
 }
 
 /// A thread that takes a mutex twice.

@@ -2,7 +2,8 @@
 
 ghost use Rattle.std.specs.Prelude.{◌≤◌};
 
-use crate::walks::{ALL_KINDS, COUNTERS, counted, root_of, shown};
+use crate::summaries::shown;
+use crate::walks::{ALL_KINDS, COUNTERS, counted, root_of};
 use std::alloc::{Alloc, Global};
 use std::process::Abort;
 use std::test::*;
@@ -63,67 +64,28 @@ fn adds_up(
 }
 
 #[test]
-fn a_quota_of_1(rt: HostRuntime) -> Result<(), Fail> {
+fn quotas_cut_a_walk(rt: HostRuntime) -> Result<(), Fail> {
     let (tried, _, left, _) = counted(rt.alloc(), COUNTERS, Mode::Bounded(1), 1)?;
     assert_eq!(rt; tried, 1);
     assert!(rt; left > 0);
-    Ok(())
-}
-
-#[test]
-fn a_quota_of_5(rt: HostRuntime) -> Result<(), Fail> {
     let (tried, _, left, _) = counted(rt.alloc(), COUNTERS, Mode::Bounded(1), 5)?;
-    assert_eq!(rt; tried, 4);
-    assert_eq!(rt; left, 0);
+    assert_eq!(rt; (tried, left), (4, 0));
     Ok(())
 }
 
-#[test]
-fn what_a_quota_of_1_leaves_is_walked_on(rt: HostRuntime) -> Result<(), Fail> {
-    adds_up(
-        &rt,
-        COUNTERS,
-        Mode::Bounded(1),
-        1,
-        "4 0 0 true None Done [1] Done [2]",
-    )
-}
+/// The schedules of `COUNTERS` with at most one preemption, and those that are left by sleep sets.
+const WITHIN_ONE: &str = "4 0 0 true None Done [1] Done [2]";
+
+const PRUNED: &str = "4 0 0 false None Done [1] Done [2]";
 
 #[test]
-fn parts_of_one_make_the_whole(rt: HostRuntime) -> Result<(), Fail> {
-    adds_up(&rt, ALL_KINDS, Mode::Bounded(2), 1, WITHIN_TWO)
-}
-
-#[test]
-fn parts_of_three_make_the_whole(rt: HostRuntime) -> Result<(), Fail> {
-    adds_up(&rt, ALL_KINDS, Mode::Bounded(2), 3, WITHIN_TWO)
-}
-
-#[test]
-fn one_part_is_the_whole(rt: HostRuntime) -> Result<(), Fail> {
-    adds_up(&rt, ALL_KINDS, Mode::Bounded(2), 256, WITHIN_TWO)
-}
-
-#[test]
-fn pruned_parts_of_one_make_the_whole(rt: HostRuntime) -> Result<(), Fail> {
-    adds_up(
-        &rt,
-        COUNTERS,
-        Mode::Reduced,
-        1,
-        "4 0 0 false None Done [1] Done [2]",
-    )
-}
-
-#[test]
-fn pruned_parts_of_three_make_the_whole(rt: HostRuntime) -> Result<(), Fail> {
-    adds_up(
-        &rt,
-        COUNTERS,
-        Mode::Reduced,
-        3,
-        "4 0 0 false None Done [1] Done [2]",
-    )
+fn parts_make_the_whole(rt: HostRuntime) -> Result<(), Fail> {
+    adds_up(&rt, COUNTERS, Mode::Bounded(1), 1, WITHIN_ONE)?;
+    adds_up(&rt, ALL_KINDS, Mode::Bounded(2), 1, WITHIN_TWO)?;
+    adds_up(&rt, ALL_KINDS, Mode::Bounded(2), 3, WITHIN_TWO)?;
+    adds_up(&rt, ALL_KINDS, Mode::Bounded(2), 256, WITHIN_TWO)?;
+    adds_up(&rt, COUNTERS, Mode::Reduced, 1, PRUNED)?;
+    adds_up(&rt, COUNTERS, Mode::Reduced, 3, PRUNED)
 }
 
 /// How many items a walk leaves and how many prefixes it puts off.
@@ -131,7 +93,8 @@ fn left_and_put_off(walked: &Walked) -> (usize, usize) {
     (walked.rest_length(), walked.deferred_length())
 }
 
-/// The same of the parts of a walk, after how many schedules it tried.
+/// How many schedules a walk tried, how many items it left and how many prefixes it put off, by its
+/// parts.
 fn counts_of(parts: Found) -> (u64, usize, usize) {
     (
         parts.part.tried(),

@@ -63,7 +63,7 @@ pub record IsPlace (p : Program) (t : Path) : Type 0 where
   pub some : 0 < t.base
   pub base : t.base ≤ length (used_frames t)
 
--- so many of the walk's steps begin the prefix that was put off last, too
+-- the prefix that was put off last begins with the walk's steps, up to the number that is noted
 pub record IsShared (steps : List ℕ) (f : Found) : Type 0 where
   pub fits : f.shared ≤ length steps
   pub same : take f.shared (last_of f.deferred) ≡ take f.shared steps

@@ -9,8 +9,7 @@ pub returns : goal.returns
 returns g c =
     let report = c.in_ok-report.report in
     let text = c.args.text.now in
-    let printed : c.push.new.self.items ≡ report_text report ++ 10 ∷ [] =
-    c.in_ok-push.ensures.items ∙ ap (λ (xs : List ℕ). xs ++ 10 ∷ []) c.in_ok-output.ensures in
+    let printed = c.in_ok-output.ensures.line in
     elim c.match-schedule.branch [
       | in-Some+in_ok-schedule+in_ok-trace+in_ok-extend_from_slice w ↦
           let trace = w.in_ok-trace.trace in

@@ -3,7 +3,7 @@ use Rattle.std.proofs.Common.{◌+◌, [], ◌∷◌, ◌++◌, take, drop, ◌�
 use Rattle.prefix_list.specs.PrefixLists.{last_of}
 use Rattle.prefix_list.proofs.PackedPrefixes.{Holds}
 use Rattle.prefix_list.proofs.ListFields.{more_counted, one_more}
-use Rattle.prefix_list.proofs.prefixes.Prefixes.push_by.Goals as goal
+use Rattle.prefix_list.proofs.prefixes.Prefixes.push_after.Goals as goal
 
 pub overflow_add-self : goal.overflow_add-self
 overflow_add-self c = omega (arith, more_counted c.self.inside c.self.invariant)
