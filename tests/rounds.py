@@ -57,8 +57,47 @@ GUESTS = {
         "thread %s { store x %d; store y %d; store z %d; }" % (name, k, k, k)
         for name, k in zip(NAMES, range(1000, 1004))),
     "shared": "var x; " + " ".join("thread %s { load r x; store x r; }" % name for name in "ABCD"),
+    "crossed": "mutex m; mutex n; thread A { lock m; lock n; unlock n; unlock m; } "
+    "thread B { lock n; lock m; unlock m; unlock n; }",
+    "updates": "var x; " + " ".join(
+        "thread %s { load r x; set r r + 1; store x r; }" % name for name in "AB"),
+    "call": "mutex m; cond c; thread A { lock m; wait c m; unlock m; } thread B { lock m; signal c; unlock m; }",
+    # The failure is pruned where sleep sets are used within a bound.
+    "pruned": "var x; var y; thread A { store y 1; load r x; assert r == 0; } thread B { store x 1; }",
+    "failing": "var x; var y; var z; thread A { store x 1; assert 0; } thread B { store y 1; } "
+    "thread C { store z 1; }",
     "long": "var x; " + " ".join("thread %s { repeat 100 { repeat 10 { store x 1; } } }" % name for name in "AB"),
 }
+
+
+def ends(*kinds):
+    return [{"kind": kind, "vars": list(values)} for kind, *values in kinds]
+
+
+def good(bound, tried, *kinds):
+    return {"all": True, "bound": bound, "ends": ends(*kinds), "failed": 0, "stuck": 0, "tried": tried,
+            "verdict": "clean"}
+
+
+def bad(bound, tried, kind, count, preemptions, schedule, *kinds):
+    return {"bound": bound, "ends": ends(*kinds), "failed": count if kind == "failed" else 0, "kind": kind,
+            "preemptions": preemptions, "schedule": schedule, "stuck": count if kind == "stuck" else 0,
+            "tried": tried, "verdict": "bad"}
+
+
+# A guest, a search, whether it is quick, the quotas, and its report, worked out by hand.
+QUOTAS = (1, 3, 256)
+WORKED = [
+    ("crossed", 2, False, QUOTAS, bad(1, 6, "stuck", 2, 1, "0,1", ["done"], ["stuck"])),
+    ("updates", 9, False, QUOTAS, good(2, 6, ["done", 1], ["done", 2])),
+    ("updates", "unbounded", False, QUOTAS, good(None, 4, ["done", 1], ["done", 2])),
+    ("updates", 2, True, QUOTAS, good(2, 6, ["done", 1], ["done", 2])),
+    ("call", 2, False, QUOTAS, bad(0, 2, "stuck", 1, 0, "1x3,0x2", ["done"], ["stuck"])),
+    ("pruned", 2, False, QUOTAS, bad(0, 2, "failed", 1, 0, "1,0x2", ["done", 1, 1], ["failed", 1, 1])),
+    ("pruned", "unbounded", False, QUOTAS, bad(None, 2, "failed", 1, 1, "0,1,0", ["done", 1, 1], ["failed", 1, 1])),
+    ("pruned", 2, True, (256,), bad(0, 2, "failed", 1, 0, "1,0x2", ["done", 1, 1], ["failed", 1, 1])),
+    ("failing", 0, True, (1,), bad(0, 1, "failed", 1, 0, "0,1,2", ["failed", 1, 1, 1])),
+]
 
 
 class Trial:
@@ -331,6 +370,16 @@ def examples(trial):
     trial.check(len(EXAMPLES) > 60, "few examples:", len(EXAMPLES))
 
 
+def worked(trial):
+    """Searches whose reports were worked out by hand: the same for every number of workers and each quota."""
+    for guest, search, quick, quotas, report in WORKED:
+        wanted = dict(report, quick=True) if quick else report
+        for workers in (1, 2, 8):
+            for quota in quotas:
+                _, found = trial.heard(guest, search, workers, quota, quick=quick)
+                trial.check(found == wanted, guest, search, workers, "workers, quota", quota, found, wanted)
+
+
 def words(trial):
     """The program: every number of workers, long reports and traces, texts of each length."""
     for guest, others, wanted in (("threads7", ["--bound", 0], 0), ("late", [], 1), ("late", ["--quick"], 1),
@@ -370,8 +419,8 @@ def main(program, listener):
         subprocess.run([os.environ.get("CC", "cc"), "-shared", "-fPIC", "-O1", "-o", folder + "/fail_alloc.so",
                         os.path.join(HERE, "fail_alloc.c"), "-ldl"], check=True)
         trial = Trial(os.path.abspath(program), os.path.abspath(listener), folder)
-        for part in (full_rounds, side_by_side, every_size, stops, without_board, hints, limits, bounds, words,
-                     examples):
+        for part in (full_rounds, side_by_side, every_size, stops, without_board, hints, limits, bounds, worked,
+                     words, examples):
             part(trial)
     print("%d passed, %d failed" % (trial.passed, trial.failed))
     return 1 if trial.failed else 0
