@@ -1,6 +1,5 @@
-//! Tests of the libraries of texts, programs, states and schedules, which call what is public: texts,
-//! limits and values from outside, which no clause says. They stand in a crate of their own, since a
-//! crate with tests is proved twice, with them and without.
+//! Tests of the libraries of states, schedules and replays, and of explanations, which call what is
+//! public: values from outside, which no clause says.
 #![tactic(auto)]
 
 #[cfg(test)]
@@ -12,14 +11,8 @@ mod machines;
 #[cfg(test)]
 mod prefix_lists;
 #[cfg(test)]
-mod programs;
-#[cfg(test)]
-mod refusals;
-#[cfg(test)]
 mod replays;
 #[cfg(test)]
 mod runs;
 #[cfg(test)]
 mod states;
-#[cfg(test)]
-mod texts;

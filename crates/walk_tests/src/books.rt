@@ -321,9 +321,19 @@ const EQUALS: [Settlement; 2] = [
     },
 ];
 
+/// The root of a program that differs from the book's in the name of its mutex alone.
+const RENAMED: [Settlement; 1] = [Settlement {
+    text: "mutex n; thread A { lock n; }",
+    prefix: &[],
+    mode: FIRST,
+    single: false,
+    told: "book B2 Stranger",
+}];
+
 #[test]
 fn programs_are_compared_by_value(rt: HostRuntime) -> Result<(), Fail> {
-    let _book = played(&rt, WRITERS, &EQUALS)?;
+    let _equal = played(&rt, WRITERS, &EQUALS)?;
+    let _renamed = played(&rt, "mutex m; thread A { lock m; }", &RENAMED)?;
     Ok(())
 }
 

@@ -1,6 +1,6 @@
 use Rattle.std.proofs.Common.{◌≡◌, ◌+◌, length, vec_len}
 use Rattle.std.specs.List.{All}
-use Rattle.search_tests.proofs.boards.workers.Given as goal
+use Rattle.walk_tests.proofs.boards.workers.Given as goal
 
 abbrev pub invariant-loop-seat : goal.invariant-loop-seat
 invariant-loop-seat l = let rest = l.seat-iterator.rest.items in record {

@@ -1,6 +1,6 @@
 use Rattle.std.proofs.Common.{◌≡◌, ◌+◌, length, vec_len}
 use Rattle.std.specs.List.{All}
-use Rattle.search_tests.proofs.boards.ended.Given as goal
+use Rattle.walk_tests.proofs.boards.ended.Given as goal
 
 abbrev pub invariant-loop-worker : goal.invariant-loop-worker
 invariant-loop-worker l = let rest = l.worker-iterator.rest.items in record {

@@ -1,8 +1,8 @@
 use Rattle.std.proofs.Common.{◌≡◌, ap, sym, length, arith}
 use Rattle.std.proofs.lemmas.List.Elements.{All-push, All-same, All-rest, All-head}
 use Rattle.board.specs.Board.{SeatView}
-use Rattle.search_tests.specs.declared.boards.Worker.{Worker}
-use Rattle.search_tests.proofs.boards.ended.Goals as goal
+use Rattle.walk_tests.specs.declared.boards.Worker.{Worker}
+use Rattle.walk_tests.proofs.boards.ended.Goals as goal
 
 pub loop-worker-preserved : goal.loop-worker-preserved
 loop-worker-preserved c =

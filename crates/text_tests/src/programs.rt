@@ -1,6 +1,5 @@
 //! Programs of texts: their first faults, their parts and code, and where their instructions come from.
 
-use crate::runs::program_of;
 use guest_code::error::CheckError;
 use guest_code::laws::{
     first_fault_is_first, limits_are, places_are_in_their_threads, programs_are_well_formed,
@@ -14,10 +13,14 @@ use std::process::Abort;
 use std::test::*;
 
 /// Texts, and the lines that are printed for their first faults.
-const FAULTS: [(&str, &str); 27] = [
+const FAULTS: [(&str, &str); 28] = [
     ("", "check C4 NoThreads"),
     ("var x; mutex x; thread A { }", "check C1 Duplicate at 1:14"),
     ("var x; thread x { }", "check C1 Duplicate at 1:15"),
+    (
+        "mutex B; thread A { lock B; } thread B { }",
+        "check C1 Duplicate at 1:38",
+    ),
     ("thread A { } thread A { }", "check C1 Duplicate at 1:21"),
     ("thread A { lock m; }", "check C2 Unknown at 1:17"),
     ("var x; thread A { lock x; }", "check C3 WrongKind at 1:24"),
@@ -132,6 +135,12 @@ fn nested(alloc: Global, innermost: &str) -> Result<String, Fail> {
         text.push_str(" }")?;
     }
     Ok(text)
+}
+
+/// The program that a text spells.
+fn program_of(alloc: Global, text: &[u8]) -> Result<Program, Fail> {
+    let tree = parse(alloc, text)?;
+    Ok(lower(alloc, &tree)?)
 }
 
 /// The line of the first fault of a text that spells a tree.

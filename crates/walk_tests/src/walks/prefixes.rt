@@ -1,7 +1,7 @@
 //! Walks of items after a prefix, what a bound puts off, and prefixes that don't run.
 
 use crate::summaries::shown;
-use crate::walks::{COUNTERS, found, program_of};
+use crate::walks::{COUNTERS, found, program_of, root_of};
 use prefix_list::Prefixes;
 use std::alloc::{Alloc, Global};
 use std::process::Abort;
@@ -155,5 +155,31 @@ fn an_item_becomes_another(rt: HostRuntime) -> Result<(), Fail> {
     item.try_clone_from(&other)?;
     let line = format!(in rt.alloc(); "{:?} {}", item.prefix(), item.is_same(&other))?;
     assert_eq!(rt; line.as_str(), "[0, 1] true");
+    Ok(())
+}
+
+/// Two threads whose steps are independent.
+const READERS: &str = "var x; thread A { load r x; } thread B { load r x; }";
+
+/// Whether an item of the readers is the one of its prefix after which no thread sleeps.
+fn is_awake(alloc: Global, item: &Item) -> Result<bool, Fail> {
+    let awake = Item::at(alloc, program_of(alloc, READERS)?, item.prefix())?;
+    Ok(item.is_same(&awake))
+}
+
+/// How many items the first schedule leaves where sleep sets prune, and whether one of them is awake.
+fn left_awake(alloc: Global) -> Result<(usize, bool), Fail> {
+    let root = root_of(alloc, READERS)?;
+    let left = walk(alloc, &root, Mode::Reduced, 1)?.into_found().rest;
+    let mut some = false;
+    for item in &left {
+        some |= is_awake(alloc, item)?;
+    }
+    Ok((left.len(), some))
+}
+
+#[test]
+fn items_differ_by_who_sleeps(rt: HostRuntime) -> Result<(), Fail> {
+    assert_eq!(rt; left_awake(rt.alloc())?, (1, false));
     Ok(())
 }

@@ -1,0 +1,11 @@
+//! Tests of the libraries of texts and programs, and of what is told of them, which call what is public:
+//! texts, limits and values from outside, which no clause says. They stand in a crate of their own, since
+//! a crate with tests is proved twice, with them and without.
+#![tactic(auto)]
+
+#[cfg(test)]
+mod programs;
+#[cfg(test)]
+mod refusals;
+#[cfg(test)]
+mod texts;

@@ -1,0 +1,12 @@
+//! Tests of summaries, walks, the book and the board, which call what is public: limits, threads and
+//! values from outside, which no clause says.
+#![tactic(auto)]
+
+#[cfg(test)]
+mod boards;
+#[cfg(test)]
+mod books;
+#[cfg(test)]
+mod summaries;
+#[cfg(test)]
+mod walks;
