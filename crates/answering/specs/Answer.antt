@@ -29,8 +29,8 @@ use Rattle.report.specs.declared.report.Report.{Report}
 use Rattle.report.specs.ReportText.{report_text, named_schedule}
 use Rattle.report.specs.Texts.{IsProgramOf, IsFaultOf, IsReportOfText}
 use Rattle.answering.specs.declared.answer.Printed.{Printed}
-use Rattle.answering.specs.declared.asked.Asked.{Asked}
-use Rattle.answering.specs.declared.asked.Asked.TheVariants as asked
+use Rattle.asked.specs.declared.exploration.Asked.{Asked}
+use Rattle.asked.specs.declared.exploration.Asked.TheVariants as asked
 use Rattle.answering.specs.declared.fault.Fault.{Fault}
 use Rattle.answering.specs.declared.fault.Fault.TheVariants.{File, Syntax, Check, Schedule}
 use Rattle.answering.specs.declared.fault.Fault.TheVariants.{Replay, Memory}

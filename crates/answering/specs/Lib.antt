@@ -2,4 +2,3 @@ pub mod Answer
 pub mod Lines
 pub mod Serve
 pub mod Status
-pub mod inner

@@ -7,9 +7,9 @@ ghost use Rattle.answering.specs.Answer.{ReplayMeans, ExplorationMeans, TracedMe
 ghost use Rattle.answering.specs.Status.{replay_status, verdict_status};
 ghost use Rattle.answering.specs.Serve.{IsWritten};
 
-use crate::asked::{Asked, Exploration};
 use crate::fault::Fault;
 use crate::progress::Teller;
+use asked::{Asked, Exploration};
 use guest_code::lowering::lower;
 use guest_syntax::parse;
 use replay::{replay, schedule_from, schedule_text, trace_text};

@@ -1,7 +1,7 @@
 //! Answers to what is asked of a guest program, and how a program writes them and ends.
 //!
-//! - [`Asked`] is what can be asked for: a replay, or a search, with the trace of what it finds or
-//!   without.
+//! - [`Asked`](asked::Asked) is what is asked for: a replay, or a search, with the trace of what it finds
+//!   or without.
 //! - [`replay_text`], [`explore_text`] and [`explore_and_trace`] answer it for the bytes of texts.
 //!   Their contracts speak of nothing else.
 //! - [`Fault`] is why there is no answer, the line that tells so, and its status.
@@ -12,7 +12,6 @@
 #![tactic(auto)]
 
 mod answer;
-mod asked;
 mod fault;
 mod progress;
 mod serving;
@@ -20,7 +19,6 @@ mod serving;
 pub use answer::{
     Answer, Printed, explore_and_trace, explore_text, replay_status, replay_text, verdict_status,
 };
-pub use asked::{Asked, DEFAULT_BOUND, Exploration};
 pub use fault::Fault;
 pub use progress::Teller;
 pub use serving::{ended, is_standard_input, serve, serve_file};

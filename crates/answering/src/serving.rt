@@ -6,8 +6,8 @@ ghost use Rattle.answering.specs.Status.{fault_status};
 ghost use Rattle.answering.specs.Serve.{IsPartRead, IsServed, IsWritten};
 
 use crate::answer::Answer;
-use crate::asked::Asked;
 use crate::fault::Fault;
+use asked::Asked;
 use guest_syntax::TEXT_BYTES;
 use std::alloc::{Alloc, Global};
 use std::fs;
@@ -69,7 +69,8 @@ where
 /// The status that the program ends with: that of the answer that was served. Where a device failed
 /// the fault's line is written, and the status is the fault's.
 pub fn ended<E: Write>(served: Result<u8, Fault>, err: &mut E) -> u8
-    ensures { MatchResult served (λ status. result ≡ status) (λ fault. result ≡ fault_status fault) }
+    ensures { MatchResult served (λ status. result ≡ status)
+        (λ fault. result ≡ fault_status fault) }
 {
     match served {
         Ok(status) => status,

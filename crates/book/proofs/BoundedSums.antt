@@ -10,14 +10,13 @@ use Rattle.semantics.specs.Waiters.{In}
 use Rattle.schedules.proofs.LeastSchedule.{least_some}
 use Rattle.semantics.proofs.ListMembers.{in_contains, contains_in, from_filter}
 use Rattle.items.specs.declared.mode.Mode.{Mode}
-use Rattle.summary.specs.Summaries.{SummaryView, IsSummary, nothing, cut, greatest_count, end_kind, sum_of, join, sorted_views}
+use Rattle.summary.specs.Summaries.{SummaryView, IsSummary, IsBoundedBy, nothing, cut, greatest_count, end_kind, sum_of, join, sorted_views}
 use Rattle.items.specs.Items.{ItemView, root_of, schedules_of, goes_beyond, item_sum, item_sums, is_under, whole}
 use Rattle.items.specs.Walks.{clear_of}
 use Rattle.items.proofs.ListParts.{all_left}
 use Rattle.summary.proofs.SumsJoin.{sum_kept, nothing_kept, join_kept, join_comm, join_assoc, join_nothing, join_first_bad, join_members}
 use Rattle.items.proofs.WalkedItems.{HasItsOf, rest_has}
 use Rattle.items.proofs.Splits.{split_sum, split_kept}
-use Rattle.book.specs.Quick.{IsBoundedBy}
 use Rattle.book.specs.Books.{with_deferred, BookView, ComeAfter, IsThinned, Keeps, KeepsWhere, IsClosed, book_schedules}
 use Rattle.book.proofs.Keeping.{closes}
 use Rattle.book.proofs.Later.{begins_later, IsAfter, lesser_first, lesser_after, lesser_some, after_more}

@@ -1,4 +1,5 @@
 pub mod ItemLists
 pub mod Quick
 pub mod Books
+pub mod Progress
 pub mod ErrorTexts

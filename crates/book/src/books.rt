@@ -9,7 +9,7 @@ ghost use Rattle.items.specs.Items.{whole, AreOf};
 ghost use Rattle.items.specs.Walks.{IsWalked, listed_if};
 ghost use Rattle.walk.specs.Founds.{found_walk};
 ghost use Rattle.book.specs.declared.limits.TheConstants.{ROUND};
-ghost use Rattle.book.specs.Quick.{IsBoundedBy};
+ghost use Rattle.summary.specs.Summaries.{IsBoundedBy};
 ghost use Rattle.book.specs.Books.{Keeps, drops, thinned, opening, IsWalkOf, IsFoundAt, HasWalkedRound, HaveFound, HaveSettled, taken_over, taken_in, remove_each, AreWithin, Settles, IsRefused, Raises, IsNotRaised, IsClosed, bound_of};
 
 use crate::errors::{RaiseError, SettleError};

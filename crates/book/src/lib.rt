@@ -6,6 +6,7 @@
 //!   not tried, and that no schedule lies under two items.
 //! - [`books::Book::settle`] takes a walk of an open item, [`books::Book::raise`] goes to the next
 //!   bound, [`books::Book::closed`] answers the summary where nothing is left to walk.
+//! - [`progress::Progress`] is how far the search is that has a book.
 //! - A quick book may drop open items that can't hold the first bad schedule; what it finds is
 //!   bounded by the program's summary, and has the same first bad schedule.
 //!
@@ -18,3 +19,4 @@ mod item_list;
 pub mod laws;
 pub mod limits;
 mod packed;
+pub mod progress;

@@ -4,10 +4,10 @@ ghost use Rattle.std.specs.Prelude.{◌≡◌, IfOk};
 ghost use Rattle.ctxbound.specs.Status.{checked_status};
 ghost use Rattle.ctxbound.specs.Checks.{IsCheckOf};
 
-use crate::asked::CheckRequest;
 use crate::files::{files_of, read_file, report_device};
 use advice::{Checked, advice_text, check};
 use answering::{Fault, Printed};
+use asked::CheckRequest;
 use std::alloc::{Alloc, AllocError, Global};
 use std::fs::Files;
 use std::io::{Input, Write};

@@ -4,8 +4,8 @@ ghost use Rattle.std.specs.Prelude.{◌≡◌, IfErr};
 ghost use Rattle.ctxbound.specs.Status.{explained_status};
 ghost use Rattle.answering.specs.declared.fault.Fault.TheVariants.{Memory};
 
-use crate::asked::{ExplainRequest, Form};
 use answering::{Fault, Printed, Teller, replay_status, verdict_status};
+use asked::{ExplainRequest, Form};
 use explain::{Explanation, Source};
 use explain_page::{explanation_html, explanation_json};
 use explain_text::{Shape, explanation_text};

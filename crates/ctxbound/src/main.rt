@@ -1,21 +1,19 @@
 //! The program `ctxbound`: what the command words ask for, done on a guest program.
 //!
-//! `words` reads the words, `program` does what they ask for, and `main` joins both to the system.
-//! What is answered to a replay or a search is in the crate `answering`. The other commands are in
-//! `explained`, `checks` and `suites`.
+//! The crate `words` reads the words, `program` does what they ask for, and `main` joins both to the
+//! system. What is answered to a replay or a search is in the crate `answering`. The other commands are
+//! in `explained`, `checks` and `suites`.
 #![tactic(auto)]
 
-mod asked;
 mod checks;
 mod explained;
 mod files;
 mod program;
 mod suites;
-mod words;
 
 use crate::program::serve_words;
-use crate::words::command_words;
 use std::process::ExitCode;
+use words::command_words;
 
 fn main(rt: HostRuntime) -> ExitCode {
     let mut out = rt.stdout();

@@ -1,17 +1,17 @@
 //! The whole program, but for where its words come from and where its answer goes.
 
-use crate::asked::{ExplainRequest, Request};
 use crate::checks::serve_check;
 use crate::explained::explain_text;
 use crate::files::{read_file, report_device, write_named};
 use crate::suites::serve_suite;
-use crate::words::request;
 use answering::serve_file;
+use asked::{ExplainRequest, Request};
 use std::alloc::{Alloc, Global};
 use std::fs::Files;
 use std::io::{Eprint, Input, Write};
 use std::sync::Wait;
 use std::thread::Threads;
+use words::request;
 
 /// Does what the command words ask for: the answer goes to `out`, the lines of faults to `err`.
 /// Answers the status that the program ends with.

@@ -4,9 +4,9 @@ ghost use Rattle.std.specs.Prelude.{◌≡◌, IfOk, IfErr};
 ghost use Rattle.suite.specs.Statuses.{IsWorst};
 ghost use Rattle.answering.specs.declared.fault.Fault.TheVariants.{Memory};
 
-use crate::asked::SuiteRequest;
 use crate::files::{files_of, read_file, write_named};
 use answering::{Fault, Printed};
+use asked::{Limits, SuiteRequest};
 use runner::ExploreError;
 use std::alloc::{Alloc, Global};
 use std::fs::Files;
@@ -14,7 +14,7 @@ use std::io;
 use std::io::{ErrorKind, Input, Write};
 use std::sync::Wait;
 use std::thread::Threads;
-use suite::{Entry, Limits, Outcome, json_lines, table, worst_status};
+use suite::{Entry, Outcome, json_lines, table, worst_status};
 
 /// Searches each file of a suite and prints what became of them. Answers the status: the greatest of
 /// those of its files, or that of a device that failed.

@@ -3,7 +3,8 @@
 //! `make try` compile it in half the time that the whole program takes.
 #![tactic(auto)]
 
-use answering::{Asked, DEFAULT_BOUND, Exploration, serve_file};
+use answering::serve_file;
+use asked::{Asked, DEFAULT_BOUND, Exploration};
 use runner::{Options, QUOTA, Search};
 use std::io::Write;
 use std::process::ExitCode;

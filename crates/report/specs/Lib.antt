@@ -4,4 +4,3 @@ pub mod Promises
 pub mod Texts
 pub mod ErrorTexts
 pub mod ReportText
-pub mod Progress

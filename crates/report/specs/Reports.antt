@@ -9,10 +9,9 @@ use Rattle.schedules.specs.Schedules.{complete_schedules, preemptions}
 use Rattle.schedules.specs.Order.{precedes, ends_badly}
 use Rattle.items.specs.declared.mode.Mode.{Mode}
 use Rattle.items.specs.declared.mode.Mode.TheVariants.{Bounded}
-use Rattle.summary.specs.Summaries.{SummaryView, end_kind}
+use Rattle.summary.specs.Summaries.{SummaryView, IsBoundedBy, end_kind}
 use Rattle.items.specs.Items.{ItemView, root_of, whole}
 use Rattle.items.specs.Walks.{IsSplit}
-use Rattle.book.specs.Quick.{IsBoundedBy}
 use Rattle.report.specs.declared.report.Cause.{Cause}
 use Rattle.report.specs.declared.report.Cause.TheVariants.{Limit, Stopped}
 

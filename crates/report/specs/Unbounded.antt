@@ -7,9 +7,8 @@ use Rattle.semantics.specs.Machine.{start}
 use Rattle.schedules.specs.Schedules.{complete_schedules, preemptions}
 use Rattle.schedules.specs.Order.{precedes, end_of}
 use Rattle.items.specs.declared.mode.Mode.TheVariants.{Reduced}
-use Rattle.summary.specs.Summaries.{SummaryView, end_kind, sorted_views}
+use Rattle.summary.specs.Summaries.{SummaryView, IsBoundedBy, end_kind, sorted_views}
 use Rattle.items.specs.Items.{whole}
-use Rattle.book.specs.Quick.{IsBoundedBy}
 use Rattle.report.specs.Reports.{IsBadSchedule}
 
 -- the end views are those of all complete schedules; the summary is of what sleep sets leave

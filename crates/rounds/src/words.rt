@@ -4,7 +4,7 @@ ghost use Rattle.std.specs.Prelude.{◌≤◌, IfSome};
 ghost use Rattle.report.specs.Promises.{IsSearch};
 
 use crate::gate::Does;
-use answering::Exploration;
+use asked::Exploration;
 use runner::{BOUND, Options, Search, WORKERS};
 
 /// What the words ask for.

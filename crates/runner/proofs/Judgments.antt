@@ -23,7 +23,7 @@ use Rattle.report.specs.Reports.{IsBad, HasItems, IsReached, IsCause}
 use Rattle.report.specs.Unbounded.{IsFirstBad}
 use Rattle.report.specs.Promises.{IsSearch, IsReportFor, IsReport}
 use Rattle.runner.specs.inner.Judging.{HasPassed, IsModeOf, IsStage, IsLast, IsFound, IsFinishedIn, IsFirstMode}
-use Rattle.report.specs.Progress.{mode_bound}
+use Rattle.book.specs.Progress.{mode_bound}
 use Rattle.runner.specs.inner.Judging.{CanRaise, IsVerdictOn, report_in, bounds_left, IsBoundBelow}
 use Rattle.runner.specs.inner.Judging.{ComesWhole, ComesOpen, Comes}
 use Rattle.runner.proofs.Promises.{passed_next, found_bad, found_none, finished_here}

@@ -9,15 +9,16 @@ ghost use Rattle.report.specs.declared.error.ExploreError.TheVariants.{OutOfMemo
 ghost use Rattle.runner.specs.declared.judge.Next.TheVariants.{Answer};
 ghost use Rattle.report.specs.Reports.{HasItems, IsReached, IsCause};
 ghost use Rattle.runner.specs.inner.Judging.{IsModeOf, IsStage, IsLast, IsFound, IsBoundBelow, IsVerdictOn, IsAt, ComesWhole, ComesOpen, Comes, begun, report_in};
-ghost use Rattle.report.specs.Progress.{mode_bound};
+ghost use Rattle.book.specs.Progress.{mode_bound};
 
 use book::books::Book;
+use book::progress::mode_bound;
 use guest_code::laws::programs_are_well_formed;
 use guest_code::program::Program;
 use items::mode::Mode;
 use replay::laws::one_place_is_the_first_bad;
 use replay::{ReplayError, Run, replay};
-use report::{Cause, ExploreError, Options, Report, Search, Verdict, mode_bound};
+use report::{Cause, ExploreError, Options, Report, Search, Verdict};
 use semantics::view::Kind;
 use std::alloc::Global;
 use summary::Summary;

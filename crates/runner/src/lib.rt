@@ -19,9 +19,10 @@ mod text;
 mod together;
 
 pub use alone::explore_alone;
+pub use book::progress::Progress;
 pub use limits::{BOUND, QUOTA, WORKERS};
 pub use report::{
-    Cause, ExploreError, Options, Progress, Report, Search, Verdict, report_text, report_value,
+    Cause, ExploreError, Options, Report, Search, Verdict, report_text, report_value,
 };
 pub use text::{explore_text, explore_text_alone};
 pub use together::explore;

@@ -7,7 +7,8 @@ ghost use Rattle.std.specs.Prelude.{◌≤◌};
 ghost use Rattle.report.specs.Promises.{IsSearch};
 
 use crate::answers::devices::{FailingReader, FailingWriter};
-use answering::{Asked, Exploration, Fault, ended, serve};
+use answering::{Fault, ended, serve};
+use asked::{Asked, Exploration};
 use runner::{Options, Search};
 use std::alloc::{Alloc, Global};
 use std::io::Eprint;

@@ -5,8 +5,8 @@ ghost use Rattle.suite.specs.Suites.{OutcomeMeans};
 ghost use Rattle.suite.specs.Statuses.{searched_status, status_of, IsWorst};
 
 use crate::expectation::{Expectation, Expected};
-use crate::options::Limits;
 use crate::searches::search;
+use asked::Limits;
 use runner::{ExploreError, Report, Verdict};
 use std::alloc::Global;
 use std::sync::Wait;

@@ -9,12 +9,10 @@
 
 mod entry;
 mod expectation;
-mod options;
 mod printing;
 mod searches;
 
 pub use entry::{Entry, Outcome, worst_status};
 pub use expectation::{Expectation, Expected};
-pub use options::{LIMIT, Limits};
 pub use printing::{json_lines, table};
 pub use searches::search;

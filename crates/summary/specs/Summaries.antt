@@ -1,5 +1,6 @@
--- The sum of a list of complete schedules, one schedule more, and the join of two sums.
-use Rattle.std.specs.Prelude.{◌≡◌, ℕ, ℤ, ◌+◌, ◌-◌, ◌^◌, ◌≤◌, min, nat_lt, Bool, true, false, ◌||◌, List, [], ◌∷◌, ◌++◌, length, map, filter, count_by, Option, Some, None, is_some, option_map, if◌then◌else◌}
+-- The sum of a list of complete schedules, one schedule more, the join of two sums, and when one is
+-- bounded by another.
+use Rattle.std.specs.Prelude.{◌≡◌, ℕ, ℤ, ◌+◌, ◌-◌, ◌^◌, ◌≤◌, min, nat_lt, Bool, true, false, ◌||◌, List, [], ◌∷◌, ◌++◌, length, map, filter, count_by, Option, Some, None, is_some, option_map, if◌then◌else◌, All, Contains}
 use Rattle.std.specs.declared.alloc.Global.{Global}
 use Rattle.std.specs.declared.vec.Vec.{Vec}
 use Rattle.std.specs.FinMap.Entries.{by_order}
@@ -129,3 +130,12 @@ pub record IsSummary (t : SummaryView) : Type 0 where
   pub stuck : t.stuck ≤ greatest_count
   pub ends : IsStrictlySortedBy view_cmp t.ends
   pub first_bad : is_some t.first_bad ≡ (nat_lt 0 t.failed || nat_lt 0 t.stuck)
+
+-- one summary is bounded by another: it has the same first bad schedule, no greater counts, and its
+-- end views are among the other's
+pub record IsBoundedBy (part all : SummaryView) : Type 0 where
+  pub first_bad : part.first_bad ≡ all.first_bad
+  pub tried : part.tried ≤ all.tried
+  pub failed : part.failed ≤ all.failed
+  pub stuck : part.stuck ≤ all.stuck
+  pub ends : All (λ v. Contains all.ends v) part.ends

@@ -3,7 +3,7 @@
 ghost use Rattle.std.specs.Prelude.{◌≡◌, Bool, true};
 ghost use Rattle.workers.specs.declared.gate.Answer.TheVariants.{Stop};
 
-use report::Progress;
+use book::progress::Progress;
 
 /// What a gate answers to a worker that is about to walk an item.
 #[derive(Clone, Copy, Debug, PartialEq, Eq)]

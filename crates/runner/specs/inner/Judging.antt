@@ -18,7 +18,7 @@ use Rattle.report.specs.declared.report.Report.{Report}
 use Rattle.report.specs.declared.report.Verdict.{Verdict}
 use Rattle.report.specs.declared.report.Verdict.TheVariants.{Clean, Bad, Incomplete}
 use Rattle.report.specs.Reports.{NoBadBelow, SomeExceeds, IsSummaryOf, IsReached, IsFinished}
-use Rattle.report.specs.Progress.{mode_bound}
+use Rattle.book.specs.Progress.{mode_bound}
 use Rattle.report.specs.Promises.{IsReport}
 use Rattle.workers.specs.Teams.{IsOf}
 

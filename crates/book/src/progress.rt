@@ -1,9 +1,9 @@
 //! How far a search is.
 
 ghost use Rattle.std.specs.Prelude.{◌≡◌};
-ghost use Rattle.report.specs.Progress.{IsProgressOf, mode_bound};
+ghost use Rattle.book.specs.Progress.{IsProgressOf, mode_bound};
 
-use book::books::Book;
+use crate::books::Book;
 use items::mode::Mode;
 
 /// How far a search is after a round.

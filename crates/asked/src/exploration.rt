@@ -1,11 +1,11 @@
-//! What can be asked of a guest program.
+//! What can be asked of one guest program.
 
 ghost use Rattle.std.specs.Prelude.{◌≤◌};
 ghost use Rattle.report.specs.Promises.{IsSearch};
 ghost use Rattle.workers.specs.declared.limits.TheConstants.{WORKERS};
-ghost use Rattle.answering.specs.inner.Asked.{IsSearch-prop};
+ghost use Rattle.asked.specs.inner.Searches.{IsSearch-prop};
 
-use runner::Options;
+use report::Options;
 
 /// The bound of a search that asks for none.
 pub const DEFAULT_BOUND: u32 = 2;
@@ -25,7 +25,7 @@ pub enum Asked {
 #[derive(Clone, Copy, Debug)]
 pub struct Exploration {
     pub options: Options,
-    /// At least 1, at most [`WORKERS`](runner::WORKERS).
+    /// At least 1, at most [`WORKERS`](workers::WORKERS).
     pub workers: u32,
     /// Whether it is told on standard error how far the search is.
     pub progress: bool,

@@ -1,7 +1,7 @@
-//! What the program can be asked for.
+//! What command words can ask for.
 
-use answering::{Asked, Exploration};
-use suite::Limits;
+use crate::exploration::{Asked, Exploration};
+use crate::limits::Limits;
 
 /// What the command words ask for.
 #[derive(Debug, Drop)]

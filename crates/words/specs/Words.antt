@@ -5,8 +5,8 @@ use Rattle.std.specs.declared.io.ErrorKind.TheVariants as io
 use Rattle.clap.specs.declared.error.Error.{Error}
 use Rattle.clap.specs.declared.error.kind.ErrorKind.{ErrorKind}
 use Rattle.clap.specs.declared.error.kind.ErrorKind.TheVariants as clap
-use Rattle.ctxbound.specs.declared.words.WordsFault.{WordsFault}
-use Rattle.ctxbound.specs.declared.words.WordsFault.TheVariants.{NotUtf8, OutOfMemory, Said}
+use Rattle.words.specs.declared.fault.WordsFault.{WordsFault}
+use Rattle.words.specs.declared.fault.WordsFault.TheVariants.{NotUtf8, OutOfMemory, Said}
 
 -- the fault of an error of `clap`, of this kind
 abbrev pub of_clap : ErrorKind → Error → WordsFault

@@ -4,7 +4,7 @@ use Rattle.items.specs.declared.mode.Mode.{Mode}
 use Rattle.items.specs.declared.mode.Mode.TheVariants.{Bounded, Reduced}
 use Rattle.summary.specs.Summaries.{cut}
 use Rattle.book.specs.Books.{BookView}
-use Rattle.report.specs.declared.progress.Progress.{Progress}
+use Rattle.book.specs.declared.progress.Progress.{Progress}
 
 -- the bound of a mode, if it has one
 abbrev pub mode_bound : Mode → Option ℕ

@@ -3,18 +3,18 @@
 ghost use Rattle.std.specs.Prelude.{◌≡◌, ◌↔◌, codes};
 ghost use Rattle.report.specs.declared.options.Search.TheVariants.{Unbounded};
 ghost use Rattle.report.specs.Promises.{IsSearch};
-ghost use Rattle.ctxbound.specs.Words.{words_status};
 
-use crate::asked::{CheckRequest, ExplainRequest, Form, Request, SuiteRequest};
-use answering::{Asked, DEFAULT_BOUND, Exploration, Fault};
-use clap::error::ErrorKind;
-use clap::{Arg, ArgAction, ArgMatches, Command, Error, value_parser};
-use runner::{BOUND, Options, QUOTA, Search, WORKERS};
+use crate::fault::WordsFault;
+use asked::{
+    Asked, CheckRequest, DEFAULT_BOUND, ExplainRequest, Exploration, Form, LIMIT, Limits, Request,
+    SuiteRequest,
+};
+use clap::{Arg, ArgAction, ArgMatches, Command, value_parser};
+use report::limits::{BOUND, QUOTA};
+use report::{Options, Search};
 use std::alloc::{Alloc, AllocError, Global};
 use std::env::Env;
-use std::io;
-use std::io::Write;
-use suite::{LIMIT, Limits};
+use workers::WORKERS;
 
 /// The version that `--version` shows.
 pub const VERSION: &str = "0.1.0";
@@ -44,83 +44,6 @@ Statuses:
   2  words, text, program or schedule refused; help or version shown
   3  the search was cut short
   4  out of memory, or the file can't be read or the output written";
-
-/// Why the command words ask for nothing.
-#[derive(Debug, Drop)]
-pub enum WordsFault {
-    /// Some word is not UTF-8.
-    NotUtf8,
-    /// Memory ran out.
-    OutOfMemory,
-    /// What `clap` says to the user: a refusal, or the help or the version that was asked for.
-    Said(Error),
-}
-
-impl WordsFault {
-    /// The status that the program ends with: 2 for what the user gave, 4 for memory.
-    pub fn status(&self) -> u8
-        ensures { result ≡ words_status self.now }
-    {
-        match self {
-            WordsFault::NotUtf8 | WordsFault::Said(_) => 2,
-            WordsFault::OutOfMemory => 4,
-        }
-    }
-
-    /// Writes what the user is told, and answers the status to end with. A failing stream changes
-    /// no status.
-    pub fn report<E: Write>(&self, err: &mut E) -> u8
-        ensures { result ≡ words_status self.now }
-    {
-        let _ = match self {
-            WordsFault::NotUtf8 => writeln!(err, "ctxbound: words NotUtf8"),
-            WordsFault::OutOfMemory => Fault::Memory.write_line(err),
-            WordsFault::Said(error) => err.write_fmt(error),
-        };
-        self.status()
-    }
-}
-
-impl From<Error> for WordsFault {
-    ghost use Rattle.std.specs.Prelude.{◌≡◌};
-    ghost use Rattle.clap.specs.Values.{kind_of};
-    ghost use Rattle.ctxbound.specs.Words.{of_clap};
-
-    ghost from_gives = { λ e fault. fault ≡ of_clap (kind_of e) e };
-
-    fn from(error: Error) -> WordsFault {
-        match error.kind() {
-            ErrorKind::OutOfMemory => WordsFault::OutOfMemory,
-            _ => WordsFault::Said(error),
-        }
-    }
-}
-
-impl From<io::Error> for WordsFault {
-    ghost use Rattle.std.specs.Prelude.{◌≡◌};
-    ghost use Rattle.std.specs.IoError.{error_kind};
-    ghost use Rattle.ctxbound.specs.Words.{of_words_error};
-
-    ghost from_gives = { λ e fault. fault ≡ of_words_error (error_kind e) };
-
-    fn from(error: io::Error) -> WordsFault {
-        match error.kind() {
-            io::ErrorKind::OutOfMemory => WordsFault::OutOfMemory,
-            _ => WordsFault::NotUtf8,
-        }
-    }
-}
-
-impl From<AllocError> for WordsFault {
-    ghost use Rattle.std.specs.Prelude.{◌≡◌};
-    ghost use Rattle.ctxbound.specs.declared.words.WordsFault.TheVariants.{OutOfMemory};
-
-    ghost from_gives = { λ _ fault. fault ≡ OutOfMemory };
-
-    fn from(_error: AllocError) -> WordsFault {
-        WordsFault::OutOfMemory
-    }
-}
 
 /// The command words that the system gave. The first is the program's own name.
 ///

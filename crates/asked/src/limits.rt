@@ -4,7 +4,7 @@ ghost use Rattle.std.specs.Prelude.{◌≤◌};
 ghost use Rattle.workers.specs.declared.limits.TheConstants.{WORKERS};
 ghost use Rattle.report.specs.declared.options.Search.TheVariants.{UpTo};
 ghost use Rattle.report.specs.Promises.{IsSearch};
-ghost use Rattle.suite.specs.inner.Limits.{IsSearch-prop};
+ghost use Rattle.asked.specs.inner.Searches.{IsSearch-prop};
 
 /// The limit of a search that is given none.
 pub const LIMIT: u64 = 1_000_000;
@@ -15,11 +15,11 @@ pub struct Limits {
     /// After a round in which this number of schedules was tried in all, a search is cut short.
     pub limit: u64,
     /// The most preemptions of a schedule, where the search without a bound was cut short; at most
-    /// [`BOUND`](runner::BOUND).
+    /// [`BOUND`](report::limits::BOUND).
     pub bound: u32,
-    /// At least 1, at most [`WORKERS`](runner::WORKERS).
+    /// At least 1, at most [`WORKERS`](workers::WORKERS).
     pub workers: u32,
-    ghost is_bound: { IsSearch (UpTo bound) } by { IsSearch-prop bound },
+    ghost is_bound: { IsSearch (UpTo bound) } by { IsSearch-prop (UpTo bound) },
     ghost some_worker: { 1 ≤ workers },
     ghost few_workers: { workers ≤ WORKERS },
 }

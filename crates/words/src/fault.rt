@@ -1,0 +1,87 @@
+//! Why command words ask for nothing.
+
+ghost use Rattle.std.specs.Prelude.{◌≡◌};
+ghost use Rattle.words.specs.Words.{words_status};
+
+use clap::Error;
+use clap::error::ErrorKind;
+use std::alloc::AllocError;
+use std::io;
+use std::io::Write;
+
+/// Why the command words ask for nothing.
+#[derive(Debug, Drop)]
+pub enum WordsFault {
+    /// Some word is not UTF-8.
+    NotUtf8,
+    /// Memory ran out.
+    OutOfMemory,
+    /// What `clap` says to the user: a refusal, or the help or the version that was asked for.
+    Said(Error),
+}
+
+impl WordsFault {
+    /// The status that the program ends with: 2 for what the user gave, 4 for memory.
+    pub fn status(&self) -> u8
+        ensures { result ≡ words_status self.now }
+    {
+        match self {
+            WordsFault::NotUtf8 | WordsFault::Said(_) => 2,
+            WordsFault::OutOfMemory => 4,
+        }
+    }
+
+    /// Writes what the user is told, and answers the status to end with. A failing stream changes
+    /// no status.
+    pub fn report<E: Write>(&self, err: &mut E) -> u8
+        ensures { result ≡ words_status self.now }
+    {
+        let _ = match self {
+            WordsFault::NotUtf8 => writeln!(err, "ctxbound: words NotUtf8"),
+            WordsFault::OutOfMemory => writeln!(err, "ctxbound: memory"),
+            WordsFault::Said(error) => err.write_fmt(error),
+        };
+        self.status()
+    }
+}
+
+impl From<Error> for WordsFault {
+    ghost use Rattle.std.specs.Prelude.{◌≡◌};
+    ghost use Rattle.clap.specs.Values.{kind_of};
+    ghost use Rattle.words.specs.Words.{of_clap};
+
+    ghost from_gives = { λ e fault. fault ≡ of_clap (kind_of e) e };
+
+    fn from(error: Error) -> WordsFault {
+        match error.kind() {
+            ErrorKind::OutOfMemory => WordsFault::OutOfMemory,
+            _ => WordsFault::Said(error),
+        }
+    }
+}
+
+impl From<io::Error> for WordsFault {
+    ghost use Rattle.std.specs.Prelude.{◌≡◌};
+    ghost use Rattle.std.specs.IoError.{error_kind};
+    ghost use Rattle.words.specs.Words.{of_words_error};
+
+    ghost from_gives = { λ e fault. fault ≡ of_words_error (error_kind e) };
+
+    fn from(error: io::Error) -> WordsFault {
+        match error.kind() {
+            io::ErrorKind::OutOfMemory => WordsFault::OutOfMemory,
+            _ => WordsFault::NotUtf8,
+        }
+    }
+}
+
+impl From<AllocError> for WordsFault {
+    ghost use Rattle.std.specs.Prelude.{◌≡◌};
+    ghost use Rattle.words.specs.declared.fault.WordsFault.TheVariants.{OutOfMemory};
+
+    ghost from_gives = { λ _ fault. fault ≡ OutOfMemory };
+
+    fn from(_error: AllocError) -> WordsFault {
+        WordsFault::OutOfMemory
+    }
+}
