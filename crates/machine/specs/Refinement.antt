@@ -1,6 +1,6 @@
 -- What a machine shows: a state of a program.
 use Rattle.std.specs.Prelude.{◌≡◌, ℕ, zero, suc, ◌+◌, ◌*◌, ◌^◌, ◌/◌, ◌%◌, ◌<◌, ℤ, Bool, true, false, not, nat_eq, List, [], ◌∷◌, length, take, drop, slice_get, slice_index_or, All, Option, Some, None}
-use Rattle.guest_code.specs.Program.{Program, code_of, IsValidCode, LocalsBelow}
+use Rattle.guest_code.specs.Program.{Program, code_of, LocalsBelow}
 use Rattle.semantics.specs.declared.mask.Mask.{Mask}
 use Rattle.semantics.specs.declared.state.Thread.{Thread}
 use Rattle.semantics.specs.declared.state.Status.{Status}
@@ -14,7 +14,6 @@ use Rattle.semantics.specs.Mask.{has, no_threads}
 use Rattle.semantics.specs.Ends.{is_stopped, is_ended}
 use Rattle.semantics.specs.Reachable.{IsOf}
 use Rattle.machine.specs.declared.control.Control.{Control}
-use Rattle.machine.specs.declared.lane.Lane.{Lane}
 use Rattle.machine.specs.declared.machine.Machine.{Machine}
 
 -- the step takes mutex m
@@ -124,8 +123,3 @@ pub record IsState (p : Program) (fixed width : ℕ) (c : Control) (values : Lis
 -- the machine shows the state
 abbrev pub Shows : Program → Machine → Snapshot → Type 0
 Shows p m s = IsState p m.fixed m.width m.control m.values.items s
-
--- the lane has the code of its thread
-pub record IsLane (l : Lane) : Type 0 where
-  pub code : l.code.now ≡ code_of l.program.now l.thread
-  pub valid : IsValidCode l.program.now l.code.now

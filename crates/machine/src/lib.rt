@@ -14,8 +14,6 @@
 //!   say of the state, and [`Machine::sleepers`] who sleeps after a step.
 //! - A copy is a [`Control`] and as many words as there are values; [`Machine::restore`] shows the
 //!   state again of which they are a copy. No step is recorded, and none is undone.
-//! - A [`Lane`] is what a run of one thread's steps looks up once: its code, and where its locals are.
-//!   [`Control::advance_over`] takes a step over it, as [`Machine::step`] does.
 //!
 //! `Shows` itself needs no belief: it is what the first call gives, each other one keeps, and the
 //! answers follow from. What has to be believed are the definitions of `semantics` that the clauses
@@ -23,10 +21,8 @@
 #![tactic(auto)]
 
 mod control;
-mod lane;
 mod local;
 mod machine;
 
 pub use crate::control::Control;
-pub use crate::lane::Lane;
 pub use crate::machine::Machine;

@@ -1,18 +1,17 @@
 //! The state in which a walk runs a program.
 
-ghost use Rattle.std.specs.Prelude.{◌≡◌, ◌<◌, ◌≤◌, ◌+◌, ◌||◌, ◌&&◌, nat_lt, ℕ, true, false, length, All, IfOk, OnOk, IsTrue, IsFalse};
+ghost use Rattle.std.specs.Prelude.{◌≡◌, ◌<◌, ◌≤◌, ◌+◌, ◌||◌, nat_lt, ℕ, true, false, length, All, IfOk, OnOk, IsTrue, IsFalse};
 ghost use Rattle.guest_code.specs.Program.{Program, LocalsBelow};
 ghost use Rattle.semantics.specs.Mask.{HasEnabled, has, mask_of};
 ghost use Rattle.semantics.specs.Ends.{final_kind};
 ghost use Rattle.schedules.specs.Sleep.{next_sleep_set};
 ghost use Rattle.semantics.specs.Reachable.{IsOf};
-ghost use Rattle.semantics.specs.Machine.{Snapshot, start, step, is_enabled, thread_at};
+ghost use Rattle.semantics.specs.Machine.{Snapshot, start, step, is_enabled};
 ghost use Rattle.machine.specs.declared.machine.Machine.{Machine};
-ghost use Rattle.machine.specs.Refinement.{Shows, IsLane};
+ghost use Rattle.machine.specs.Refinement.{Shows};
 ghost use Rattle.machine.specs.inner.Opening.{IsOpening};
 
 use crate::control::Control;
-use crate::lane::Lane;
 use crate::local::Landing;
 use guest_code::limits::LOCALS;
 use guest_code::program::Program;
@@ -108,26 +107,6 @@ impl Machine {
         Ok(machine)
     }
 
-    /// The lane of a thread.
-    #[inline(always)]
-    pub fn lane<'a>(&self, program: &'a Program, thread: u8) -> Lane<'a>
-        requires { thread < length program.now.threads }
-        ensures lane { IsLane result }
-        ensures program { result.program.now ≡ program.now }
-        ensures thread { result.thread ≡ thread }
-        ensures fixed { result.fixed ≡ self.now.fixed }
-        ensures width { result.width ≡ self.now.width }
-    {
-        program.keeps_limits();
-        Lane {
-            program,
-            code: program.code(thread),
-            thread,
-            fixed: self.fixed,
-            width: self.width,
-        }
-    }
-
     /// A step of an enabled thread. It takes no memory.
     #[inline(always)]
     pub fn step(&mut self, program: &Program, thread: u8)
@@ -140,8 +119,9 @@ impl Machine {
         ensures fixed { self.new.fixed ≡ self.old.fixed }
         ensures width { self.new.width ≡ self.old.width }
     {
-        let lane = self.lane(program, thread);
-        self.control.advance_over(self.values.as_mut_slice(), &lane);
+        let values = self.values.as_mut_slice();
+        self.control
+            .advance_over(values, program, thread, self.fixed, self.width);
     }
 
     /// The set of the enabled threads.

@@ -1,5 +1,5 @@
 -- What a list's own fields say of it, and how they hold one prefix more.
-use Rattle.std.proofs.Common.{◌≡◌, ℕ, ◌+◌, ◌^◌, ◌<◌, ◌≤◌, List, [], ◌∷◌, ◌++◌, length, take, drop, get_or, sym, ◌∙◌, ap, arith, length-drop, vec_capacity}
+use Rattle.std.proofs.Common.{◌≡◌, ℕ, ◌+◌, ◌^◌, ◌<◌, ◌≤◌, List, [], ◌∷◌, ◌++◌, length, take, drop, sym, ◌∙◌, ap, arith, length-drop, vec_capacity}
 use Rattle.prefix_list.specs.declared.prefixes.Prefixes.TheInside.{Inside}
 use Rattle.prefix_list.specs.inner.Packed.{IsPacked, IsStack, way_bytes, listed}
 use Rattle.prefix_list.specs.PrefixLists.{last_of}

@@ -1,11 +1,12 @@
 -- What arriving at a node does to a walk: the node gives way to its children, or is tried.
-use Rattle.std.proofs.Common.{◌≡◌, ℕ, ◌+◌, ◌-◌, ◌≤◌, true, false, ◌&&◌, ◌||◌, not}
+use Rattle.std.proofs.Common.{◌≡◌, ℕ, ◌+◌, ◌-◌, ◌<◌, ◌≤◌, Bool, true, false, ◌&&◌, ◌||◌, not}
 use Rattle.std.proofs.Common.{List, [], ◌∷◌, ◌++◌, length, take, map, ap, refl, ◌∙◌, sym}
 use Rattle.std.proofs.Common.{arith, subst, min}
 use Rattle.std.specs.List.{filter}
 use Rattle.guest_code.specs.Program.{Program}
 use Rattle.semantics.specs.Reachable.{IsOf}
-use Rattle.semantics.specs.Machine.{is_enabled}
+use Rattle.semantics.specs.Machine.{Snapshot, start, is_enabled}
+use Rattle.semantics.specs.Work.{work}
 use Rattle.semantics.specs.Ends.{is_terminal, is_empty, view_at}
 use Rattle.semantics.specs.View.{View}
 use Rattle.semantics.specs.Mask.{has, members_from, no_threads, HasEnabled}
@@ -24,10 +25,10 @@ use Rattle.items.specs.Children.{mask_after, cost_of, costs}
 use Rattle.walk.specs.inner.Paths.{used_frames, IsNode, IsPath, state_at}
 use Rattle.walk.specs.inner.WalkerInvariant.{item_of, here, left_above, still_open, turns_left}
 use Rattle.walk.specs.inner.WalkerInvariant.{turns_from, turns_into, is_kept_at, is_past_at}
-use Rattle.walk.specs.inner.WalkerInvariant.{IsWithinAt, IsAwake, open_from, IsPlace}
+use Rattle.walk.specs.inner.WalkerInvariant.{IsWithinAt, open_from, IsPlace}
 use Rattle.walk.proofs.Puts.{put_none, put_same, put_more}
 use Rattle.walk.specs.inner.WalkerInvariant.{HasPut, IsWalkedOn, IsSearch, IsGone, IsKept, IsOpened}
-use Rattle.walk.specs.inner.WalkerInvariant.{open_here, open_below}
+use Rattle.walk.specs.inner.WalkerInvariant.{open_here, open_below, open_next}
 use Rattle.std.proofs.Math.Bool.{or-false}
 use Rattle.semantics.proofs.Masks.{empty_has, members_over}
 use Rattle.walk.proofs.SharedSteps.{shared_same, shared_kept, shared_entered, shared_back}
@@ -36,7 +37,9 @@ use Rattle.walk.proofs.WalkTurns.{step_enabled, kept_members, past_members, node
 use Rattle.walk.proofs.WalkTurns.{deferred_are}
 use Rattle.walk.proofs.WalkSteps.{walk_of, first_on, own_kept, join_beyond_on, leaf_on}
 use Rattle.walk.proofs.WalkSteps.{walked_node, over_none, over_some}
-use Rattle.items.proofs.Turns.{costs-append, cost_two, children_cost}
+use Rattle.semantics.proofs.WorkFalls.{work-step}
+use Rattle.schedules.proofs.UnfoldingUnderPrefix.{state_after-push}
+use Rattle.items.proofs.Turns.{costs-append, cost_two, children_cost, turns_more}
 
 -- these are enabled where it stands
 abbrev pub AreOn : Program → Path → Mask → Type 0
@@ -287,6 +290,19 @@ pub search_enabled : {b : Found} (mode : Mode) (i : ItemView) (t : Path) (f : Fo
 search_enabled mode i t f u rs h = child_enabled mode i.program t u
     (first_on mode i (child_of mode (here i.program t) u) f rs h.walked).item
 
+-- what is known of what comes next
+pub next_is : {b : Found} (mode : Mode) (i : ItemView) (t : Path) (f : Found) (u : ℕ) (on is : Bool)
+    → on ≡ is → IsSearch b mode i t f (open_next mode i.program t u on)
+    → IsSearch b mode i t f (open_next mode i.program t u is)
+next_is {b} mode i t f u on is e =
+    subst (λ (x : Bool). IsSearch b mode i t f (open_next mode i.program t u x)) e
+
+pub next_enabled : {b : Found} (mode : Mode) (i : ItemView) (t : Path) (f : Found) (u : ℕ)
+    (on : Bool) → on ≡ true → IsSearch b mode i t f (open_next mode i.program t u on)
+    → is_enabled i.program (state_at i.program t.steps.items) u ≡ true
+next_enabled mode i t f u on e h =
+    search_enabled mode i t f u (left_above mode i.program t) (next_is mode i t f u on true e h)
+
 -- the walk stands at it then
 here_gone : (mode : Mode) (p : Program) (old new : Path) (u : ℕ) (asleep : Mask)
     → IsGone p old new u asleep
@@ -332,6 +348,24 @@ unfolding turns_from turns_into
 gone_turns mode p old new u asleep e mask within =
     λ k. cost_of (here_gone mode p old new u asleep e mask k) + costs (e.left mode within k)
     + length (e.frames k)
+
+-- and where the step of an enabled thread is the next one
+pub below_turns : (mode : Mode) (p : Program) (old new : Path) (u : ℕ) → IsTurned old new
+    → is_enabled p (state_at p old.steps.items) u ≡ true
+    → turns_into mode p new u ≤ turns_from mode p old
+unfolding turns_from turns_into
+below_turns mode p old new u o on =
+    let w = old.steps.items in
+    let same : cost_of (child_of mode (here p new) u) ≡ cost_of (child_of mode (here p old) u) =
+    λ k. cost_of (child_of mode (here_turned p old new o k) u) in
+    let falls : work p (state_at p (w ++ u ∷ [])) < work p (state_at p w) =
+    subst (λ (s : Snapshot). work p s < work p (state_at p w))
+    (sym (state_after-push p (start p) w u)) (work-step p (state_at p w) u on) in
+    let less = turns_more (work p (state_at p (w ++ u ∷ []))) (work p (state_at p w))
+    (omega (arith, falls)) in
+    let left = ap costs (left_turned mode p old new o) in
+    let k = ap (λ fs. length fs) o.frames in
+    omega (arith, same, less, left, k)
 
 -- a frame for the node, or none
 pub opened_place : (p : Program) (old new : Path) → IsPlace p old → IsPath p new
@@ -413,10 +447,3 @@ retreated_search {b} mode i old new f g n h place same steps long found =
 
     right : (a b : ℕ) → min a b ≤ b
     right a b = grind arith
-
--- where there is a bound nobody sleeps after a step
-
-pub awake_after : (mode : Mode) (i : ItemView) (n : Node) (t : ℕ) → n.asleep ≡ mask_after mode i t
-    → IsAwake mode n
-awake_after (Bounded bound) i n t e = e
-awake_after Reduced i n t e = tt

@@ -1,7 +1,6 @@
 -- A thread that goes on alone: the bound is used up, so that a step of another passes it.
-use Rattle.std.proofs.Math.Path.{transport}
-use Rattle.std.proofs.Common.{◌≡◌, ◌≢◌, ℕ, ℤ, zero, suc, ◌+◌, ◌<◌, ◌≤◌, Bool, true, false, ◌&&◌}
-use Rattle.std.proofs.Common.{◌||◌, nat_eq, nat_le, nat_lt, not, List, [], ◌∷◌, ◌++◌, ◌-◌, length, take}
+use Rattle.std.proofs.Common.{◌≡◌, ◌≢◌, ℕ, zero, suc, ◌+◌, ◌<◌, ◌≤◌, Bool, true, false, ◌&&◌}
+use Rattle.std.proofs.Common.{◌||◌, nat_eq, nat_le, nat_lt, not, List, [], ◌∷◌, ◌++◌, ◌-◌, length}
 use Rattle.std.proofs.Common.{map, refl, ap, ◌∙◌, sym, arith, subst, inl, inr, Some, None, Option}
 use Rattle.std.specs.List.{filter}
 use Rattle.std.proofs.lemmas.Bool.{cases_lt, cases_order, false≢true}
@@ -9,16 +8,9 @@ use Rattle.std.proofs.lemmas.Bool.Decides.{nat_tests}
 use Rattle.guest_code.specs.Program.{Program}
 use Rattle.semantics.specs.declared.mask.Mask.{Mask}
 use Rattle.semantics.specs.Ends.{is_empty, is_terminal, enabled}
-use Rattle.machine.specs.Refinement.{IsControl, IsState}
-use Rattle.machine.specs.declared.control.Control.{Control}
-use Rattle.machine.specs.declared.lane.Lane.{Lane}
-use Rattle.schedules.specs.Execution.{Reaches}
-use Rattle.schedules.specs.Schedules.{preempts}
-use Rattle.schedules.proofs.Executions.{reaches_parts}
-use Rattle.schedules.proofs.UnfoldingUnderPrefix.{state_after-push}
 use Rattle.semantics.specs.Reachable.{IsOf}
-use Rattle.semantics.specs.Machine.{Snapshot, start, step, is_enabled}
-use Rattle.semantics.specs.Mask.{has, members_from, no_threads, one_if, HasEnabled}
+use Rattle.semantics.specs.Machine.{Snapshot, is_enabled}
+use Rattle.semantics.specs.Mask.{has, members_from, one_if}
 use Rattle.semantics.specs.Work.{up_from}
 use Rattle.semantics.proofs.TerminalStates.{is_terminal-some}
 use Rattle.semantics.proofs.WorkFalls.{enabled_below}
@@ -32,10 +24,8 @@ use Rattle.std.specs.declared.vec.Vec.{Vec}
 use Rattle.summary.specs.Summaries.{with_beyond}
 use Rattle.items.specs.Items.{ItemView}
 use Rattle.items.specs.Children.{is_kept_step, kept_steps, child_of, children_of, children}
-use Rattle.walk.specs.inner.Paths.{leaves, leaves_last, state_at, IsNode, IsPath, ReachesNode}
-use Rattle.walk.specs.inner.Paths.{used_frames}
-use Rattle.walk.specs.inner.WalkerInvariant.{IsAlone, PutsOff, IsAwake, open_from}
-use Rattle.walk.specs.inner.WalkerInvariant.{item_of, here, left_above, is_kept_at, is_past_at}
+use Rattle.walk.specs.inner.Paths.{leaves, leaves_last, state_at, IsNode}
+use Rattle.walk.specs.inner.WalkerInvariant.{item_of, left_above, is_kept_at, is_past_at}
 use Rattle.walk.specs.inner.WalkerInvariant.{IsWithinAt, IsFree, is_spent_at, IsSpent, IsSearch}
 use Rattle.walk.specs.inner.WalkerInvariant.{HasPut, IsShared, IsWalkedOn, open_here, open_below}
 use Rattle.items.proofs.Filters.{filter_twice}
@@ -43,7 +33,6 @@ use Rattle.walk.proofs.SharedSteps.{shared_same}
 use Rattle.walk.proofs.WalkTurns.{filter_alike, kept_alike}
 use Rattle.walk.proofs.Arrivals.{AreOn, node_of, put_off, IsTurned, place_turned, left_turned}
 use Rattle.walk.proofs.Arrivals.{here_turned, of_here, turned_here}
-use Rattle.walk.proofs.PathSteps.{stays, left_goes}
 
 -- a number stands once among those from a first one on
 
@@ -226,118 +215,6 @@ lone_search {b} (Bounded bound) i old steps f g e past t h are same last alone o
 
     turned : IsTurned old new
     turned = turned_here old new same refl refl refl refl refl refl
-
--- whether it can go on is in the set of the enabled threads
-pub lone_is : (l : Lane) (bound : ℕ) (n : Node) (c : Control) (vs : List ℤ) (w : List ℕ) (e : Mask)
-    → IsAlone l bound n c vs w
-    → ((p : Program) → (s : Snapshot) → IsControl p c s → HasEnabled e p s)
-    → (b : Bool) → has e l.thread ≡ b
-    → is_enabled l.program.now (state_at l.program.now w) l.thread ≡ b
-lone_is l bound n c vs w e h on b is =
-    sym (on l.program.now (state_at l.program.now w) h.shows.control l.thread) ∙ is
-
--- its step is taken, and the walk stands where it leads
-pub goes_alone : (l : Lane) (bound : ℕ) (n : Node) (c d : Control) (vs us : List ℤ) (v w : List ℕ)
-    → IsAlone l bound n c vs v
-    → is_enabled l.program.now (state_at l.program.now v) l.thread ≡ true
-    → w ≡ v ++ l.thread ∷ []
-    → IsState l.program.now l.fixed l.width d us
-    (step l.program.now (state_at l.program.now v) l.thread)
-    → IsAlone l bound n d us w
-goes_alone l bound n c d vs us v w h on steps shows = record {
-  shows = subst (λ s. IsState p l.fixed l.width d us s) (sym (ap (state_at p) steps ∙ push)) shows;
-  reaches = transport (λ i. Reaches p (sym steps i) (record {
-    state = state_at p (sym steps i);
-    last = sym h.last i;
-    preemptions = n.used;
-  }))
-      (reaches_parts p v _ t (state_at p (v ++ t ∷ [])) n.used h.reaches on push
-      (subst (λ (o : Option ℕ). n.used ≡ n.used + one_if (preempts p (state_at p v) o t))
-      (sym h.last) (stays p (state_at p v) t n.used)));
-  last = h.last;
-  used = h.used;
-  awake = h.awake;
-}
-  where
-    p : Program
-    p = l.program.now
-
-    t : ℕ
-    t = l.thread
-
-    push : state_at p (v ++ t ∷ []) ≡ step p (state_at p v) t
-    push = state_after-push p (start p) v t
-
--- and the others' are put off
-pub puts_off : (p : Program) (bound : ℕ) (n : Node) (u v w : List ℕ) (f g h : Found)
-    (e past : Mask) (t : ℕ) → PutsOff p bound n u f v g → IsNode p v e n → IsOf p (state_at p v) →
-    n.last ≡ Some t → n.used ≡ bound → n.asleep ≡ no_threads → has e t ≡ true →
-    has past t ≡ false → ((x : ℕ) → x ≢ t → has past x ≡ has e x) →
-    h.part ≡ with_beyond g.part (g.part.beyond || not (is_empty (members_from past 0))) →
-    h.rest ≡ g.rest →
-    HasPut g (map (λ x. v ++ x ∷ []) (members_from past 0)) h →
-    w ≡ v ++ t ∷ [] → PutsOff p bound n u f w h
-puts_off p bound n u v w f g h e past t before_put node of last used awake on out same part rest put
-    steps = λ before i above program walked.
-    subst (λ (q : Program). IsNode q v e n → IsOf q (state_at q v)
-    → IsWalkedOn before (Bounded bound) i g (item_of q v n ∷ above)
-    → IsWalkedOn before (Bounded bound) i h (item_of q w n ∷ above)) program
-    (λ its_node its_of k. subst (λ (c : ItemView). IsWalkedOn before (Bounded bound) i h (c ∷ above))
-    (λ j. record { program = i.program; prefix = sym steps j; mask = sym awake j })
-    (lone_walked bound i v n g h e past t above k its_node its_of last used on out same part rest
-    put))
-    node of (before_put before i above program walked)
-
--- a lane of the walk's machine, whose thread took the last step, where the bound is used up
-pub alone_here : (mode : Mode) (p : Program) (t : Path) (l : Lane) (u : ℕ) → IsPath p t
-    → l.program.now ≡ p → l.thread ≡ u → l.fixed ≡ t.machine.fixed → l.width ≡ t.machine.width
-    → t.node.last ≡ Some u → IsSpent mode t.node → IsAwake mode t.node
-    → (bound : ℕ) × (mode ≡ Bounded bound)
-    × IsAlone l bound t.node t.machine.control t.machine.values.items t.steps.items
-alone_here (Bounded bound) p t l u h program thread fixed width last spent awake = (
-  bound,
-  refl,
-  record {
-    shows = transport (λ k. IsState (sym program k) (sym fixed k) (sym width k) t.machine.control
-        t.machine.values.items (state_at (sym program k) t.steps.items)) h.shows;
-    reaches = subst (λ (q : Program). ReachesNode q t.steps.items t.node) (sym program) h.reaches;
-    last = last ∙ ap (λ (v : ℕ). Some v) (sym thread);
-    used = spent;
-    awake = awake;
-  },
-)
-alone_here Reduced p t l u h program thread fixed width last spent awake = absurd spent
-
--- it went on, and the walk stands where it stopped
-pub went_alone : {b : Found} (mode : Mode) (bound : ℕ) (i : ItemView) (old new : Path) (f g : Found)
-    → mode ≡ Bounded bound → IsSearch b mode i old f (open_here mode i.program old)
-    → IsPath i.program new → new.node ≡ old.node → new.base ≡ old.base
-    → (used_frames new) ≡ (used_frames old)
-    → take (length old.steps.items) new.steps.items ≡ old.steps.items
-    → PutsOff i.program bound old.node old.steps.items f new.steps.items g
-    → IsShared new.steps.items g → IsSearch b mode i new g (open_here mode i.program new)
-went_alone {b} mode bound i old new f g is h path node base frames front put shared = record {
-  place = record {
-    path = path;
-    some = let s = h.place.some in omega (arith, s, base);
-    base = let k = h.place.base in let e = ap (λ fs. length fs) frames in
-        omega (arith, k, base, e);
-  };
-  walked = subst (λ (m : Mode). IsWalkedOn b m i g (here p new ∷ left_above mode p new)) (sym is)
-      (subst (IsWalkedOn b (Bounded bound) i g)
-      (λ k. item_of p new.steps.items (sym node k) ∷ sym left k)
-      (put b i (left_above mode p old) refl
-      (subst (λ (m : Mode). IsWalkedOn b m i f (open_here mode p old)) is h.walked)));
-  shared = shared;
-}
-  where
-    p : Program
-    p = i.program
-
-    left : left_above mode p new ≡ left_above mode p old
-    left = (λ k. open_from mode p new.steps.items (frames k) (base k)
-        (length (frames k) - base k))
-        ∙ left_goes mode p old new.steps.items h.place.path h.place.base front
 
 -- where the bound is not used up, or the thread of the last step cannot go on, no step passes it
 

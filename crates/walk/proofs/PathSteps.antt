@@ -1,13 +1,12 @@
 -- The h from the start of a program to where a walk stands, as it opens a frame, goes back to
 -- one and takes a step.
-use Rattle.std.proofs.Common.{◌≡◌, ℕ, ℤ, zero, suc, ◌+◌, ◌-◌, ◌*◌, ◌<◌, ◌≤◌, Bool, true, false}
+use Rattle.std.proofs.Common.{◌≡◌, ℕ, ℤ, zero, suc, ◌+◌, ◌-◌, ◌*◌, ◌<◌, ◌≤◌, true}
 use Rattle.std.proofs.Common.{not, ◌&&◌, nat_eq, List, [], ◌∷◌, ◌++◌, length, take, drop}
 use Rattle.std.proofs.Common.{Some, None, Option, refl, ap, ◌∙◌, sym, subst}
 use Rattle.std.proofs.Common.{arith, inl, inr}
 use Rattle.std.proofs.Math.Nat.{mul-le-mul_right}
 use Rattle.std.proofs.Math.Path.{transport}
 use Rattle.std.proofs.lemmas.Bool.{cases_order}
-use Rattle.std.proofs.lemmas.Bool.Decides.{nat_tests}
 use Rattle.std.proofs.lemmas.List.{drop-take, length-append, length-take, length-take-le, get_or-take, take-take}
 use Rattle.std.proofs.lemmas.List.{get_or_append_left}
 use Rattle.std.proofs.Math.Seq.{take-length, get_or-append_seam}
@@ -160,15 +159,6 @@ left_goes mode p old v h above front =
     (used_frames old) old.base (length (used_frames old) - old.base) (λ k l. refl)
     (λ k l. front_of old.steps.items v (frame_at (used_frames old) k).steps front
     (h.frames.within k (omega (arith, l, above))))
-
-pub stays : (p : Program) (s : Snapshot) (t n : ℕ) → n ≡ n + one_if (preempts p s (Some t) t)
-stays p s t n = let e : nat_eq t t ≡ true = grind (arith, nat_tests) in
-    let z : one_if (preempts p s (Some t) t) ≡ 0 =
-    ap (λ b. one_if (is_enabled p s t && not b)) e ∙ none (is_enabled p s t) in omega (arith, z)
-  where
-    none : (b : Bool) → one_if (b && false) ≡ 0
-    none true = refl
-    none false = refl
 
 -- back to the last frame
 

@@ -1,7 +1,7 @@
 //! The way from the start of a program to where a walk stands, with copies of the states of nodes
 //! on it.
 
-ghost use Rattle.std.specs.Prelude.{◌≡◌, ◌+◌, ◌*◌, ◌-◌, ◌<◌, ◌≤◌, ◌^◌, ◌++◌, ◌∷◌, [], ℕ, true, None, IfOk, OnOk, length, take};
+ghost use Rattle.std.specs.Prelude.{◌≡◌, ◌+◌, ◌*◌, ◌-◌, ◌<◌, ◌≤◌, ◌^◌, ℕ, true, None, IfOk, OnOk, length, take};
 ghost use Rattle.semantics.specs.Machine.{start, is_enabled};
 ghost use Rattle.schedules.specs.Schedules.{runs};
 ghost use Rattle.semantics.specs.Mask.{one_if};

@@ -8,19 +8,15 @@ ghost use Rattle.semantics.specs.Mask.{has, members_from, no_threads};
 ghost use Rattle.items.specs.Items.{IsItem};
 ghost use Rattle.summary.specs.Summaries.{with_beyond, greatest_count};
 ghost use Rattle.items.specs.Children.{child_of, mask_after, cost_of};
-ghost use Rattle.machine.specs.Refinement.{IsLane};
-ghost use Rattle.semantics.specs.Work.{work};
-ghost use Rattle.walk.specs.declared.path.Node.{Node};
 ghost use Rattle.walk.specs.inner.Paths.{IsPath, used_frames, state_at};
 ghost use Rattle.walk.specs.Founds.{HasAdded};
-ghost use Rattle.walk.specs.inner.WalkerInvariant.{IsPlace, Searches, GoesOn, IsKept, here, left_above, open_here, open_below, still_open, turns_left, turns_from, turns_into, is_kept_at, is_past_at, is_past_here, IsFree, IsSpent, is_spent_at, IsShared, IsAwake, IsAlone, HasPut, PutsOff};
+ghost use Rattle.walk.specs.inner.WalkerInvariant.{IsPlace, Searches, GoesOn, IsKept, here, open_here, open_below, still_open, turns_left, turns_from, turns_into, turns_next, open_next, is_kept_at, is_past_at, is_past_here, IsFree, is_spent_at, IsShared, HasPut};
 
 use crate::found::Found;
 use crate::path::{Node, Path};
 use guest_code::program::Program;
 use items::item::Item;
 use items::mode::Mode;
-use machine::{Control, Lane};
 use semantics::mask::Mask;
 use std::alloc::{AllocError, Global};
 
@@ -132,44 +128,6 @@ fn without_first(set: Mask, first: u8) -> Mask
     set.with(first, false)
 }
 
-// The lane's thread goes on as long as it can, and the steps of the others are put off: the bound is
-// used up.
-#[inline(always)]
-fn run_alone(
-    lane: &Lane<'_>,
-    control: &mut Control,
-    values: &mut [i64],
-    steps: &mut Vec<u8>,
-    found: &mut Found,
-) -> Result<(), AllocError>
-    requires lane { IsLane lane.now }
-    requires alone { (bound : ℕ) × (n : Node)
-        × IsAlone lane.now bound n control.old values.old steps.old.items }
-    requires shared { IsShared steps.old.items found.old }
-    ensures alone { (bound : ℕ) → (n : Node)
-        → IsAlone lane.now bound n control.old values.old steps.old.items
-        → IsAlone lane.now bound n control.new values.new steps.new.items }
-    ensures size { length values.new ≡ length values.old }
-    ensures front { take (length steps.old.items) steps.new.items ≡ steps.old.items }
-    ensures shared { OnOk result (IsShared steps.new.items found.new) }
-    ensures walked { (bound : ℕ) → (n : Node)
-        → IsAlone lane.now bound n control.old values.old steps.old.items
-        → OnOk result (PutsOff lane.now.program.now bound n
-        steps.old.items found.old steps.new.items found.new) }
-    ensures over { OnOk result (is_enabled lane.now.program.now
-        (state_at lane.now.program.now steps.new.items) lane.now.thread ≡ false) }
-    ensures falls { work lane.now.program.now (state_at lane.now.program.now steps.new.items)
-        ≤ work lane.now.program.now (state_at lane.now.program.now steps.old.items) }
-    ensures tried { OnOk result (found.new.part.tried ≡ found.old.part.tried) }
-{
-    while control.enabled().has(lane.thread) {
-        found.defer(steps, control.enabled().with(lane.thread, false))?;
-        steps.push(lane.thread)?;
-        control.advance_over(values, lane);
-    }
-    Ok(())
-}
-
 impl Node {
     // Whether the bound is used up.
     fn is_spent(&self, mode: Mode) -> bool
@@ -258,7 +216,37 @@ impl Path {
         }
     }
 
-    // Takes a step into an open child, and goes on as long as only its thread may.
+    // Whether the thread of the last step alone may go on. The steps of the others are put off then.
+    #[inline(always)]
+    fn goes_on(
+        &mut self,
+        found: &mut Found,
+        _item: &Item,
+        mode: Mode,
+        thread: u8,
+    ) -> Result<bool, AllocError>
+        requires search { Searches mode _item.now self.old found.old
+            (open_here mode _item.now.program self.old) }
+        requires last { self.old.node.last ≡ Some thread }
+        ensures path { IsPath _item.now.program self.new }
+        ensures steps { self.new.steps.items ≡ self.old.steps.items }
+        ensures search { let p = _item.now.program in IfOk result (λ on. GoesOn mode _item.now
+            self.old found.old (open_here mode p self.old)
+            self.new found.new (open_next mode p self.new thread on)) }
+        ensures free { IfOk result (λ on. on ≡ false → IsFree mode _item.now.program self.new) }
+        ensures falls { IfOk result (λ on. turns_next mode _item.now.program self.new thread on
+            ≤ turns_from mode _item.now.program self.old) }
+        ensures tried { OnOk result (found.new.part.tried ≡ found.old.part.tried) }
+    {
+        let enabled = self.machine.enabled();
+        if !self.node.is_alone(enabled, mode, thread) {
+            return Ok(false);
+        }
+        found.defer(&mut self.steps, enabled.with(thread, false))?;
+        Ok(true)
+    }
+
+    // Takes a step into an open child, and goes on as long as its thread alone may.
     #[inline(always)]
     fn run(
         &mut self,
@@ -279,49 +267,16 @@ impl Path {
         ensures tried { OnOk result (found.new.part.tried ≡ found.old.part.tried) }
     {
         let program = item.program();
-        let asleep = self.sleepers(program, mode, thread);
-        self.go(program, thread, asleep)?;
-        self.run_on(found, item, mode, thread)
-    }
-
-    // The thread of the last step goes on as long as only it may.
-    #[inline(always)]
-    fn run_on(
-        &mut self,
-        found: &mut Found,
-        item: &Item,
-        mode: Mode,
-        thread: u8,
-    ) -> Result<(), AllocError>
-        requires search { Searches mode item.now self.old found.old
-            (open_here mode item.now.program self.old) }
-        requires last { self.old.node.last ≡ Some thread }
-        requires awake { IsAwake mode self.old.node }
-        requires thread { thread < length item.now.program.threads }
-        ensures path { IsPath item.now.program self.new }
-        ensures search { let p = item.now.program in OnOk result (GoesOn mode item.now
-            self.old found.old (open_here mode p self.old)
-            self.new found.new (open_here mode p self.new)) }
-        ensures free { OnOk result (IsFree mode item.now.program self.new) }
-        ensures falls { OnOk result (turns_from mode item.now.program self.new
-            ≤ turns_from mode item.now.program self.old) }
-        ensures tried { OnOk result (found.new.part.tried ≡ found.old.part.tried) }
-    {
-        if !self.node.is_spent(mode) {
-            return Ok(());
+        let mut going = true;
+        while going {
+            let asleep = self.sleepers(program, mode, thread);
+            self.go(program, thread, asleep)?;
+            going = self.goes_on(found, item, mode, thread)?;
         }
-        let lane = self.machine.lane(item.program(), thread);
-        let values = self.machine.values.as_mut_slice();
-        run_alone(
-            &lane,
-            &mut self.machine.control,
-            values,
-            &mut self.steps,
-            found,
-        )
+        Ok(())
     }
 
-    // Where only this thread, which took the last step, may go on, it does.
+    // Where the thread of the last step alone may go on, it does.
     fn run_from(
         &mut self,
         found: &mut Found,
@@ -339,12 +294,10 @@ impl Path {
         ensures free { OnOk result (IsFree mode item.now.program self.new) }
         ensures tried { OnOk result (found.new.part.tried ≡ found.old.part.tried) }
     {
-        let enabled = self.machine.enabled();
-        if !self.node.is_alone(enabled, mode, thread) {
-            return Ok(());
+        if self.goes_on(found, item, mode, thread)? {
+            self.run(found, item, mode, thread)?;
         }
-        found.defer(&mut self.steps, enabled.with(thread, false))?;
-        self.run(found, item, mode, thread)
+        Ok(())
     }
 
     // Sets out from an item's own node: where only the thread of the last step may go on, it does.

@@ -1,6 +1,6 @@
 //! The step of a thread, over the values of the variables and its own locals.
 
-ghost use Rattle.std.specs.Prelude.{◌≡◌, ◌<◌, ◌≤◌, ◌^◌, ℕ, ℤ, List, take, true, length, Some, All};
+ghost use Rattle.std.specs.Prelude.{◌≡◌, ◌<◌, ◌^◌, ℕ, ℤ, List, take, true, length, Some, All};
 ghost use Rattle.guest_code.specs.Program.{Program, IsValid, IsValidCode, IsWellFormed, LocalsBelow, code_of};
 ghost use Rattle.guest_code.specs.declared.program.Instruction.{Instruction};
 ghost use Rattle.guest_code.specs.declared.program.Instruction.TheVariants.{Unlock, Wait, Signal, Broadcast, Release};
@@ -9,13 +9,12 @@ ghost use Rattle.semantics.specs.declared.state.Status.TheVariants.{Running, Wok
 ghost use Rattle.semantics.specs.declared.state.Action.TheVariants.{OnVariable};
 ghost use Rattle.semantics.specs.Machine.{Snapshot, thread_at, action_of, is_enabled, next_of, retake_of, step};
 ghost use Rattle.semantics.specs.Reachable.{IsOf};
-ghost use Rattle.machine.specs.Refinement.{IsControl, IsState, IsLane};
+ghost use Rattle.machine.specs.Refinement.{IsControl, IsState};
 ghost use Rattle.machine.specs.declared.control.Control.{Control};
 ghost use Rattle.machine.specs.inner.LocalRuns.{IsAccessBelow};
 ghost use Rattle.machine.specs.inner.Steps.{IsPoised, IsPerformed, IsStepped, IsReadyIn};
 
 use crate::control::Control;
-use crate::lane::Lane;
 use crate::local::{Landing, access, run_own};
 use guest_code::limits::{COUNT, THREADS};
 use guest_code::program::{Instruction, Program};
@@ -231,47 +230,54 @@ impl Control {
         }
     }
 
-    /// A step of the lane's thread, which is enabled and whose locals these are. It takes no memory.
+    /// A step of an enabled thread, whose locals these are. It takes no memory.
     #[inline(always)]
-    pub(crate) fn advance(&mut self, variables: &mut [i64], own: &mut [i64], lane: &Lane<'_>)
-        requires lane { IsLane lane.now }
-        requires ready { (s : Snapshot)
-            × IsReadyIn lane.now.program.now s lane.now.thread self.old variables.old own.old }
-        ensures { (s : Snapshot)
-            → IsReadyIn lane.now.program.now s lane.now.thread self.old variables.old own.old
-            → IsStepped lane.now.program.now s lane.now.thread self.new variables.new own.new }
+    pub(crate) fn advance(
+        &mut self,
+        program: &Program,
+        thread: u8,
+        variables: &mut [i64],
+        own: &mut [i64],
+    )
+        requires { (s : Snapshot)
+            × IsReadyIn program.now s thread self.old variables.old own.old }
+        ensures { (s : Snapshot) → IsReadyIn program.now s thread self.old variables.old own.old
+            → IsStepped program.now s thread self.new variables.new own.new }
     {
-        lane.program.keeps_limits();
-        let thread = lane.thread;
+        program.keeps_limits();
+        let code = program.code(thread);
         let pc = self.places[thread as usize] as usize;
-        let instruction = &lane.code[pc];
+        let instruction = &code[pc];
         if self.woken.has(thread) {
             self.retake(thread, instruction);
-            self.finish(lane.code, own, thread, pc, Status::Running);
+            self.finish(code, own, thread, pc, Status::Running);
         } else {
-            let status = self.perform(lane.program, variables, own, thread, instruction);
-            self.finish(lane.code, own, thread, pc, status);
+            let status = self.perform(program, variables, own, thread, instruction);
+            self.finish(code, own, thread, pc, status);
         }
     }
 
-    /// A step of the lane's thread, which is enabled, over the values of its machine. It takes no
-    /// memory.
+    /// A step of an enabled thread over a machine's values: those of so many variables, and then so
+    /// many locals of each thread. It takes no memory.
     #[inline(always)]
-    pub fn advance_over(&mut self, values: &mut [i64], lane: &Lane<'_>)
-        requires lane { IsLane lane.now }
-        requires state { (s : Snapshot)
-            × IsState lane.now.program.now lane.now.fixed lane.now.width self.old values.old s
-            × (is_enabled lane.now.program.now s lane.now.thread ≡ true) }
-        ensures shows { (s : Snapshot)
-            → IsState lane.now.program.now lane.now.fixed lane.now.width self.old values.old s
-            → is_enabled lane.now.program.now s lane.now.thread ≡ true
-            → IsState lane.now.program.now lane.now.fixed lane.now.width self.new values.new
-            (step lane.now.program.now s lane.now.thread) }
+    pub(crate) fn advance_over(
+        &mut self,
+        values: &mut [i64],
+        program: &Program,
+        thread: u8,
+        fixed: usize,
+        width: usize,
+    )
+        requires { (s : Snapshot) × IsState program.now fixed width self.old values.old s
+            × (is_enabled program.now s thread ≡ true) }
+        ensures shows { (s : Snapshot) → IsState program.now fixed width self.old values.old s
+            → is_enabled program.now s thread ≡ true
+            → IsState program.now fixed width self.new values.new (step program.now s thread) }
         ensures size { length values.new ≡ length values.old }
     {
-        let (variables, locals) = values.split_at_mut(lane.fixed);
-        let from = lane.thread as usize * lane.width;
-        self.advance(variables, &mut locals[from..from + lane.width], lane);
+        let (variables, locals) = values.split_at_mut(fixed);
+        let from = thread as usize * width;
+        self.advance(program, thread, variables, &mut locals[from..from + width]);
     }
 
     /// What an enabled thread does next.

@@ -1,8 +1,8 @@
 -- What holds while a walk goes over the schedules of an item.
-use Rattle.std.specs.Prelude.{◌≡◌, ℕ, ℤ, zero, suc, ◌+◌, ◌-◌, ◌<◌, ◌≤◌, Bool, false, not, ◌&&◌, nat_eq}
-use Rattle.std.specs.Prelude.{nat_le, nat_lt, List, [], ◌∷◌, ◌++◌, length, take, Some}
+use Rattle.std.specs.Prelude.{◌≡◌, ℕ, zero, suc, ◌+◌, ◌-◌, ◌<◌, ◌≤◌, Bool, true, false, not}
+use Rattle.std.specs.Prelude.{◌&&◌, nat_eq, nat_le, nat_lt, List, [], ◌∷◌, ◌++◌, length, take, Some}
 use Rattle.guest_code.specs.Program.{Program}
-use Rattle.semantics.specs.Mask.{has, no_threads, HasEnabled, members_from, one_if}
+use Rattle.semantics.specs.Mask.{has, HasEnabled, members_from, one_if}
 use Rattle.semantics.specs.declared.mask.Mask.{Mask}
 use Rattle.items.specs.declared.mode.Mode.{Mode}
 use Rattle.items.specs.declared.mode.Mode.TheVariants.{Bounded, Reduced}
@@ -15,10 +15,7 @@ use Rattle.prefix_list.specs.PrefixLists.{last_of}
 use Rattle.summary.specs.Summaries.{SummaryView, IsSummary, join}
 use Rattle.items.specs.Walks.{IsWalked, items_at, listed_if}
 use Rattle.items.specs.Children.{child_of, children_of, cost_of, costs}
-use Rattle.machine.specs.declared.control.Control.{Control}
-use Rattle.machine.specs.declared.lane.Lane.{Lane}
-use Rattle.machine.specs.Refinement.{IsState}
-use Rattle.walk.specs.inner.Paths.{used_frames, leaves, frame_at, state_at, IsPath, ReachesNode}
+use Rattle.walk.specs.inner.Paths.{used_frames, leaves, frame_at, state_at, IsPath}
 
 -- the item of a node, to which these steps lead
 abbrev pub item_of : Program → List ℕ → Node → ItemView
@@ -56,6 +53,11 @@ open_here mode p t = here p t ∷ left_above mode p t
 -- or a child of it, and what is open above
 abbrev pub open_below : Mode → Program → Path → ℕ → List ItemView
 open_below mode p t u = child_of mode (here p t) u ∷ left_above mode p t
+
+-- the thread's step is the next one, or the walk stays there
+abbrev pub open_next : Mode → Program → Path → ℕ → Bool → List ItemView
+open_next mode p t u true = open_below mode p t u
+open_next mode p t u false = open_here mode p t
 
 -- the steps lead from the start to a node that is under the item's
 pub record IsPlace (p : Program) (t : Path) : Type 0 where
@@ -121,6 +123,11 @@ unfoldable pub turns_into : Mode → Program → Path → ℕ → ℕ
 turns_into mode p t u =
     cost_of (child_of mode (here p t) u) + costs (left_above mode p t) + length (used_frames t)
 
+-- the one or the other
+abbrev pub turns_next : Mode → Program → Path → ℕ → Bool → ℕ
+turns_next mode p t u true = turns_into mode p t u
+turns_next mode p t u false = turns_from mode p t
+
 -- a step of the thread is kept, where these are enabled and the node's own preemptions are within
 -- the bound
 abbrev pub is_kept_at : Mode → Mask → Node → ℕ → Bool
@@ -157,11 +164,6 @@ abbrev pub IsFree : Mode → Program → Path → Type 0
 IsFree mode p t = (e : Mask) → HasEnabled e p (state_at p t.steps.items) → (u : ℕ)
     → (has e u && is_past_at mode e t.node u) ≡ false
 
--- where there is a bound, nobody sleeps
-abbrev pub IsAwake : Mode → Node → Type 0
-IsAwake (Bounded bound) n = n.asleep ≡ no_threads
-IsAwake Reduced n = Unit {0}
-
 -- a frame more: what was open at the node is open above
 pub record IsOpened (p : Program) (old new : Path) : Type 0 where
   pub steps : new.steps.items ≡ old.steps.items
@@ -187,19 +189,3 @@ pub record IsGone (p : Program) (old new : Path) (t : ℕ) (sleepers : Mask) : T
   pub frames : (used_frames new) ≡ (used_frames old)
   pub left : (mode : Mode) → old.base ≤ length (used_frames old)
       → left_above mode p new ≡ left_above mode p old
-
--- the lane's thread stands where these steps lead, of which the last one is its own, and the bound is
--- used up; the control and the values are those of the state there
-pub record IsAlone (l : Lane) (bound : ℕ) (n : Node) (c : Control) (values : List ℤ) (w : List ℕ)
-    : Type 0 where
-  pub shows : IsState l.program.now l.fixed l.width c values (state_at l.program.now w)
-  pub reaches : ReachesNode l.program.now w n
-  pub last : n.last ≡ Some l.thread
-  pub used : n.used ≡ bound
-  pub awake : n.asleep ≡ no_threads
-
--- the walk went on from some steps to others, and put off what its bound puts off on the way
-abbrev pub PutsOff : Program → ℕ → Node → List ℕ → Found → List ℕ → Found → Type 0
-PutsOff p bound n v f w g = (before : Found) → (i : ItemView) → (above : List ItemView)
-    → i.program ≡ p → IsWalkedOn before (Bounded bound) i f (item_of p v n ∷ above)
-    → IsWalkedOn before (Bounded bound) i g (item_of p w n ∷ above)

@@ -1,66 +1,24 @@
-use Rattle.std.proofs.Common.{sym, ◌∙◌, ◌&&◌, ap, arith}
-use Rattle.std.proofs.lemmas.Result.{on_ok_weaker}
-use Rattle.semantics.proofs.WorkFalls.{enabled_below}
-use Rattle.semantics.specs.Mask.{has}
-use Rattle.walk.specs.inner.Paths.{state_at}
-use Rattle.walk.specs.inner.WalkerInvariant.{is_spent_at, here, left_above}
-use Rattle.walk.proofs.Arrivals.{within_at}
-use Rattle.walk.proofs.LoneSteps.{lone_search, and_right, free_alone}
-use Rattle.walk.proofs.WalkSteps.{first_on}
+use Rattle.std.proofs.Common.{true, false}
+use Rattle.walk.proofs.Arrivals.{next_is}
 use Rattle.walk.proofs.path.Path.run_from.Goals as goal
-
-pub with-requires : goal.with-requires
-with-requires c =
-    let p = c.args.item.now.program in
-    let t = c.args.self.now in
-    let path = c.requires.search.1.place.path in
-    let below = enabled_below p (state_at p t.steps.items) c.args.thread
-    (sym (c.enabled-enabled.ensures p (state_at p t.steps.items) path.shows c.args.thread)
-    ∙ (and_right (is_spent_at c.args.mode t.node) (has c.enabled-enabled.result c.args.thread)
-    (sym c.is_alone.ensures ∙ c.if-not-is_alone.false))) in
-    let few = path.shows.of.few in
-    omega (arith, below, few)
 
 pub run-requires : goal.run-requires
 run-requires c =
-    let p = c.args.item.now.program in
-    let t = c.args.self.now in
     let h = c.requires.search in
     record {
       search = (
         h.0,
-        lone_search c.args.mode c.args.item.now t c.defer.new.steps c.args.found.now
-            c.defer.new.self c.enabled-enabled.result c.with.result c.args.thread h.1
-            (c.enabled-enabled.ensures p (state_at p t.steps.items)
-            c.requires.search.1.place.path.shows)
-            c.defer.ensures.steps c.requires.last (sym c.is_alone.ensures ∙ c.if-not-is_alone.false)
-            c.with.ensures.same c.with.ensures.others c.in_ok-defer.ensures.part c.defer.ensures.rest
-            c.in_ok-defer.ensures.put c.in_ok-defer.ensures.shared,
+        next_is c.args.mode c.args.item.now c.goes_on.new.self c.goes_on.new.found c.args.thread
+            _ true c.if-branch.true (c.in_ok-goes_on.ensures.search h.0 h.1),
       );
     }
 
-pub returns-clause-search : goal.returns-clause-search
-returns-clause-search c =
-    let p = c.args.item.now.program in
-    let t = c.args.self.now in
-    on_ok_weaker c.run.result (λ went b h. went b
-    (lone_search c.args.mode c.args.item.now t c.defer.new.steps c.args.found.now
-    c.defer.new.self c.enabled-enabled.result c.with.result c.args.thread h
-    (c.enabled-enabled.ensures p (state_at p t.steps.items) c.requires.search.1.place.path.shows)
-    c.defer.ensures.steps c.requires.last (sym c.is_alone.ensures ∙ c.if-not-is_alone.false)
-    c.with.ensures.same c.with.ensures.others c.in_ok-defer.ensures.part c.defer.ensures.rest
-    c.in_ok-defer.ensures.put c.in_ok-defer.ensures.shared))
-    c.run.ensures.search
+pub returns-in_ok-run-clause-search : goal.returns-in_ok-run-clause-search
+returns-in_ok-run-clause-search c = λ b h. c.in_ok-run.ensures.search b
+    (next_is c.args.mode c.args.item.now c.goes_on.new.self c.goes_on.new.found c.args.thread
+    _ true c.if-branch.true (c.in_ok-goes_on.ensures.search b h))
 
-pub returns-then-not-is_alone-clause-free : goal.returns-then-not-is_alone-clause-free
-returns-then-not-is_alone-clause-free c =
-    let p = c.args.item.now.program in
-    let t = c.args.self.now in
-    let path = c.requires.search.1.place.path in
-    free_alone c.args.mode p t c.args.thread
-    (within_at c.args.mode p t path (first_on c.args.mode c.args.item.now (here p t)
-    c.args.found.now (left_above c.args.mode p t) c.requires.search.1.walked).within)
-    c.requires.last
-    (ap (λ b. is_spent_at c.args.mode t.node && b)
-    (sym (c.enabled-enabled.ensures p (state_at p t.steps.items) path.shows c.args.thread))
-    ∙ (sym c.is_alone.ensures ∙ c.if-not-is_alone.true))
+pub returns-else-branch-clause-search : goal.returns-else-branch-clause-search
+returns-else-branch-clause-search c = λ b h. next_is c.args.mode c.args.item.now c.goes_on.new.self
+    c.goes_on.new.found c.args.thread _ false c.if-branch.false
+    (c.in_ok-goes_on.ensures.search b h)
