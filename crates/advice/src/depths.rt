@@ -120,7 +120,7 @@ impl Source<'_> {
         Ok(self.advice_at(Grade::Warning, headline, at, told))
     }
 
-    /// What up to so many schedules show of the program.
+    /// What schedules show of the program, up to this many.
     pub fn depths(
         &self,
         alloc: Global,

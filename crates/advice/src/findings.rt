@@ -1,6 +1,6 @@
 //! Warnings with their places and their words, in the order of the text.
 
-ghost use Rattle.std.specs.Prelude.{◌≡◌, ◌<◌, length};
+ghost use Rattle.std.specs.Prelude.{◌<◌};
 ghost use Rattle.guest_code.specs.SourceMap.{IsMapOf};
 
 use guest_code::program::{Instruction, Program};

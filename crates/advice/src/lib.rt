@@ -69,8 +69,8 @@ fn has_warning(all: &[Advice]) -> bool
         .any(|advice| matches!(advice.grade, Grade::Warning))
 }
 
-/// Why a text is refused, or what is odd about its program. With a depth, up to so many schedules
-/// are gone through.
+/// Why a text is refused, or what is odd about its program. With a depth, schedules are
+/// gone through, up to that many.
 ///
 /// # Errors
 ///

@@ -1,6 +1,6 @@
 //! The loops of a program that a `leave` may end.
 
-ghost use Rattle.std.specs.Prelude.{◌≡◌, ◌<◌, ◌≤◌, length};
+ghost use Rattle.std.specs.Prelude.{◌<◌};
 
 use crate::findings::Source;
 use guest_code::program::Instruction;

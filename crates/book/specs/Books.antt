@@ -153,7 +153,7 @@ pub record HasWalkedAt (old : BookView) (place quota : ℕ) (new : BookView) : T
   pub rest : walk.part.tried < quota → walk.rest ≡ []
   pub book : new ≡ settled old walk place
 
--- so it was, so many times in turn
+-- so it was, this many times in turn
 abbrev pub HaveWalked : ℕ → BookView → ℕ → ℕ → BookView → Type 0
 HaveWalked zero old place quota new = new ≡ old
 HaveWalked (suc n) old place quota new =

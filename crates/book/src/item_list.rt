@@ -82,7 +82,7 @@ impl ItemList {
         last_item(alloc, program, &reading)
     }
 
-    // Copies of the last items, so many at most.
+    // Copies of the last items, up to a number of them.
     pub(crate) fn last(
         &self,
         alloc: Global,
@@ -313,7 +313,7 @@ impl ItemList {
         self.append(alloc, &mut items)
     }
 
-    // Keeps so many items at most, the first of them.
+    // Keeps the first items, up to a number of them.
     pub(crate) fn truncate(&mut self, length: usize)
         ensures items { (p : Program) → all_of p self.new ≡ take length (all_of p self.old) }
         ensures none { self.old.packed ≡ [] → self.new.packed ≡ [] }

@@ -1,7 +1,7 @@
 //! What a book's type keeps, said of the schedules of its program. A law is what its function
 //! ensures; the functions do nothing.
 
-ghost use Rattle.std.specs.Prelude.{◌≡◌, ◌≤◌, ◌<◌, ◌++◌, ℕ, [], false, true, List, Some, Contains, All, length, slice_index_or};
+ghost use Rattle.std.specs.Prelude.{◌≡◌, ◌≤◌, ◌<◌, ℕ, [], false, true, List, Some, Contains, All, length, slice_index_or};
 ghost use Rattle.semantics.specs.Machine.{start};
 ghost use Rattle.semantics.specs.View.{is_bad};
 ghost use Rattle.schedules.specs.Schedules.{complete_schedules, begins_with, preemptions};

@@ -12,7 +12,7 @@ use prefix_list::{LastFirst, Prefixes};
 use std::alloc::{AllocError, Global};
 use std::sync::Arc;
 
-// The items of the last prefixes of a list, so many, in their order. The prefixes run.
+// The items of the last `count` prefixes of a list, in their order. The prefixes run.
 pub(crate) fn last_items(
     alloc: Global,
     program: &Arc<Program>,

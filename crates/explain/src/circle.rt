@@ -1,6 +1,6 @@
 //! Threads that wait for one another in a circle.
 
-ghost use Rattle.std.specs.Prelude.{◌≡◌, ◌<◌, ◌≤◌, [], ◌∷◌, length, MatchOption, IfOk, IfSome};
+ghost use Rattle.std.specs.Prelude.{◌<◌, length, IfOk, IfSome};
 ghost use Rattle.semantics.specs.Reachable.{IsOf};
 ghost use Rattle.explain.specs.Circles.{WaitsOn, IsCircle};
 

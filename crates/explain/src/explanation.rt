@@ -1,9 +1,8 @@
 //! The explanation of a schedule, as a value.
 
-ghost use Rattle.std.specs.Prelude.{◌≡◌, ◌<◌, ◌^◌, ◌∷◌, ℕ, length, Option, Some, None, IfOk, IsTrue, ◌↔◌, slice_get, take};
-ghost use Rattle.semantics.specs.Machine.{is_enabled, owner_of};
+ghost use Rattle.std.specs.Prelude.{◌≡◌, ◌<◌, length, Option, Some, None, IfOk, take};
+ghost use Rattle.semantics.specs.Machine.{is_enabled};
 ghost use Rattle.semantics.specs.Reachable.{IsOf};
-ghost use Rattle.explain.specs.Blocked.{Stands};
 ghost use Rattle.explain.specs.Explains.{Explains, TellsThreads};
 ghost use Rattle.explain.specs.inner.Carrying.{IsCarriedOut, AreFollowed, is_followed};
 

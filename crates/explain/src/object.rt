@@ -1,7 +1,7 @@
 //! Objects of a program, and what is to be seen of them in a state.
 
 ghost use Rattle.std.specs.Prelude.{◌≡◌, IsTrue, ◌↔◌};
-ghost use Rattle.semantics.specs.Reachable.{IsOf, IsValidAction};
+ghost use Rattle.semantics.specs.Reachable.{IsOf};
 ghost use Rattle.semantics.specs.Waiters.{In};
 ghost use Rattle.guest_code.specs.Program.{Program};
 ghost use Rattle.explain.specs.Objects.{object_of, reading_of, touched_by, IsObjectOf};

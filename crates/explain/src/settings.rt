@@ -1,6 +1,6 @@
 //! The locals that a thread sets, one after the other.
 
-ghost use Rattle.std.specs.Prelude.{List, ◌+◌, ◌∷◌, IfOk, ◌≡◌, ◌≤◌, ◌<◌, ◌++◌, length, drop, OnOk, IfSome};
+ghost use Rattle.std.specs.Prelude.{List, ◌+◌, ◌∷◌, IfOk, ◌≡◌, ◌<◌, ◌++◌, length, drop, OnOk, IfSome};
 ghost use Rattle.guest_code.specs.Program.{Program, IsValidCode, IsValid};
 ghost use Rattle.guest_code.specs.declared.program.Instruction.{Instruction};
 ghost use Rattle.explain.specs.Settings.{settings_in, setting_by, listed, locals_with, settings_by};

@@ -4,7 +4,7 @@ ghost use Rattle.std.specs.Prelude.{◌≡◌, ◌<◌, ◌+◌, ◌^◌, IfOk, 
 ghost use Rattle.guest_code.specs.Program.{Program};
 ghost use Rattle.semantics.specs.Machine.{is_enabled, owns, queue_of};
 ghost use Rattle.semantics.specs.Reachable.{IsOf, IsValidAction};
-ghost use Rattle.schedules.specs.Execution.{IsExecutionOf, stepped};
+ghost use Rattle.schedules.specs.Execution.{IsExecutionOf};
 ghost use Rattle.explain.specs.Lost.{line_of};
 ghost use Rattle.explain.specs.Steps.{IsTakenStep, held_in, lines_of, woken_in};
 
@@ -137,7 +137,7 @@ fn woken_by(alloc: Global, state: &State, action: Action) -> Result<Vec<u8>, All
     }
 }
 
-// The first threads in the queue of a condition, at most so many.
+// The first threads in the queue of a condition, up to a number of them.
 fn first_queued(
     alloc: Global,
     state: &State,

@@ -5,7 +5,7 @@ use Rattle.std.proofs.lemmas.List.Elements.{All-nil, All-cons, All-append}
 use Rattle.guest_syntax.specs.declared.place.Pos.{Pos}
 use Rattle.guest_syntax.specs.StatementPlaces.{Inside, EachPlace, IsInThread, AreInThreads}
 use Rattle.guest_syntax.specs.Tree as tree
-use Rattle.guest_syntax.specs.Tree.{Stmt, Block, Declaration, Thread, Tree, stmt_view, block_view}
+use Rattle.guest_syntax.specs.Tree.{Stmt, Block, Declaration, Thread, Tree}
 use Rattle.guest_code.specs.Sizes.{size, block_size}
 use Rattle.guest_code.specs.Uses.{thread_locals, tree_locals}
 use Rattle.guest_code.specs.Code.{thread_code, code}

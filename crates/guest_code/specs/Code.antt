@@ -64,7 +64,7 @@ abbrev pub expression_of : Names → Expr → Expression
 expression_of ns (tree.single a) = Single (value_of ns a)
 expression_of ns (tree.both a op b) = Both (value_of ns a) op (value_of ns b)
 
--- n copies of a body of so many instructions, each with its distance to the end of the last
+-- n copies of a body of `len` instructions, each with its distance to the end of the last
 abbrev pub unrolled : (ℕ → List Instruction) → ℕ → ℕ → List Instruction
 unrolled body len zero = []
 unrolled body len (suc n) = body (n * len) ++ unrolled body len n

@@ -1,6 +1,6 @@
 //! Declarations, threads and the whole of a text.
 
-ghost use Rattle.std.specs.Prelude.{◌≡◌, ◌<◌, length, map, IfOk, IfErr, IsSome, option_map};
+ghost use Rattle.std.specs.Prelude.{◌<◌, map, IfErr, option_map};
 ghost use Rattle.guest_syntax.specs.reader.Gives.{Gives};
 ghost use Rattle.guest_syntax.specs.Tree.{declaration_view, thread_view, tree_view};
 ghost use Rattle.guest_syntax.specs.Place.{start};

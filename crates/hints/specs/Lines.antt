@@ -48,7 +48,7 @@ abbrev pub said_line : List ℕ → List ℕ → List ℕ
 said_line first [] = 10 ∷ []
 said_line first (b ∷ bs) = first ++ (b ∷ bs) ++ 10 ∷ []
 
--- the part of a line that is shown, where so many bytes are left out
+-- the part of a line that is shown, from a byte on
 abbrev pub source_line : List ℕ → ℕ → List ℕ
 source_line line from = map shown (take SHOWN (drop from line)) ++ 10 ∷ []
 

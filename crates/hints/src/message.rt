@@ -1,6 +1,6 @@
 //! Advice as a value, and its lines.
 
-ghost use Rattle.std.specs.Prelude.{◌≡◌, ◌+◌, ◌-◌, ◌≤◌, ◌∷◌, [], ◌++◌, length, map, take, drop, replicate, codes, OnOk};
+ghost use Rattle.std.specs.Prelude.{◌≡◌, ◌-◌, ◌≤◌, [], length, map, take, drop, replicate};
 ghost use Rattle.std.specs.List.{prefix_len};
 ghost use Rattle.hints.specs.Lines.{from_line, goes_on, line_of, first_line, shown, left_out, margin, said_line, source_line, marks_line};
 ghost use Rattle.hints.specs.Puts.{Puts};
@@ -115,7 +115,7 @@ fn shown(byte: u8) -> u8
     }
 }
 
-/// How many bytes at the start of a line are not shown, so that the one with so many before it is.
+/// How many bytes at the start of a line are not shown, so that the one at a column is.
 fn left_out(length: usize, column: usize) -> usize
     ensures value { result ≡ left_out length column }
     ensures few { result ≤ length }
@@ -165,7 +165,7 @@ fn first_bytes(rest: &[u8]) -> &[u8]
     &rest[..end]
 }
 
-/// The part of a line that is shown, where so many bytes are left out.
+/// The part of a line that is shown, from a byte on.
 fn shown_part(line: &[u8], from: usize) -> &[u8]
     requires { from ≤ length line.now }
     ensures { result.now ≡ take SHOWN (drop from line.now) }
@@ -174,7 +174,7 @@ fn shown_part(line: &[u8], from: usize) -> &[u8]
     first_bytes(rest)
 }
 
-/// Adds part of a source line, of which so many bytes are left out.
+/// Adds the part of a source line that is shown, from a byte on.
 fn put_source(out: &mut Vec<u8>, line: &[u8], from: usize) -> Result<(), AllocError>
     requires { from ≤ length line.now }
     ensures { Puts result out.old out.new (source_line line.now from) }

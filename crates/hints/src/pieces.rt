@@ -1,7 +1,7 @@
 //! A text cut into pieces: names, numbers, operators and marks, and single bytes that are none. It
 //! never refuses, so that a refused text can be looked at.
 
-ghost use Rattle.std.specs.Prelude.{◌≡◌, ◌+◌, ◌<◌, ◌≤◌, length};
+ghost use Rattle.std.specs.Prelude.{◌+◌, ◌<◌, ◌≤◌, length};
 
 use guest_syntax::TEXT_BYTES;
 use guest_syntax::place::Pos;

@@ -54,7 +54,7 @@ impl<'a> Context<'a> {
         self.text(self.at)
     }
 
-    /// The piece that is so many places after it.
+    /// The piece that is this many places after it.
     pub fn following(&self, places: usize) -> &'a [u8] {
         self.text(self.at.saturating_add(places))
     }

@@ -1,6 +1,6 @@
 //! Text that is put together of pieces.
 
-ghost use Rattle.std.specs.Prelude.{◌≡◌, IfOk, string_bytes, codes};
+ghost use Rattle.std.specs.Prelude.{◌≡◌, IfOk, string_bytes};
 ghost use Rattle.std.specs.Fmt.{decimal};
 ghost use Rattle.guest_syntax.specs.ErrorTexts.{place_text};
 

@@ -1,6 +1,6 @@
 //! Items of a search: each stands for the complete schedules that begin with its prefix.
 
-ghost use Rattle.std.specs.Prelude.{◌≡◌, ◌++◌, ◌∷◌, [], ◌↔◌, true, IfOk, IfErr, OnOk, OnErr, IsTrue, MatchResult};
+ghost use Rattle.std.specs.Prelude.{◌≡◌, ◌++◌, ◌∷◌, [], ◌↔◌, IfOk, IfErr, OnOk, OnErr, IsTrue, MatchResult};
 ghost use Rattle.std.specs.Arc.{arc_value};
 ghost use Rattle.replay.specs.Run.{ReplayErrorMeans};
 ghost use Rattle.items.specs.Items.{IsItem, item_at, root_of};

@@ -2,7 +2,7 @@
 
 ghost use Rattle.std.specs.Prelude.{◌≡◌};
 ghost use Rattle.std.specs.List.{list_any};
-ghost use Rattle.lint.specs.Uses.{value_reads, expression_reads, reads, sets, fills, loads, stores, names_mutex, names_condition, names_semaphore, does, value_is_constant, is_constant};
+ghost use Rattle.lint.specs.Uses.{value_reads, expression_reads, reads, sets, fills, loads, stores, names_mutex, names_condition, names_semaphore, does, is_constant};
 
 use guest_code::program::{Expression, Instruction, Value};
 

@@ -1,7 +1,6 @@
 //! Warnings, and when they are so.
 
-ghost use Rattle.std.specs.Prelude.{◌≡◌, ◌<◌, ◌↔◌, ℕ, suc, IsTrue, IfOk, length, MatchBool, ◌^◌, ◌≤◌};
-ghost use Rattle.std.specs.List.{list_any};
+ghost use Rattle.std.specs.Prelude.{◌≡◌, ◌<◌, ◌↔◌, IsTrue, IfOk, length, ◌^◌, ◌≤◌};
 ghost use Rattle.guest_code.specs.Program.{code_of, JumpsWithin};
 ghost use Rattle.lint.specs.Paths.{IsReached};
 ghost use Rattle.lint.specs.Warnings.{UsesIn, UsesAnywhere, IsSo, MayKeep, MayLack, IsOfThread, count_of};

@@ -1,6 +1,6 @@
 //! All warnings of a program.
 
-ghost use Rattle.std.specs.Prelude.{◌≡◌, ◌<◌, ◌∷◌, [], ◌++◌, ℕ, IfOk, length, map, All};
+ghost use Rattle.std.specs.Prelude.{◌≡◌, ◌<◌, IfOk, All};
 ghost use Rattle.lint.specs.Warnings.{Chosen, Listed, kinds_of, IsOfThread, count_of};
 
 use crate::warning::{Kind, Warning};

@@ -103,7 +103,7 @@ pub record IsControl (p : Program) (c : Control) (s : Snapshot) : Type 0 where
   pub objects : HasObjects c s
   pub threads : (t : ℕ) → HasThreadAt p c s t (thread_at s t)
 
--- thread t's part of a list that has so many numbers for each thread
+-- thread t's part of a list that has `width` numbers for each thread
 abbrev pub locals_at : ℕ → List ℤ → ℕ → List ℤ
 locals_at width locals t = take width (drop (t * width) locals)
 

@@ -113,7 +113,7 @@ impl Prefixes {
         self.count -= 1;
     }
 
-    /// Keeps so many prefixes at most, the first of them. It takes no memory.
+    /// Keeps the first prefixes, up to `length` of them. It takes no memory.
     pub fn truncate(&mut self, length: usize)
         ensures { self.new ≡ take length self.old }
     {
@@ -144,8 +144,9 @@ impl Prefixes {
         self.push_after(shared, &prefix[shared..])
     }
 
-    /// Puts a prefix after the others that begins as the last one does, so many steps, and then
-    /// goes on with the rest. It compares nothing. Mostly the way back is short, and there is room.
+    /// Puts a prefix after the others that begins with the first `shared` steps of the last one,
+    /// and then goes on with the rest. It compares nothing. Mostly the way back is short, and there
+    /// is room.
     ///
     /// # Errors
     ///
@@ -267,7 +268,7 @@ impl Prefixes {
     }
 }
 
-// A copy of a prefix, with room for one of so many steps.
+// A copy of a prefix, with room for one of `longest` steps.
 fn copy_with_room(alloc: Global, prefix: &[u8], longest: usize) -> Result<Vec<u8>, AllocError>
     ensures prefix { IfOk result (λ v. v.items ≡ prefix.now) }
     ensures room { IfOk result (λ v. longest ≤ vec_capacity v) }

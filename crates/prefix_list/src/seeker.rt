@@ -1,5 +1,5 @@
 // A search for a prefix in a packed list, from the last on.
-ghost use Rattle.std.specs.Prelude.{◌≡◌, ℕ, ◌+◌, ◌-◌, ◌^◌, ◌<◌, ◌≤◌, ◌↔◌, List, length, take, IsTrue};
+ghost use Rattle.std.specs.Prelude.{◌≡◌, ℕ, ◌+◌, ◌-◌, ◌^◌, ◌<◌, ◌≤◌, ◌↔◌, List, length, IsTrue};
 ghost use Rattle.prefix_list.specs.inner.Packed.{dropped_of, start_of, end_of, before, below_of};
 ghost use Rattle.prefix_list.specs.PrefixLists.{common_length};
 

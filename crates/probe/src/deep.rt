@@ -1,7 +1,7 @@
 //! What the schedules that sleep sets leave show of a program, gone through one after the other by
 //! the plain step and by taking it back.
 
-ghost use Rattle.std.specs.Prelude.{◌≡◌, ◌<◌, length, IfOk, IfSome, OnOk, IsTrue};
+ghost use Rattle.std.specs.Prelude.{◌<◌, length, IfOk, IfSome, OnOk, IsTrue};
 ghost use Rattle.semantics.specs.Machine.{is_enabled};
 ghost use Rattle.semantics.specs.Reachable.{IsOf};
 ghost use Rattle.probe.specs.inner.Frames.{TakesBack, IsTour};
@@ -180,7 +180,7 @@ impl Tour {
     }
 }
 
-/// Goes through the schedules that sleep sets leave, up to so many ends.
+/// Goes through the schedules that sleep sets leave, up to a number of ends.
 pub fn explore(
     alloc: Global,
     program: &Program,

@@ -1,6 +1,6 @@
 //! What a thread runs by itself, seen instruction by instruction.
 
-ghost use Rattle.std.specs.Prelude.{◌<◌, ◌≤◌, length};
+ghost use Rattle.std.specs.Prelude.{◌<◌};
 
 use guest_code::limits::LOCALS;
 use guest_code::program::{Expression, Instruction, Value};

@@ -1,6 +1,6 @@
 //! What schedules show of a program.
 
-ghost use Rattle.std.specs.Prelude.{◌≡◌, ◌<◌, ◌≤◌, length};
+ghost use Rattle.std.specs.Prelude.{◌<◌};
 
 use crate::locals::{Locals, next_local, put, sides, value_of};
 use crate::spin::Spin;

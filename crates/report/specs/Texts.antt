@@ -48,7 +48,7 @@ abbrev pub ExploreMeans : Bool → List ℕ → Options → Result Report Explor
 ExploreMeans may text o result =
     MatchResult result (IsReportOfText may text o) (ExploreErrorMeans text)
 
--- the error of a refusal: out of memory is one, whoever met it
+-- the error of a refusal: out of memory is one, wherever it was met
 abbrev pub of_syntax : SyntaxError → ExploreError
 of_syntax syntax.OutOfMemory = OutOfMemory
 of_syntax e = Syntax e

@@ -8,7 +8,7 @@ use std::alloc::{AllocError, AllocFailed};
 use std::fmt;
 use thiserror::Error;
 
-/// Why a search has no report. Out of memory is one error, whoever met it.
+/// Why a search has no report. Out of memory is one error, wherever it was met.
 #[derive(Clone, Copy, Debug, PartialEq, Eq, Error)]
 pub enum ExploreError {
     /// The text spells no tree.

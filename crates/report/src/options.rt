@@ -27,7 +27,7 @@ pub enum Search {
 pub struct Options {
     /// How far it goes.
     pub search: Search,
-    /// After a round in which so many schedules were tried in all, the search is cut short, unless
+    /// After a round by which this many schedules were tried, the search is cut short, unless
     /// it has its answer.
     pub limit: Option<u64>,
     /// How many complete schedules one walk tries at most; at least 1. It changes no Clean or Bad

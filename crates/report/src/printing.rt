@@ -1,9 +1,8 @@
 //! The text of a report.
 
-ghost use Rattle.std.specs.Prelude.{◌≡◌, IfOk, OnOk, map};
-ghost use Rattle.serde_json.specs.Data.{no_members};
+ghost use Rattle.std.specs.Prelude.{◌≡◌, IfOk, OnOk};
 ghost use Rattle.serde_json.specs.View.{view, members_view};
-ghost use Rattle.report.specs.ReportText.{kind_data, cause_data, bound_data, values_data, end_data, ends_data, schedule_data, first_bad_data, with_members, common_members, quick_members, clean_members, bad_members, incomplete_members, verdict_members, report_data, report_text};
+ghost use Rattle.report.specs.ReportText.{kind_data, cause_data, bound_data, values_data, end_data, ends_data, schedule_data, first_bad_data, with_members, common_members, clean_members, bad_members, incomplete_members, verdict_members, report_data, report_text};
 
 use crate::report::{Cause, Report, Verdict};
 use replay::schedule_text;

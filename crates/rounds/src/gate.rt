@@ -14,8 +14,8 @@ const FULL: u64 = 64;
 /// More turns than a held worker waits.
 const TURNS: u64 = 2_000_000;
 
-/// For so many turns more a worker is held where another one has to be through with an item. Where other
-/// programs have the processors a turn takes as long as one of theirs.
+/// How many turns more a worker is held where another one has to be through with an item. Where
+/// other programs have the processors a turn takes as long as one of theirs.
 const MORE: u64 = 500;
 
 /// What the gate does.
@@ -23,14 +23,14 @@ const MORE: u64 = 500;
 pub enum Does {
     /// It stops nobody and holds nobody.
     Open,
-    /// It lets so many calls pass, and stops each later one.
+    /// It lets this many calls pass, and stops each later one.
     Pass(u64),
     /// It stops this worker alone.
     StopWorker(u64),
     /// It stops at the items of a round from this one on.
     StopFrom(u64),
-    /// In a round of 64 items it holds the first so many calls until the last one of them has begun,
-    /// then likewise the next ones, and so on as long as there are as many items.
+    /// In a round of 64 items it holds the first calls, as many as this, until the last one of them
+    /// has begun, then likewise the next ones, and so on as long as there are as many items.
     Together(u64),
     /// It holds who comes to a later item of the round before this item was walked, until it was, and a
     /// little more.
@@ -128,7 +128,7 @@ impl Listening {
         }
     }
 
-    // Whether a call is stopped: so many have begun before it.
+    // Whether a call is stopped, where `before` calls have begun before it.
     fn stops_at(&self, worker: u32, item: u64, before: u64) -> bool {
         match self.does {
             Does::Pass(most) => before >= most,

@@ -14,8 +14,8 @@ use Rattle.book.specs.Books.{BookView, Keeps, KeepsWhere, with_deferred, bound_o
 use Rattle.report.specs.declared.options.Options.{Options}
 use Rattle.report.specs.declared.options.Search.{Search}
 use Rattle.report.specs.declared.options.Search.TheVariants.{UpTo, Unbounded}
-use Rattle.runner.specs.declared.judge.Next.{Next}
-use Rattle.runner.specs.declared.judge.Next.TheVariants.{Answer, Raise, Again}
+use Rattle.runner.specs.declared.judge.Decision.{Decision}
+use Rattle.runner.specs.declared.judge.Decision.TheVariants.{Answer, Raise, Again}
 use Rattle.report.specs.declared.report.Cause.{Cause}
 use Rattle.report.specs.declared.report.Verdict.{Verdict}
 use Rattle.report.specs.declared.report.Verdict.TheVariants.{Clean, Bad, Incomplete}
@@ -199,7 +199,7 @@ open_is_reported may o b mode tried sum cause below m t s stage keeps why is_bel
 -- what comes next, from what the summary or the open items say
 
 pub whole_comes : (may : Bool) (p : Program) (o : Options) (mode : Mode) (b : BookView)
-    (sum : SummaryView) (n : Next) → sum ≡ b.finished → b.open_items ≡ []
+    (sum : SummaryView) (n : Decision) → sum ≡ b.finished → b.open_items ≡ []
     → (sum.first_bad ≡ None → b.dropped ≡ false) → ComesWhole may p o mode sum n
     → Comes may p o mode b n
 whole_comes may p o mode b sum (Answer r) same none all h = h
@@ -207,8 +207,8 @@ whole_comes may p o mode b sum Raise same none all h =
     (none, all h.0, subst (λ (x : SummaryView). IsReached o.limit x → ⊥) same h.1, h.2)
 whole_comes may p o mode b sum Again same none all h = absurd h
 
-pub open_comes : (may : Bool) (p : Program) (o : Options) (mode : Mode) (b : BookView) (n : Next)
-    → b.program ≡ p → (b.open_items ≡ [] → ⊥) → ComesOpen may b.program o b.finished n
+pub open_comes : (may : Bool) (p : Program) (o : Options) (mode : Mode) (b : BookView)
+    (n : Decision) → b.program ≡ p → (b.open_items ≡ [] → ⊥) → ComesOpen may b.program o b.finished n
     → Comes may p o mode b n
 open_comes may p o mode b (Answer r) same some h = subst (λ q. IsReport may q o r) same h
 open_comes may p o mode b Raise same some h = absurd h

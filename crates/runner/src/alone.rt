@@ -7,7 +7,7 @@ ghost use Rattle.report.specs.Promises.{IsSearch, IsReport};
 ghost use Rattle.runner.specs.inner.Judging.{IsFirstMode, IsStage, IsAt, ComesAfter};
 ghost use Rattle.runner.specs.inner.Shrinking.{Went, Goes};
 
-use crate::judge::{Next, Stage, begin_bound, judge};
+use crate::judge::{Decision, Stage, begin_bound, judge};
 use book::books::Book;
 use book::errors::{RaiseError, SettleError};
 use book::progress::Progress;
@@ -140,7 +140,7 @@ fn search_mode<G: Gate>(
     book: &mut Book,
     lone: &mut Lone,
     gate: &G,
-) -> Result<Next, ExploreError>
+) -> Result<Decision, ExploreError>
     requires quota { 1 ≤ stage.options.quota }
     requires stage { IsStage stage.program.now stage.options.search stage.mode }
     requires of { IsAt book.old stage.program.now stage.options stage.mode }
@@ -155,9 +155,9 @@ fn search_mode<G: Gate>(
         let _open = book.open_length();
         gate.round_ended(Progress::of(book));
         match judge(alloc, stage, book, false)? {
-            Next::Again => {}
-            Next::Raise => return Ok(Next::Raise),
-            Next::Answer(report) => return Ok(Next::Answer(report)),
+            Decision::Again => {}
+            Decision::Raise => return Ok(Decision::Raise),
+            Decision::Answer(report) => return Ok(Decision::Answer(report)),
         }
     }
 }
@@ -231,8 +231,8 @@ fn search_bounds<G: Gate>(
     let mut mode = stage.mode;
     loop {
         match search_mode(alloc, Stage { mode, ..stage }, book, lone, gate)? {
-            Next::Answer(report) => return Ok(report),
-            Next::Raise => match book.raise() {
+            Decision::Answer(report) => return Ok(report),
+            Decision::Raise => match book.raise() {
                 Ok(()) => {
                     mode = book.mode();
                     begin_bound(book, stage.options.search);
@@ -241,7 +241,7 @@ fn search_bounds<G: Gate>(
                 Err(RaiseError::Dropped) => unreachable!(),
                 Err(RaiseError::LastBound) => unreachable!(),
             },
-            Next::Again => unreachable!(),
+            Decision::Again => unreachable!(),
         }
     }
 }

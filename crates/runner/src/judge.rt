@@ -6,7 +6,7 @@ ghost use Rattle.schedules.specs.Schedules.{complete_schedules};
 ghost use Rattle.replay.specs.Run.{IsRunOf};
 ghost use Rattle.book.specs.Books.{Keeps, IsClosed};
 ghost use Rattle.report.specs.declared.error.ExploreError.TheVariants.{OutOfMemory};
-ghost use Rattle.runner.specs.declared.judge.Next.TheVariants.{Answer};
+ghost use Rattle.runner.specs.declared.judge.Decision.TheVariants.{Answer};
 ghost use Rattle.report.specs.Reports.{HasItems, IsReached, IsCause};
 ghost use Rattle.runner.specs.inner.Judging.{IsModeOf, IsStage, IsLast, IsFound, IsBoundBelow, IsVerdictOn, IsAt, ComesWhole, ComesOpen, Comes, begun, report_in};
 ghost use Rattle.book.specs.Progress.{mode_bound};
@@ -33,7 +33,7 @@ pub(crate) struct Stage<'a> {
 
 /// What comes next.
 #[derive(Drop)]
-pub(crate) enum Next {
+pub(crate) enum Decision {
     /// The search ends.
     Answer(Report),
     /// The bound is finished.
@@ -90,13 +90,13 @@ fn report_in(
     mode: Mode,
     summary: &Summary,
     verdict: Verdict,
-) -> Result<Next, ExploreError>
+) -> Result<Decision, ExploreError>
     ensures report { IfOk result (λ n.
         n ≡ Answer (report_in options mode summary.now verdict)) }
     ensures error { IfErr result (λ e. e ≡ OutOfMemory) }
 {
     let summary = summary.try_clone(alloc)?;
-    Ok(Next::Answer(Report {
+    Ok(Decision::Answer(Report {
         bound: mode_bound(mode),
         verdict,
         summary,
@@ -157,7 +157,7 @@ fn judge_whole(
     stage: Stage<'_>,
     summary: &Summary,
     stopped: bool,
-) -> Result<Next, ExploreError>
+) -> Result<Decision, ExploreError>
     requires stage { IsStage stage.program.now stage.options.search stage.mode }
     requires found { IsFound stage.options.quick stage.program.now stage.mode summary.now }
     requires items { HasItems stage.program.now stage.mode summary.now }
@@ -186,7 +186,7 @@ fn judge_whole(
             let verdict = Verdict::Incomplete { cause, finished };
             report_in(alloc, stage.options, stage.mode, summary, verdict)
         }
-        None => Ok(Next::Raise),
+        None => Ok(Decision::Raise),
     }
 }
 
@@ -196,7 +196,7 @@ fn judge_open(
     options: Options,
     book: &Book,
     stopped: bool,
-) -> Result<Next, ExploreError>
+) -> Result<Decision, ExploreError>
     requires stage { IsStage book.now.program options.search book.now.mode }
     ensures next { IfOk result (λ n. (may : Bool) → (stopped ≡ true → may ≡ true) →
         ComesOpen may book.now.program options book.now.finished n) }
@@ -210,7 +210,7 @@ fn judge_open(
             let verdict = Verdict::Incomplete { cause, finished };
             report_in(alloc, options, mode, book.finished(), verdict)
         }
-        None => Ok(Next::Again),
+        None => Ok(Decision::Again),
     }
 }
 
@@ -238,7 +238,7 @@ pub(crate) fn judge(
     stage: Stage<'_>,
     book: &Book,
     stopped: bool,
-) -> Result<Next, ExploreError>
+) -> Result<Decision, ExploreError>
     requires stage { IsStage stage.program.now stage.options.search stage.mode }
     requires of { IsAt book.now stage.program.now stage.options stage.mode }
     ensures next { let s = stage.entry in

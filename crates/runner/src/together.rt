@@ -8,7 +8,7 @@ ghost use Rattle.report.specs.Promises.{IsSearch, IsReport};
 ghost use Rattle.runner.specs.inner.Judging.{IsStage, IsAt, Follows};
 
 use crate::alone::{open_book, search_alone};
-use crate::judge::{Next, Stage, begin_bound, judge};
+use crate::judge::{Decision, Stage, begin_bound, judge};
 use book::books::Book;
 use book::errors::RaiseError;
 use book::progress::Progress;
@@ -44,9 +44,9 @@ fn after_round(
         mode,
     };
     match judge(alloc, stage, book, stopped)? {
-        Next::Answer(report) => Ok(Some(report)),
-        Next::Again => Ok(None),
-        Next::Raise => match book.raise() {
+        Decision::Answer(report) => Ok(Some(report)),
+        Decision::Again => Ok(None),
+        Decision::Raise => match book.raise() {
             Ok(()) => {
                 begin_bound(book, options.search);
                 Ok(None)

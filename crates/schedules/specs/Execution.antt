@@ -13,7 +13,7 @@ pub record ExecutionView : Type 0 where
   pub last : Option ℕ
   pub preemptions : ℕ
 
--- the schedule runs, and leads to this state, with this last thread and so many preemptions
+-- the schedule runs, and leads to this state, with this last thread and this many preemptions
 pub record Reaches (p : Program) (w : List ℕ) (e : ExecutionView) : Type 0 where
   pub runs : runs p (start p) w ≡ true
   pub state : e.state ≡ state_after p (start p) w

@@ -28,7 +28,7 @@ abbrev pub or_complete : List ℕ → List (List ℕ) → List (List ℕ)
 or_complete [] L = [] ∷ []
 or_complete (t ∷ ts) L = L
 
--- the schedules from a state, in order, each of them complete or cut off after so many steps
+-- the schedules from a state, in order, each of them complete or cut off after a number of steps
 abbrev pub schedules_cut_at : ℕ → Program → Snapshot → List (List ℕ)
 schedules_cut_at zero p s = [] ∷ []
 schedules_cut_at (suc n) p s = or_complete (enabled p s)
@@ -65,7 +65,7 @@ begins_with (t ∷ prefix) (u ∷ w) = nat_eq t u && begins_with prefix w
 unfoldable pub schedules_under : Program → List ℕ → List (List ℕ)
 schedules_under p prefix = filter (begins_with prefix) (complete_schedules p (start p))
 
--- those of them with at most so many preemptions
+-- those of them with at most `bound` preemptions
 unfoldable pub schedules_within : Program → List ℕ → ℕ → List (List ℕ)
 schedules_within p prefix bound = filter (λ w. nat_le (preemptions p w) bound)
     (schedules_under p prefix)

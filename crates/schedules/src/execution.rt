@@ -1,6 +1,6 @@
 //! A schedule as it is carried out, one step after another.
 
-ghost use Rattle.std.specs.Prelude.{◌≡◌, ◌+◌, ◌^◌, ◌<◌, List, ℕ, [], ◌∷◌, ◌++◌, IfOk, IsTrue, length};
+ghost use Rattle.std.specs.Prelude.{◌≡◌, ◌+◌, ◌^◌, ◌<◌, List, ℕ, [], ◌∷◌, ◌++◌, IfOk, IsTrue};
 ghost use Rattle.semantics.specs.Machine.{is_enabled};
 ghost use Rattle.schedules.specs.Schedules.{preempts};
 ghost use Rattle.schedules.specs.Execution.{IsExecutionOf, Reaches, stepped};

@@ -116,7 +116,7 @@ fn is_zero_at(locals: &[i64; LOCALS], expression: &Expression) -> bool
     expression_at(locals, expression) == 0
 }
 
-// Passes the instruction where the thread is, and so many after it, if so many are left.
+// Passes the instruction where the thread is, and `skip` after it, or all that are left.
 fn pass(code: &[Instruction], thread: &mut Thread, skip: usize)
     requires pc { thread.old.pc < length code.now }
     ensures pc { thread.new.pc ≤ length code.now }

@@ -1,6 +1,6 @@
 //! The queue of a condition.
 
-ghost use Rattle.std.specs.Prelude.{◌≡◌, ◌<◌, ◌≤◌, length, [], ◌∷◌, ◌++◌, take, drop, map, MatchOption};
+ghost use Rattle.std.specs.Prelude.{◌≡◌, ◌<◌, ◌≤◌, length, [], ◌∷◌, ◌++◌, take, drop, MatchOption};
 
 use guest_code::limits::THREADS;
 use std::alloc::AllocError;

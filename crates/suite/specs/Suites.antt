@@ -1,5 +1,5 @@
 -- What a suite answers for the text of a file.
-use Rattle.std.specs.Prelude.{◌≡◌, ◌⊎◌, ℕ, List, Bool, true, false, Option, Some, None}
+use Rattle.std.specs.Prelude.{◌≡◌, ◌⊎◌, ℕ, List, Bool, true, false, Some, None}
 use Rattle.std.specs.Prelude.{Result, MatchResult, IsSome}
 use Rattle.report.specs.declared.limits.TheConstants.{QUOTA}
 use Rattle.report.specs.declared.options.Options.{Options}

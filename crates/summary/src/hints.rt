@@ -44,7 +44,7 @@ impl EndHints {
         usize::from(self.indexes[place])
     }
 
-    // Where the view of this kind and these values may stand in a list of so many. Where there is
+    // Where the view of this kind and these values may stand in a list of `length`. Where there is
     // only one, nothing is computed.
     #[inline(always)]
     pub(crate) fn hint_in(&self, length: usize, kind: Kind, values: &[i64]) -> usize {

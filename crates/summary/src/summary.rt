@@ -14,7 +14,7 @@ use std::alloc::{AllocError, Global};
 use std::cmp::Ordering;
 use std::marker::Model;
 
-// A summary begins with room for so many end views: that of a small item has one to three.
+// For how many end views a summary has room at first: that of a small item has one to three.
 const FEW_ENDS: usize = 3;
 
 /// What is known of a list of complete schedules. Counts stop at the greatest `u64`.

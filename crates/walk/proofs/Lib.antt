@@ -4,6 +4,6 @@ pub mod Words
 pub mod PathSteps
 pub mod WalkTurns
 pub mod WalkSteps
-pub mod Arrivals
+pub mod Expansions
 pub mod LoneSteps
 pub mod Walks

@@ -1,4 +1,4 @@
--- A thread that goes on alone: the bound is used up, so that a step of another passes it.
+-- A thread that goes on alone: the node is at the bound, so that a step of another passes it.
 use Rattle.std.proofs.Common.{◌≡◌, ◌≢◌, ℕ, zero, suc, ◌+◌, ◌<◌, ◌≤◌, Bool, true, false, ◌&&◌}
 use Rattle.std.proofs.Common.{◌||◌, nat_eq, nat_le, nat_lt, not, List, [], ◌∷◌, ◌++◌, ◌-◌, length}
 use Rattle.std.proofs.Common.{map, refl, ap, ◌∙◌, sym, arith, subst, inl, inr, Some, None, Option}
@@ -24,15 +24,15 @@ use Rattle.std.specs.declared.vec.Vec.{Vec}
 use Rattle.summary.specs.Summaries.{with_beyond}
 use Rattle.items.specs.Items.{ItemView}
 use Rattle.items.specs.Children.{is_kept_step, kept_steps, child_of, children_of, children}
-use Rattle.walk.specs.inner.Paths.{leaves, leaves_last, state_at, IsNode}
+use Rattle.walk.specs.inner.Paths.{is_preempting, preempts_last, state_at, IsNode}
 use Rattle.walk.specs.inner.WalkerInvariant.{item_of, left_above, is_kept_at, is_past_at}
-use Rattle.walk.specs.inner.WalkerInvariant.{IsWithinAt, IsFree, is_spent_at, IsSpent, IsSearch}
+use Rattle.walk.specs.inner.WalkerInvariant.{IsWithinAt, IsFree, at_bound, IsAtBound, IsSearch}
 use Rattle.walk.specs.inner.WalkerInvariant.{HasPut, IsShared, IsWalkedOn, open_here, open_below}
 use Rattle.items.proofs.Filters.{filter_twice}
 use Rattle.walk.proofs.SharedSteps.{shared_same}
 use Rattle.walk.proofs.WalkTurns.{filter_alike, kept_alike}
-use Rattle.walk.proofs.Arrivals.{AreOn, node_of, put_off, IsTurned, place_turned, left_turned}
-use Rattle.walk.proofs.Arrivals.{here_turned, of_here, turned_here}
+use Rattle.walk.proofs.Expansions.{AreOn, node_of, past_deferred, IsTurned, place_turned, left_turned}
+use Rattle.walk.proofs.Expansions.{here_turned, of_here, turned_here}
 
 -- a number stands once among those from a first one on
 
@@ -54,16 +54,16 @@ only_here t first (suc n) from to = elim (cases_lt first t) [
 ]
 
 -- where the thread of the last step can go on, a step of any other is a preempting switch
-lone_leaves : (e : Mask) (n : Node) (t : ℕ) → n.last ≡ Some t → has e t ≡ true → (u : ℕ) →
-    leaves e n u ≡ not (nat_eq t u)
-lone_leaves e n t last on u =
-    ap (λ (l : Option ℕ). leaves_last l e u) last ∙ ap (λ b. b && not (nat_eq t u)) on
+lone_preempts : (e : Mask) (n : Node) (t : ℕ) → n.last ≡ Some t → has e t ≡ true → (u : ℕ) →
+    is_preempting e n u ≡ not (nat_eq t u)
+lone_preempts e n t last on u =
+    ap (λ (l : Option ℕ). preempts_last l e u) last ∙ ap (λ b. b && not (nat_eq t u)) on
 
 -- so its own step is kept, and no other
 lone_kept : (bound : ℕ) (e : Mask) (n : Node) (t : ℕ) → n.last ≡ Some t → n.used ≡ bound →
     has e t ≡ true → (u : ℕ) → is_kept_at (Bounded bound) e n u ≡ nat_eq t u
 lone_kept bound e n t last used on u =
-    (λ k. nat_le (used k + one_if (lone_leaves e n t last on u k)) bound) ∙ test (nat_eq t u)
+    (λ k. nat_le (used k + one_if (lone_preempts e n t last on u k)) bound) ∙ test (nat_eq t u)
   where
     test : (b : Bool) → nat_le (bound + one_if (not b)) bound ≡ b
     test true = grind (arith, nat_tests)
@@ -75,7 +75,7 @@ lone_past : (bound : ℕ) (e past : Mask) (n : Node) (t : ℕ) → n.last ≡ So
     has past u ≡ (has e u && is_past_at (Bounded bound) e n u)
 lone_past bound e past n t last used on out same u =
     member u ∙ ap (λ b. has e u && b)
-    (sym ((λ k. nat_lt bound (used k + one_if (lone_leaves e n t last on u k)))
+    (sym ((λ k. nat_lt bound (used k + one_if (lone_preempts e n t last on u k)))
     ∙ test (nat_eq t u)))
   where
     test : (b : Bool) → nat_lt bound (bound + one_if (not b)) ≡ not b
@@ -149,9 +149,9 @@ pub and_right : (a b : Bool) → (a && b) ≡ true → b ≡ true
 and_right true b h = h
 and_right false b h = absurd (false≢true h)
 
-pub spent_is : (mode : Mode) (n : Node) → is_spent_at mode n ≡ true → IsSpent mode n
-spent_is (Bounded bound) n h = grind (arith, nat_tests, h)
-spent_is Reduced n h = absurd (false≢true h)
+pub at_bound_is : (mode : Mode) (n : Node) → at_bound mode n ≡ true → IsAtBound mode n
+at_bound_is (Bounded bound) n h = grind (arith, nat_tests, h)
+at_bound_is Reduced n h = absurd (false≢true h)
 
 -- it gives way to it, and the steps of the others are put off
 lone_walked : {b : Found} (bound : ℕ) (i : ItemView) (w : List ℕ) (n : Node) (f g : Found)
@@ -165,7 +165,7 @@ lone_walked : {b : Found} (bound : ℕ) (i : ItemView) (w : List ℕ) (n : Node)
     IsWalkedOn b (Bounded bound) i g (child_of (Bounded bound) (item_of i.program w n) t ∷ above)
 lone_walked {b} bound i w n f g e past t above h node of last used on out same part rest put =
     subst (λ (cs : List ItemView). IsWalkedOn b (Bounded bound) i g (cs ++ above)) kids
-    (put_off (Bounded bound) i w n f g e past above h node of more
+    (past_deferred (Bounded bound) i w n f g e past above h node of more
     (lone_past bound e past n t last used on out same) part
     (ap (λ (r : Vec ItemView Global). r.items) rest) put)
   where
@@ -181,7 +181,7 @@ lone_walked {b} bound i w n f g e past t above h node of last used on out same p
 pub lone_search : {b : Found} (mode : Mode) (i : ItemView) (old : Path) (steps : Vec ℕ Global)
     (f g : Found) (e past : Mask) (t : ℕ) → IsSearch b mode i old f (open_here mode i.program old) →
     AreOn i.program old e → steps.items ≡ old.steps.items → old.node.last ≡ Some t →
-    (is_spent_at mode old.node && has e t) ≡ true →
+    (at_bound mode old.node && has e t) ≡ true →
     has past t ≡ false → ((u : ℕ) → u ≢ t → has past u ≡ has e u) →
     g.part ≡ with_beyond f.part (f.part.beyond || not (is_empty (members_from past 0))) →
     g.rest ≡ f.rest →
@@ -190,7 +190,7 @@ pub lone_search : {b : Found} (mode : Mode) (i : ItemView) (old : Path) (steps :
     IsSearch b mode i (record old { steps = steps }) g
     (open_below mode i.program (record old { steps = steps }) t)
 lone_search Reduced i old steps f g e past t h are same last alone out others part rest put shared =
-    absurd (spent_is Reduced old.node (and_left false (has e t) alone))
+    absurd (at_bound_is Reduced old.node (and_left false (has e t) alone))
 lone_search {b} (Bounded bound) i old steps f g e past t h are same last alone out others part rest
     put shared = record {
       place = place_turned p old new h.place turned h.place.path.room;
@@ -199,8 +199,8 @@ lone_search {b} (Bounded bound) i old steps f g e past t h are same last alone o
           ∷ sym (left_turned mode p old new turned) k)
           (lone_walked bound i old.steps.items old.node f g e past t (left_above mode p old)
           h.walked (node_of p old e h.place.path are) (of_here p old h.place.path) last
-          (spent_is mode old.node (and_left (is_spent_at mode old.node) (has e t) alone))
-          (and_right (is_spent_at mode old.node) (has e t) alone) out others part rest put);
+          (at_bound_is mode old.node (and_left (at_bound mode old.node) (has e t) alone))
+          (and_right (at_bound mode old.node) (has e t) alone) out others part rest put);
       shared = shared_same old.steps.items steps.items g shared same;
     }
   where
@@ -216,7 +216,7 @@ lone_search {b} (Bounded bound) i old steps f g e past t h are same last alone o
     turned : IsTurned old new
     turned = turned_here old new same refl refl refl refl refl refl
 
--- where the bound is not used up, or the thread of the last step cannot go on, no step passes it
+-- where the node is not at the bound, or the last thread cannot go on, no step passes the bound
 
 never_past : (bound used : ℕ) (b c : Bool) → used ≤ bound → (nat_eq used bound && b) ≡ false
     → nat_lt bound (used + one_if (b && c)) ≡ false
@@ -240,11 +240,11 @@ none_in false x h = refl
 
 pub free_alone : (mode : Mode) (p : Program) (t : Path) (u : ℕ) → IsWithinAt mode t.node
     → t.node.last ≡ Some u
-    → (is_spent_at mode t.node && is_enabled p (state_at p t.steps.items) u) ≡ false
+    → (at_bound mode t.node && is_enabled p (state_at p t.steps.items) u) ≡ false
     → IsFree mode p t
 free_alone (Bounded bound) p t u within last h = λ e on v.
     none_in (has e v) _ ((λ k. nat_lt bound (t.node.used + one_if
-    ((ap (λ (l : Option ℕ). leaves_last l e v) last ∙ ap (λ b. b && not (nat_eq u v)) (on u)) k)))
+    ((ap (λ (l : Option ℕ). preempts_last l e v) last ∙ ap (λ b. b && not (nat_eq u v)) (on u)) k)))
     ∙ never_past bound t.node.used (is_enabled p (state_at p t.steps.items) u) (not (nat_eq u v))
     within h)
 free_alone Reduced p t u within last h = λ e on v. none_in (has e v) false refl
@@ -252,6 +252,6 @@ free_alone Reduced p t u within last h = λ e on v. none_in (has e v) false refl
 pub free_first : (mode : Mode) (p : Program) (t : Path) → IsWithinAt mode t.node
     → t.node.last ≡ None → IsFree mode p t
 free_first (Bounded bound) p t within last = λ e on v.
-    none_in (has e v) _ ((λ k. nat_lt bound (t.node.used + one_if (leaves_last (last k) e v)))
+    none_in (has e v) _ ((λ k. nat_lt bound (t.node.used + one_if (preempts_last (last k) e v)))
     ∙ (let z : nat_lt bound (t.node.used + 0) ≡ false = grind (arith, nat_tests, within) in z))
 free_first Reduced p t within last = λ e on v. none_in (has e v) false refl

@@ -25,7 +25,7 @@ use Rattle.walk.specs.declared.path.Frame.{Frame}
 use Rattle.walk.specs.declared.path.Path.{Path}
 use Rattle.walk.specs.declared.path.Node.{Node}
 use Rattle.items.specs.declared.mode.Mode.{Mode}
-use Rattle.walk.specs.inner.Paths.{used_frames, words_at, state_at, ReachesNode, leaves_last}
+use Rattle.walk.specs.inner.Paths.{used_frames, words_at, state_at, ReachesNode, preempts_last}
 use Rattle.walk.specs.inner.Paths.{IsPath, IsCopy, AreCopies, frame_at, no_frame}
 use Rattle.walk.specs.inner.WalkerInvariant.{open_at, open_from, left_above, still_open, here}
 use Rattle.items.specs.Children.{children_of}
@@ -462,10 +462,10 @@ path_opened p old new f q I mine h steps node machine size frames fs fn fc here 
     (wrote.chunk ∙ own)))) room
 
 -- a preempting switch, by the mask of who is enabled
-pub leaves_is : (p : Program) (s : Snapshot) (m : Mask) (last : Option ℕ) (t : ℕ) → HasEnabled m p s
-    → leaves_last last m t ≡ preempts p s last t
-leaves_is p s m None t h = refl
-leaves_is p s m (Some l) t h = ap (λ b. b && not (nat_eq l t)) (h l)
+pub preempts_is : (p : Program) (s : Snapshot) (m : Mask) (last : Option ℕ) (t : ℕ)
+    → HasEnabled m p s → preempts_last last m t ≡ preempts p s last t
+preempts_is p s m None t h = refl
+preempts_is p s m (Some l) t h = ap (λ b. b && not (nat_eq l t)) (h l)
 
 -- only what is still to be tried changed, and who sleeps
 pub path_same : (p : Program) (old new : Path) → IsPath p old → new.steps.items ≡ old.steps.items

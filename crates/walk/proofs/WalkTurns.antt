@@ -21,11 +21,11 @@ use Rattle.walk.specs.declared.path.Node.{Node}
 use Rattle.items.specs.declared.mode.Mode.TheVariants.{Bounded, Reduced}
 use Rattle.items.specs.Items.{ItemView, item_at}
 use Rattle.items.proofs.Filters.{filter_twice}
-use Rattle.walk.proofs.PathSteps.{leaves_is}
+use Rattle.walk.proofs.PathSteps.{preempts_is}
 use Rattle.items.proofs.Children.{reduced_past}
 use Rattle.items.specs.Children.{child_of, children_of, past_children, kept_steps, past_steps}
 use Rattle.items.specs.Children.{is_kept_step, is_past_step}
-use Rattle.walk.specs.inner.Paths.{leaves, IsNode, state_at}
+use Rattle.walk.specs.inner.Paths.{is_preempting, IsNode, state_at}
 use Rattle.walk.specs.inner.WalkerInvariant.{item_of, is_kept_at, is_past_at}
 
 -- the step of an item that is one step further is one of an enabled thread
@@ -62,9 +62,9 @@ node_enabled p w e h o =
 
 -- the preemptions after one more step
 pub used_after : (p : Program) (w : List ℕ) (e : Mask) (n : Node) (t : ℕ) → IsNode p w e n →
-    n.used + one_if (leaves e n t) ≡ preemptions p (w ++ t ∷ [])
+    n.used + one_if (is_preempting e n t) ≡ preemptions p (w ++ t ∷ [])
 used_after p w e n t h =
-    (λ i. h.reaches.preemptions i + one_if (leaves_is p (state_at p w) e n.last t h.enabled i))
+    (λ i. h.reaches.preemptions i + one_if (preempts_is p (state_at p w) e n.last t h.enabled i))
     ∙ ((λ i. preemptions p w + one_if (preempts p (state_at p w) (h.reaches.last i) t)) ∙ sym
     (preemptions-push p w t))
 

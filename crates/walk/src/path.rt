@@ -5,7 +5,7 @@ ghost use Rattle.std.specs.Prelude.{◌≡◌, ◌+◌, ◌*◌, ◌-◌, ◌<�
 ghost use Rattle.semantics.specs.Machine.{start, is_enabled};
 ghost use Rattle.schedules.specs.Schedules.{runs};
 ghost use Rattle.semantics.specs.Mask.{one_if};
-ghost use Rattle.walk.specs.inner.Paths.{IsPath, used_frames, frame_at, leaves, state_at};
+ghost use Rattle.walk.specs.inner.Paths.{IsPath, used_frames, frame_at, is_preempting, state_at};
 ghost use Rattle.items.specs.declared.mode.Mode.{Mode};
 ghost use Rattle.walk.specs.inner.WalkerInvariant.{IsOpened, IsGone, left_above, still_open};
 
@@ -41,7 +41,7 @@ pub struct Frame {
 }
 
 /// The way from the start of a program: its steps, the state that they lead to, the node there, and
-/// some nodes above it, whose states' values are the words, so many for each.
+/// some nodes above it, whose states' values are the words, `size` for each.
 #[derive(Drop)]
 pub struct Path {
     pub machine: Machine,
@@ -79,7 +79,8 @@ impl Node {
         requires { self.old.used + 1 < 2 ^ 32 }
         ensures asleep { self.new.asleep ≡ asleep }
         ensures last { self.new.last ≡ Some thread }
-        ensures used { self.new.used ≡ self.old.used + one_if (leaves enabled self.old thread) }
+        ensures used { self.new.used
+            ≡ self.old.used + one_if (is_preempting enabled self.old thread) }
     {
         self.todo = Mask::empty();
         self.asleep = asleep;
@@ -95,7 +96,7 @@ impl Node {
     }
 }
 
-// Sees to it that there are so many words.
+// Makes words until there are as many as this.
 fn make_words(words: &mut Vec<i64>, count: usize) -> Result<(), AllocError>
     ensures there { OnOk result (count ≤ length words.new.items) }
     ensures room { length words.old.items ≤ length words.new.items }
@@ -108,7 +109,7 @@ fn make_words(words: &mut Vec<i64>, count: usize) -> Result<(), AllocError>
     Ok(())
 }
 
-// Sees to it that there is a frame after so many.
+// Makes a frame at this depth, unless there is one.
 #[inline(always)]
 fn make_frame(frames: &mut Vec<Frame>, depth: usize, machine: &Machine) -> Result<(), AllocError>
     requires { depth ≤ length frames.old.items }
@@ -223,7 +224,7 @@ impl Path {
         Ok(())
     }
 
-    // Goes back to the node of the last frame to which so many steps lead, or fewer. It keeps the
+    // Goes back to the node of the last frame at most this many steps from the start. It keeps the
     // frame.
     fn go_back(&mut self, program: &Program, count: usize)
         requires path { IsPath program.now self.old }

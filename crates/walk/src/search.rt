@@ -10,7 +10,7 @@ ghost use Rattle.summary.specs.Summaries.{with_beyond, greatest_count};
 ghost use Rattle.items.specs.Children.{child_of, mask_after, cost_of};
 ghost use Rattle.walk.specs.inner.Paths.{IsPath, used_frames, state_at};
 ghost use Rattle.walk.specs.Founds.{HasAdded};
-ghost use Rattle.walk.specs.inner.WalkerInvariant.{IsPlace, Searches, GoesOn, IsKept, here, open_here, open_below, still_open, turns_left, turns_from, turns_into, turns_next, open_next, is_kept_at, is_past_at, is_past_here, IsFree, is_spent_at, IsShared, HasPut};
+ghost use Rattle.walk.specs.inner.WalkerInvariant.{IsPlace, Searches, GoesOn, IsKept, here, open_here, open_below, still_open, turns_left, turns_from, turns_into, turns_next, open_next, is_kept_at, is_past_at, is_past_here, IsFree, at_bound, IsShared, HasPut};
 
 use crate::found::Found;
 use crate::path::{Node, Path};
@@ -21,9 +21,9 @@ use semantics::mask::Mask;
 use std::alloc::{AllocError, Global};
 
 impl Found {
-    // Puts off the step of a thread after the others.
+    // Defers the step of a thread.
     #[inline(always)]
-    fn put_off(&mut self, steps: &mut Vec<u8>, thread: u8) -> Result<(), AllocError>
+    fn defer_one(&mut self, steps: &mut Vec<u8>, thread: u8) -> Result<(), AllocError>
         requires { IsShared steps.old.items self.old }
         ensures steps { steps.new.items ≡ steps.old.items }
         ensures rest { self.new.rest ≡ self.old.rest }
@@ -43,9 +43,9 @@ impl Found {
         Ok(())
     }
 
-    // Puts off the steps of these threads after that of one of the same node.
+    // Defers the steps of these threads, after one of the same node.
     #[inline(always)]
-    fn put_beside(&mut self, _steps: &Vec<u8>, past: Mask) -> Result<(), AllocError>
+    fn defer_beside(&mut self, _steps: &Vec<u8>, past: Mask) -> Result<(), AllocError>
         requires shared { IsShared _steps.now.items self.old }
         requires here { self.old.shared ≡ length _steps.now.items }
         ensures same { self.new ≡ record self.old { deferred = self.new.deferred } }
@@ -61,9 +61,9 @@ impl Found {
         Ok(())
     }
 
-    // Puts off the steps of these threads, of which this one is the first, after the others.
+    // Defers the steps of these threads, of which this one is the first.
     #[inline(always)]
-    fn put_off_all(&mut self, steps: &mut Vec<u8>, past: Mask, first: u8) -> Result<(), AllocError>
+    fn defer_all(&mut self, steps: &mut Vec<u8>, past: Mask, first: u8) -> Result<(), AllocError>
         requires shared { IsShared steps.old.items self.old }
         requires first { members_from past 0 ≡ first ∷ members_from past (first + 1) }
         requires least { (u : ℕ) → u < first → has past u ≡ false }
@@ -76,11 +76,11 @@ impl Found {
             ++ map (λ t. steps.old.items ++ t ∷ []) (members_from past 0)) }
         ensures shared { OnOk result (IsShared steps.old.items self.new) }
     {
-        self.put_off(steps, first)?;
-        self.put_beside(steps, without_first(past, first))
+        self.defer_one(steps, first)?;
+        self.defer_beside(steps, without_first(past, first))
     }
 
-    // Puts off the steps of these threads after the others, where they are listed. Often there is none.
+    // Defers the steps of these threads; they are listed or only noted. Often there is none.
     #[inline(always)]
     pub(crate) fn defer(&mut self, steps: &mut Vec<u8>, past: Mask) -> Result<(), AllocError>
         requires { IsShared steps.old.items self.old }
@@ -99,7 +99,7 @@ impl Found {
             self.part.set_beyond();
             return Ok(());
         }
-        self.put_off_all(steps, past, first)
+        self.defer_all(steps, past, first)
     }
 
     // Whether fewer schedules were tried than the limit.
@@ -110,7 +110,7 @@ impl Found {
         self.part.tried() < limit
     }
 
-    // Goes back with the walk to a node above, so many steps from the start.
+    // Goes back with the walk to a node above, at this depth.
     fn go_back(&mut self, depth: usize)
         ensures { self.new ≡ record self.old { shared = min self.old.shared depth } }
     {
@@ -129,9 +129,9 @@ fn without_first(set: Mask, first: u8) -> Mask
 }
 
 impl Node {
-    // Whether the bound is used up.
-    fn is_spent(&self, mode: Mode) -> bool
-        ensures { result ≡ is_spent_at mode self.now }
+    // Whether the node's preemptions have reached the bound.
+    fn is_at_bound(&self, mode: Mode) -> bool
+        ensures { result ≡ at_bound mode self.now }
     {
         match mode {
             Mode::Bounded(bound) => self.used == bound,
@@ -139,7 +139,7 @@ impl Node {
         }
     }
 
-    // The steps that are kept from here on are to be tried. None passes the bound.
+    // The steps that are kept are still to be tried. None passes the bound.
     fn open(&mut self, enabled: Mask, mode: Mode)
         requires { (t : ℕ) → (has enabled t && is_past_at mode enabled self.old t) ≡ false }
         ensures kept { (t : ℕ) → has self.new.todo t
@@ -152,11 +152,11 @@ impl Node {
         }
     }
 
-    // Whether the bound is used up, and this thread can go on, where these are enabled.
+    // Whether a step of any thread but this one passes the bound, where these are enabled.
     fn is_alone(&self, enabled: Mask, mode: Mode, thread: u8) -> bool
-        ensures { result ≡ (is_spent_at mode self.now && has enabled thread) }
+        ensures { result ≡ (at_bound mode self.now && has enabled thread) }
     {
-        self.is_spent(mode) && enabled.has(thread)
+        self.is_at_bound(mode) && enabled.has(thread)
     }
 }
 
@@ -175,10 +175,10 @@ impl Path {
         }
     }
 
-    // The node where it stands gives way to its children; where it has none it is tried. No step
-    // from it passes the bound.
+    // Expands the node: its children are open then. Where it has none the schedule is complete, and
+    // is tried. No step from the node passes the bound.
     #[inline(always)]
-    fn arrive(
+    fn expand(
         &mut self,
         alloc: Global,
         found: &mut Found,
@@ -216,7 +216,7 @@ impl Path {
         }
     }
 
-    // Whether the thread of the last step alone may go on. The steps of the others are put off then.
+    // Whether the thread of the last step alone may go on. Steps of the others are deferred then.
     #[inline(always)]
     fn goes_on(
         &mut self,
@@ -246,7 +246,7 @@ impl Path {
         Ok(true)
     }
 
-    // Takes a step into an open child, and goes on as long as its thread alone may.
+    // Takes a step into an open child, and goes on while its thread alone may.
     #[inline(always)]
     fn run(
         &mut self,
@@ -277,16 +277,9 @@ impl Path {
     }
 
     // Where the thread of the last step alone may go on, it does.
-    fn run_from(
-        &mut self,
-        found: &mut Found,
-        item: &Item,
-        mode: Mode,
-        thread: u8,
-    ) -> Result<(), AllocError>
+    fn resume(&mut self, found: &mut Found, item: &Item, mode: Mode) -> Result<(), AllocError>
         requires search { Searches mode item.now self.old found.old
             (open_here mode item.now.program self.old) }
-        requires last { self.old.node.last ≡ Some thread }
         ensures path { IsPath item.now.program self.new }
         ensures search { let p = item.now.program in OnOk result (GoesOn mode item.now
             self.old found.old (open_here mode p self.old)
@@ -294,27 +287,13 @@ impl Path {
         ensures free { OnOk result (IsFree mode item.now.program self.new) }
         ensures tried { OnOk result (found.new.part.tried ≡ found.old.part.tried) }
     {
+        let Some(thread) = self.node.last else {
+            return Ok(());
+        };
         if self.goes_on(found, item, mode, thread)? {
             self.run(found, item, mode, thread)?;
         }
         Ok(())
-    }
-
-    // Sets out from an item's own node: where only the thread of the last step may go on, it does.
-    fn set_out(&mut self, found: &mut Found, item: &Item, mode: Mode) -> Result<(), AllocError>
-        requires search { Searches mode item.now self.old found.old
-            (open_here mode item.now.program self.old) }
-        ensures path { IsPath item.now.program self.new }
-        ensures search { let p = item.now.program in OnOk result (GoesOn mode item.now
-            self.old found.old (open_here mode p self.old)
-            self.new found.new (open_here mode p self.new)) }
-        ensures free { OnOk result (IsFree mode item.now.program self.new) }
-        ensures tried { OnOk result (found.new.part.tried ≡ found.old.part.tried) }
-    {
-        match self.node.last {
-            Some(last) => self.run_from(found, item, mode, last),
-            None => Ok(()),
-        }
     }
 
     // The node gets a frame, unless nothing is to be tried there.
@@ -331,9 +310,9 @@ impl Path {
         }
     }
 
-    // Goes into the next open child.
+    // Enters an open child, and expands the node that the run comes to.
     #[inline(always)]
-    fn descend(
+    fn enter(
         &mut self,
         alloc: Global,
         found: &mut Found,
@@ -357,12 +336,12 @@ impl Path {
     {
         self.keep(item.program())?;
         self.run(found, item, mode, thread)?;
-        self.arrive(alloc, found, item, mode)
+        self.expand(alloc, found, item, mode)
     }
 
-    // Goes back to the node of the last frame below the item's own node. False where there is none.
+    // Goes up to the node of the last frame. False where that is above the item's own node.
     #[inline(always)]
-    fn retreat(&mut self, program: &Program, _mode: Mode) -> bool
+    fn go_up(&mut self, program: &Program, _mode: Mode) -> bool
         requires place { IsPlace program.now self.old }
         requires done { members_from self.old.node.todo 0 ≡ [] }
         ensures place { IsPlace program.now self.new }
@@ -384,9 +363,9 @@ impl Path {
         true
     }
 
-    // Goes back, and what was found with it.
+    // Backtracks to the node of the last frame. False where that is above the item's own node.
     #[inline(always)]
-    fn climb(&mut self, found: &mut Found, item: &Item, mode: Mode) -> bool
+    fn backtrack(&mut self, found: &mut Found, item: &Item, mode: Mode) -> bool
         requires search { Searches mode item.now self.old found.old
             (still_open mode item.now.program self.old) }
         requires done { members_from self.old.node.todo 0 ≡ [] }
@@ -400,13 +379,13 @@ impl Path {
             turns_left mode item.now.program self.new ≡ turns_left mode item.now.program self.old }
         ensures tried { found.new.part.tried ≡ found.old.part.tried }
     {
-        let more = self.retreat(item.program(), mode);
+        let more = self.go_up(item.program(), mode);
         found.go_back(self.steps.len());
         more
     }
 
-    // Goes into open children, and back where there is none, until so many are tried or nothing is
-    // open.
+    // Enters open children, and backtracks where there is none, until as many schedules as the
+    // limit are tried or nothing is open.
     #[inline(always)]
     fn search_in(
         &mut self,
@@ -432,9 +411,9 @@ impl Path {
             match self.node.todo.first_from(0) {
                 Some(thread) => {
                     self.node.todo = without_first(self.node.todo, thread);
-                    self.descend(alloc, found, item, mode, thread)?;
+                    self.enter(alloc, found, item, mode, thread)?;
                 }
-                None => going = self.climb(found, item, mode),
+                None => going = self.backtrack(found, item, mode),
             }
         }
         Ok(())
@@ -469,7 +448,7 @@ impl Path {
         }
     }
 
-    // Makes an item of the next open child, or goes back. False where nothing is open.
+    // Makes an item of the next open child, or goes up. False where nothing is open.
     fn give_back(
         &mut self,
         alloc: Global,
@@ -491,7 +470,7 @@ impl Path {
             turns_left mode item.now.program self.new ≡ turns_left mode item.now.program self.old) }
     {
         match self.node.todo.first_from(0) {
-            None => Ok(self.retreat(item.program(), mode)),
+            None => Ok(self.go_up(item.program(), mode)),
             Some(thread) => {
                 self.node.todo = without_first(self.node.todo, thread);
                 let asleep = self.sleepers(item.program(), mode, thread);
@@ -502,7 +481,7 @@ impl Path {
         }
     }
 
-    // Makes items of all that is open, and puts them after others.
+    // Makes items of all that is open, after others.
     fn give_all_back(
         &mut self,
         alloc: Global,
@@ -524,7 +503,7 @@ impl Path {
     }
 
     // Goes to an item's prefix.
-    fn stand_at(&mut self, item: &Item) -> Result<(), AllocError>
+    fn seek(&mut self, item: &Item) -> Result<(), AllocError>
         requires { IsPath item.now.program self.old }
         ensures path { IsPath item.now.program self.new }
         ensures place { OnOk result (IsPlace item.now.program self.new) }
@@ -566,14 +545,14 @@ impl Path {
     {
         let _ends = found.part.ends();
         let limit = found.part.tried() + u64::from(quota);
-        self.stand_at(item)?;
+        self.seek(item)?;
         if self.is_past(mode) {
             found.part.set_beyond();
             return Ok(());
         }
         found.begin(&self.steps);
-        self.set_out(found, item, mode)?;
-        self.arrive(alloc, found, item, mode)?;
+        self.resume(found, item, mode)?;
+        self.expand(alloc, found, item, mode)?;
         self.search(alloc, found, item, mode, limit)?;
         self.give_all_back(alloc, item, mode, &mut found.rest)
     }

@@ -71,8 +71,13 @@ fn asked(rt: &HostRuntime) -> Option<(Vec<u8>, Mode, bool)> {
     let words: Vec<String> = std::env::args(rt).ok()?.collect(rt.alloc()).ok()?;
     let text = fs::read(rt, words.get(1)?.as_str()).ok()?;
     let mode = mode_of(words.get(2)?.as_str())?;
-    let is_listed = words.get(3).is_none();
-    Some((text, mode, is_listed))
+    let Some(word) = words.get(3) else {
+        return Some((text, mode, true));
+    };
+    if word.as_str() != "unlisted" {
+        return None;
+    }
+    Some((text, mode, false))
 }
 
 fn main(rt: HostRuntime) -> ExitCode {

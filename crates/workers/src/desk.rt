@@ -147,7 +147,7 @@ impl<N: Naming> Desk<N> {
         Ok(())
     }
 
-    /// Takes note that so many more items of the round are settled or given up, and whether the
+    /// Takes note that `done` more items of the round are settled or given up, and whether the
     /// stretch ends with the round. Answers whether all of them are.
     pub fn note_done(&mut self, done: usize, ends: bool) -> bool {
         self.ends |= ends;

@@ -14,5 +14,5 @@ pub const YIELDS: u32 = 50;
 /// them at the end of a round.
 pub const SETTLED_WALKS: usize = 4;
 
-/// How many walks a worker keeps at most. It waits for the book where it keeps so many.
+/// How many walks a worker keeps at most. It waits for the book where it keeps that many.
 pub const KEPT_WALKS: usize = 32;

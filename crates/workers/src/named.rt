@@ -46,7 +46,7 @@ impl Naming for Brand {
     ghost lists = { false };
 }
 
-/// A book that is known to be of one search. So whoever gets it from a lock has nothing to compare.
+/// A book that is known to be of one search: a worker that gets it from a lock compares nothing.
 /// Contracts see the book.
 #[derive(Drop)]
 pub(crate) struct NamedBook<N: Naming> {

@@ -30,7 +30,7 @@ pub(crate) struct Stretch {
 }
 
 // A worker for each seat, with a hand each.
-fn seated(
+fn assign_seats(
     alloc: Global,
     board: &Board,
     program: &Program,
@@ -64,7 +64,7 @@ fn seated(
 }
 
 // The seats of workers, which go back to the board, and their hands, which are kept.
-fn disbanded<N: Naming>(
+fn collect_seats<N: Naming>(
     alloc: Global,
     board: &Board,
     workers: Vec<Worker>,
@@ -102,7 +102,7 @@ impl Stretch {
     {
         let Team { book, hands } = team;
         let program = Arc::try_clone(book.program())?;
-        let workers = seated(alloc, &board, &program, seats, hands)?;
+        let workers = assign_seats(alloc, &board, &program, seats, hands)?;
         Ok(Stretch {
             book,
             board,
@@ -136,7 +136,7 @@ impl Stretch {
         work_all(rt, &shared, &mut workers);
         let ending = ending_of(workers.as_slice());
         let (board, desk) = shared.into_parts();
-        let (seats, hands) = disbanded::<N>(alloc, &board, workers)?;
+        let (seats, hands) = collect_seats::<N>(alloc, &board, workers)?;
         let _claims = board.gather(seats);
         let book = desk.into_book();
         Ok((Team { book, hands }, ending))

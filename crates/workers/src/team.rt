@@ -61,7 +61,7 @@ fn walk_in_order<G: Gate>(
 }
 
 impl Team {
-    /// A team of so many workers for the search of a book.
+    /// A team of workers for the search of a book.
     pub fn new(alloc: Global, book: Book, workers: u32) -> Result<Team, AllocError>
         requires { (0 < workers) × (workers ≤ WORKERS) }
         ensures book { IfOk result (λ t. t.book ≡ book) }

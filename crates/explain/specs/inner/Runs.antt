@@ -4,7 +4,7 @@ use Rattle.guest_code.specs.declared.program.Instruction.{Instruction}
 use Rattle.explain.specs.declared.settings.Setting.{Setting}
 use Rattle.explain.specs.Settings.{settings_in}
 
--- what is set from here on, where so many instructions are jumped over first, or the run is over
+-- what is set from here on, where `skip` instructions are jumped over first, or the run is over
 abbrev pub settings_after : Option ℕ → List Instruction → ℕ → List ℤ → List Setting
 settings_after (Some skip) rest at locals = settings_in rest at skip locals
 settings_after None rest at locals = []

@@ -37,7 +37,7 @@ block_code_in context b = block_code (names_of context.names) b context.distance
 abbrev pub size_of : List Placed → ℕ
 size_of body = block_size (block_view body)
 
--- so many copies of these statements
+-- copies of these statements, this many times
 abbrev pub copies_of : code-names.Names → List Placed → ℕ → List Instruction
 copies_of names body times = unrolled (block_code (names_of names) (block_view body))
     (size_of body) times

@@ -1,6 +1,5 @@
 //! The lines of spans, notes and advice.
 
-ghost use Rattle.std.specs.Prelude.{◌++◌};
 ghost use Rattle.hints.specs.Lines.{span_lines, remark_lines, note_lines, advice_lines, all_lines};
 ghost use Rattle.hints.specs.Puts.{Puts};
 

@@ -6,7 +6,7 @@ use Rattle.semantics.specs.declared.state.VariableAction.{VariableAction}
 use Rattle.semantics.specs.declared.state.VariableAction.TheVariants.{Load as Loads, Store as Stores, Add as Adds, Cas as Swaps}
 use Rattle.machine.specs.declared.local.Landing.{Landing}
 
--- a thread, of whose locals only the first so many are kept
+-- a thread of which only the first `width` locals are kept
 abbrev pub narrow : ℕ → Thread → Thread
 narrow width th = record th { locals = take width th.locals }
 

@@ -257,8 +257,8 @@ impl Control {
         }
     }
 
-    /// A step of an enabled thread over a machine's values: those of so many variables, and then so
-    /// many locals of each thread. It takes no memory.
+    /// A step of an enabled thread over a machine's values: `fixed` values of variables, and then
+    /// `width` locals of each thread. It takes no memory.
     #[inline(always)]
     pub(crate) fn advance_over(
         &mut self,

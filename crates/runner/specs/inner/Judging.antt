@@ -12,8 +12,8 @@ use Rattle.book.specs.Books.{BookView}
 use Rattle.report.specs.declared.options.Options.{Options}
 use Rattle.report.specs.declared.options.Search.{Search}
 use Rattle.report.specs.declared.options.Search.TheVariants.{UpTo, Unbounded}
-use Rattle.runner.specs.declared.judge.Next.{Next}
-use Rattle.runner.specs.declared.judge.Next.TheVariants.{Answer, Raise, Again}
+use Rattle.runner.specs.declared.judge.Decision.{Decision}
+use Rattle.runner.specs.declared.judge.Decision.TheVariants.{Answer, Raise, Again}
 use Rattle.report.specs.declared.report.Report.{Report}
 use Rattle.report.specs.declared.report.Verdict.{Verdict}
 use Rattle.report.specs.declared.report.Verdict.TheVariants.{Clean, Bad, Incomplete}
@@ -100,20 +100,20 @@ pub record IsFound (quick : Bool) (p : Program) (mode : Mode) (s : SummaryView) 
   pub clean : s.first_bad ≡ None → s ≡ whole p mode
 
 -- what comes next where nothing is open
-abbrev pub ComesWhole : Bool → Program → Options → Mode → SummaryView → Next → Type 0
+abbrev pub ComesWhole : Bool → Program → Options → Mode → SummaryView → Decision → Type 0
 ComesWhole may p o mode sum (Answer r) = IsReport may p o r
 ComesWhole may p o mode sum Raise =
     (sum.first_bad ≡ None) × (IsReached o.limit sum → ⊥) × CanRaise p o.search mode
 ComesWhole may p o mode sum Again = ⊥
 
 -- what comes next where items are open
-abbrev pub ComesOpen : Bool → Program → Options → SummaryView → Next → Type 0
+abbrev pub ComesOpen : Bool → Program → Options → SummaryView → Decision → Type 0
 ComesOpen may p o sum (Answer r) = IsReport may p o r
 ComesOpen may p o sum Raise = ⊥
 ComesOpen may p o sum Again = IsReached o.limit sum → ⊥
 
 -- what comes next after a round: a report, or the search is not cut short and goes on
-abbrev pub Comes : Bool → Program → Options → Mode → BookView → Next → Type 0
+abbrev pub Comes : Bool → Program → Options → Mode → BookView → Decision → Type 0
 Comes may p o mode book (Answer r) = IsReport may p o r
 Comes may p o mode book Raise = (book.open_items ≡ []) × (book.dropped ≡ false)
     × (IsReached o.limit book.finished → ⊥) × CanRaise p o.search mode
@@ -121,7 +121,7 @@ Comes may p o mode book Again =
     (book.open_items ≡ [] → ⊥) × (IsReached o.limit book.finished → ⊥)
 
 -- what comes next after all rounds of a mode
-abbrev pub ComesAfter : Program → Options → Mode → BookView → Next → Type 0
+abbrev pub ComesAfter : Program → Options → Mode → BookView → Decision → Type 0
 ComesAfter p o mode book (Answer r) = IsReport false p o r
 ComesAfter p o mode book Raise = IsAt book p o mode × Comes false p o mode book Raise
 ComesAfter p o mode book Again = ⊥

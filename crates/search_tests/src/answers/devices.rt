@@ -31,7 +31,7 @@ impl<'a> Read for FailingReader<'a> {
 }
 
 /// Takes one byte a call, and fails at the call of this number, counted from 0, or where it is
-/// flushed after so many calls.
+/// flushed after that many calls.
 #[derive(Drop)]
 pub struct FailingWriter {
     pub fails_at: usize,

@@ -7,7 +7,7 @@ use std::thread;
 /// More turns than a held worker waits.
 const TURNS: u64 = 1_000_000;
 
-/// Lets so many items pass, and stops at each later one.
+/// Lets a number of items pass, and stops at each later one.
 #[derive(Drop)]
 pub struct Passing {
     pub passes: u64,
@@ -15,7 +15,7 @@ pub struct Passing {
 }
 
 impl Passing {
-    /// A gate that lets so many items pass.
+    /// A gate that lets `passes` items pass.
     pub fn new(passes: u64) -> Passing {
         Passing {
             passes,
@@ -63,8 +63,8 @@ impl Gate for StopsOne {
     }
 }
 
-/// Counts the walks, and keeps the worker of the second one waiting until so many have ended, or it
-/// has waited too long.
+/// Counts the walks, and keeps the worker of the second one waiting until a number of them have
+/// ended, or it has waited too long.
 #[derive(Drop)]
 pub struct Holding {
     pub until: u64,
@@ -73,7 +73,7 @@ pub struct Holding {
 }
 
 impl Holding {
-    /// A gate that keeps the worker of the second walk waiting until so many walks have ended.
+    /// A gate that keeps the worker of the second walk waiting until `until` walks have ended.
     pub fn new(until: u64) -> Holding {
         Holding {
             until,

@@ -70,7 +70,7 @@ const ONE_BY_ONE: Options = Options {
 };
 
 /// Compares the report of a search of the three threads by two workers, with this limit, where a
-/// gate lets so many items pass.
+/// gate lets `passes` items pass.
 fn passing_reports(
     rt: &(impl Abort + Threads + Wait + Sync + Alloc<A = Global>),
     limit: Option<u64>,

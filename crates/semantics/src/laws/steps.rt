@@ -157,7 +157,7 @@ pub fn others_leave_an_owned_mutex()
 
 // Conditions.
 
-/// Where queues hold who waits, whoever a signal or a broadcast calls is woken.
+/// Where queues hold who waits, each thread that a signal or a broadcast calls is woken.
 pub fn threads_to_wake_are_woken()
     ensures { (p : Program) (s : Snapshot) (t u c : ℕ) (d : ConditionAction) →
         HasWaiters s → next_of p s t ≡ Some (OnCondition c d) →

@@ -13,13 +13,13 @@ use Rattle.walk.specs.declared.path.Frame.{Frame}
 use Rattle.walk.specs.declared.path.Path.{Path}
 
 -- the thread of the last step, if there is one, could go on, and it is not this one
-abbrev pub leaves_last : Option ℕ → Mask → ℕ → Bool
-leaves_last None enabled t = false
-leaves_last (Some last) enabled t = has enabled last && not (nat_eq last t)
+abbrev pub preempts_last : Option ℕ → Mask → ℕ → Bool
+preempts_last None enabled t = false
+preempts_last (Some last) enabled t = has enabled last && not (nat_eq last t)
 
 -- a step of this thread is a preempting switch, where these are enabled
-abbrev pub leaves : Mask → Node → ℕ → Bool
-leaves enabled n t = leaves_last n.last enabled t
+abbrev pub is_preempting : Mask → Node → ℕ → Bool
+is_preempting enabled n t = preempts_last n.last enabled t
 
 -- the state that steps lead to from the start
 abbrev pub state_at : Program → List ℕ → Snapshot

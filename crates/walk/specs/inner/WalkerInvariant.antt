@@ -15,7 +15,7 @@ use Rattle.prefix_list.specs.PrefixLists.{last_of}
 use Rattle.summary.specs.Summaries.{SummaryView, IsSummary, join}
 use Rattle.items.specs.Walks.{IsWalked, items_at, listed_if}
 use Rattle.items.specs.Children.{child_of, children_of, cost_of, costs}
-use Rattle.walk.specs.inner.Paths.{used_frames, leaves, frame_at, state_at, IsPath}
+use Rattle.walk.specs.inner.Paths.{used_frames, is_preempting, frame_at, state_at, IsPath}
 
 -- the item of a node, to which these steps lead
 abbrev pub item_of : Program → List ℕ → Node → ItemView
@@ -131,12 +131,12 @@ turns_next mode p t u false = turns_from mode p t
 -- a step of the thread is kept, where these are enabled and the node's own preemptions are within
 -- the bound
 abbrev pub is_kept_at : Mode → Mask → Node → ℕ → Bool
-is_kept_at (Bounded bound) e n t = nat_le (n.used + one_if (leaves e n t)) bound
+is_kept_at (Bounded bound) e n t = nat_le (n.used + one_if (is_preempting e n t)) bound
 is_kept_at Reduced e n t = not (has n.asleep t)
 
 -- it passes the bound
 abbrev pub is_past_at : Mode → Mask → Node → ℕ → Bool
-is_past_at (Bounded bound) e n t = nat_lt bound (n.used + one_if (leaves e n t))
+is_past_at (Bounded bound) e n t = nat_lt bound (n.used + one_if (is_preempting e n t))
 is_past_at Reduced e n t = false
 
 -- the node's preemptions are within the bound
@@ -149,15 +149,15 @@ abbrev pub is_past_here : Mode → Node → Bool
 is_past_here (Bounded bound) n = nat_lt bound n.used
 is_past_here Reduced n = false
 
--- the bound is used up
-abbrev pub IsSpent : Mode → Node → Type 0
-IsSpent (Bounded bound) n = n.used ≡ bound
-IsSpent Reduced n = ⊥
+-- the node is at the bound
+abbrev pub IsAtBound : Mode → Node → Type 0
+IsAtBound (Bounded bound) n = n.used ≡ bound
+IsAtBound Reduced n = ⊥
 
 -- whether it is
-abbrev pub is_spent_at : Mode → Node → Bool
-is_spent_at (Bounded bound) n = nat_eq n.used bound
-is_spent_at Reduced n = false
+abbrev pub at_bound : Mode → Node → Bool
+at_bound (Bounded bound) n = nat_eq n.used bound
+at_bound Reduced n = false
 
 -- no step of an enabled thread passes the bound
 abbrev pub IsFree : Mode → Program → Path → Type 0

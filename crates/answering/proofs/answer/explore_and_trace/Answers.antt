@@ -1,4 +1,4 @@
-use Rattle.std.proofs.Common.{◌≡◌, ◌∙◌, ap, subst, sym, refl, ℕ, List, [], ◌∷◌, ◌++◌, Option}
+use Rattle.std.proofs.Common.{◌∙◌, ap, subst, sym, refl, ℕ, List, [], ◌∷◌, ◌++◌, Option}
 use Rattle.std.proofs.Common.{Vec, Global, append-nil}
 use Rattle.report.specs.ReportText.{report_text}
 use Rattle.answering.specs.Answer.{IsTraceOf, IsReplayOf}

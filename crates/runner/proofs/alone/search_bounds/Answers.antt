@@ -1,7 +1,7 @@
 use Rattle.std.proofs.Common.{◌≡◌, ◌∙◌, subst, Result, Ok, Err, IfErr}
 use Rattle.std.specs.Result.{IsErrAnd}
 use Rattle.report.specs.declared.error.ExploreError.TheVariants.{OutOfMemory}
-use Rattle.runner.specs.declared.judge.Next.{Next}
+use Rattle.runner.specs.declared.judge.Decision.{Decision}
 use Rattle.runner.specs.inner.Judging.{ComesAfter}
 use Rattle.runner.proofs.AfterRounds.{raised_less, raised_stage, begun_at}
 use Rattle.runner.proofs.alone.search_bounds.Goals as goal
@@ -9,7 +9,7 @@ use Rattle.runner.proofs.alone.search_bounds.Goals as goal
 pub loop-report-smaller : goal.loop-report-smaller
 loop-report-smaller g c =
     let o = c.args.stage.options in
-    let comes = subst (λ (n : Next). ComesAfter c.args.stage.program.now o c.loop-report.mode
+    let comes = subst (λ (n : Decision). ComesAfter c.args.stage.program.now o c.loop-report.mode
     c.search_mode.new.book n) c.in-Raise.is c.in_ok-report.ensures.next in
     raised_less c.search_mode.new.book _ c.args.stage.program.now o c.loop-report.mode _ comes.0
     comes.1.3 c.in-Ok.ensures.ok c.mode-mode.ensures
@@ -17,7 +17,7 @@ loop-report-smaller g c =
 pub loop-report-preserved : goal.loop-report-preserved
 loop-report-preserved g c =
     let o = c.args.stage.options in
-    let comes = subst (λ (n : Next). ComesAfter c.args.stage.program.now o c.loop-report.mode
+    let comes = subst (λ (n : Decision). ComesAfter c.args.stage.program.now o c.loop-report.mode
     c.search_mode.new.book n) c.in-Raise.is c.in_ok-report.ensures.next in
     let at = raised_stage c.search_mode.new.book _ c.args.stage.program.now o c.loop-report.mode
     c.mode-mode.result comes.0 comes.1.3 c.in-Ok.ensures.ok c.mode-mode.ensures in

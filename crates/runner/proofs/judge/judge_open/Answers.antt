@@ -1,6 +1,6 @@
 use Rattle.std.proofs.Common.{sym, subst}
 use Rattle.std.proofs.lemmas.Result.{IfOk-weaker}
-use Rattle.runner.specs.declared.judge.Next.{Next}
+use Rattle.runner.specs.declared.judge.Decision.{Decision}
 use Rattle.runner.specs.inner.Judging.{ComesOpen}
 use Rattle.runner.proofs.Judgments.{open_is_reported}
 use Rattle.runner.proofs.judge.judge_open.Goals as goal
@@ -10,7 +10,7 @@ returns-in-Some-clause-next c =
     let b = c.args.book.now in
     let o = c.args.options in
     IfOk-weaker c.report_in.result _ _ (λ n e may h.
-    subst (λ (x : Next). ComesOpen may b.program o b.finished x) (sym e)
+    subst (λ (x : Decision). ComesOpen may b.program o b.finished x) (sym e)
     (open_is_reported may o b c.mode-mode.result c.finished.result.now
     c.finished-in-Some.result.now c.in-Some.cause c.bound_below-finished.result
     c.mode-mode.ensures c.finished.ensures.finished c.finished-in-Some.ensures.finished

@@ -1,6 +1,6 @@
 use Rattle.std.proofs.Common.{rules, ◌≡◌, ◌⊎◌, inl, inr, sym, subst, ap, Some, None, true, false, not}
 use Rattle.std.proofs.lemmas.Result.{IfOk-weaker}
-use Rattle.runner.specs.declared.judge.Next.{Next}
+use Rattle.runner.specs.declared.judge.Decision.{Decision}
 use Rattle.runner.specs.inner.Judging.{IsLast, IsFinishedIn, ComesWhole}
 use Rattle.runner.proofs.Judgments.{bad_is_complete, bad_is_reported, clean_is_reported}
 use Rattle.runner.proofs.Judgments.{cut_is_reported, whole_is_finished, can_raise}
@@ -22,7 +22,7 @@ returns-in-Some-clause-next c =
     let w = c.in-Some.schedule.now in
     let some : c.args.summary.now.first_bad ≡ Some c.in-Some.schedule.now = search rules in
     IfOk-weaker c.report_in.result _ _ (λ n e may h.
-    subst (λ (x : Next). ComesWhole may p o c.args.stage.mode sum x) (sym e)
+    subst (λ (x : Decision). ComesWhole may p o c.args.stage.mode sum x) (sym e)
     (bad_is_reported may p o c.args.stage.mode sum w c.in_ok-verdict.verdict c.requires.stage
     c.requires.found some c.in_ok-verdict.ensures.verdict)) c.report_in.ensures.report
 
@@ -38,7 +38,7 @@ returns-then-all-clause-next c =
       | then-all-via-else-all+then-is_last w ↦ inl (search rules)
     ] in
     IfOk-weaker c.report_in-then-all.result _ _ (λ n e may h.
-    subst (λ (x : Next). ComesWhole may p o c.args.stage.mode sum x) (sym e)
+    subst (λ (x : Decision). ComesWhole may p o c.args.stage.mode sum x) (sym e)
     (clean_is_reported may p o c.args.stage.mode sum (not c.beyond-all.result) c.requires.stage
     c.requires.found none (ap not c.beyond-all.ensures) last))
     c.report_in-then-all.ensures.report
@@ -51,7 +51,7 @@ returns-in-Some-cause_of-clause-next c =
     let mode = c.args.stage.mode in
     let none : c.args.summary.now.first_bad ≡ None = search rules in
     IfOk-weaker c.report_in-in-Some-cause_of.result _ _ (λ n e may h.
-    subst (λ (x : Next). ComesWhole may p o mode sum x) (sym e)
+    subst (λ (x : Decision). ComesWhole may p o mode sum x) (sym e)
     (cut_is_reported may p o mode sum c.in-Some-cause_of.cause c.mode_bound-finished.result
     c.requires.stage c.requires.items (c.in-Some-cause_of.ensures.some may h)
     (subst (IsFinishedIn p mode) (sym c.mode_bound-finished.ensures)

@@ -3,8 +3,8 @@ use Rattle.book.specs.Books.{BookView, IsNotRaised, Raises}
 use Rattle.book.specs.declared.errors.RaiseError.{RaiseError}
 use Rattle.items.specs.declared.mode.Mode.{Mode}
 use Rattle.workers.specs.Teams.{IsOf}
-use Rattle.runner.specs.declared.judge.Next.{Next}
-use Rattle.runner.specs.declared.judge.Next.TheVariants.{Raise}
+use Rattle.runner.specs.declared.judge.Decision.{Decision}
+use Rattle.runner.specs.declared.judge.Decision.TheVariants.{Raise}
 use Rattle.runner.specs.inner.Judging.{Comes, IsAt, IsStage}
 use Rattle.runner.proofs.AfterRounds.{was_at, thinned_at, not_at_last, raised_stage, begun_at}
 use Rattle.runner.proofs.together.after_round.Goals as goal
@@ -13,7 +13,7 @@ use Rattle.runner.proofs.together.after_round.Goals.{In-Raise}
 -- the next bound comes after the round
 comes : (c : In-Raise) → Comes true c.args.program.now c.args.options c.mode-mode.result
     c.drop_later-number.new.self Raise
-comes c = subst (λ (n : Next). Comes true c.args.program.now c.args.options c.mode-mode.result
+comes c = subst (λ (n : Decision). Comes true c.args.program.now c.args.options c.mode-mode.result
     c.drop_later-number.new.self n) c.in-Raise.is (c.in_ok-report.ensures.next true (λ e. refl))
 
 -- the book is still one of the mode
@@ -48,7 +48,7 @@ unreachable-requires-in-Err-LastBound c =
 
 pub returns-in-Answer-clause-report : goal.returns-in-Answer-clause-report
 returns-in-Answer-clause-report c may h =
-    subst (λ (n : Next). Comes may c.args.program.now c.args.options c.mode-mode.result
+    subst (λ (n : Decision). Comes may c.args.program.now c.args.options c.mode-mode.result
     c.drop_later-number.new.self n) c.in-Answer.is (c.in_ok-report.ensures.next may h)
 
 -- the raised book lists what it puts off

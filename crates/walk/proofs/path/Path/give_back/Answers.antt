@@ -3,7 +3,7 @@ use Rattle.std.proofs.lemmas.List.Elements.{All-tail, All-head}
 use Rattle.guest_code.specs.Program.{Program}
 use Rattle.semantics.specs.Machine.{start, is_enabled}
 use Rattle.schedules.specs.Schedules.{runs}
-use Rattle.walk.proofs.Arrivals.{child_enabled}
+use Rattle.walk.proofs.Expansions.{child_enabled}
 use Rattle.items.specs.Items.{IsItem}
 use Rattle.walk.specs.inner.Paths.{state_at}
 use Rattle.items.specs.Children.{children_of, child_of, costs}

@@ -4,7 +4,7 @@ use Rattle.schedules.proofs.Executions.{reaches_few}
 use Rattle.schedules.proofs.ScheduleLengths.{schedule_within}
 use Rattle.walk.specs.inner.Paths.{state_at}
 use Rattle.std.proofs.Math.Seq.{take-length}
-use Rattle.walk.proofs.PathSteps.{path_gone, left_goes, leaves_is, front_more}
+use Rattle.walk.proofs.PathSteps.{path_gone, left_goes, preempts_is, front_more}
 use Rattle.walk.proofs.path.Path.go.Goals as goal
 
 pub step-requires : goal.step-requires
@@ -21,8 +21,8 @@ returns-clause-path c =
     let p = c.args.program.now in
     let t = c.args.self.now in
     path_gone p t _ c.args.thread c.requires.path c.requires.frames c.requires.enabled
-    (c.step.ensures.used ∙ ap (λ b. t.node.used + one_if b) (leaves_is p (state_at p t.steps.items)
-    c.enabled-enabled.result t.node.last c.args.thread
+    (c.step.ensures.used ∙ ap (λ b. t.node.used + one_if b)
+    (preempts_is p (state_at p t.steps.items) c.enabled-enabled.result t.node.last c.args.thread
     (c.enabled-enabled.ensures p (state_at p t.steps.items) c.requires.path.shows)))
     c.in_ok-push.ensures.items c.step.ensures.last
     (c.step-2.ensures.shows (state_at p t.steps.items) c.requires.path.shows c.requires.enabled)

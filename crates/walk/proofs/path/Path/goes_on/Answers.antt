@@ -2,8 +2,8 @@ use Rattle.std.proofs.Common.{sym, ◌∙◌, ◌&&◌, ap, refl, arith}
 use Rattle.semantics.proofs.WorkFalls.{enabled_below}
 use Rattle.semantics.specs.Mask.{has}
 use Rattle.walk.specs.inner.Paths.{state_at}
-use Rattle.walk.specs.inner.WalkerInvariant.{is_spent_at, here, left_above}
-use Rattle.walk.proofs.Arrivals.{within_at, turned_here, below_turns}
+use Rattle.walk.specs.inner.WalkerInvariant.{at_bound, here, left_above}
+use Rattle.walk.proofs.Expansions.{within_at, turned_here, below_turns}
 use Rattle.walk.proofs.LoneSteps.{lone_search, and_right, free_alone}
 use Rattle.walk.proofs.WalkSteps.{first_on}
 use Rattle.walk.proofs.path.Path.goes_on.Goals as goal
@@ -15,7 +15,7 @@ with-requires c =
     let path = c.requires.search.1.place.path in
     let below = enabled_below p (state_at p t.steps.items) c.args.thread
     (sym (c.enabled-enabled.ensures p (state_at p t.steps.items) path.shows c.args.thread)
-    ∙ (and_right (is_spent_at c.args.mode t.node) (has c.enabled-enabled.result c.args.thread)
+    ∙ (and_right (at_bound c.args.mode t.node) (has c.enabled-enabled.result c.args.thread)
     (sym c.is_alone.ensures ∙ c.if-not-is_alone.false))) in
     let few = path.shows.of.few in
     omega (arith, below, few)
@@ -39,7 +39,7 @@ returns-clause-falls c =
     (turned_here t _ c.defer.ensures.steps refl refl refl refl refl refl)
     (sym (c.enabled-enabled.ensures p (state_at p t.steps.items)
     c.requires.search.1.place.path.shows c.args.thread)
-    ∙ and_right (is_spent_at c.args.mode t.node) (has c.enabled-enabled.result c.args.thread)
+    ∙ and_right (at_bound c.args.mode t.node) (has c.enabled-enabled.result c.args.thread)
     (sym c.is_alone.ensures ∙ c.if-not-is_alone.false))
 
 pub returns-then-not-is_alone-clause-free : goal.returns-then-not-is_alone-clause-free
@@ -51,6 +51,6 @@ returns-then-not-is_alone-clause-free c =
     (within_at c.args.mode p t path (first_on c.args.mode c.args._item.now (here p t)
     c.args.found.now (left_above c.args.mode p t) c.requires.search.1.walked).within)
     c.requires.last
-    (ap (λ b. is_spent_at c.args.mode t.node && b)
+    (ap (λ b. at_bound c.args.mode t.node && b)
     (sym (c.enabled-enabled.ensures p (state_at p t.steps.items) path.shows c.args.thread))
     ∙ (sym c.is_alone.ensures ∙ c.if-not-is_alone.true))

@@ -1,7 +1,7 @@
 use Rattle.std.proofs.Common.{refl, sym, arith}
 use Rattle.std.proofs.lemmas.Result.{on_ok_weaker}
 use Rattle.walk.proofs.PathSteps.{open_done}
-use Rattle.walk.proofs.Arrivals.{opened_place, opened_kept}
+use Rattle.walk.proofs.Expansions.{opened_place, opened_kept}
 use Rattle.walk.proofs.path.Path.keep.Goals as goal
 
 pub returns-in-Some-clause-place : goal.returns-in-Some-clause-place

@@ -6,7 +6,7 @@ use Rattle.semantics.proofs.WorkFalls.{work-step}
 use Rattle.schedules.proofs.UnfoldingUnderPrefix.{state_after-push}
 use Rattle.walk.specs.inner.Paths.{state_at}
 use Rattle.walk.specs.inner.WalkerInvariant.{turns_from, turns_into, turns_next}
-use Rattle.walk.proofs.Arrivals.{next_is, next_enabled, gone_into, gone_turns}
+use Rattle.walk.proofs.Expansions.{next_is, next_enabled, gone_into, gone_turns}
 use Rattle.walk.proofs.path.Path.run.Goals as goal
 
 pub sleepers-asleep-requires-clause-enabled : goal.sleepers-asleep-requires-clause-enabled

@@ -1,11 +1,11 @@
 use Rattle.std.proofs.Common.{◌++◌, ℕ, List, arith, ap, refl, rules}
 use Rattle.items.specs.Children.{children_of, costs}
 use Rattle.walk.specs.inner.WalkerInvariant.{here, left_above, turns_left}
-use Rattle.walk.proofs.Arrivals.{turned_here, search_turned}
+use Rattle.walk.proofs.Expansions.{turned_here, search_turned}
 use Rattle.walk.proofs.path.Path.search_in.Goals as goal
 
-pub descend-requires : goal.descend-requires
-descend-requires c =
+pub enter-requires : goal.enter-requires
+enter-requires c =
     let p = c.args.item.now.program in
     let t = c.loop-going.self in
     let b = c.requires.search.0 in
@@ -26,7 +26,7 @@ loop-going-preserved-in-Continue-1 c =
     let t = c.loop-going.self in
     record {
       search = λ b k. let h = c.loop-going.invariant.search b k in
-          c.in_ok-descend-in-Some.ensures.search b
+          c.in_ok-enter-in-Some.ensures.search b
           (search_turned c.args.mode c.args.item.now t _ c.loop-going.found _ _ h
           (turned_here t _ refl refl refl refl refl refl refl) h.place.path.room
           (ap (λ (ts : List ℕ). children_of c.args.mode (here p t) ts
@@ -35,13 +35,13 @@ loop-going-preserved-in-Continue-1 c =
       over = search rules;
     }
 
-pub climb-going-requires-clause-search : goal.climb-going-requires-clause-search
-climb-going-requires-clause-search c =
+pub backtrack-going-requires-clause-search : goal.backtrack-going-requires-clause-search
+backtrack-going-requires-clause-search c =
     let h = c.requires.search in (h.0, c.loop-going.invariant.search h.0 h.1)
 
 pub loop-going-preserved : goal.loop-going-preserved
 loop-going-preserved c = record {
-  search = λ b h. c.climb-going.ensures.search b (c.loop-going.invariant.search b h);
+  search = λ b h. c.backtrack-going.ensures.search b (c.loop-going.invariant.search b h);
   few = search rules;
   over = search rules;
 }
@@ -61,5 +61,5 @@ loop-going-smaller-in-Continue-1 c =
     let t = c.loop-going.self in
     let e = ap (λ (ts : List ℕ). costs (children_of c.args.mode (here p t) ts
     ++ left_above c.args.mode p t)) c.without_first-self.ensures in
-    let f = c.in_ok-descend-in-Some.ensures.further in
+    let f = c.in_ok-enter-in-Some.ensures.further in
     omega (arith, e, f)

@@ -6,80 +6,80 @@ use Rattle.walk.proofs.path.Path.walk.Goals as goal
 pub returns-then-is_past-clause-added : goal.returns-then-is_past-clause-added
 returns-then-is_past-clause-added c =
     let i = c.args.item.now in
-    let t = c.stand_at.new.self in
+    let t = c.seek.new.self in
     past_added c.args.mode i.program t.steps.items t.node i c.args.found.now _ c.args.quota
-    c.stand_at.ensures.path.reaches c.in_ok-stand_at.ensures.item
+    c.seek.ensures.path.reaches c.in_ok-seek.ensures.item
     (sym c.is_past.ensures ∙ c.if-is_past.true) c.ends-ends.ensures.kept
     (λ k. record c.args.found.now { part = c.set_beyond.ensures k })
 
-pub set_out-requires : goal.set_out-requires
-set_out-requires c = record {
+pub resume-requires : goal.resume-requires
+resume-requires c = record {
   search = (
     c.args.found.now,
-    search_begun c.args.mode c.args.item.now c.stand_at.new.self c.args.found.now c.begin.new.self
-        c.in_ok-stand_at.ensures.place c.in_ok-stand_at.ensures.item c.in_ok-stand_at.ensures.base
+    search_begun c.args.mode c.args.item.now c.seek.new.self c.args.found.now c.begin.new.self
+        c.in_ok-seek.ensures.place c.in_ok-seek.ensures.item c.in_ok-seek.ensures.base
         (sym c.is_past.ensures ∙ c.if-is_past.false) c.ends-ends.ensures.kept
         c.begin.ensures.same c.begin.ensures.shared,
   );
 }
 
-pub arrive-requires-clause-search : goal.arrive-requires-clause-search
-arrive-requires-clause-search c = (
+pub expand-requires-clause-search : goal.expand-requires-clause-search
+expand-requires-clause-search c = (
   c.args.found.now,
-  c.in_ok-set_out.ensures.search c.args.found.now
-      (search_begun c.args.mode c.args.item.now c.stand_at.new.self c.args.found.now
-      c.begin.new.self c.in_ok-stand_at.ensures.place c.in_ok-stand_at.ensures.item
-      c.in_ok-stand_at.ensures.base (sym c.is_past.ensures ∙ c.if-is_past.false)
+  c.in_ok-resume.ensures.search c.args.found.now
+      (search_begun c.args.mode c.args.item.now c.seek.new.self c.args.found.now
+      c.begin.new.self c.in_ok-seek.ensures.place c.in_ok-seek.ensures.item
+      c.in_ok-seek.ensures.base (sym c.is_past.ensures ∙ c.if-is_past.false)
       c.ends-ends.ensures.kept c.begin.ensures.same c.begin.ensures.shared),
 )
 
 pub search-requires-clause-search : goal.search-requires-clause-search
 search-requires-clause-search c = (
   c.args.found.now,
-  c.in_ok-arrive.ensures.search c.args.found.now (c.in_ok-set_out.ensures.search c.args.found.now
-      (search_begun c.args.mode c.args.item.now c.stand_at.new.self c.args.found.now
-      c.begin.new.self c.in_ok-stand_at.ensures.place c.in_ok-stand_at.ensures.item
-      c.in_ok-stand_at.ensures.base (sym c.is_past.ensures ∙ c.if-is_past.false)
+  c.in_ok-expand.ensures.search c.args.found.now (c.in_ok-resume.ensures.search c.args.found.now
+      (search_begun c.args.mode c.args.item.now c.seek.new.self c.args.found.now
+      c.begin.new.self c.in_ok-seek.ensures.place c.in_ok-seek.ensures.item
+      c.in_ok-seek.ensures.base (sym c.is_past.ensures ∙ c.if-is_past.false)
       c.ends-ends.ensures.kept c.begin.ensures.same c.begin.ensures.shared)),
 )
 
 pub give_all_back-requires-clause-place : goal.give_all_back-requires-clause-place
 give_all_back-requires-clause-place c =
     (c.in_ok-search.ensures.search c.args.found.now
-    (c.in_ok-arrive.ensures.search c.args.found.now (c.in_ok-set_out.ensures.search c.args.found.now
-    (search_begun c.args.mode c.args.item.now c.stand_at.new.self c.args.found.now
-    c.begin.new.self c.in_ok-stand_at.ensures.place c.in_ok-stand_at.ensures.item
-    c.in_ok-stand_at.ensures.base (sym c.is_past.ensures ∙ c.if-is_past.false)
+    (c.in_ok-expand.ensures.search c.args.found.now (c.in_ok-resume.ensures.search c.args.found.now
+    (search_begun c.args.mode c.args.item.now c.seek.new.self c.args.found.now
+    c.begin.new.self c.in_ok-seek.ensures.place c.in_ok-seek.ensures.item
+    c.in_ok-seek.ensures.base (sym c.is_past.ensures ∙ c.if-is_past.false)
     c.ends-ends.ensures.kept c.begin.ensures.same c.begin.ensures.shared)))).place
 
 pub give_all_back-requires-clause-items : goal.give_all_back-requires-clause-items
 give_all_back-requires-clause-items c =
     items_run c.args.mode c.args.item.now c.search.new.found _
     (c.in_ok-search.ensures.search c.args.found.now
-    (c.in_ok-arrive.ensures.search c.args.found.now (c.in_ok-set_out.ensures.search c.args.found.now
-    (search_begun c.args.mode c.args.item.now c.stand_at.new.self c.args.found.now
-    c.begin.new.self c.in_ok-stand_at.ensures.place c.in_ok-stand_at.ensures.item
-    c.in_ok-stand_at.ensures.base (sym c.is_past.ensures ∙ c.if-is_past.false)
+    (c.in_ok-expand.ensures.search c.args.found.now (c.in_ok-resume.ensures.search c.args.found.now
+    (search_begun c.args.mode c.args.item.now c.seek.new.self c.args.found.now
+    c.begin.new.self c.in_ok-seek.ensures.place c.in_ok-seek.ensures.item
+    c.in_ok-seek.ensures.base (sym c.is_past.ensures ∙ c.if-is_past.false)
     c.ends-ends.ensures.kept c.begin.ensures.same c.begin.ensures.shared)))).walked
 
 pub returns-clause-added : goal.returns-clause-added
 returns-clause-added c =
     let i = c.args.item.now in
     let f = c.args.found.now in
-    let t = c.stand_at.new.self in
+    let t = c.seek.new.self in
     let g = c.search.new.found in
     let past = sym c.is_past.ensures ∙ c.if-is_past.false in
     let begun = search_begun c.args.mode i t f c.begin.new.self
-    c.in_ok-stand_at.ensures.place c.in_ok-stand_at.ensures.item c.in_ok-stand_at.ensures.base
+    c.in_ok-seek.ensures.place c.in_ok-seek.ensures.item c.in_ok-seek.ensures.base
     past c.ends-ends.ensures.kept c.begin.ensures.same c.begin.ensures.shared in
     let few = c.in_ok-search.ensures.few in
     let tried = c.tried.ensures in
     let quota = c.from.ensures in
     on_ok_weaker c.give_all_back.result
     (search_added c.args.mode i t.node t.steps.items c.search.new.self f g _ c.args.quota
-    c.stand_at.ensures.path.reaches c.in_ok-stand_at.ensures.item past
-    (c.in_ok-search.ensures.search f (c.in_ok-arrive.ensures.search f
-    (c.in_ok-set_out.ensures.search f begun)))
+    c.seek.ensures.path.reaches c.in_ok-seek.ensures.item past
+    (c.in_ok-search.ensures.search f (c.in_ok-expand.ensures.search f
+    (c.in_ok-resume.ensures.search f begun)))
     c.requires.room (omega (arith, few, tried, quota))
     (λ l. c.in_ok-search.ensures.all (omega (arith, l, tried, quota))) refl)
     c.give_all_back.ensures.rest

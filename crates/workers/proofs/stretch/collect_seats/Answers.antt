@@ -4,7 +4,7 @@ use Rattle.board.specs.Board.{SeatView}
 use Rattle.workers.specs.declared.hand.Hand.{Hand}
 use Rattle.workers.specs.declared.worker.Worker.{Worker}
 use Rattle.workers.specs.inner.Rounds.{IsOn}
-use Rattle.workers.proofs.stretch.disbanded.Goals as goal
+use Rattle.workers.proofs.stretch.collect_seats.Goals as goal
 
 pub loop-worker-preserved : goal.loop-worker-preserved
 loop-worker-preserved g c =

@@ -2,7 +2,7 @@ use Rattle.std.proofs.Common.{◌≤◌, ◌+◌, ◌-◌, ◌≡◌, ◌∙◌,
 use Rattle.items.specs.Children.{costs}
 use Rattle.walk.specs.inner.WalkerInvariant.{turns_left}
 use Rattle.walk.proofs.PathSteps.{open_done}
-use Rattle.walk.proofs.path.Path.retreat.Goals as goal
+use Rattle.walk.proofs.path.Path.go_up.Goals as goal
 
 pub returns-clause-same : goal.returns-clause-same
 returns-clause-same c =

@@ -1,7 +1,7 @@
 use Rattle.std.proofs.Common.{◌≡◌, ◌++◌, ◌∷◌, [], length, map}
 use Rattle.semantics.specs.Mask.{members_from}
 use Rattle.walk.specs.inner.WalkerInvariant.{IsShared}
-use Rattle.walk.proofs.found.Found.put_beside.Given as goal
+use Rattle.walk.proofs.found.Found.defer_beside.Given as goal
 
 abbrev pub invariant-loop-thread : goal.invariant-loop-thread
 invariant-loop-thread l = record {

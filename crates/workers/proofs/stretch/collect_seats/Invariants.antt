@@ -1,7 +1,7 @@
 use Rattle.std.proofs.Common.{◌≡◌, ◌+◌, length, vec_len}
 use Rattle.std.specs.List.{All}
 use Rattle.workers.specs.inner.Rounds.{IsOn}
-use Rattle.workers.proofs.stretch.disbanded.Given as goal
+use Rattle.workers.proofs.stretch.collect_seats.Given as goal
 
 abbrev pub invariant-loop-worker : goal.invariant-loop-worker
 invariant-loop-worker g l = let rest = l.worker-iterator.rest.items in record {

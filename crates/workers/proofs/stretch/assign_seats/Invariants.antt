@@ -1,7 +1,7 @@
 use Rattle.std.proofs.Common.{◌≡◌, ◌+◌, length, vec_len}
 use Rattle.std.specs.List.{All}
 use Rattle.workers.specs.inner.Rounds.{IsOn}
-use Rattle.workers.proofs.stretch.seated.Given as goal
+use Rattle.workers.proofs.stretch.assign_seats.Given as goal
 
 abbrev pub invariant-loop-seat : goal.invariant-loop-seat
 invariant-loop-seat l = let rest = l.seat-iterator.rest.items in record {

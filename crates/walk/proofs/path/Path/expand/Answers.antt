@@ -6,9 +6,9 @@ use Rattle.semantics.specs.Mask.{members_from}
 use Rattle.walk.specs.inner.Paths.{state_at}
 use Rattle.walk.specs.inner.WalkerInvariant.{is_kept_at}
 use Rattle.walk.proofs.WalkTurns.{members_chosen}
-use Rattle.walk.proofs.Arrivals.{turned_here, arrived_free, arrived_leaf, falls_node, falls_leaf}
-use Rattle.walk.proofs.Arrivals.{tried_added}
-use Rattle.walk.proofs.path.Path.arrive.Goals as goal
+use Rattle.walk.proofs.Expansions.{turned_here, expanded_node, expanded_leaf, falls_node, falls_leaf}
+use Rattle.walk.proofs.Expansions.{tried_added}
+use Rattle.walk.proofs.path.Path.expand.Goals as goal
 
 pub open-requires : goal.open-requires
 open-requires c =
@@ -23,7 +23,7 @@ returns-in-Some-clause-search c =
     let t = c.args.self.now in
     let on = c.enabled-enabled.ensures p (state_at p t.steps.items)
     c.requires.search.1.place.path.shows in
-    λ b h. arrived_free c.args.mode c.args.item.now t _ c.args.found.now
+    λ b h. expanded_node c.args.mode c.args.item.now t _ c.args.found.now
     c.enabled-enabled.result _ _ h on (turned_here t _ refl c.open.ensures.same refl refl refl refl refl)
     c.open.ensures.kept (c.requires.free c.enabled-enabled.result on) c.in-Some.ensures.list
     c.requires.search.1.place.path.room
@@ -43,7 +43,7 @@ returns-in_ok-add-in-None-clause-search c =
     let p = c.args.item.now.program in
     let t = c.args.self.now in
     let shows = c.requires.search.1.place.path.shows in
-    λ b h. arrived_leaf c.args.mode c.args.item.now t _ c.args.found.now _
+    λ b h. expanded_leaf c.args.mode c.args.item.now t _ c.args.found.now _
     c.enabled-enabled.result _ _ h (c.enabled-enabled.ensures p (state_at p t.steps.items) shows)
     (turned_here t _ refl c.open.ensures.same refl refl refl refl refl)
     c.open.ensures.kept c.in-None.ensures.list c.as_slice.ensures.value

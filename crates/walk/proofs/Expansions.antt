@@ -146,7 +146,7 @@ search_turned {b} mode i old new f rest others h o room same = record {
 }
 
 -- a node where something is enabled gives way to its children
-pub put_off : {b : Found} (mode : Mode) (i : ItemView) (w : List ℕ) (n : Node) (f g : Found)
+pub past_deferred : {b : Found} (mode : Mode) (i : ItemView) (w : List ℕ) (n : Node) (f g : Found)
     (e past : Mask) (above : List ItemView) →
     IsWalkedOn b mode i f (item_of i.program w n ∷ above) → IsNode i.program w e n →
     IsOf i.program (state_at i.program w) → is_terminal i.program (state_at i.program w) ≡ false →
@@ -155,7 +155,7 @@ pub put_off : {b : Found} (mode : Mode) (i : ItemView) (w : List ℕ) (n : Node)
     g.rest.items ≡ f.rest.items →
     HasPut f (map (λ u. w ++ u ∷ []) (members_from past 0)) g →
     IsWalkedOn b mode i g (children mode (item_of i.program w n) ++ above)
-put_off {b} mode i w n f g e past above h node of more passed part rest put = record {
+past_deferred {b} mode i w n f g e past above h node of more passed part rest put = record {
   own = with_beyond h.own (h.own.beyond || passes_bound mode c);
   put = h.put ++ beside (past_steps mode c);
   walked = subst (λ (ds : List ItemView). IsWalked (walk_of mode i
@@ -186,7 +186,7 @@ put_off {b} mode i w n f g e past above h node of more passed part rest put = re
     beside ts = map (λ u. w ++ u ∷ []) ts
 
 -- so the walk stands at its first child
-pub arrived_free : {b : Found} (mode : Mode) (i : ItemView) (old new : Path) (f : Found) (e : Mask)
+pub expanded_node : {b : Found} (mode : Mode) (i : ItemView) (old new : Path) (f : Found) (e : Mask)
     (u : ℕ) (us : List ℕ) → IsSearch b mode i old f (open_here mode i.program old) →
     AreOn i.program old e → IsTurned old new →
     ((t : ℕ) → has new.node.todo t ≡ (has e t && is_kept_at mode e old.node t)) →
@@ -194,12 +194,13 @@ pub arrived_free : {b : Found} (mode : Mode) (i : ItemView) (old new : Path) (f 
     members_from e 0 ≡ u ∷ us → new.depth ≤ length new.frames.items
     → IsSearch b mode i new f (still_open mode i.program new)
 unfolding members_from
-arrived_free {b} mode i old new f e u us h on o kept free some room =
+expanded_node {b} mode i old new f e u us h on o kept free some room =
     let p : Program = i.program in
     record {
       place = place_turned p old new h.place o room;
       walked = subst (IsWalkedOn b mode i f) (sym (open_opened mode p old new e h.place on o kept))
-          (put_off mode i old.steps.items old.node f f e no_threads (left_above mode p old) h.walked
+          (past_deferred mode i old.steps.items old.node f f e no_threads (left_above mode p old)
+          h.walked
           (node_of p old e h.place.path on) (of_here p old h.place.path)
           (here_goes_on p old e u us h.place.path on some)
           (λ t. empty_has t ∙ sym (free t))
@@ -215,7 +216,7 @@ arrived_free {b} mode i old new f e u us h on o kept free some room =
     none = members_over no_threads 0 16 (omega arith) (λ k l. empty_has (0 + k))
 
 -- a complete schedule
-pub arrived_leaf : {b : Found} (mode : Mode) (i : ItemView) (old new : Path) (f g : Found)
+pub expanded_leaf : {b : Found} (mode : Mode) (i : ItemView) (old new : Path) (f g : Found)
     (e : Mask) (w : List ℕ) (v : View) → IsSearch b mode i old f (open_here mode i.program old) →
     AreOn i.program old e → IsTurned old new →
     ((t : ℕ) → has new.node.todo t ≡ (has e t && is_kept_at mode e old.node t)) →
@@ -223,7 +224,7 @@ pub arrived_leaf : {b : Found} (mode : Mode) (i : ItemView) (old new : Path) (f 
     → v ≡ view_at (state_at i.program old.steps.items) →
     g ≡ record f { part = g.part } → g.part ≡ added f.part w v →
     new.depth ≤ length new.frames.items → IsSearch b mode i new g (still_open mode i.program new)
-arrived_leaf {b} mode i old new f g e w v h on o kept none schedule view same part room =
+expanded_leaf {b} mode i old new f g e w v h on o kept none schedule view same part room =
     let p : Program = i.program in
     let c : ItemView = here p old in
     let deferred = ap (λ (x : Found). x.deferred) same in
@@ -411,13 +412,13 @@ kept_turns mode p old new u e =
     omega (arith, same, b, k)
 
 -- it goes back to a node above
-pub retreated_search : {b : Found} (mode : Mode) (i : ItemView) (old new : Path) (f g : Found)
+pub gone_up_search : {b : Found} (mode : Mode) (i : ItemView) (old new : Path) (f g : Found)
     (n : ℕ) → IsSearch b mode i old f (still_open mode i.program old) → IsPlace i.program new
     → still_open mode i.program new ≡ still_open mode i.program old
     → new.steps.items ≡ take (length new.steps.items) old.steps.items → n ≡ length new.steps.items
     → g ≡ record f { shared = min f.shared n }
     → IsSearch b mode i new g (still_open mode i.program new)
-retreated_search {b} mode i old new f g n h place same steps long found =
+gone_up_search {b} mode i old new f g n h place same steps long found =
     subst (λ (x : Found). IsSearch b mode i new x (still_open mode i.program new)) (sym found)
     (record {
       place = place;

@@ -3,7 +3,7 @@ use Rattle.std.proofs.lemmas.List.Elements.{All-push, All-same, All-rest, All-he
 use Rattle.board.specs.Board.{SeatView}
 use Rattle.workers.specs.declared.hand.Hand.{Hand}
 use Rattle.workers.specs.inner.Rounds.{IsOn}
-use Rattle.workers.proofs.stretch.seated.Goals as goal
+use Rattle.workers.proofs.stretch.assign_seats.Goals as goal
 
 pub loop-seat-preserved : goal.loop-seat-preserved
 loop-seat-preserved c =

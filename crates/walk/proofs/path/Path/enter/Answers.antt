@@ -2,8 +2,8 @@ use Rattle.std.proofs.Common.{subst, arith}
 use Rattle.std.proofs.lemmas.Result.{on_ok_weaker}
 use Rattle.guest_code.specs.Program.{Program}
 use Rattle.walk.specs.inner.WalkerInvariant.{IsPlace, IsKept}
-use Rattle.walk.proofs.Arrivals.{kept_search, kept_turns}
-use Rattle.walk.proofs.path.Path.descend.Goals as goal
+use Rattle.walk.proofs.Expansions.{kept_search, kept_turns}
+use Rattle.walk.proofs.path.Path.enter.Goals as goal
 
 pub run-requires : goal.run-requires
 run-requires c =
@@ -19,8 +19,8 @@ run-requires c =
       );
     }
 
-pub arrive-requires-clause-search : goal.arrive-requires-clause-search
-arrive-requires-clause-search c =
+pub expand-requires-clause-search : goal.expand-requires-clause-search
+expand-requires-clause-search c =
     let program = c.program.ensures in
     let h = c.requires.search in (
       h.0,
@@ -35,12 +35,12 @@ arrive-requires-clause-search c =
 pub returns-clause-search : goal.returns-clause-search
 returns-clause-search c =
     let program = c.program.ensures in
-    on_ok_weaker c.arrive.result (λ arrived b h. arrived b (c.in_ok-run.ensures.search b
+    on_ok_weaker c.expand.result (λ arrived b h. arrived b (c.in_ok-run.ensures.search b
     (kept_search c.args.mode c.args.item.now c.args.self.now c.keep.new.self
     c.args.found.now c.args.thread h
     (subst (λ (q : Program). IsPlace q c.keep.new.self) program c.in_ok-keep.ensures.place)
     (subst (λ (q : Program). IsKept q c.args.self.now c.keep.new.self) program
-    c.in_ok-keep.ensures.kept)))) c.arrive.ensures.search
+    c.in_ok-keep.ensures.kept)))) c.expand.ensures.search
 
 pub returns-clause-further : goal.returns-clause-further
 returns-clause-further c =
@@ -50,4 +50,4 @@ returns-clause-further c =
     (subst (λ (q : Program). IsKept q c.args.self.now c.keep.new.self) program
     c.in_ok-keep.ensures.kept) in
     let f = c.in_ok-run.ensures.falls in
-    on_ok_weaker c.arrive.result (λ l. omega (arith, e, f, l)) c.arrive.ensures.falls
+    on_ok_weaker c.expand.result (λ l. omega (arith, e, f, l)) c.expand.ensures.falls
