@@ -17,7 +17,7 @@ define HELP
                     half a minute to a minute, 2 GB
   make quick      all that needs no proof: the tests, the commands that the documents show,
                   the table of wrong bodies
-                    some five minutes on four processors, up to 12 GB
+                    four to five minutes on four processors, up to 12 GB
   make check C=crate
                   proves one crate, over what earlier checks kept
                     at first 1 to 10 minutes and those of the crates below it, then seconds
@@ -26,7 +26,7 @@ define HELP
                     half an hour at first, up to 8 GB, and 3 GB on disk
   make test       the gate: each proof from nothing, each wrong body, each test, the commands
                   that the documents show, and refused memory
-                    some 50 minutes on four processors, 84 on two; up to 12 GB, and up to 10 GB on disk
+                    some 42 minutes on four processors, up to 84 on two; up to 12 GB, and up to 10 GB on disk
   make shown      runs the documents' commands by build/ctxbound, and all else that is tried of it by
                   scripts: a few minutes
   make fuzz [MINUTES=10]
