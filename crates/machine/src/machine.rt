@@ -24,6 +24,7 @@ use std::alloc::{AllocError, Global};
 /// A state of a program, in a form that is fast to step and to copy.
 #[derive(Drop)]
 pub struct Machine {
+    /// All of the state but its values.
     pub control: Control,
     /// The values of the variables, and then for each thread the same number of locals.
     pub values: Vec<i64>,
