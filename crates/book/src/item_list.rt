@@ -82,7 +82,7 @@ impl ItemList {
         last_item(alloc, program, &reading)
     }
 
-    // Copies of the last items, up to a number of them.
+    // Copies of the last items, at most `most` of them.
     pub(crate) fn last(
         &self,
         alloc: Global,
@@ -313,7 +313,7 @@ impl ItemList {
         self.append(alloc, &mut items)
     }
 
-    // Keeps the first items, up to a number of them.
+    // Keeps the first items, at most `length` of them.
     pub(crate) fn truncate(&mut self, length: usize)
         ensures items { (p : Program) → all_of p self.new ≡ take length (all_of p self.old) }
         ensures none { self.old.packed ≡ [] → self.new.packed ≡ [] }

@@ -115,7 +115,7 @@ fn shown(byte: u8) -> u8
     }
 }
 
-/// How many bytes at the start of a line are not shown, so that the one at a column is.
+/// How many bytes at the start of a line are not shown, so that the byte at a column is.
 fn left_out(length: usize, column: usize) -> usize
     ensures value { result ≡ left_out length column }
     ensures few { result ≤ length }

@@ -31,8 +31,8 @@ pub fn root_has_all()
         schedules_of Reduced (root_of p) ≡ reduced_schedules p (start p) none_asleep }
 {}
 
-/// Within a bound an item has the complete schedules that begin with its prefix and have at
-/// most as many preemptions; pruned, those that sleep sets leave after its prefix. They are in
+/// Within a bound an item has the complete schedules that begin with its prefix and whose
+/// preemptions are within it; pruned, those that sleep sets leave after its prefix. They are in
 /// order and each once. It goes beyond the bound where one of the complete ones has more.
 pub fn items_have_their_schedules()
     ensures members { (i : ItemView) (bound : ℕ) (w : List ℕ) →

@@ -13,7 +13,7 @@ pub const NUMBERS: usize = 256;
 /// The one number that begins with a zero.
 const ZERO: &[u8] = b"0";
 
-/// So many steps of a thread, one after the other.
+/// A number of steps of a thread, one after the other.
 #[derive(Clone, Copy)]
 pub struct Piece {
     /// The thread, by its number.

@@ -20,7 +20,7 @@ pub struct Found {
     pub deferred: Prefixes,
     /// Whether they are. At the last bound of a search nobody asks for them.
     pub lists: bool,
-    // While the walk goes on, so many of its steps begin the prefix that was put off last, too.
+    // How many of the walk's steps begin the prefix that was deferred last, too, while it goes on.
     pub(crate) shared: usize,
 }
 

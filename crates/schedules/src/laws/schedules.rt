@@ -121,7 +121,7 @@ pub fn prefixes_extend()
 // Schedules under a prefix.
 
 /// Under a prefix lie the complete schedules that begin with it, and within a bound those of them
-/// that have at most as many preemptions; a prefix exceeds the bound where some of them has more.
+/// whose preemptions are within it; a prefix exceeds the bound where some of them has more.
 pub fn schedules_under_and_within()
     ensures under { (p : Program) (x w : List ℕ) →
         ((is_complete p (start p) w ≡ true) × (begins_with x w ≡ true))
