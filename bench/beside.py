@@ -1,5 +1,5 @@
 #!/usr/bin/env python3
-"""bench/beside.py BINARY [OTHER] [RUNS]: searches of ten guests in bench/programs, by the clock.
+"""bench/beside.py BINARY [OTHER] [RUNS]: searches of eleven guests in bench/programs, by the clock.
 
 For each search it prints the least seconds of RUNS runs (7) by BINARY and, where OTHER is given, by
 another explorer with the same words, and their ratio. The two run in turn and must give the same answer.
@@ -17,6 +17,7 @@ SEARCHES = [
     ("many_conditions", "explore --bound 4"), ("deep_locals", "explore --bound 4"),
     ("ticket_lock", "explore --bound 4"), ("aba_stack", "explore --bound 3"),
     ("readers_writers", "unbounded"), ("ticket_lock", "unbounded"),
+    ("ballot", "unbounded"),
 ]
 
 

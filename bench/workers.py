@@ -4,7 +4,7 @@
 BINARY is the built program. For each guest and bound, or `unbounded`, it prints the least seconds by the
 clock of three searches by 1, 2, 4 and 8 workers, and how many times sooner than one worker each is
 done. The reports must be the same bytes. Without guests it searches one of few threads, whose items are
-small, and two of many, whose items are large.
+small, and four of many, whose items are large.
 """
 import os
 import subprocess
@@ -13,7 +13,8 @@ import time
 
 TOP = os.path.dirname(os.path.dirname(os.path.abspath(__file__)))
 GUESTS = [("four_by_five.guest", "3"), ("four_by_five.guest", "4"),
-          ("programs/lottery.guest", "0"), ("programs/coin_box.guest", "1")]
+          ("programs/lottery.guest", "0"), ("programs/coin_box.guest", "1"),
+          ("programs/ballot.guest", "unbounded"), ("programs/sensors.guest", "unbounded")]
 WORKERS = (1, 2, 4, 8)
 RUNS = 3
 

@@ -3,7 +3,7 @@ use Rattle.std.proofs.Common.{◌≡◌, ◌∙◌, ap, subst, ℕ, ◌+◌, Lis
 use Rattle.std.proofs.Common.{Option, Some, None, IfSome, option_map}
 use Rattle.std.specs.Io.KnownBytes.{Appends}
 use Rattle.guest_syntax.specs.declared.limits.TheConstants.{TEXT_BYTES}
-use Rattle.asked.specs.declared.exploration.Asked.{Asked}
+use Rattle.requests.specs.declared.exploration.GuestRequest.{GuestRequest}
 use Rattle.answering.specs.Answer.{AnswerView, IsAnswerOf}
 use Rattle.answering.specs.Serve.{IsPartRead, IsServed}
 
@@ -20,7 +20,7 @@ filled_is_part inner (Some file) limit old new reader empty same filled =
     part ∙ ap (λ xs. xs ++ take limit file) empty ∙ ap (λ n. take n file) same
 
 -- where the output was written
-pub served : (known : Option (List ℕ)) (text : List ℕ) (request : Asked)
+pub served : (known : Option (List ℕ)) (text : List ℕ) (request : GuestRequest)
     (a : AnswerView) (before after : Option (List ℕ)) (status : ℕ)
     → IfSome known (IsPartRead text) → IsAnswerOf request text a → Appends before after a.output
     → status ≡ a.status → IfSome known (λ file. IsServed request file before after status)

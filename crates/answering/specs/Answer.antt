@@ -29,8 +29,8 @@ use Rattle.report.specs.declared.report.Report.{Report}
 use Rattle.report.specs.ReportText.{report_text, named_schedule}
 use Rattle.report.specs.Texts.{IsProgramOf, IsFaultOf, IsReportOfText}
 use Rattle.answering.specs.declared.answer.Printed.{Printed}
-use Rattle.asked.specs.declared.exploration.Asked.{Asked}
-use Rattle.asked.specs.declared.exploration.Asked.TheVariants as asked
+use Rattle.requests.specs.declared.exploration.GuestRequest.{GuestRequest}
+use Rattle.requests.specs.declared.exploration.GuestRequest.TheVariants as requests
 use Rattle.answering.specs.declared.fault.Fault.{Fault}
 use Rattle.answering.specs.declared.fault.Fault.TheVariants.{File, Syntax, Check, Schedule}
 use Rattle.answering.specs.declared.fault.Fault.TheVariants.{Replay, Memory}
@@ -182,18 +182,18 @@ answer_of (Err fault) = record {
 }
 
 -- what is answered to a request for this text
-abbrev pub Means : Asked → List ℕ → Result Printed Fault → Type 0
-Means (asked.Replay schedule) text result = ReplayMeans text (string_bytes schedule) result
-Means (asked.Explore exploration) text result = ExplorationMeans text exploration.options result
-Means (asked.Trace exploration) text result = TracedMeans text exploration.options result
+abbrev pub Means : GuestRequest → List ℕ → Result Printed Fault → Type 0
+Means (requests.Replay schedule) text result = ReplayMeans text (string_bytes schedule) result
+Means (requests.Explore exploration) text result = ExplorationMeans text exploration.options result
+Means (requests.Trace exploration) text result = TracedMeans text exploration.options result
 
 -- the answer to a request for this text: what was done, or what is wrong
-pub record IsAnswerOf (request : Asked) (text : List ℕ) (a : AnswerView) : Type 0 where
+pub record IsAnswerOf (request : GuestRequest) (text : List ℕ) (a : AnswerView) : Type 0 where
   pub result : Result Printed Fault
   pub means : Means request text result
   pub same : a ≡ answer_of result
 
 -- the answer to a request, where the reader gave a text or failed
-abbrev pub IsAnswerTo : Asked → Result (Vec ℕ Global) Fault → AnswerView → Type 0
+abbrev pub IsAnswerTo : GuestRequest → Result (Vec ℕ Global) Fault → AnswerView → Type 0
 IsAnswerTo request (Ok text) a = IsAnswerOf request text.items a
 IsAnswerTo request (Err fault) a = a ≡ answer_of (Err fault)

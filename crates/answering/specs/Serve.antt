@@ -2,7 +2,7 @@
 use Rattle.std.specs.Prelude.{◌≡◌, ℕ, ◌+◌, List, Option, Result, OnOk, take}
 use Rattle.std.specs.Io.KnownBytes.{Appends}
 use Rattle.guest_syntax.specs.declared.limits.TheConstants.{TEXT_BYTES}
-use Rattle.asked.specs.declared.exploration.Asked.{Asked}
+use Rattle.requests.specs.declared.exploration.GuestRequest.{GuestRequest}
 use Rattle.answering.specs.Answer.{AnswerView, IsAnswerOf}
 
 -- what is read of a file: at most one byte more than a program may have
@@ -19,8 +19,8 @@ IsWritten result before after bytes = OnOk result (Appends before after bytes)
 
 -- the request was answered for what is read of this file: the output was added to what the writer
 -- held, and this is the status
-pub record IsServed (request : Asked) (file : List ℕ) (before after : Option (List ℕ)) (status : ℕ)
-    : Type 0 where
+pub record IsServed (request : GuestRequest) (file : List ℕ) (before after : Option (List ℕ))
+    (status : ℕ) : Type 0 where
   pub answer : AnswerView
   pub means : IsAnswerOf request (part_read file) answer
   pub output : Appends before after answer.output

@@ -9,10 +9,10 @@ ghost use Rattle.answering.specs.Serve.{IsWritten};
 
 use crate::fault::Fault;
 use crate::progress::Teller;
-use asked::{Asked, Exploration};
 use guest_code::lowering::lower;
 use guest_syntax::parse;
 use replay::{replay, schedule_from, schedule_text, trace_text};
+use requests::{Exploration, GuestRequest};
 use runner::{Report, Verdict, report_text};
 use semantics::view::Kind;
 use std::alloc::Global;
@@ -83,15 +83,15 @@ pub fn explore_text<R: Threads + Wait + Sync + Eprint>(
     rt: &R,
     alloc: Global,
     text: &[u8],
-    asked: Exploration,
+    exploration: Exploration,
 ) -> Result<Printed, Fault>
-    ensures { ExplorationMeans text.now asked.options result }
+    ensures { ExplorationMeans text.now exploration.options result }
 {
     let Exploration {
         options,
         workers,
         progress,
-    } = asked;
+    } = exploration;
     let gate = Teller::new(rt, progress);
     let report = runner::explore_text(rt, alloc, text, options, workers, &gate)?;
     Ok(Printed {
@@ -110,12 +110,19 @@ pub fn explore_and_trace<R: Threads + Wait + Sync + Eprint>(
     rt: &R,
     alloc: Global,
     text: &[u8],
-    asked: Exploration,
+    exploration: Exploration,
 ) -> Result<Printed, Fault>
-    ensures { TracedMeans text.now asked.options result }
+    ensures { TracedMeans text.now exploration.options result }
 {
-    let gate = Teller::new(rt, asked.progress);
-    let report = runner::explore_text(rt, alloc, text, asked.options, asked.workers, &gate)?;
+    let gate = Teller::new(rt, exploration.progress);
+    let report = runner::explore_text(
+        rt,
+        alloc,
+        text,
+        exploration.options,
+        exploration.workers,
+        &gate,
+    )?;
     let mut output = report_line(alloc, &report)?;
     if let Some(schedule) = report.schedule() {
         let schedule = schedule_text(alloc, schedule)?;
@@ -160,20 +167,20 @@ impl Answer {
     pub fn new<R: Threads + Wait + Sync + Eprint>(
         rt: &R,
         alloc: Global,
-        asked: &Asked,
+        request: &GuestRequest,
         given: Result<Vec<u8>, Fault>,
     ) -> Answer
-        ensures { IsAnswerTo asked.now given result }
+        ensures { IsAnswerTo request.now given result }
     {
-        let result = match (given, asked) {
-            (Ok(text), Asked::Replay { schedule }) => {
+        let result = match (given, request) {
+            (Ok(text), GuestRequest::Replay { schedule }) => {
                 replay_text(alloc, text.as_slice(), schedule.as_bytes())
             }
-            (Ok(text), Asked::Explore(asked)) => {
-                explore_text(rt, alloc, text.as_slice(), *asked)
+            (Ok(text), GuestRequest::Explore(exploration)) => {
+                explore_text(rt, alloc, text.as_slice(), *exploration)
             }
-            (Ok(text), Asked::Trace(asked)) => {
-                explore_and_trace(rt, alloc, text.as_slice(), *asked)
+            (Ok(text), GuestRequest::Trace(exploration)) => {
+                explore_and_trace(rt, alloc, text.as_slice(), *exploration)
             }
             (Err(fault), _) => Err(fault),
         };

@@ -1,7 +1,7 @@
 //! Answers to what is asked of a guest program, and how a program writes them and ends.
 //!
-//! - [`Asked`](asked::Asked) is what is asked for: a replay, or a search, with the trace of what it finds
-//!   or without.
+//! - [`GuestRequest`](requests::GuestRequest) is what is asked for: a replay, or a search, with the
+//!   trace of what it finds or without.
 //! - [`replay_text`], [`explore_text`] and [`explore_and_trace`] answer it for the bytes of texts.
 //!   Their contracts speak of nothing else.
 //! - [`Fault`] is why there is no answer, the line that tells so, and its status.

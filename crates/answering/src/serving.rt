@@ -7,8 +7,8 @@ ghost use Rattle.answering.specs.Serve.{IsPartRead, IsServed, IsWritten};
 
 use crate::answer::Answer;
 use crate::fault::Fault;
-use asked::Asked;
 use guest_syntax::TEXT_BYTES;
+use requests::GuestRequest;
 use std::alloc::{Alloc, Global};
 use std::fs;
 use std::fs::Files;
@@ -47,7 +47,7 @@ fn write_out<W: Write>(out: &mut W, output: &[u8]) -> Result<(), Fault>
 /// The fault of the device where the input can't be read or the output can't be written.
 pub fn serve<H, R: Read, W: Write, E: Write>(
     rt: &H,
-    asked: &Asked,
+    request: &GuestRequest,
     input: &mut R,
     out: &mut W,
     err: &mut E,
@@ -55,12 +55,12 @@ pub fn serve<H, R: Read, W: Write, E: Write>(
 where
     H: Threads + Wait + Sync + Eprint + Alloc<A = Global>,
     ensures served { IfOk result (λ status. IfSome (R.remaining input.old) (λ text.
-        IsServed asked.now text (W.contents out.old) (W.contents out.new) status)) }
+        IsServed request.now text (W.contents out.old) (W.contents out.new) status)) }
     ensures fault { IfErr result IsOfDevice }
 {
     let alloc = rt.alloc();
     let text = read_text(alloc, input)?;
-    let answer = Answer::new(rt, alloc, asked, Ok(text));
+    let answer = Answer::new(rt, alloc, request, Ok(text));
     write_out(out, answer.output())?;
     let _ = answer.write_error(err);
     Ok(answer.status())
@@ -87,7 +87,7 @@ pub fn is_standard_input(file: &str) -> bool {
 pub fn serve_file<H, W: Write, E: Write>(
     rt: &H,
     file: &str,
-    asked: &Asked,
+    request: &GuestRequest,
     out: &mut W,
     err: &mut E,
 ) -> u8
@@ -95,10 +95,10 @@ where
     H: Threads + Wait + Sync + Eprint + Files + Input + Alloc<A = Global>,
 {
     let served = if is_standard_input(file) {
-        serve(rt, asked, &mut rt.reader(), out, err)
+        serve(rt, request, &mut rt.reader(), out, err)
     } else {
         match fs::open(rt, file) {
-            Ok(mut input) => serve(rt, asked, &mut input, out, err),
+            Ok(mut input) => serve(rt, request, &mut input, out, err),
             Err(error) => Err(Fault::from(error)),
         }
     };

@@ -92,7 +92,7 @@ pub record IsDropped (b : BookView) (first : List ℕ) (items : List ItemView) (
   pub left : items ≡ filter (λ i. not (is_later first i.prefix)) b.open_items
   pub counted : number ≡ count_by (λ i. is_later first i.prefix) b.open_items
 
--- the book with these open items where so many were dropped
+-- the book with these open items, after this number of others was dropped
 abbrev pub after_drop : BookView → List ItemView → ℕ → BookView
 after_drop b items number = record b { open_items = items; dropped = b.dropped || nat_lt 0 number }
 

@@ -33,7 +33,7 @@ left_below b h = subst below (sym h.listed) (listed b.lists (go b.dropped h.spli
 pub open_run : (b : BookView) (l : ListView) → b.open_items ≡ all_of b.program l → Keeps b →
     All IsItem (items_at b.program l.packed)
 open_run b l e h =
-    all_left IsItem (items_at b.program l.packed) l.loose
+    all_left IsItem (items_at b.program l.packed) l.unpacked
     (subst (All IsItem) e
     (below_run (root_of b.program) b.open_items
     (all_left (IsBelow (root_of b.program)) b.open_items b.deferred (left_below b h))))
@@ -46,13 +46,13 @@ waiting_run b h =
 pub deferred_run : (b : BookView) (l : ListView) → b.deferred ≡ all_of b.program l → Keeps b →
     All IsItem (items_at b.program l.packed)
 deferred_run b l e h =
-    all_left IsItem (items_at b.program l.packed) l.loose (subst (All IsItem) e (waiting_run b h))
+    all_left IsItem (items_at b.program l.packed) l.unpacked (subst (All IsItem) e (waiting_run b h))
 
-pub loose_own : (b : BookView) (l : ListView) → b.open_items ≡ all_of b.program l → Keeps b →
-    AreOf b.program l.loose
-loose_own b l e h =
-    All-weaker (IsBelow (root_of b.program)) (λ i. i.program ≡ b.program) (λ i g. g.program) l.loose
-    (all_right (IsBelow (root_of b.program)) (items_at b.program l.packed) l.loose
+pub unpacked_own : (b : BookView) (l : ListView) → b.open_items ≡ all_of b.program l → Keeps b →
+    AreOf b.program l.unpacked
+unpacked_own b l e h =
+    All-weaker (IsBelow (root_of b.program)) (λ i. i.program ≡ b.program) (λ i g. g.program) l.unpacked
+    (all_right (IsBelow (root_of b.program)) (items_at b.program l.packed) l.unpacked
     (subst (All (IsBelow (root_of b.program))) e
     (all_left (IsBelow (root_of b.program)) b.open_items b.deferred (left_below b h))))
 

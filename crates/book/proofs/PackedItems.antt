@@ -4,7 +4,7 @@ use Rattle.std.specs.List.{All}
 use Rattle.std.proofs.lemmas.List.Elements.{All-nil, All-cons, All-head, All-tail, All-weaker}
 use Rattle.std.proofs.Math.Seq.{take-suc}
 use Rattle.std.proofs.lemmas.Bool.{cases_lt}
-use Rattle.std.proofs.lemmas.List.{reverse-append, take_all, drop_at, drop_all, drop-drop, drop-append-le, length-map, take-map, take-append-drop, get_or-take}
+use Rattle.std.proofs.lemmas.List.{reverse-append, take_all, drop_at, drop_all, drop-drop, drop-append-le, length-map, take-append-drop, get_or-take}
 use Rattle.guest_code.specs.Program.{Program}
 use Rattle.semantics.specs.Mask.{no_threads}
 use Rattle.items.specs.Items.{ItemView, AreOf, IsItem, item_at}
@@ -45,13 +45,13 @@ one_back p r read x all some is h =
     ∙ h)))
 
 -- the last of the packed ones is taken out
-pub one_unpacked : (p : Program) (ws : List (List ℕ)) (loose : List ItemView) (x : ItemView) →
+pub one_unpacked : (p : Program) (ws : List (List ℕ)) (unpacked : List ItemView) (x : ItemView) →
     0 < length ws → x ≡ item_at p (last_of ws) →
-    items_at p (take (length ws - 1) ws) ++ x ∷ loose ≡ items_at p ws ++ loose
-one_unpacked p ws loose x some e =
-    (λ k. items_at p (take (length ws - 1) ws) ++ e k ∷ loose)
-    ∙ (sym (append_assoc (items_at p (take (length ws - 1) ws)) (item_at p (last_of ws) ∷ []) loose)
-    ∙ ap (λ is. is ++ loose)
+    items_at p (take (length ws - 1) ws) ++ x ∷ unpacked ≡ items_at p ws ++ unpacked
+one_unpacked p ws unpacked x some e =
+    (λ k. items_at p (take (length ws - 1) ws) ++ e k ∷ unpacked)
+    ∙ (sym (append_assoc (items_at p (take (length ws - 1) ws)) (item_at p (last_of ws) ∷ []) unpacked)
+    ∙ ap (λ is. is ++ unpacked)
     (sym (items_of_both p (take (length ws - 1) ws) (last_of ws ∷ []))
     ∙ ap (items_at p) (sym (last_apart ws some))))
 
@@ -111,9 +111,9 @@ none_read p all count none =
     (omega (arith, none, length-map all (item_at p))))
 
 pub length-all : (p : Program) (l : ListView) →
-    length (all_of p l) ≡ length l.packed + length l.loose
+    length (all_of p l) ≡ length l.packed + length l.unpacked
 length-all p l =
-    omega (arith, length-append (items_at p l.packed) l.loose, length-map l.packed (item_at p))
+    omega (arith, length-append (items_at p l.packed) l.unpacked, length-map l.packed (item_at p))
 
 pub got-right : {X : Type 0} (xs ys : List X) (k : ℕ) → length xs ≤ k →
     slice_get (xs ++ ys) k ≡ slice_get ys (k - length xs)
@@ -136,19 +136,19 @@ got-map f (y ∷ ys) zero x e = let h : y ≡ x = cc in ap (λ z. Some (f z)) h
 got-map f (y ∷ ys) (suc k) x e = got-map f ys k x e
 
 -- an item that isn't packed
-pub got-loose : (p : Program) (l : ListView) (k : ℕ) (i : ItemView) → length l.packed ≤ k →
-    slice_get l.loose (k - length l.packed) ≡ Some i → slice_get (all_of p l) k ≡ Some i
-got-loose p l k i h e =
+pub got-unpacked : (p : Program) (l : ListView) (k : ℕ) (i : ItemView) → length l.packed ≤ k →
+    slice_get l.unpacked (k - length l.packed) ≡ Some i → slice_get (all_of p l) k ≡ Some i
+got-unpacked p l k i h e =
     let n = length-map l.packed (item_at p) in
-    got-right (items_at p l.packed) l.loose k (omega (arith, n, h))
-    ∙ (ap (λ m. slice_get l.loose (k - m)) n ∙ e)
+    got-right (items_at p l.packed) l.unpacked k (omega (arith, n, h))
+    ∙ (ap (λ m. slice_get l.unpacked (k - m)) n ∙ e)
 
 -- an item that is packed
 pub got-packed : (p : Program) (l : ListView) (k : ℕ) (w : List ℕ) → k < length l.packed →
     slice_get l.packed k ≡ Some w → slice_get (all_of p l) k ≡ Some (item_at p w)
 got-packed p l k w h e =
     let n = length-map l.packed (item_at p) in
-    got-left (items_at p l.packed) l.loose k (omega (arith, n, h))
+    got-left (items_at p l.packed) l.unpacked k (omega (arith, n, h))
     ∙ got-map (item_at p) l.packed k w e
 
 -- the last items, some of them packed
@@ -174,27 +174,17 @@ last_of_both xs ys n most count e f =
     ∙ ap (λ m. drop m (xs ++ ys)) (sym b)))
     (cases_lt most (length ys))
 
--- what stays packed, and what is taken out
-pub unpacked : (p : Program) (packed : List (List ℕ)) (loose : List ItemView) (first : ℕ) →
-    items_at p (take first packed) ++ (drop first (items_at p packed) ++ loose)
-    ≡ items_at p packed ++ loose
-unpacked p packed loose first =
-    sym (append_assoc (items_at p (take first packed)) (drop first (items_at p packed)) loose)
-    ∙ ap (λ is. is ++ loose)
-    (ap (λ is. is ++ drop first (items_at p packed)) (sym (take-map (item_at p) first packed))
-    ∙ take-append-drop first (items_at p packed))
-
-pub cut-both : (p : Program) (packed : List (List ℕ)) (loose : List ItemView) (n : ℕ) →
-    items_at p (take n packed) ++ take (n - length packed) loose
-    ≡ take n (items_at p packed ++ loose)
-cut-both p [] loose zero = let e : 0 - 0 ≡ 0 = omega arith in ap (λ m. take m loose) e
-cut-both p [] loose (suc n) = let e : suc n - 0 ≡ suc n = omega arith in ap (λ m. take m loose) e
-cut-both p (w ∷ ws) loose zero =
-    let e : 0 - suc (length ws) ≡ 0 = omega arith in ap (λ m. take m loose) e
-cut-both p (w ∷ ws) loose (suc n) =
+pub cut-both : (p : Program) (packed : List (List ℕ)) (unpacked : List ItemView) (n : ℕ) →
+    items_at p (take n packed) ++ take (n - length packed) unpacked
+    ≡ take n (items_at p packed ++ unpacked)
+cut-both p [] unpacked zero = let e : 0 - 0 ≡ 0 = omega arith in ap (λ m. take m unpacked) e
+cut-both p [] unpacked (suc n) = let e : suc n - 0 ≡ suc n = omega arith in ap (λ m. take m unpacked) e
+cut-both p (w ∷ ws) unpacked zero =
+    let e : 0 - suc (length ws) ≡ 0 = omega arith in ap (λ m. take m unpacked) e
+cut-both p (w ∷ ws) unpacked (suc n) =
     let e : suc n - suc (length ws) ≡ n - length ws = omega arith in
     ap (λ is. item_at p w ∷ is)
-    (ap (λ m. items_at p (take n ws) ++ take m loose) e ∙ cut-both p ws loose n)
+    (ap (λ m. items_at p (take n ws) ++ take m unpacked) e ∙ cut-both p ws unpacked n)
 
 pub got-or : {X : Type 0} (xs : List X) (k : ℕ) (d : X) → k < length xs →
     slice_get xs k ≡ Some (get_or xs k d)

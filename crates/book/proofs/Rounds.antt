@@ -134,7 +134,7 @@ walked_kept (suc n) old place quota new h (between, before, w) =
     (settles_any between w.walk place (walked_kept n old place quota between h before) w.walked w.of
     w.is_open)
 
--- so many were tried at most
+-- at most the quota was tried more than before
 pub added_tried : (mode : _) (i : ItemView) (quota : ℕ) (f g : Found) → HasAdded mode i quota f g →
     g.part.tried ≤ f.part.tried + quota
 unfolding join

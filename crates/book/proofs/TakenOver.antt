@@ -14,15 +14,15 @@ use Rattle.book.specs.ItemLists.{ListView, all_of}
 use Rattle.book.specs.Books.{BookView, settled, taken_in, remove_each, AreWithin}
 use Rattle.book.proofs.Lists.{each_left}
 
-pub loose_only : (p : Program) (l : ListView) → l.packed ≡ [] → all_of p l ≡ l.loose
-loose_only p l e = ap (λ ws. items_at p ws ++ l.loose) e
+pub unpacked_only : (p : Program) (l : ListView) → l.packed ≡ [] → all_of p l ≡ l.unpacked
+unpacked_only p l e = ap (λ ws. items_at p ws ++ l.unpacked) e
 
 pub grown : (p : Program) (before after : ListView) (rest : List ItemView) →
-    after.packed ≡ before.packed → after.loose ≡ before.loose ++ rest →
+    after.packed ≡ before.packed → after.unpacked ≡ before.unpacked ++ rest →
     all_of p after ≡ all_of p before ++ rest
 grown p before after rest e f =
     (λ k. items_at p (e k) ++ f k)
-    ∙ sym (append_assoc (items_at p before.packed) before.loose rest)
+    ∙ sym (append_assoc (items_at p before.packed) before.unpacked rest)
 
 pub taken_back : {X : Type 0} (before rest after cut : List X) (n : ℕ) → after ≡ before ++ rest →
     n ≡ length before → cut ≡ take n after → cut ≡ before
@@ -30,21 +30,21 @@ taken_back before rest after cut n e f g =
     g ∙ (ap (take n) e ∙ take_at before rest n (sym f))
 
 -- the open items are as before where those that came are cut off again
-pub given_back : (p : Program) (unpacked more cut : ListView) (items rest : List ItemView) (n : ℕ) →
-    all_of p unpacked ≡ items → more.packed ≡ unpacked.packed → more.loose ≡ unpacked.loose ++ rest →
-    n ≡ length (all_of p unpacked) → all_of p cut ≡ take n (all_of p more) → all_of p cut ≡ items
-given_back p unpacked more cut items rest n same packed loose len is =
-    taken_back (all_of p unpacked) rest (all_of p more) (all_of p cut) n
-    (grown p unpacked more rest packed loose) len is ∙ same
+pub given_back : (p : Program) (base more cut : ListView) (items rest : List ItemView) (n : ℕ) →
+    all_of p base ≡ items → more.packed ≡ base.packed → more.unpacked ≡ base.unpacked ++ rest →
+    n ≡ length (all_of p base) → all_of p cut ≡ take n (all_of p more) → all_of p cut ≡ items
+given_back p base more cut items rest n same packed unpacked len is =
+    taken_back (all_of p base) rest (all_of p more) (all_of p cut) n
+    (grown p base more rest packed unpacked) len is ∙ same
 
 -- those at some places are out, and those that came are in
-pub open_taken : (p : Program) (unpacked more out : ListView) (items rest : List ItemView)
-    (places : List ℕ) → all_of p unpacked ≡ items → more.packed ≡ unpacked.packed →
-    more.loose ≡ unpacked.loose ++ rest →
+pub open_taken : (p : Program) (base more out : ListView) (items rest : List ItemView)
+    (places : List ℕ) → all_of p base ≡ items → more.packed ≡ base.packed →
+    more.unpacked ≡ base.unpacked ++ rest →
     all_of p out ≡ remove_each (all_of p more) places → AreWithin items places →
     all_of p out ≡ remove_each items places ++ rest
-open_taken p unpacked more out items rest places same packed loose is within =
-    is ∙ (ap (λ xs. remove_each xs places) (grown p unpacked more rest packed loose
+open_taken p base more out items rest places same packed unpacked is within =
+    is ∙ (ap (λ xs. remove_each xs places) (grown p base more rest packed unpacked
     ∙ ap (λ xs. xs ++ rest) same) ∙ each_left items rest places within)
 
 pub same_book : (b : BookView) (finished : SummaryView) (open_items deferred : List ItemView) →
@@ -73,15 +73,15 @@ pub packs_none : (packs quick : Bool) (first part : Option (List ℕ)) →
 packs_none true quick first part h q bad = absurd (bad (h refl q).0)
 packs_none false quick first part h q bad = refl
 
-pub loose_after : (packs quick : Bool) (first part after : Option (List ℕ))
+pub unpacked_after : (packs quick : Bool) (first part after : Option (List ℕ))
     (open_items deferred : List (List ℕ)) →
     (packs ≡ true → quick ≡ true → (first ≡ None) × (part ≡ None)) →
     (packs ≡ false → (open_items ≡ []) × (deferred ≡ [])) → after ≡ lesser first part →
     quick ≡ true → (after ≡ None → ⊥) → (open_items ≡ []) × (deferred ≡ [])
-loose_after true quick first part after open_items deferred h k e q bad =
+unpacked_after true quick first part after open_items deferred h k e q bad =
     let none = h refl q in
     absurd (bad (e ∙ (λ i. lesser (none.0 i) (none.1 i))))
-loose_after false quick first part after open_items deferred h k e q bad = k refl
+unpacked_after false quick first part after open_items deferred h k e q bad = k refl
 
 pub none_there : (packed : List (List ℕ)) (n : ℕ) → length packed ≤ n → n ≡ 0 → packed ≡ []
 none_there [] n h e = refl

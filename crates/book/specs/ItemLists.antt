@@ -10,17 +10,17 @@ use Rattle.items.specs.Walks.{items_at}
 -- them items as they are
 pub record ListView : Type 0 where
   pub packed : List (List ℕ)
-  pub loose : List ItemView
+  pub unpacked : List ItemView
 
 -- what contracts see of a list of these parts
 abbrev pub list_view : List (List ℕ) → VecDeque ItemView Global → ListView
-list_view packed loose = record { packed = packed; loose = loose.items }
+list_view packed unpacked = record { packed = packed; unpacked = unpacked.items }
 
 -- the items of a list, which are of this program
 abbrev pub all_of : Program → ListView → List ItemView
-all_of p l = items_at p l.packed ++ l.loose
+all_of p l = items_at p l.packed ++ l.unpacked
 
 -- a quick book that found a bad schedule, and so drops items in place, packs none
-abbrev pub IsLoose : Bool → Option (List ℕ) → ListView → ListView → Type 0
-IsLoose quick first_bad open_items deferred =
+abbrev pub IsUnpacked : Bool → Option (List ℕ) → ListView → ListView → Type 0
+IsUnpacked quick first_bad open_items deferred =
     quick ≡ true → (first_bad ≡ None → ⊥) → (open_items.packed ≡ []) × (deferred.packed ≡ [])

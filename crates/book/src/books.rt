@@ -10,7 +10,7 @@ ghost use Rattle.items.specs.Walks.{IsWalked, listed_if};
 ghost use Rattle.walk.specs.Founds.{found_walk};
 ghost use Rattle.book.specs.declared.limits.TheConstants.{ROUND};
 ghost use Rattle.summary.specs.Summaries.{IsBoundedBy};
-ghost use Rattle.book.specs.Books.{Keeps, drops, thinned, opening, IsWalkOf, IsFoundAt, HasWalkedRound, HaveFound, HaveSettled, taken_in, remove_each, AreWithin, Settles, IsRefused, Raises, IsNotRaised, IsClosed, bound_of};
+ghost use Rattle.book.specs.Books.{Keeps, drops, thinned, opening, IsFoundAt, HasWalkedRound, HaveFound, HaveSettled, taken_in, remove_each, AreWithin, Settles, IsRefused, Raises, IsNotRaised, IsClosed, bound_of};
 
 use crate::errors::{RaiseError, SettleError};
 use crate::item_list::{ItemList, is_later};
@@ -56,7 +56,7 @@ pub struct Book {
 
 impl Model for Book {
     ghost use Rattle.book.specs.Books.{BookView, Keeps, IsSwept, book_view};
-    ghost use Rattle.book.specs.ItemLists.{IsLoose};
+    ghost use Rattle.book.specs.ItemLists.{IsUnpacked};
 
     ghost Value = { BookView };
 
@@ -66,7 +66,7 @@ impl Model for Book {
     ghost invariant = { λ b. Keeps (book_view b.program b.mode b.finished b.open_items b.deferred
         b.lists b.quick b.dropped) × IsSwept b.swept
         (book_view b.program b.mode b.finished b.open_items b.deferred b.lists b.quick b.dropped)
-        × IsLoose b.quick b.finished.first_bad b.open_items b.deferred };
+        × IsUnpacked b.quick b.finished.first_bad b.open_items b.deferred };
 }
 
 impl Book {
@@ -332,23 +332,8 @@ impl Book {
         if !same_modes(self.mode, walked.mode()) || !self.program.is_same(walked.program()) {
             return Err(SettleError::Stranger);
         }
-        self.settle_own(alloc, walked)
-    }
-
-    // Settles a walk that is of the book's program and mode.
-    fn settle_own(&mut self, alloc: Global, walked: Walked) -> Result<(), SettleError>
-        requires { IsWalkOf self.old walked }
-        ensures ok { OnOk result (Settles self.old walked self.new) }
-        ensures err { IfErr result (λ e. (self.new ≡ self.old) × IsRefused self.old walked e) }
-    {
-        let Some(place) = self.open_items.place_of(walked.item()) else {
-            return Err(SettleError::NotOpen);
-        };
-        let mut found = walked.into_found();
-        match self.settle_at(alloc, &mut found, place) {
-            Ok(()) => Ok(()),
-            Err(AllocError) => Err(SettleError::OutOfMemory),
-        }
+        let (item, mut found) = walked.into_parts();
+        self.settle_found(alloc, &item, &mut found)
     }
 
     /// Settles what a walk of an item in the book's mode found, where the item is known to be of
@@ -456,7 +441,7 @@ impl Book {
         self.open_items.unpack_from(alloc, &self.program, first)?;
         walker.clear(found, self.lists);
         for place in first..end {
-            let item = self.open_items.loose_item(place);
+            let item = self.open_items.unpacked_item(place);
             walker.walk_on(alloc, found, item, self.mode, quota)?;
         }
         let places = [first; ROUND];
@@ -483,10 +468,9 @@ impl Book {
     {
         let packs = is_packed(self.quick, &self.finished, &found.part);
         self.open_items
-            .unpack_from(alloc, &self.program, first_loose(packs, first))?;
+            .unpack_from(alloc, &self.program, first_unpacked(packs, first))?;
         let deferred_length = self.deferred.length();
-        self.deferred
-            .unpack_from(alloc, &self.program, first_loose(packs, deferred_length))?;
+        self.deferred.unpack_from(alloc, &self.program, first_unpacked(packs, deferred_length))?;
         let quiet = is_quiet(found);
         let open_length = self.open_items.length();
         self.open_items.append(alloc, &mut found.rest)?;
@@ -593,7 +577,7 @@ fn is_packed(quick: bool, finished: &Summary, part: &Summary) -> bool
 }
 
 // The place from which on items are not packed: this one, where any are packed at all.
-fn first_loose(packs: bool, place: usize) -> usize
+fn first_unpacked(packs: bool, place: usize) -> usize
     ensures place { result ≤ place }
     ensures none { packs ≡ false → result ≡ 0 }
 {

@@ -27,8 +27,8 @@ use std::sync::Arc;
 #[derive(Drop)]
 pub(crate) struct ItemList {
     packed: Prefixes,
-    loose: VecDeque<Item>,
-    // The place in `loose` at which an item is looked for first.
+    unpacked: VecDeque<Item>,
+    // The place in `unpacked` at which an item is looked for first.
     hint: usize,
 }
 
@@ -37,18 +37,18 @@ impl Model for ItemList {
 
     ghost Value = { ListView };
 
-    ghost view = { λ l. list_view l.packed l.loose };
+    ghost view = { λ l. list_view l.packed l.unpacked };
 }
 
 impl ItemList {
     // A list of none.
     pub(crate) fn new(alloc: Global) -> ItemList
         ensures packed { result.packed ≡ [] }
-        ensures loose { result.loose ≡ [] }
+        ensures unpacked { result.unpacked ≡ [] }
     {
         ItemList {
             packed: Prefixes::new(alloc),
-            loose: VecDeque::new(alloc),
+            unpacked: VecDeque::new(alloc),
             hint: 0,
         }
     }
@@ -57,7 +57,7 @@ impl ItemList {
     pub(crate) fn length(&self) -> usize
         ensures { (p : Program) → result ≡ length (all_of p self.now) }
     {
-        self.packed.length() + self.loose.len()
+        self.packed.length() + self.unpacked.len()
     }
 
     // A copy of the item at a place.
@@ -74,7 +74,7 @@ impl ItemList {
     {
         let packed = self.packed.length();
         if packed <= place {
-            return self.loose[place - packed].try_clone(alloc);
+            return self.unpacked[place - packed].try_clone(alloc);
         }
         let mut prefixes = self.packed.try_clone(alloc)?;
         prefixes.truncate(place + 1);
@@ -94,10 +94,15 @@ impl ItemList {
             drop (length (all_of (arc_value program.now) self.now) - most)
             (all_of (arc_value program.now) self.now)) }
     {
-        let loose = self.loose.len();
-        let count = most.saturating_sub(loose).min(self.packed.length());
+        let unpacked = self.unpacked.len();
+        let count = most.saturating_sub(unpacked).min(self.packed.length());
         let mut items = last_items(alloc, program, &self.packed, count)?;
-        push_copies(alloc, &mut items, &self.loose, loose.saturating_sub(most))?;
+        push_copies(
+            alloc,
+            &mut items,
+            &self.unpacked,
+            unpacked.saturating_sub(most),
+        )?;
         Ok(items)
     }
 
@@ -108,36 +113,36 @@ impl ItemList {
         place: usize,
         items: &mut Vec<Item>,
     ) -> Result<(), AllocError>
-        requires loose { length self.now.packed ≤ place }
-        requires place { place ≤ length self.now.packed + length self.now.loose }
-        requires program { (p : Program) × AreOf p self.now.loose × AreOf p items.old.items }
+        requires unpacked { length self.now.packed ≤ place }
+        requires place { place ≤ length self.now.packed + length self.now.unpacked }
+        requires program { (p : Program) × AreOf p self.now.unpacked × AreOf p items.old.items }
         ensures items { (p : Program) → OnOk result
             (items.new.items ≡ drop place (all_of p self.now)) }
-        ensures program { (p : Program) → AreOf p self.now.loose →
+        ensures program { (p : Program) → AreOf p self.now.unpacked →
             AreOf p items.old.items → AreOf p items.new.items }
     {
-        copy_over(alloc, items, &self.loose, place - self.packed.length())
+        copy_over(alloc, items, &self.unpacked, place - self.packed.length())
     }
 
     // An item that isn't packed, by its place among all.
-    pub(crate) fn loose_item(&self, place: usize) -> &Item
-        requires loose { length self.now.packed ≤ place }
-        requires place { place < length self.now.packed + length self.now.loose }
+    pub(crate) fn unpacked_item(&self, place: usize) -> &Item
+        requires unpacked { length self.now.packed ≤ place }
+        requires place { place < length self.now.packed + length self.now.unpacked }
         ensures { (p : Program) → slice_get (all_of p self.now) place ≡ Some result.now }
     {
-        &self.loose[place - self.packed.length()]
+        &self.unpacked[place - self.packed.length()]
     }
 
     // The place of an item of the list's program.
     pub(crate) fn place_of(&self, item: &Item) -> Option<usize>
-        requires { AreOf item.now.program self.now.loose }
+        requires { AreOf item.now.program self.now.unpacked }
         ensures some { IfSome result (λ k.
             (k < length (all_of item.now.program self.now)) ×
             (slice_get (all_of item.now.program self.now) k ≡ Some item.now)) }
         ensures none { IfNone result
             (All (λ i. i ≡ item.now → ⊥) (all_of item.now.program self.now)) }
     {
-        match find(&self.loose, self.hint, item) {
+        match find(&self.unpacked, self.hint, item) {
             Some(place) => Some(self.packed.length() + place),
             None => self.packed_place_of(item),
         }
@@ -166,7 +171,7 @@ impl ItemList {
         requires { All IsItem (items_at (arc_value program.now) self.old.packed) }
         ensures same { all_of (arc_value program.now) self.new ≡
             all_of (arc_value program.now) self.old }
-        ensures loose { OnOk result (length self.new.packed ≤ place) }
+        ensures unpacked { OnOk result (length self.new.packed ≤ place) }
         ensures none { self.old.packed ≡ [] → self.new.packed ≡ [] }
     {
         while place < self.packed.length() {
@@ -189,7 +194,7 @@ impl ItemList {
             then take (length self.old.packed - 1) self.old.packed else self.old.packed) }
     {
         let item = last_packed(alloc, program, &self.packed)?;
-        self.loose.push_front(item)?;
+        self.unpacked.push_front(item)?;
         self.packed.pop();
         self.hint = 0;
         Ok(())
@@ -218,17 +223,17 @@ impl ItemList {
         places: &[usize],
     ) -> Result<Option<Vec<usize>>, AllocError>
         requires places { All (λ k. k < length items.now) places.now }
-        requires program { (p : Program) × AreOf p self.now.loose × AreOf p items.now }
+        requires program { (p : Program) × AreOf p self.now.unpacked × AreOf p items.now }
         ensures there { (p : Program) → IfOk result (λ o. IfSome o (λ v.
             AreOpenAt (all_of p self.now) items.now places.now v.items)) }
-        ensures loose { IfOk result (λ o. IfSome o (λ v.
+        ensures unpacked { IfOk result (λ o. IfSome o (λ v.
             All (λ k. length self.now.packed ≤ k) v.items)) }
     {
         let packed = self.packed.length();
         let mut found = Vec::with_capacity(alloc, places.len())?;
-        let mut start = self.hint.min(self.loose.len());
+        let mut start = self.hint.min(self.unpacked.len());
         for k in 0..places.len() {
-            let Some(place) = find_behind(&self.loose, start, &items[places[k]]) else {
+            let Some(place) = find_behind(&self.unpacked, start, &items[places[k]]) else {
                 return Ok(None);
             };
             found.push(packed + place - k)?;
@@ -239,21 +244,21 @@ impl ItemList {
 
     // Takes out the items from one place to another, which aren't packed.
     fn remove(&mut self, first: usize, end: usize)
-        requires loose { length self.old.packed ≤ first }
+        requires unpacked { length self.old.packed ≤ first }
         requires range { first ≤ end }
-        requires end { end ≤ length self.old.packed + length self.old.loose }
+        requires end { end ≤ length self.old.packed + length self.old.unpacked }
         ensures items { (p : Program) →
             all_of p self.new ≡ remove_range (all_of p self.old) first end }
         ensures packed { self.new.packed ≡ self.old.packed }
     {
         let packed = self.packed.length();
-        self.loose.drain(first - packed..end - packed);
+        self.unpacked.drain(first - packed..end - packed);
     }
 
     // Takes out the items at these places, which aren't packed: each is counted without those before
     // it. So the items of a range are all at one place, and are taken out at once.
     pub(crate) fn remove_each(&mut self, places: &[usize])
-        requires loose { All (λ k. length self.old.packed ≤ k) places.now }
+        requires unpacked { All (λ k. length self.old.packed ≤ k) places.now }
         requires within { (p : Program) × AreWithin (all_of p self.old) places.now }
         ensures items { (p : Program) →
             all_of p self.new ≡ remove_each (all_of p self.old) places.now }
@@ -265,7 +270,7 @@ impl ItemList {
         }
         let packed = self.packed.length();
         for k in 0..places.len() {
-            let _item = self.loose.remove(places[k] - packed);
+            let _item = self.unpacked.remove(places[k] - packed);
         }
     }
 
@@ -276,14 +281,14 @@ impl ItemList {
     // `AllocError` where memory runs out; the list is then as before.
     pub(crate) fn append(&mut self, alloc: Global, items: &mut Vec<Item>) -> Result<(), AllocError>
         ensures packed { self.new.packed ≡ self.old.packed }
-        ensures loose { self.new.loose ≡
-            (if is_ok result then self.old.loose ++ items.old.items else self.old.loose) }
+        ensures unpacked { self.new.unpacked ≡
+            (if is_ok result then self.old.unpacked ++ items.old.items else self.old.unpacked) }
     {
         if items.is_empty() {
             return Ok(());
         }
         let taken = mem::replace(items, Vec::new(alloc));
-        self.loose.append(&mut VecDeque::from_vec(taken))
+        self.unpacked.append(&mut VecDeque::from_vec(taken))
     }
 
     // Puts the items of prefixes after the others, packed or as they are. The list of prefixes may
@@ -306,7 +311,7 @@ impl ItemList {
             else all_of (arc_value program.now) self.old) }
         ensures packed { packs ≡ false → self.new.packed ≡ self.old.packed }
     {
-        if packs && self.loose.is_empty() {
+        if packs && self.unpacked.is_empty() {
             return self.packed.append(prefixes);
         }
         let mut items = last_items(alloc, program, prefixes, prefixes.length())?;
@@ -320,19 +325,19 @@ impl ItemList {
     {
         let packed = self.packed.length();
         self.packed.truncate(length);
-        self.loose.truncate(length.saturating_sub(packed));
+        self.unpacked.truncate(length.saturating_sub(packed));
     }
 
     // Drops the items whose schedules all come after this one, and answers how many.
     pub(crate) fn drop_later(&mut self, schedule: &[u8]) -> u64
         requires { self.old.packed ≡ [] }
         ensures packed { self.new.packed ≡ [] }
-        ensures loose { self.new.loose ≡
-            filter (λ i. not (is_later schedule.now i.prefix)) self.old.loose }
+        ensures unpacked { self.new.unpacked ≡
+            filter (λ i. not (is_later schedule.now i.prefix)) self.old.unpacked }
         ensures number { result ≡
-            count_by (λ i. is_later schedule.now i.prefix) self.old.loose }
+            count_by (λ i. is_later schedule.now i.prefix) self.old.unpacked }
     {
-        drop_later(&mut self.loose, schedule)
+        drop_later(&mut self.unpacked, schedule)
     }
 }
 

@@ -7,26 +7,26 @@ ghost use Rattle.ctxbound.specs.Checks.{IsCheckOf};
 use crate::files::{files_of, read_file, report_device};
 use advice::{Checked, advice_text, check};
 use answering::{Fault, Printed};
-use asked::CheckRequest;
+use requests::CheckRequest;
 use std::alloc::{Alloc, AllocError, Global};
 use std::fs::Files;
 use std::io::{Input, Write};
 
 /// Checks each file, and tells on `err` what is wrong or odd. Answers the status: the greatest of
 /// those of the files.
-pub fn serve_check<H, E: Write>(rt: &H, asked: &CheckRequest, err: &mut E) -> u8
+pub fn serve_check<H, E: Write>(rt: &H, request: &CheckRequest, err: &mut E) -> u8
 where
     H: Files + Input + Alloc<A = Global> + Clone + Drop,
 {
     let mut worst = 0;
-    for name in &asked.files {
-        worst = worst.max(check_named(rt, name.as_str(), asked, err));
+    for name in &request.files {
+        worst = worst.max(check_named(rt, name.as_str(), request, err));
     }
     worst
 }
 
 // Checks a file, or each guest program of a folder.
-fn check_named<H, E: Write>(rt: &H, name: &str, asked: &CheckRequest, err: &mut E) -> u8
+fn check_named<H, E: Write>(rt: &H, name: &str, request: &CheckRequest, err: &mut E) -> u8
 where
     H: Files + Input + Alloc<A = Global> + Clone + Drop,
 {
@@ -34,10 +34,10 @@ where
         Ok(files) => files,
         Err(error) => return report_device(err, name, &error),
     };
-    let several = asked.files.len() > 1 || files.len() > 1;
+    let several = request.files.len() > 1 || files.len() > 1;
     let mut worst = 0;
     for file in &files {
-        worst = worst.max(check_file(rt, file.as_str(), asked, several, err));
+        worst = worst.max(check_file(rt, file.as_str(), request, several, err));
     }
     worst
 }
@@ -46,7 +46,7 @@ where
 fn check_file<H, E: Write>(
     rt: &H,
     file: &str,
-    asked: &CheckRequest,
+    request: &CheckRequest,
     several: bool,
     err: &mut E,
 ) -> u8
@@ -57,8 +57,8 @@ where
         Ok(text) => text,
         Err(error) => return report_device(err, file, &error),
     };
-    let depth = asked.depth;
-    match check_text(rt.alloc(), text.as_slice(), depth, asked.strict) {
+    let depth = request.depth;
+    match check_text(rt.alloc(), text.as_slice(), depth, request.strict) {
         Ok(printed) => {
             let lines = printed.output.as_slice();
             // a failing stream changes no status

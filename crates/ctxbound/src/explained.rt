@@ -5,7 +5,6 @@ ghost use Rattle.ctxbound.specs.Status.{explained_status};
 ghost use Rattle.answering.specs.declared.fault.Fault.TheVariants.{Memory};
 
 use answering::{Fault, Printed, Teller, replay_status, verdict_status};
-use asked::{ExplainRequest, Form};
 use explain::{Explanation, Source};
 use explain_page::{explanation_html, explanation_json};
 use explain_text::{Shape, explanation_text};
@@ -13,6 +12,7 @@ use guest_code::lowering::lower;
 use guest_code::source_map::SourceMap;
 use guest_syntax::parse;
 use replay::schedule_from;
+use requests::{ExplainRequest, Form};
 use runner::{Report, Verdict, report_text, report_value};
 use serde_json::Value;
 use std::alloc::{AllocError, Global};
@@ -37,11 +37,11 @@ pub fn explain_text<R: Threads + Wait + Sync + Eprint>(
     rt: &R,
     alloc: Global,
     text: &[u8],
-    asked: &ExplainRequest,
+    request: &ExplainRequest,
 ) -> Result<Printed, Fault> {
-    match &asked.schedule {
-        Some(schedule) => explain_given(alloc, text, asked, schedule.as_bytes()),
-        None => explain_found(rt, alloc, text, asked),
+    match &request.schedule {
+        Some(schedule) => explain_given(alloc, text, request, schedule.as_bytes()),
+        None => explain_found(rt, alloc, text, request),
     }
 }
 
@@ -49,7 +49,7 @@ pub fn explain_text<R: Threads + Wait + Sync + Eprint>(
 fn explain_given(
     alloc: Global,
     text: &[u8],
-    asked: &ExplainRequest,
+    request: &ExplainRequest,
     schedule: &[u8],
 ) -> Result<Printed, Fault> {
     let tree = parse(alloc, text)?;
@@ -57,12 +57,12 @@ fn explain_given(
     let map = SourceMap::new(alloc, &tree)?;
     let schedule = schedule_from(alloc, schedule)?;
     let source = Source {
-        file: asked.file.as_bytes(),
+        file: request.file.as_bytes(),
         text,
         program: &program,
         map: &map,
     };
-    explained(alloc, &source, schedule.as_slice(), asked.form, None)
+    explained(alloc, &source, schedule.as_slice(), request.form, None)
 }
 
 // The explanation of what a search finds.
@@ -70,33 +70,33 @@ fn explain_found<R: Threads + Wait + Sync + Eprint>(
     rt: &R,
     alloc: Global,
     text: &[u8],
-    asked: &ExplainRequest,
+    request: &ExplainRequest,
 ) -> Result<Printed, Fault> {
     let tree = parse(alloc, text)?;
     let program = Arc::new(alloc, lower(alloc, &tree)?)?;
     let map = SourceMap::new(alloc, &tree)?;
-    let gate = Teller::new(rt, asked.search.progress);
-    let (options, workers) = (asked.search.options, asked.search.workers);
+    let gate = Teller::new(rt, request.search.progress);
+    let (options, workers) = (request.search.options, request.search.workers);
     let report = runner::explore(rt, alloc, &program, options, workers, &gate)?;
     let source = Source {
-        file: asked.file.as_bytes(),
+        file: request.file.as_bytes(),
         text,
         program: &program,
         map: &map,
     };
-    named_explained(alloc, &source, asked, &report)
+    named_explained(alloc, &source, request, &report)
 }
 
 // The explanation of the schedule that a report names, or what is said where it names none.
 fn named_explained(
     alloc: Global,
     source: &Source<'_>,
-    asked: &ExplainRequest,
+    request: &ExplainRequest,
     report: &Report,
 ) -> Result<Printed, Fault> {
     match report.schedule() {
-        Some(schedule) => explained(alloc, source, schedule, asked.form, Some(report)),
-        None => nothing_found(alloc, asked, report),
+        Some(schedule) => explained(alloc, source, schedule, request.form, Some(report)),
+        None => nothing_found(alloc, request, report),
     }
 }
 
@@ -168,9 +168,13 @@ fn ends_of(alloc: Global, search: Option<&Report>) -> Result<Option<Value>, Allo
 }
 
 // What is printed where a search found no bad schedule: a sentence, or the report as JSON.
-fn nothing_found(alloc: Global, asked: &ExplainRequest, report: &Report) -> Result<Printed, Fault> {
-    let sentence = sentence_of(alloc, asked.file.as_str(), report)?;
-    let output = match asked.form {
+fn nothing_found(
+    alloc: Global,
+    request: &ExplainRequest,
+    report: &Report,
+) -> Result<Printed, Fault> {
+    let sentence = sentence_of(alloc, request.file.as_str(), report)?;
+    let output = match request.form {
         Form::Text { .. } => Vec::from_slice(alloc, sentence.as_bytes())?,
         Form::Json => {
             let mut text = report_text(alloc, report)?;

@@ -5,7 +5,7 @@ use crate::explained::explain_text;
 use crate::files::{read_file, report_device, write_named};
 use crate::suites::serve_suite;
 use answering::serve_file;
-use asked::{ExplainRequest, Request};
+use requests::{ExplainRequest, Request};
 use std::alloc::{Alloc, Global};
 use std::fs::Files;
 use std::io::{Eprint, Input, Write};
@@ -20,10 +20,10 @@ where
     H: Threads + Wait + Sync + Eprint + Files + Input + Alloc<A = Global> + Clone + Drop,
 {
     match request(rt.alloc(), words) {
-        Ok(Request::One { file, asked }) => serve_file(rt, file.as_str(), &asked, out, err),
-        Ok(Request::Explain(asked)) => serve_explain(rt, &asked, out, err),
-        Ok(Request::Check(asked)) => serve_check(rt, &asked, err),
-        Ok(Request::Suite(asked)) => serve_suite(rt, &asked, out, err),
+        Ok(Request::One { file, request }) => serve_file(rt, file.as_str(), &request, out, err),
+        Ok(Request::Explain(request)) => serve_explain(rt, &request, out, err),
+        Ok(Request::Check(request)) => serve_check(rt, &request, err),
+        Ok(Request::Suite(request)) => serve_suite(rt, &request, out, err),
         Err(fault) => fault.report(err),
     }
 }
@@ -31,18 +31,18 @@ where
 /// Explains a schedule of the guest program in a file. A device that fails is named with the cause.
 fn serve_explain<H, W: Write, E: Write>(
     rt: &H,
-    asked: &ExplainRequest,
+    request: &ExplainRequest,
     out: &mut W,
     err: &mut E,
 ) -> u8
 where
     H: Threads + Wait + Sync + Eprint + Files + Input + Alloc<A = Global>,
 {
-    let text = match read_file(rt, asked.file.as_str()) {
+    let text = match read_file(rt, request.file.as_str()) {
         Ok(text) => text,
-        Err(error) => return report_device(err, asked.file.as_str(), &error),
+        Err(error) => return report_device(err, request.file.as_str(), &error),
     };
-    match explain_text(rt, rt.alloc(), text.as_slice(), asked) {
+    match explain_text(rt, rt.alloc(), text.as_slice(), request) {
         Ok(printed) => write_named(out, err, printed.output.as_slice(), printed.status),
         Err(fault) => fault.report(err),
     }

@@ -6,7 +6,7 @@ ghost use Rattle.answering.specs.declared.fault.Fault.TheVariants.{Memory};
 
 use crate::files::{files_of, read_file, write_named};
 use answering::{Fault, Printed};
-use asked::{Limits, SuiteRequest};
+use requests::{Limits, SuiteRequest};
 use runner::ExploreError;
 use std::alloc::{Alloc, Global};
 use std::fs::Files;
@@ -20,29 +20,29 @@ use suite::{Entry, Outcome, json_lines, table, worst_status};
 /// those of its files, or that of a device that failed.
 pub fn serve_suite<H, W: Write, E: Write>(
     rt: &H,
-    asked: &SuiteRequest,
+    request: &SuiteRequest,
     out: &mut W,
     err: &mut E,
 ) -> u8
 where
     H: Threads + Wait + Sync + Files + Input + Alloc<A = Global> + Clone + Drop,
 {
-    match answer_of(rt, asked) {
+    match answer_of(rt, request) {
         Ok(printed) => write_named(out, err, printed.output.as_slice(), printed.status),
         Err(fault) => fault.report(err),
     }
 }
 
 // What is answered to a suite.
-fn answer_of<H>(rt: &H, asked: &SuiteRequest) -> Result<Printed, Fault>
+fn answer_of<H>(rt: &H, request: &SuiteRequest) -> Result<Printed, Fault>
 where
     H: Threads + Wait + Sync + Files + Input + Alloc<A = Global> + Clone + Drop,
 {
     let mut entries = Vec::new(rt.alloc());
-    for file in &asked.files {
-        put_named(rt, &mut entries, file.as_str(), asked.limits)?;
+    for file in &request.files {
+        put_named(rt, &mut entries, file.as_str(), request.limits)?;
     }
-    printed(rt.alloc(), entries.as_slice(), asked.json)
+    printed(rt.alloc(), entries.as_slice(), request.json)
 }
 
 /// What is printed of the files of a suite. The status is the greatest of theirs.

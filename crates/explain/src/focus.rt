@@ -9,7 +9,7 @@ ghost use Rattle.explain.specs.Steps.{lines_of};
 ghost use Rattle.explain.specs.Folding.{FollowsSwitch, IsBesidePreemption, IsTold, focus_of, last_act};
 
 use crate::explanation::Explanation;
-use crate::object::Object;
+use crate::object::{Object, touched};
 use crate::standing::Standing;
 use crate::step::{Step, line_at};
 use replay::Act;
@@ -116,19 +116,10 @@ fn last_act(steps: &[Step], thread: usize) -> Option<Act>
 fn put_touched(objects: &mut Vec<Object>, act: Act) -> Result<(), AllocError>
     ensures { OnOk result (objects.new.items ≡ objects.old.items ++ touched_by act) }
 {
-    let object = match act {
-        Act::Load { variable, .. }
-        | Act::Store { variable, .. }
-        | Act::Add { variable, .. }
-        | Act::Cas { variable, .. } => Object::Variable(variable),
-        Act::Lock(m) | Act::Unlock(m) | Act::Retake(m) => Object::Mutex(m),
-        Act::Wait { condition, mutex } => {
-            objects.push(Object::Condition(condition))?;
-            Object::Mutex(mutex)
-        }
-        Act::Signal(c) | Act::Broadcast(c) => Object::Condition(c),
-        Act::Acquire(k) | Act::Release(k) => Object::Semaphore(k),
-    };
-    objects.push(object)?;
+    let (first, second) = touched(act);
+    objects.push(first)?;
+    if let Some(second) = second {
+        objects.push(second)?;
+    }
     Ok(())
 }

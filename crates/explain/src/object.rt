@@ -1,6 +1,6 @@
 //! Objects of a program, and what is to be seen of them in a state.
 
-ghost use Rattle.std.specs.Prelude.{◌≡◌, IsTrue, ◌↔◌};
+ghost use Rattle.std.specs.Prelude.{◌≡◌, ◌∷◌, ◌↔◌, [], IsTrue, IfSome, IfNone};
 ghost use Rattle.semantics.specs.Reachable.{IsOf};
 ghost use Rattle.semantics.specs.Waiters.{In};
 ghost use Rattle.guest_code.specs.Program.{Program};
@@ -65,17 +65,28 @@ impl Object {
     pub fn is_touched(self, act: Act) -> bool
         ensures { IsTrue result ↔ In (touched_by act) self }
     {
-        match act {
-            Act::Load { variable, .. }
-            | Act::Store { variable, .. }
-            | Act::Add { variable, .. }
-            | Act::Cas { variable, .. } => self == Object::Variable(variable),
-            Act::Lock(m) | Act::Unlock(m) | Act::Retake(m) => self == Object::Mutex(m),
-            Act::Wait { condition, mutex } => {
-                self == Object::Condition(condition) || self == Object::Mutex(mutex)
-            }
-            Act::Signal(c) | Act::Broadcast(c) => self == Object::Condition(c),
-            Act::Acquire(k) | Act::Release(k) => self == Object::Semaphore(k),
+        match touched(act) {
+            (first, None) => self == first,
+            (first, Some(second)) => self == first || self == second,
         }
+    }
+}
+
+/// The objects that a step touched which did this: one, and of a `wait` its mutex, too.
+pub fn touched(act: Act) -> (Object, Option<Object>)
+    ensures one { IfNone result.1 (touched_by act ≡ result.0 ∷ []) }
+    ensures two { IfSome result.1 (λ second. touched_by act ≡ result.0 ∷ second ∷ []) }
+{
+    match act {
+        Act::Load { variable, .. }
+        | Act::Store { variable, .. }
+        | Act::Add { variable, .. }
+        | Act::Cas { variable, .. } => (Object::Variable(variable), None),
+        Act::Lock(m) | Act::Unlock(m) | Act::Retake(m) => (Object::Mutex(m), None),
+        Act::Wait { condition, mutex } => {
+            (Object::Condition(condition), Some(Object::Mutex(mutex)))
+        }
+        Act::Signal(c) | Act::Broadcast(c) => (Object::Condition(c), None),
+        Act::Acquire(k) | Act::Release(k) => (Object::Semaphore(k), None),
     }
 }

@@ -4,7 +4,7 @@
 #![tactic(auto)]
 
 use answering::serve_file;
-use asked::{Asked, DEFAULT_BOUND, Exploration};
+use requests::{DEFAULT_BOUND, Exploration, GuestRequest};
 use runner::{Options, QUOTA, Search};
 use std::io::Write;
 use std::process::ExitCode;
@@ -23,32 +23,32 @@ const SEARCH: Options = Options {
 };
 
 /// The file that the words name, and what they ask for of its guest program, if for anything.
-fn request_of(rt: &HostRuntime) -> Option<(String, Asked)> {
+fn request_of(rt: &HostRuntime) -> Option<(String, GuestRequest)> {
     let words: Vec<String> = std::env::args(rt).ok()?.collect(rt.alloc()).ok()?;
     if words.len() != 4 {
         return None;
     }
     let file = words.get(2)?.as_str().to_string(rt.alloc()).ok()?;
     let last = words.get(3)?.as_str();
-    let asked = match words.get(1)?.as_str() {
-        "explore" if last == "--trace" => Asked::Trace(Exploration {
+    let request = match words.get(1)?.as_str() {
+        "explore" if last == "--trace" => GuestRequest::Trace(Exploration {
             options: SEARCH,
             workers: 1,
             progress: false,
         }),
-        "replay" => Asked::Replay {
+        "replay" => GuestRequest::Replay {
             schedule: last.to_string(rt.alloc()).ok()?,
         },
         _ => return None,
     };
-    Some((file, asked))
+    Some((file, request))
 }
 
 fn main(rt: HostRuntime) -> ExitCode {
     let mut out = rt.stdout();
     let mut err = rt.stderr();
     let status = match request_of(&rt) {
-        Some((file, asked)) => serve_file(&rt, file.as_str(), &asked, &mut out, &mut err),
+        Some((file, request)) => serve_file(&rt, file.as_str(), &request, &mut out, &mut err),
         None => {
             let _ = writeln!(err, "{USAGE}");
             REFUSED

@@ -16,12 +16,6 @@ pub fn size_of_statement(statement: &Statement) -> usize
     ensures { result ≡ min (size (stmt_view statement.now)) (INSTRUCTIONS + 1) }
 {
     match statement {
-        Statement::Load { .. } | Statement::Store { .. } => 1,
-        Statement::Add { .. } | Statement::Cas { .. } => 1,
-        Statement::Lock(_) | Statement::Unlock(_) | Statement::Wait { .. } => 1,
-        Statement::Signal(_) | Statement::Broadcast(_) => 1,
-        Statement::Acquire(_) | Statement::Release(_) => 1,
-        Statement::Set { .. } | Statement::Assert(_) => 1,
         Statement::If {
             then,
             otherwise,
@@ -33,7 +27,7 @@ pub fn size_of_statement(statement: &Statement) -> usize
         Statement::Repeat { times, body } => (*times as usize * size_of_block(body)).min(
             INSTRUCTIONS + 1,
         ),
-        Statement::Leave => 1,
+        _ => 1,
     }
 }
 

@@ -31,8 +31,8 @@ line_of text n = first_line (from_line text n)
 abbrev pub shown : ℕ → ℕ
 shown b = if b == 9 || b == 13 then 32 else if nat_le 32 b && nat_le b 126 then b else 63
 
--- how many bytes at the start of a line of this length are left out, so that the one with so many
--- before it is shown: half as many as are shown come before it, where the line is long enough
+-- how many bytes at the start of a line of this length are left out, so that the byte at a column is
+-- shown: half as many as are shown come before it, where the line is long enough
 abbrev pub left_out : ℕ → ℕ → ℕ
 left_out len column = if nat_le len SHOWN || nat_le column (SHOWN / 2) then 0
     else min (column - SHOWN / 2) (len - SHOWN)

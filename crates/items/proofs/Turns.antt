@@ -42,7 +42,7 @@ turns_more (suc m) (suc n) h =
 pub cost_two : (i : ItemView) → 2 ≤ cost_of i
 cost_two i = turns_two (work i.program (state_of i))
 
--- so many items, each of this cost at most
+-- an item a step, each of this cost at most
 costs_times : (mode : Mode) (i : ItemView) (most : ℕ) (steps : List ℕ) →
     ((t : ℕ) → In steps t → cost_of (child_of mode i t) ≤ most) →
     costs (children_of mode i steps) ≤ length steps * most

@@ -48,16 +48,24 @@ pub struct Control {
     pub(crate) queues: [u64; OBJECTS],
 }
 
+/// The set of the threads before this number.
+pub(crate) fn threads_below(number: u8) -> Mask
+    requires { number ≤ THREADS }
+    ensures { (t : ℕ) → has result t ≡ nat_lt t number }
+{
+    let mut all = Mask::empty();
+    for t in 0..number {
+        all = all.with(t, true);
+    }
+    all
+}
+
 // The set of a program's threads.
 fn threads_of(program: &Program) -> Mask
     ensures { (t : ℕ) → has result t ≡ nat_lt t (length program.now.threads) }
 {
     program.keeps_limits();
-    let mut all = Mask::empty();
-    for t in 0..program.threads() {
-        all = all.with(t, true);
-    }
-    all
+    threads_below(program.threads())
 }
 
 // The counts with which a program opens.

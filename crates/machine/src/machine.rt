@@ -1,7 +1,8 @@
 //! The state in which a walk runs a program.
 
-ghost use Rattle.std.specs.Prelude.{◌≡◌, ◌<◌, ◌≤◌, ◌+◌, ◌||◌, nat_lt, ℕ, true, false, length, All, IfOk, OnOk, IsTrue, IsFalse};
+ghost use Rattle.std.specs.Prelude.{◌≡◌, ◌<◌, ◌≤◌, ◌+◌, ◌&&◌, ◌||◌, ◌≢◌, nat_lt, ℕ, true, false, length, All, IfOk, OnOk, IsTrue, IsFalse};
 ghost use Rattle.guest_code.specs.Program.{Program, LocalsBelow};
+ghost use Rattle.guest_code.specs.declared.limits.TheConstants.{THREADS};
 ghost use Rattle.semantics.specs.Mask.{HasEnabled, has, mask_of};
 ghost use Rattle.semantics.specs.Ends.{final_kind};
 ghost use Rattle.schedules.specs.Sleep.{next_sleep_set};
@@ -11,9 +12,9 @@ ghost use Rattle.machine.specs.declared.machine.Machine.{Machine};
 ghost use Rattle.machine.specs.Refinement.{Shows};
 ghost use Rattle.machine.specs.inner.Opening.{IsOpening};
 
-use crate::control::Control;
+use crate::control::{Control, threads_below};
 use crate::local::Landing;
-use guest_code::limits::LOCALS;
+use guest_code::limits::{LOCALS, THREADS};
 use guest_code::program::Program;
 use schedules::independence::next_apart;
 use semantics::mask::Mask;
@@ -53,13 +54,6 @@ fn is_empty(mask: Mask) -> bool
     ensures some { IsFalse result → (t : ℕ) × (has mask t ≡ true) }
 {
     mask.first_from(0).is_none()
-}
-
-// Whether a thread sleeps or comes before this one.
-fn is_tried(asleep: Mask, thread: u8, other: u8) -> bool
-    ensures { result ≡ (has asleep other || nat_lt other thread) }
-{
-    asleep.has(other) || other < thread
 }
 
 impl Machine {
@@ -154,22 +148,15 @@ impl Machine {
         &self.values.as_slice()[..self.fixed]
     }
 
-    // Whether an enabled thread sleeps after a step of another, where these sleep now.
-    fn falls_asleep(&self, program: &Program, asleep: Mask, thread: u8, other: u8) -> bool
-        requires { (s : Snapshot) × Shows program.now self.now s
-            × (is_enabled program.now s thread ≡ true) × (is_enabled program.now s other ≡ true) }
-        ensures { (s : Snapshot) → Shows program.now self.now s
-            → is_enabled program.now s thread ≡ true → is_enabled program.now s other ≡ true
-            → result ≡ next_sleep_set program.now s (has asleep) thread other }
+    // The other enabled threads that sleep, where these sleep now, or come before this one.
+    fn tried(&self, asleep: Mask, thread: u8) -> Mask
+        requires { thread < THREADS }
+        ensures itself { has result thread ≡ false }
+        ensures others { (v : ℕ) → v ≢ thread → has result v
+            ≡ (has self.now.control.enabled v && (has asleep v || nat_lt v thread)) }
     {
-        if !is_tried(asleep, thread, other) {
-            return false;
-        }
-        if thread == other {
-            return false;
-        }
-        let next = self.control.next(program, thread);
-        next_apart(next, self.control.next(program, other))
+        let others = self.control.enabled.with(thread, false);
+        others.minus(others.minus(asleep.union(threads_below(thread))))
     }
 
     /// Who sleeps after a step of an enabled thread, where these sleep now: the enabled threads
@@ -182,12 +169,16 @@ impl Machine {
             → is_enabled program.now s thread ≡ true
             → result ≡ mask_of (next_sleep_set program.now s (has asleep) thread) }
     {
-        let mut sleepers = Mask::empty();
-        let mut from = 0;
-        while let Some(other) = self.control.enabled.first_from(from) {
-            let sleeps = self.falls_asleep(program, asleep, thread, other);
+        let mut sleepers = self.tried(asleep, thread);
+        if is_empty(sleepers) {
+            return sleepers;
+        }
+        let step = self.control.next(program, thread);
+        let mut left = sleepers;
+        while let Some(other) = left.first_from(0) {
+            let sleeps = next_apart(step, self.control.next(program, other));
             sleepers = sleepers.with(other, sleeps);
-            from = other + 1;
+            left = left.with(other, false);
         }
         sleepers
     }

@@ -527,7 +527,7 @@ pub packed_few : (n : ℕ) (b last first : List ℕ) (l : ℕ) → IsPacked n b 
 packed_few n b last first l (inl e) = omega (arith, e)
 packed_few n b last first l (inr s) = stack_count n b last first l s
 
--- the list that bytes, of which so many at the front are the first prefix, and the last prefix hold
+-- the list that bytes hold, of which those at the front are the first prefix, with the last prefix
 pub record Holds (n front : ℕ) (bytes last : List ℕ) (l : ℕ) (all : List (List ℕ)) : Type 0 where
   pub within : front ≤ length bytes
   pub packed : IsPacked n (drop front bytes) last (take front bytes) l

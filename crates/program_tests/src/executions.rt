@@ -89,14 +89,25 @@ fn check_execution(rt: &impl Abort, execution: &Execution, row: &Turns) {
 fn check_turns(rt: &impl Abort, alloc: Global, p: &Program, row: &Turns) -> Result<(), Fail> {
     let execution = execution_of(rt, alloc, p, row.schedule)?;
     check_execution(rt, &execution, row);
+    check_variables(rt, alloc, p, row.schedule, &execution)?;
     let copy = execution.try_clone(alloc)?;
     check_execution(rt, &copy, row);
-    let state = state_after(rt, alloc, p, row.schedule)?;
+    Ok(())
+}
+
+// The variables of a schedule's execution are those of the state that it leads to.
+fn check_variables(
+    rt: &impl Abort,
+    alloc: Global,
+    p: &Program,
+    schedule: &[u8],
+    execution: &Execution,
+) -> Result<(), Fail> {
+    let state = state_after(rt, alloc, p, schedule)?;
     assert_eq!(rt;
         execution.state().variables(),
         state.variables(),
-        "{:?}",
-        row.schedule
+        "{schedule:?}"
     );
     Ok(())
 }

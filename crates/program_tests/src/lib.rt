@@ -7,8 +7,6 @@ mod executions;
 #[cfg(test)]
 mod explanations;
 #[cfg(test)]
-mod machines;
-#[cfg(test)]
 mod prefix_lists;
 #[cfg(test)]
 mod replays;

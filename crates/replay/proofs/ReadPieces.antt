@@ -40,7 +40,7 @@ IsNext text before piece = (map (λ x. x.now) before ≡ take (length before) (c
 pieces_are : (text : List ℕ) → bytes_eq text (codes "-") ≡ false → pieces_of text ≡ cuts text
 pieces_are text some = ap (λ b. cond b [] (cuts text)) some
 
--- texts spell a schedule of so many places, and no more than are read
+-- texts spell a schedule of this number of places, and no more than are read
 pub record IsRead (texts : List (List ℕ)) (places : ℕ) : Type 0 where
   pub w : List ℕ
   pub spelt : SpellEach texts w

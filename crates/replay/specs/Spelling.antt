@@ -28,7 +28,7 @@ pub record IsStep (text : List ℕ) (piece : Piece) : Type 0 where
   pub number : SpellsNumber text piece.thread
   pub once : piece.count ≡ 1
 
--- a thread's number, `x` and a count are so many
+-- a thread's number, `x` and a count are a run of that thread
 pub record IsRun (text : List ℕ) (piece : Piece) : Type 0 where
   pub number : List ℕ
   pub count : List ℕ

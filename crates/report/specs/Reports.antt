@@ -66,7 +66,7 @@ abbrev pub HasItems : Program → Mode → SummaryView → Type 0
 HasItems p mode sum =
     (open_items deferred : List ItemView) × IsSplit mode (root_of p) sum open_items deferred
 
--- so many schedules were tried that a search may be cut short
+-- there is a limit, and at least as many schedules were tried
 abbrev pub IsReached : Option ℕ → SummaryView → Type 0
 IsReached limit sum = (l : ℕ) × (limit ≡ Some l) × (l ≤ sum.tried)
 

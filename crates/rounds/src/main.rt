@@ -13,7 +13,7 @@ mod gate;
 mod words;
 
 use crate::gate::Listening;
-use crate::words::{Asked, request_of};
+use crate::words::{Request, request_of};
 use runner::{explore_text, report_text};
 use std::alloc::{Alloc, Global};
 use std::fs::Files;
@@ -25,12 +25,12 @@ use std::{fs, io};
 /// The text of the report of a search that this gate listens to, if there is one.
 fn searched(
     rt: &(impl Threads + Wait + Sync + Files + Alloc<A = Global>),
-    asked: &Asked,
+    request: &Request,
     gate: &Listening,
 ) -> Option<Vec<u8>> {
     let alloc = rt.alloc();
-    let text = fs::read(rt, asked.file.as_str()).ok()?;
-    let search = asked.search;
+    let text = fs::read(rt, request.file.as_str()).ok()?;
+    let search = request.search;
     let report = explore_text(
         rt,
         alloc,
@@ -54,13 +54,13 @@ fn print(rt: &HostRuntime, gate: &Listening, report: &[u8]) -> io::Result<()> {
 }
 
 fn main(rt: HostRuntime) -> ExitCode {
-    let Some(asked) = request_of(&rt) else {
+    let Some(request) = request_of(&rt) else {
         return ExitCode::from(2);
     };
-    let Some(gate) = Listening::new(rt.alloc(), asked.does) else {
+    let Some(gate) = Listening::new(rt.alloc(), request.does) else {
         return ExitCode::FAILURE;
     };
-    let Some(report) = searched(&rt, &asked, &gate) else {
+    let Some(report) = searched(&rt, &request, &gate) else {
         return ExitCode::FAILURE;
     };
     match print(&rt, &gate, report.as_slice()) {

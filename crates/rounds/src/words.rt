@@ -4,12 +4,12 @@ ghost use Rattle.std.specs.Prelude.{◌≤◌, IfSome};
 ghost use Rattle.report.specs.Promises.{IsSearch};
 
 use crate::gate::Does;
-use asked::Exploration;
+use requests::Exploration;
 use runner::{BOUND, Options, Search, WORKERS};
 
 /// What the words ask for.
 #[derive(Debug, Drop)]
-pub struct Asked {
+pub struct Request {
     pub file: String,
     pub search: Exploration,
     pub does: Does,
@@ -77,10 +77,10 @@ fn does(words: &[String]) -> Option<Does> {
 }
 
 /// What the words of the program ask for, if they ask for anything.
-pub fn request_of(rt: &HostRuntime) -> Option<Asked> {
+pub fn request_of(rt: &HostRuntime) -> Option<Request> {
     let words: Vec<String> = std::env::args(rt).ok()?.collect(rt.alloc()).ok()?;
     let words = words.as_slice();
-    Some(Asked {
+    Some(Request {
         file: words.get(1)?.as_str().to_string(rt.alloc()).ok()?,
         search: exploration_of(words)?,
         does: does(words)?,

@@ -21,7 +21,7 @@ use Rattle.report.specs.Reports.{IsBadSchedule, NoBadBelow, SomeExceeds, IsBad, 
 use Rattle.report.specs.Reports.{IsFinished, IsSummaryOf}
 use Rattle.runner.specs.inner.Judging.{HasPassedBounds}
 
--- the root's schedules within a bound are all complete ones with so many preemptions
+-- the root's schedules within a bound are all complete ones with at most that many preemptions
 in_root : (p : Program) (bound : ℕ) (w : List ℕ) → Contains (complete_schedules p (start p)) w
     → preemptions p w ≤ bound → Contains (schedules_within p [] bound) w
 in_root p bound w c le =

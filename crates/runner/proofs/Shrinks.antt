@@ -118,7 +118,7 @@ round_less old book new item j start less went k inside at = dite (ℕ_discrete 
     (λ n. let l : HasLess old book = less (omega arith) in
     ⊎_elim (λ q. less_again old book new l q) (λ t. subst (HasLess old) (sym t.book) l) went)
 
--- so many open items were walked, the first ones of a round
+-- the first n + 1 items of a round were walked
 walked_on : (n : ℕ) (old new : BookView) (place quota : ℕ) → 1 ≤ quota
     → HaveWalked (suc n) old place quota new → HasLess old new
 walked_on zero old new place quota some (between, before, walked) =

@@ -8,7 +8,7 @@ ghost use Rattle.report.specs.Promises.{IsSearch};
 
 use crate::answers::devices::{FailingReader, FailingWriter};
 use answering::{Fault, ended, serve};
-use asked::{Asked, Exploration};
+use requests::{Exploration, GuestRequest};
 use runner::{Options, Search};
 use std::alloc::{Alloc, Global};
 use std::io::Eprint;
@@ -23,18 +23,18 @@ const RACE: &str =
 const FILE_FAULT: &[u8] = b"ctxbound: file\n";
 
 /// A replay of this schedule.
-fn replay(alloc: Global, schedule: &str) -> Result<Asked, Fail> {
-    Ok(Asked::Replay {
+fn replay(alloc: Global, schedule: &str) -> Result<GuestRequest, Fail> {
+    Ok(GuestRequest::Replay {
         schedule: String::from_str(alloc, schedule)?,
     })
 }
 
 /// A search by one worker.
-fn search(options: Options) -> Asked
+fn search(options: Options) -> GuestRequest
     requires search { IsSearch options.search }
     requires quota { 1 ≤ options.quota }
 {
-    Asked::Explore(Exploration {
+    GuestRequest::Explore(Exploration {
         options,
         workers: 1,
         progress: false,
@@ -45,7 +45,7 @@ fn search(options: Options) -> Asked
 /// of a fault: answers the status, how much output there is, and the calls of the reader.
 fn reader_fails(
     rt: &(impl Abort + Threads + Wait + Sync + Eprint + Alloc<A = Global>),
-    asked: &Asked,
+    request: &GuestRequest,
     text: &[u8],
     fails_at: usize,
     line: &[u8],
@@ -58,7 +58,7 @@ fn reader_fails(
     };
     let mut out = Vec::new(alloc);
     let mut err = Vec::new(alloc);
-    let status = ended(serve(rt, asked, &mut input, &mut out, &mut err), &mut err);
+    let status = ended(serve(rt, request, &mut input, &mut out, &mut err), &mut err);
     assert_eq!(rt; err.as_slice(), line);
     (status, out.len(), input.calls)
 }
@@ -67,7 +67,7 @@ fn reader_fails(
 /// of a fault: answers the status and the calls of the writer.
 fn writer_fails(
     rt: &(impl Abort + Threads + Wait + Sync + Eprint + Alloc<A = Global>),
-    asked: &Asked,
+    request: &GuestRequest,
     fails_at: usize,
     line: &[u8],
 ) -> (u8, usize) {
@@ -75,7 +75,7 @@ fn writer_fails(
     let mut input = RACE.as_bytes();
     let mut out = FailingWriter::at(fails_at);
     let mut err = Vec::new(alloc);
-    let status = ended(serve(rt, asked, &mut input, &mut out, &mut err), &mut err);
+    let status = ended(serve(rt, request, &mut input, &mut out, &mut err), &mut err);
     assert_eq!(rt; err.as_slice(), line);
     (status, out.calls)
 }
@@ -83,13 +83,13 @@ fn writer_fails(
 /// The output where no device fails.
 fn output(
     rt: &(impl Abort + Threads + Wait + Sync + Eprint + Alloc<A = Global>),
-    asked: &Asked,
+    request: &GuestRequest,
 ) -> Vec<u8> {
     let alloc = rt.alloc();
     let mut input = RACE.as_bytes();
     let mut out = Vec::new(alloc);
     let mut err = Vec::new(alloc);
-    let _ = serve(rt, asked, &mut input, &mut out, &mut err);
+    let _ = serve(rt, request, &mut input, &mut out, &mut err);
     assert!(rt; !out.is_empty() && err.is_empty());
     out
 }
@@ -97,11 +97,11 @@ fn output(
 /// Each call of a reader fails in turn: the program says so, and doesn't try it again.
 fn readers_fail(
     rt: &(impl Abort + Threads + Wait + Sync + Eprint + Alloc<A = Global>),
-    asked: &Asked,
+    request: &GuestRequest,
 ) {
     let text = RACE.as_bytes();
     for fails_at in 0..=text.len() {
-        let counts = reader_fails(rt, asked, text, fails_at, FILE_FAULT);
+        let counts = reader_fails(rt, request, text, fails_at, FILE_FAULT);
         assert_eq!(rt; counts, (4, 0, fails_at + 1));
     }
 }
@@ -109,31 +109,31 @@ fn readers_fail(
 /// Each call of a writer fails in turn.
 fn writers_fail(
     rt: &(impl Abort + Threads + Wait + Sync + Eprint + Alloc<A = Global>),
-    asked: &Asked,
+    request: &GuestRequest,
 ) {
-    let length = output(rt, asked).len();
+    let length = output(rt, request).len();
     for fails_at in 0..=length {
-        let counts = writer_fails(rt, asked, fails_at, FILE_FAULT);
+        let counts = writer_fails(rt, request, fails_at, FILE_FAULT);
         assert_eq!(rt; counts, (4, fails_at + 1));
     }
 }
 
 #[test]
 fn says_that_a_device_failed(rt: HostRuntime) -> Result<(), Fail> {
-    let asked = replay(rt.alloc(), "0,1,0")?;
-    readers_fail(&rt, &asked);
-    writers_fail(&rt, &asked);
+    let request = replay(rt.alloc(), "0,1,0")?;
+    readers_fail(&rt, &request);
+    writers_fail(&rt, &request);
     Ok(())
 }
 
 #[test]
 fn says_that_a_device_failed_in_a_search(rt: HostRuntime) {
-    for asked in &[
+    for request in &[
         search(Options::new(Search::UpTo(2))),
         search(Options::new(Search::Unbounded)),
     ] {
-        readers_fail(&rt, asked);
-        writers_fail(&rt, asked);
+        readers_fail(&rt, request);
+        writers_fail(&rt, request);
     }
 }
 
@@ -141,9 +141,9 @@ fn says_that_a_device_failed_in_a_search(rt: HostRuntime) {
 fn reads_no_further_than_it_must(rt: HostRuntime) -> Result<(), Fail> {
     let mut text = Vec::new(rt.alloc());
     text.resize(65_537, b' ')?;
-    let asked = replay(rt.alloc(), "0")?;
+    let request = replay(rt.alloc(), "0")?;
     let line = b"ctxbound: syntax S5 TooLong at 1:1\n";
-    let counts = reader_fails(&rt, &asked, text.as_slice(), 65_537, line);
+    let counts = reader_fails(&rt, &request, text.as_slice(), 65_537, line);
     assert_eq!(rt; counts, (2, 0, 65_537));
     Ok(())
 }
@@ -151,20 +151,20 @@ fn reads_no_further_than_it_must(rt: HostRuntime) -> Result<(), Fail> {
 /// The status where neither stream takes anything.
 fn status_alone(
     rt: &(impl Threads + Wait + Sync + Eprint + Alloc<A = Global>),
-    asked: &Asked,
+    request: &GuestRequest,
 ) -> u8 {
     let mut input = RACE.as_bytes();
     let mut out = FailingWriter::at(0);
     let mut err = FailingWriter::at(0);
-    ended(serve(rt, asked, &mut input, &mut out, &mut err), &mut err)
+    ended(serve(rt, request, &mut input, &mut out, &mut err), &mut err)
 }
 
 #[test]
 fn keeps_its_status_where_a_stream_fails(rt: HostRuntime) -> Result<(), Fail> {
-    let asked = replay(rt.alloc(), "0,")?;
+    let request = replay(rt.alloc(), "0,")?;
     let line = b"ctxbound: schedule Q1 BadSchedule at 2\n";
-    assert_eq!(rt; writer_fails(&rt, &asked, 0, line), (2, 0));
-    assert_eq!(rt; status_alone(&rt, &asked), 2);
+    assert_eq!(rt; writer_fails(&rt, &request, 0, line), (2, 0));
+    assert_eq!(rt; status_alone(&rt, &request), 2);
     let mut err = FailingWriter::at(0);
     assert_eq!(rt; Fault::Memory.report(&mut err), 4);
     Ok(())

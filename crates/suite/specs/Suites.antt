@@ -13,7 +13,7 @@ use Rattle.report.specs.ReportText.{named_schedule}
 use Rattle.report.specs.Texts.{IsReportOfText, ExploreErrorMeans}
 use Rattle.suite.specs.declared.entry.Outcome.{Outcome}
 use Rattle.suite.specs.declared.entry.Outcome.TheVariants.{Searched, Refused, Unclear, Unread}
-use Rattle.asked.specs.declared.limits.Limits.{Limits}
+use Rattle.requests.specs.declared.limits.Limits.{Limits}
 
 -- a search as far as this that is cut short at the limit
 abbrev pub options_of : Search → ℕ → Options

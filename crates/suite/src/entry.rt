@@ -6,7 +6,7 @@ ghost use Rattle.suite.specs.Statuses.{searched_status, status_of, IsWorst};
 
 use crate::expectation::{Expectation, Expected};
 use crate::searches::search;
-use asked::Limits;
+use requests::Limits;
 use runner::{ExploreError, Report, Verdict};
 use std::alloc::Global;
 use std::sync::Wait;

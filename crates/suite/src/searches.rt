@@ -3,7 +3,7 @@
 ghost use Rattle.std.specs.Prelude.{◌≡◌};
 ghost use Rattle.suite.specs.Suites.{SearchMeans, options_of, is_cut_short, is_bad};
 
-use asked::Limits;
+use requests::Limits;
 use runner::{ExploreError, Open, Options, QUOTA, Report, Search, Verdict, explore_text};
 use std::alloc::Global;
 use std::sync::Wait;

@@ -109,15 +109,15 @@ const CUT: &[u8] =
 fn fullest(alloc: Global) -> Result<String, Fail> {
     let mut text = String::new(alloc);
     for i in 0..16 {
-        text.push_str(format!(in alloc; "var v{i} = {i}; ")?.as_str())?;
+        write!(text, "var v{i} = {i}; ")?;
     }
     for i in 0..8 {
-        text.push_str(format!(in alloc; "mutex m{i}; cond c{i}; sem s{i} = {i}; ")?.as_str())?;
+        write!(text, "mutex m{i}; cond c{i}; sem s{i} = {i}; ")?;
     }
     for t in 0..16 {
-        text.push_str(format!(in alloc; "thread t{t} {{ ")?.as_str())?;
+        write!(text, "thread t{t} {{ ")?;
         for i in 0..16 {
-            text.push_str(format!(in alloc; "load r{i} v{i}; ")?.as_str())?;
+            write!(text, "load r{i} v{i}; ")?;
         }
         text.push_str("repeat 63 { repeat 16 { store v15 r15; } } } ")?;
     }
@@ -377,12 +377,10 @@ fn source(alloc: Global, text: &str) -> Result<String, Fail> {
     program.keeps_limits();
     let mut shown = String::new(alloc);
     for i in 0..program.code(0).len() {
-        let place = format!(in alloc; "{} ", map.place(0, i))?;
-        shown.push_str(&place)?;
+        write!(shown, "{} ", map.place(0, i))?;
     }
     for i in 0..program.locals(0) {
-        let name = format!(in alloc; "{:?}", map.local(0, i))?;
-        shown.push_str(&name)?;
+        write!(shown, "{:?}", map.local(0, i))?;
     }
     Ok(shown)
 }

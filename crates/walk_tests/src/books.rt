@@ -1,4 +1,4 @@
-ghost use Rattle.std.specs.Prelude.{◌≡◌, ◌≤◌};
+ghost use Rattle.std.specs.Prelude.{◌≤◌};
 
 use crate::walks::program_of;
 use book::books::Book;
@@ -9,9 +9,8 @@ use std::alloc::{Alloc, AllocError, Global};
 use std::process::Abort;
 use std::sync::Arc;
 use std::test::*;
-use walk::found::Found;
 use walk::walked::Walked;
-use walk::walker::{Walker, walk};
+use walk::walker::walk;
 
 /// Two threads that each add one to a variable.
 const COUNTERS: &str =
@@ -162,6 +161,16 @@ fn played(
     Ok(book)
 }
 
+/// Stops the test where a book tells something else in one of these settlements.
+fn plays(
+    rt: &(impl Abort + Alloc<A = Global>),
+    text: &str,
+    script: &[Settlement],
+) -> Result<(), Fail> {
+    let _book = played(rt, text, script)?;
+    Ok(())
+}
+
 /// The counters' root is cut short, and then walked again; then the item that it left.
 const ONE_BY_ONE: [Settlement; 3] = [
     Settlement {
@@ -189,86 +198,7 @@ const ONE_BY_ONE: [Settlement; 3] = [
 
 #[test]
 fn items_are_settled_one_by_one(rt: HostRuntime) -> Result<(), Fail> {
-    let _book = played(&rt, COUNTERS, &ONE_BY_ONE)?;
-    Ok(())
-}
-
-/// Walks the last open items of a book where they stand.
-fn walk_in_place(alloc: Global, book: &mut Book, quota: u32) -> Result<(), Fail>
-    requires { 1 ≤ quota }
-{
-    let mut walker = Walker::new(alloc, Arc::try_clone(book.program())?)?;
-    book.walk_round(alloc, &mut walker, &mut Found::new(alloc), quota)?;
-    Ok(())
-}
-
-/// Walks the counters' root where it stands, and then what the first walk left.
-fn walk_both(rt: &(impl Abort + Alloc<A = Global>), book: &mut Book) -> Result<(), Fail> {
-    walk_in_place(rt.alloc(), book, 1)?;
-    shows(rt, book, "1 true open [1] deferred [0, 1]")?;
-    walk_in_place(rt.alloc(), book, 256)?;
-    shows(rt, book, "2 true deferred [0, 1] deferred [1, 0]")?;
-    Ok(())
-}
-
-#[test]
-fn items_are_walked_where_they_stand(rt: HostRuntime) -> Result<(), Fail> {
-    let mut book = book_of(rt.alloc(), COUNTERS, FIRST)?;
-    walk_both(&rt, &mut book)
-}
-
-/// Walks the rounds of two books, one schedule a walk: those of the first where its items stand, and
-/// the items of the second one by one. They show the same after each.
-fn walk_rounds(
-    rt: &(impl Abort + Alloc<A = Global>),
-    first: &mut Book,
-    second: &mut Book,
-) -> Result<(), Fail> {
-    for _ in 0..ROUNDS {
-        walk_in_place(rt.alloc(), first, 1)?;
-        walk_round(rt.alloc(), second, 1)?;
-        let line = shown(rt.alloc(), second)?;
-        shows(rt, first, line.as_str())?;
-    }
-    Ok(())
-}
-
-#[test]
-fn rounds_are_settled_as_their_items_are(rt: HostRuntime) -> Result<(), Fail> {
-    let mut first = book_of(rt.alloc(), COUNTERS, Mode::Bounded(1))?;
-    let mut second = book_of(rt.alloc(), COUNTERS, Mode::Bounded(1))?;
-    walk_rounds(&rt, &mut first, &mut second)
-}
-
-/// The prefixes of items, in one line.
-fn shown_items(alloc: Global, items: &[Item]) -> Result<String, AllocError> {
-    let mut line = String::new(alloc);
-    for item in items {
-        add_prefix(alloc, &mut line, "item", item)?;
-    }
-    Ok(line)
-}
-
-/// The items of a book's next round, which are written two times.
-fn twice(alloc: Global, book: &mut Book) -> Result<Vec<Item>, AllocError> {
-    let mut items = Vec::new(alloc);
-    book.next_round(alloc, &mut items)?;
-    book.next_round(alloc, &mut items)?;
-    Ok(items)
-}
-
-/// Stops the test where a round that is written over another isn't the counters' root.
-fn check_twice(rt: &(impl Abort + Alloc<A = Global>), book: &mut Book) -> Result<(), Fail> {
-    let items = twice(rt.alloc(), book)?;
-    let line = shown_items(rt.alloc(), &items)?;
-    assert_eq!(rt; line.as_str(), " item []");
-    Ok(())
-}
-
-#[test]
-fn a_round_is_written_over_another(rt: HostRuntime) -> Result<(), Fail> {
-    let mut book = book_of(rt.alloc(), COUNTERS, FIRST)?;
-    check_twice(&rt, &mut book)
+    plays(&rt, COUNTERS, &ONE_BY_ONE)
 }
 
 /// Walks of another program, of another mode, and of an item that isn't open.
@@ -332,9 +262,8 @@ const RENAMED: [Settlement; 1] = [Settlement {
 
 #[test]
 fn programs_are_compared_by_value(rt: HostRuntime) -> Result<(), Fail> {
-    let _equal = played(&rt, WRITERS, &EQUALS)?;
-    let _renamed = played(&rt, "mutex m; thread A { lock m; }", &RENAMED)?;
-    Ok(())
+    plays(&rt, WRITERS, &EQUALS)?;
+    plays(&rt, "mutex m; thread A { lock m; }", &RENAMED)
 }
 
 /// Whether a book answers what it finished to who asks for this program at bound 0, for the other
@@ -487,43 +416,4 @@ fn check_drops(rt: &(impl Abort + Alloc<A = Global>), book: &mut Book) -> Result
 fn a_quick_book_drops_what_comes_later(rt: HostRuntime) -> Result<(), Fail> {
     let mut book = quick_book(rt.alloc())?;
     check_drops(&rt, &mut book)
-}
-
-/// Whether a book is of this text's program at bound 0.
-fn is_of(alloc: Global, book: &Book, text: &str) -> Result<bool, Fail> {
-    let program = program_of(alloc, text)?;
-    Ok(book.mode() == FIRST && book.program().is_same(&program))
-}
-
-/// Walks an item of a book, and settles what the walk found.
-fn settle_item(alloc: Global, book: &mut Book, walker: &mut Walker, item: &Item) -> Result<(), Fail>
-    requires { (item.now.program ≡ walker.old) × (book.old.program ≡ item.now.program) }
-{
-    let mut found = Found::new(alloc);
-    walker.walk_into(alloc, &mut found, item, book.mode(), 256)?;
-    book.settle_found(alloc, item, &mut found)?;
-    Ok(())
-}
-
-/// Walks a book's root, which the book doesn't drop, and settles what the walk found.
-fn settle_root(rt: &(impl Abort + Alloc<A = Global>), book: &mut Book) -> Result<(), Fail> {
-    let program = Arc::try_clone(book.program())?;
-    let mut walker = Walker::new(rt.alloc(), Arc::try_clone(&program)?)?;
-    let root = Item::root(rt.alloc(), program)?;
-    assert!(rt; !book.drops(&root));
-    settle_item(rt.alloc(), book, &mut walker, &root)
-}
-
-/// Stops the test where a book of the counters doesn't take what a walk of its root found.
-fn check_settled(rt: &(impl Abort + Alloc<A = Global>), book: &mut Book) -> Result<(), Fail> {
-    assert!(rt; is_of(rt.alloc(), book, COUNTERS)?);
-    settle_root(rt, book)?;
-    shows(rt, book, "2 true deferred [0, 1] deferred [1, 0]")?;
-    Ok(())
-}
-
-#[test]
-fn what_was_found_is_settled(rt: HostRuntime) -> Result<(), Fail> {
-    let mut book = book_of(rt.alloc(), COUNTERS, FIRST)?;
-    check_settled(&rt, &mut book)
 }

@@ -1,4 +1,3 @@
-mod kept;
 mod long;
 mod prefixes;
 mod quotas;

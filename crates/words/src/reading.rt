@@ -5,13 +5,13 @@ ghost use Rattle.report.specs.declared.options.Search.TheVariants.{Unbounded};
 ghost use Rattle.report.specs.Promises.{IsSearch};
 
 use crate::fault::WordsFault;
-use asked::{
-    Asked, CheckRequest, DEFAULT_BOUND, ExplainRequest, Exploration, Form, LIMIT, Limits, Request,
-    SuiteRequest,
-};
 use clap::{Arg, ArgAction, ArgMatches, Command, value_parser};
 use report::limits::{BOUND, QUOTA};
 use report::{Options, Search};
+use requests::{
+    CheckRequest, DEFAULT_BOUND, ExplainRequest, Exploration, Form, GuestRequest, LIMIT, Limits,
+    Request, SuiteRequest,
+};
 use std::alloc::{Alloc, AllocError, Global};
 use std::env::Env;
 use workers::WORKERS;
@@ -84,7 +84,7 @@ fn limit_arg<'a>(alloc: Global) -> Arg<'a> {
         .long("limit")
         .value_name("L")
         .value_parser(value_parser!(i64).range(1..))
-        .help("Cut the search short once so many schedules were tried")
+        .help("Cut the search short after this number of schedules")
 }
 
 fn trace_arg<'a>(alloc: Global) -> Arg<'a> {
@@ -293,17 +293,21 @@ fn exploration_of(name: &str, given: &ArgMatches<'_>) -> Exploration {
 }
 
 /// The replay or the search that the words of a command ask for.
-fn asked_of(alloc: Global, name: &str, given: &ArgMatches<'_>) -> Result<Asked, AllocError> {
+fn guest_request(
+    alloc: Global,
+    name: &str,
+    given: &ArgMatches<'_>,
+) -> Result<GuestRequest, AllocError> {
     if name != "replay" {
         let search = exploration_of(name, given);
         return Ok(if given.get_flag("trace") {
-            Asked::Trace(search)
+            GuestRequest::Trace(search)
         } else {
-            Asked::Explore(search)
+            GuestRequest::Explore(search)
         });
     }
     let schedule = String::from_str(alloc, given.get_str("SCHEDULE").unwrap_or("-"))?;
-    Ok(Asked::Replay { schedule })
+    Ok(GuestRequest::Replay { schedule })
 }
 
 /// The explanation that the words of a command ask for.
@@ -394,6 +398,6 @@ pub fn request(alloc: Global, words: &[String]) -> Result<Request, WordsFault> {
         return Ok(Request::Explain(explain_of(alloc, given)?));
     }
     let file = String::from_str(alloc, given.get_str("FILE").unwrap_or(""))?;
-    let asked = asked_of(alloc, name, given)?;
-    Ok(Request::One { file, asked })
+    let request = guest_request(alloc, name, given)?;
+    Ok(Request::One { file, request })
 }

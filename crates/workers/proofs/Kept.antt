@@ -1,4 +1,4 @@
--- What a hand keeps of a round, and what it settles.
+-- What a batch keeps of a round, and what it settles.
 use Rattle.std.proofs.Common.{◌≡◌, ℕ, Bool, true, false, List, [], ◌∷◌, ◌++◌, flat_map, Some, slice_get}
 use Rattle.std.proofs.Common.{refl, ap, ◌∙◌, sym, subst, Result, Ok, Err}
 use Rattle.std.specs.declared.alloc.AllocError.{AllocError}

@@ -1,17 +1,17 @@
--- A team is known by its hands alone.
+-- A team is known by its batches alone.
 use Rattle.std.proofs.Common.{◌≡◌, ◌<◌, ◌≤◌, subst, Vec, Global, vec_len}
 use Rattle.std.specs.List.{All}
 use Rattle.guest_code.specs.Program.{Program}
 use Rattle.workers.specs.declared.limits.TheConstants.{WORKERS}
-use Rattle.workers.specs.declared.hand.Hand.{Hand}
+use Rattle.workers.specs.declared.batch.Batch.{Batch}
 use Rattle.workers.specs.declared.team.Team.{Team}
 use Rattle.workers.specs.Teams.{IsTeam}
 
-pub same_hands : (p q : Program) (old new : Team) → old.hands ≡ new.hands → p ≡ q → IsTeam p old
+pub same_batches : (p q : Program) (old new : Team) → old.batches ≡ new.batches → p ≡ q → IsTeam p old
     → IsTeam q new
-same_hands p q old new hands same team = record {
-  some = subst (λ (v : Vec Hand Global). 0 < vec_len v) hands team.some;
-  few = subst (λ (v : Vec Hand Global). vec_len v ≤ WORKERS) hands team.few;
-  of = subst (λ (v : Vec Hand Global). All (λ h. h.walker ≡ q) v.items) hands
-      (subst (λ (x : Program). All (λ h. h.walker ≡ x) old.hands.items) same team.of);
+same_batches p q old new batches same team = record {
+  some = subst (λ (v : Vec Batch Global). 0 < vec_len v) batches team.some;
+  few = subst (λ (v : Vec Batch Global). vec_len v ≤ WORKERS) batches team.few;
+  of = subst (λ (v : Vec Batch Global). All (λ b. b.walker ≡ q) v.items) batches
+      (subst (λ (x : Program). All (λ b. b.walker ≡ x) old.batches.items) same team.of);
 }

@@ -8,9 +8,9 @@ ghost use Rattle.workers.specs.Teams.{IsOf};
 ghost use Rattle.workers.specs.declared.round.Round.{Round};
 ghost use Rattle.workers.specs.inner.Rounds.{IsRoundOf, AreKept};
 
+use crate::batch::Batch;
+use crate::branded::{BrandedBook, SearchBrand};
 use crate::gate::Gate;
-use crate::hand::Hand;
-use crate::named::{NamedBook, Naming};
 use crate::round::Round;
 use book::books::Book;
 use book::progress::Progress;
@@ -22,8 +22,8 @@ use std::sync::Arc;
 
 /// The book of a search, and its round.
 #[derive(Drop)]
-pub(crate) struct Desk<N: Naming> {
-    book: NamedBook<N>,
+pub(crate) struct Desk<N: SearchBrand> {
+    book: BrandedBook<N>,
     limit: Option<u64>,
     round: Arc<Round>,
     /// The round before, whose memory serves the next one.
@@ -38,7 +38,7 @@ pub(crate) struct Desk<N: Naming> {
     ghost last_of: { ForSome last (λ r. IsRoundOf N.program N.mode (arc_value r)) },
 }
 
-impl<N: Naming> Desk<N> {
+impl<N: SearchBrand> Desk<N> {
     /// A desk with the first round of a stretch of a book's rounds.
     ///
     /// # Errors
@@ -58,7 +58,7 @@ impl<N: Naming> Desk<N> {
             items: Vec::new(alloc),
         };
         let mut desk = Desk {
-            book: NamedBook::new(book),
+            book: BrandedBook::new(book),
             limit: options.limit,
             round: Arc::new(alloc, none)?,
             last: None,
@@ -121,8 +121,8 @@ impl<N: Naming> Desk<N> {
         Ok(())
     }
 
-    /// Settles the walks that a hand keeps of a round, all at once, and the hand keeps none then. Where
-    /// one of the items isn't open they are given up.
+    /// Settles the walks of a round that a batch keeps, all at once, and the batch keeps none then.
+    /// Where one of the items isn't open they are given up.
     ///
     /// # Errors
     ///
@@ -130,19 +130,19 @@ impl<N: Naming> Desk<N> {
     pub fn settle(
         &mut self,
         alloc: Global,
-        hand: &mut Hand,
+        batch: &mut Batch,
         round: &Round,
     ) -> Result<(), AllocError>
         requires round { IsRoundOf N.program N.mode round.now }
-        requires walker { hand.old.walker ≡ N.program }
-        requires kept { AreKept round.now hand.old }
-        ensures walker { hand.new.walker ≡ hand.old.walker }
-        ensures places { hand.new.places.items ≡ [] }
-        ensures kept { (r : Round) → AreKept r hand.new }
+        requires walker { batch.old.walker ≡ N.program }
+        requires kept { AreKept round.now batch.old }
+        ensures walker { batch.new.walker ≡ batch.old.walker }
+        ensures places { batch.new.places.items ≡ [] }
+        ensures kept { (r : Round) → AreKept r batch.new }
     {
-        let (items, places) = (round.items.as_slice(), hand.places.as_slice());
-        let settled = self.book.settle(alloc, items, places, &mut hand.found);
-        hand.forget(round.lists);
+        let (items, places) = (round.items.as_slice(), batch.places.as_slice());
+        let settled = self.book.settle(alloc, items, places, &mut batch.found);
+        batch.forget(round.lists);
         let _is_taken = settled?;
         Ok(())
     }

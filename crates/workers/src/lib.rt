@@ -7,11 +7,11 @@
 //! - [`Ending`] is how the workers ended.
 #![tactic(auto)]
 
+mod batch;
+mod branded;
 mod desk;
 mod gate;
-mod hand;
 pub mod limits;
-mod named;
 mod round;
 mod shared;
 mod stretch;

@@ -2,9 +2,9 @@
 
 ghost use Rattle.std.specs.Prelude.{◌≡◌};
 
+use crate::branded::SearchBrand;
 use crate::desk::Desk;
 use crate::limits::{SPINS, YIELDS};
-use crate::named::Naming;
 use board::Board;
 use std::alloc::Global;
 use std::sync::atomic::{AtomicU64, Ordering};
@@ -13,7 +13,7 @@ use std::{hint, thread};
 
 /// The gate, the board that the numbers of items are drawn from, and the desk under its lock.
 #[derive(Drop)]
-pub(crate) struct Shared<'a, N: Naming, G> {
+pub(crate) struct Shared<'a, N: SearchBrand, G> {
     pub alloc: Global,
     pub gate: &'a G,
     pub board: Board,
@@ -22,7 +22,7 @@ pub(crate) struct Shared<'a, N: Naming, G> {
     ended: AtomicU64,
 }
 
-impl<'a, N: Naming, G> Shared<'a, N, G> {
+impl<'a, N: SearchBrand, G> Shared<'a, N, G> {
     /// What is shared where the first round of the stretch begins.
     pub fn new(alloc: Global, gate: &'a G, board: Board, desk: Desk<N>) -> Shared<'a, N, G>
         ensures gate { result.gate.now ≡ gate.now }

@@ -6,10 +6,10 @@ ghost use Rattle.workers.specs.declared.worker.Ending.TheVariants.{Stopped};
 ghost use Rattle.workers.specs.Teams.{IsOf, IsTeam};
 ghost use Rattle.workers.specs.inner.Rounds.{IsOn, IsStretch};
 
+use crate::batch::Batch;
+use crate::branded::SearchBrand;
 use crate::desk::Desk;
 use crate::gate::Gate;
-use crate::hand::Hand;
-use crate::named::Naming;
 use crate::shared::Shared;
 use crate::team::Team;
 use crate::worker::{Ending, Worker, ending_of, work_all};
@@ -29,30 +29,30 @@ pub(crate) struct Stretch {
     pub workers: Vec<Worker>,
 }
 
-// A worker for each seat, with a hand each.
+// A worker for each seat, with a batch each.
 fn assign_seats(
     alloc: Global,
     board: &Board,
     program: &Program,
     seats: Vec<Seat>,
-    mut hands: Vec<Hand>,
+    mut batches: Vec<Batch>,
 ) -> Result<Vec<Worker>, AllocError>
-    requires count { vec_len hands ≡ vec_len seats }
+    requires count { vec_len batches ≡ vec_len seats }
     requires seats { All (λ s. s.board ≡ board.now.id) seats.items }
-    requires hands { All (λ h. h.walker ≡ program.now) hands.items }
+    requires batches { All (λ b. b.walker ≡ program.now) batches.items }
     ensures seated { IfOk result (λ v. All (IsOn board.now.id program.now) v.items) }
     ensures count { IfOk result (λ v. vec_len v ≡ vec_len seats) }
 {
     let mut workers = Vec::new(alloc);
     let mut number = 0u32;
     for seat in seats {
-        let Some(hand) = hands.pop() else {
+        let Some(batch) = batches.pop() else {
             unreachable!()
         };
         workers.push(Worker {
             number,
             seat,
-            hand,
+            batch,
             ahead: None,
             drawn: 0,
             ending: Ending::Drawn,
@@ -63,26 +63,26 @@ fn assign_seats(
     Ok(workers)
 }
 
-// The seats of workers, which go back to the board, and their hands, which are kept.
-fn collect_seats<N: Naming>(
+// The seats of workers, which go back to the board, and their batches, which are kept.
+fn collect_seats<N: SearchBrand>(
     alloc: Global,
     board: &Board,
     workers: Vec<Worker>,
-) -> Result<(Vec<Seat>, Vec<Hand>), AllocError>
+) -> Result<(Vec<Seat>, Vec<Batch>), AllocError>
     requires { All (IsOn board.now.id N.program) workers.items }
     ensures seats { IfOk result (λ r. All (λ s. s.board ≡ board.now.id) r.0.items) }
     ensures count { IfOk result (λ r. vec_len r.0 ≡ vec_len workers) }
-    ensures hands { IfOk result (λ r. All (λ h. h.walker ≡ N.program) r.1.items) }
+    ensures batches { IfOk result (λ r. All (λ b. b.walker ≡ N.program) r.1.items) }
     ensures kept { IfOk result (λ r. vec_len r.1 ≡ vec_len workers) }
 {
     let mut seats = Vec::new(alloc);
-    let mut hands = Vec::new(alloc);
+    let mut batches = Vec::new(alloc);
     for worker in workers {
-        let Worker { seat, hand, .. } = worker;
+        let Worker { seat, batch, .. } = worker;
         seats.push(seat)?;
-        hands.push(hand)?;
+        batches.push(batch)?;
     }
-    Ok((seats, hands))
+    Ok((seats, batches))
 }
 
 impl Stretch {
@@ -96,13 +96,13 @@ impl Stretch {
         requires team { IsTeam team.book.program team }
         requires seats { All (λ s. s.board ≡ board.id) seats.items }
         requires count { vec_len seats ≡ board.seats }
-        requires hands { vec_len team.hands ≡ vec_len seats }
+        requires batches { vec_len team.batches ≡ vec_len seats }
         ensures book { IfOk result (λ s. s.book ≡ team.book) }
         ensures stretch { IfOk result (λ s. IsStretch s.book.program s) }
     {
-        let Team { book, hands } = team;
+        let Team { book, batches } = team;
         let program = Arc::try_clone(book.program())?;
-        let workers = assign_seats(alloc, &board, &program, seats, hands)?;
+        let workers = assign_seats(alloc, &board, &program, seats, batches)?;
         Ok(Stretch {
             book,
             board,
@@ -112,7 +112,7 @@ impl Stretch {
 
     /// Walks the rounds of the stretch, and settles the walks, by all the workers: each in a thread,
     /// which goes from round to round. Answers the team, and how the workers ended.
-    pub fn walk<N: Naming + Send + Sync, G: Gate, R: Threads + Wait + Sync>(
+    pub fn walk<N: SearchBrand + Send + Sync, G: Gate, R: Threads + Wait + Sync>(
         self,
         rt: &R,
         alloc: Global,
@@ -136,9 +136,9 @@ impl Stretch {
         work_all(rt, &shared, &mut workers);
         let ending = ending_of(workers.as_slice());
         let (board, desk) = shared.into_parts();
-        let (seats, hands) = collect_seats::<N>(alloc, &board, workers)?;
+        let (seats, batches) = collect_seats::<N>(alloc, &board, workers)?;
         let _claims = board.gather(seats);
         let book = desk.into_book();
-        Ok((Team { book, hands }, ending))
+        Ok((Team { book, batches }, ending))
     }
 }

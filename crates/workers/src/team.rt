@@ -7,8 +7,8 @@ ghost use Rattle.workers.specs.declared.worker.Ending.TheVariants.{Stopped};
 ghost use Rattle.workers.specs.Teams.{IsOf, IsTeam};
 ghost use Rattle.workers.specs.inner.Rounds.{IsRoundOf};
 
+use crate::batch::Batch;
 use crate::gate::{Answer, Gate};
-use crate::hand::Hand;
 use crate::round::Round;
 use crate::stretch::Stretch;
 use crate::worker::Ending;
@@ -22,13 +22,13 @@ use std::sync::{Arc, Wait};
 use std::thread::Threads;
 use walk::walker::Walker;
 
-/// The book of a search, and a hand for each of its workers: all that is kept from one stretch of
+/// The book of a search, and a batch for each of its workers: all that is kept from one stretch of
 /// rounds to the next.
 #[derive(Drop)]
 pub struct Team {
     /// The book.
     pub book: Book,
-    pub(crate) hands: Vec<Hand>,
+    pub(crate) batches: Vec<Batch>,
 }
 
 // Walks the items of a round in their order, as the first worker.
@@ -67,11 +67,11 @@ impl Team {
         ensures book { IfOk result (λ t. t.book ≡ book) }
         ensures team { IfOk result (IsTeam book.program) }
     {
-        let mut hands = Vec::new(alloc);
+        let mut batches = Vec::new(alloc);
         for _ in 0..workers {
-            hands.push(Hand::new(alloc, Arc::try_clone(book.program())?)?)?;
+            batches.push(Batch::new(alloc, Arc::try_clone(book.program())?)?)?;
         }
-        Ok(Team { book, hands })
+        Ok(Team { book, batches })
     }
 
     /// Walks a round, and settles the walks, without a board: its items in their order, as the first
@@ -105,7 +105,7 @@ impl Team {
             first: 0,
             items,
         };
-        let walker = &mut self.hands[0].walker;
+        let walker = &mut self.batches[0].walker;
         Ok(walk_in_order(alloc, gate, &round, &mut self.book, walker))
     }
 
@@ -128,7 +128,7 @@ impl Team {
         ensures stopped { IfOk result (λ r. r.1 ≡ Stopped → G.stops gate.now ≡ true) }
         ensures error { IfErr result (λ e. e ≡ OutOfMemory) }
     {
-        let Ok((board, seats)) = Board::new(alloc, u32::MAX, self.hands.len() as u32) else {
+        let Ok((board, seats)) = Board::new(alloc, u32::MAX, self.batches.len() as u32) else {
             let ending = self.walk_round(alloc, gate, options.quota)?;
             return Ok((self, ending));
         };

@@ -7,11 +7,11 @@ ghost use Rattle.workers.specs.declared.limits.TheConstants.{KEPT_WALKS};
 ghost use Rattle.workers.specs.declared.worker.Ending.TheVariants.{Drawn, Stopped, OutOfMemory};
 ghost use Rattle.workers.specs.inner.Rounds.{IsRoundOf, IsOn, AreKept};
 
+use crate::batch::Batch;
+use crate::branded::SearchBrand;
 use crate::desk::Desk;
 use crate::gate::{Answer, Gate};
-use crate::hand::Hand;
 use crate::limits::WORKERS;
-use crate::named::Naming;
 use crate::round::Round;
 use crate::shared::Shared;
 use board::{Board, Seat};
@@ -59,7 +59,7 @@ impl Ending {
 pub(crate) struct Worker {
     pub number: u32,
     pub seat: Seat,
-    pub hand: Hand,
+    pub batch: Batch,
     /// The number that it drew last, where the item is of a later round.
     pub ahead: Option<u64>,
     /// How many items of the round it drew of which the desk has not taken note yet.
@@ -75,7 +75,7 @@ impl Worker {
     fn draw(&mut self, board: &Board) -> Option<u64>
         requires { self.old.seat.board ≡ board.now.id }
         ensures board { self.new.seat.board ≡ self.old.seat.board }
-        ensures hand { self.new.hand ≡ self.old.hand }
+        ensures batch { self.new.batch ≡ self.old.batch }
     {
         match self.ahead.take() {
             Some(number) => Some(number),
@@ -87,7 +87,7 @@ impl Worker {
     fn leaves_out(&mut self, board: &Board, round: &Round, item: &Item) -> bool
         requires { self.old.seat.board ≡ board.now.id }
         ensures board { self.new.seat.board ≡ self.old.seat.board }
-        ensures hand { self.new.hand ≡ self.old.hand }
+        ensures batch { self.new.batch ≡ self.old.batch }
     {
         if !round.quick {
             return false;
@@ -100,14 +100,14 @@ impl Worker {
     fn tells_of(&mut self, board: &Board, round: &Round, item: &Item)
         requires { self.old.seat.board ≡ board.now.id }
         ensures board { self.new.seat.board ≡ self.old.seat.board }
-        ensures hand { self.new.hand ≡ self.old.hand }
+        ensures batch { self.new.batch ≡ self.old.batch }
     {
         board.tell(&mut self.seat, round.rank_of(item));
     }
 
     // Works from round to round, until the stretch is over, the board has no number any more, the gate
     // stops it or memory runs out.
-    fn work<N: Naming, G: Gate, R: Wait>(&mut self, rt: &R, shared: &Shared<N, G>) -> Ending
+    fn work<N: SearchBrand, G: Gate, R: Wait>(&mut self, rt: &R, shared: &Shared<N, G>) -> Ending
         requires { IsOn shared.now.board.id N.program self.old }
         ensures on { IsOn shared.now.board.id N.program self.new }
         ensures stopped { result ≡ Stopped → G.stops shared.now.gate.now ≡ true }
@@ -126,7 +126,7 @@ impl Worker {
 
     // Works in a round, until all its items are drawn, and settles what it walked. Answers how it
     // ended where it can't go on.
-    fn work_round<N: Naming, G: Gate, R: Wait>(
+    fn work_round<N: SearchBrand, G: Gate, R: Wait>(
         &mut self,
         rt: &R,
         shared: &Shared<N, G>,
@@ -137,7 +137,7 @@ impl Worker {
         ensures on { IsOn shared.now.board.id N.program self.new }
         ensures stopped { result ≡ Some Stopped → G.stops shared.now.gate.now ≡ true }
     {
-        self.hand.forget(round.lists);
+        self.batch.forget(round.lists);
         let ending = self.walk_items(rt, shared, round);
         if self.drawn == 0 {
             return ending;
@@ -154,7 +154,7 @@ impl Worker {
     // # Errors
     //
     // `AllocError` where memory runs out; the walks are given up then.
-    fn settle<N: Naming, G: Gate, R: Wait>(
+    fn settle<N: SearchBrand, G: Gate, R: Wait>(
         &mut self,
         rt: &R,
         shared: &Shared<N, G>,
@@ -163,10 +163,10 @@ impl Worker {
     ) -> Result<(), AllocError>
         requires round { IsRoundOf N.program N.mode round.now }
         requires on { IsOn shared.now.board.id N.program self.old }
-        requires kept { AreKept round.now self.old.hand }
+        requires kept { AreKept round.now self.old.batch }
         ensures on { IsOn shared.now.board.id N.program self.new }
-        ensures kept { AreKept round.now self.new.hand }
-        ensures places { self.new.hand.places.items ≡ [] }
+        ensures kept { AreKept round.now self.new.batch }
+        ensures places { self.new.batch.places.items ≡ [] }
     {
         let desk = shared.desk(rt);
         self.settle_at(shared, round, desk, ends)
@@ -178,17 +178,17 @@ impl Worker {
     // # Errors
     //
     // `AllocError` where memory runs out; the walks are given up then.
-    fn settle_if_free<N: Naming, G: Gate>(
+    fn settle_if_free<N: SearchBrand, G: Gate>(
         &mut self,
         shared: &Shared<N, G>,
         round: &Round,
     ) -> Result<(), AllocError>
         requires round { IsRoundOf N.program N.mode round.now }
         requires on { IsOn shared.now.board.id N.program self.old }
-        requires kept { AreKept round.now self.old.hand }
+        requires kept { AreKept round.now self.old.batch }
         ensures on { IsOn shared.now.board.id N.program self.new }
-        ensures kept { AreKept round.now self.new.hand }
-        ensures few { vec_len self.new.hand.places ≤ vec_len self.old.hand.places }
+        ensures kept { AreKept round.now self.new.batch }
+        ensures few { vec_len self.new.batch.places ≤ vec_len self.old.batch.places }
     {
         match shared.desk_if_free() {
             Some(desk) => self.settle_at(shared, round, desk, false),
@@ -202,7 +202,7 @@ impl Worker {
     // # Errors
     //
     // `AllocError` where memory runs out; the walks are given up then.
-    fn settle_at<N: Naming, G: Gate>(
+    fn settle_at<N: SearchBrand, G: Gate>(
         &mut self,
         shared: &Shared<N, G>,
         round: &Round,
@@ -211,13 +211,13 @@ impl Worker {
     ) -> Result<(), AllocError>
         requires round { IsRoundOf N.program N.mode round.now }
         requires on { IsOn shared.now.board.id N.program self.old }
-        requires kept { AreKept round.now self.old.hand }
+        requires kept { AreKept round.now self.old.batch }
         ensures on { IsOn shared.now.board.id N.program self.new }
-        ensures kept { AreKept round.now self.new.hand }
-        ensures places { self.new.hand.places.items ≡ [] }
+        ensures kept { AreKept round.now self.new.batch }
+        ensures places { self.new.batch.places.items ≡ [] }
     {
         let drawn = mem::replace(&mut self.drawn, 0);
-        let settled = desk.settle(shared.alloc, &mut self.hand, round);
+        let settled = desk.settle(shared.alloc, &mut self.batch, round);
         if !desk.note_done(drawn, ends || settled.is_err()) {
             return settled;
         }
@@ -235,7 +235,7 @@ impl Worker {
     // # Errors
     //
     // `AllocError` where memory runs out; the walks are given up then.
-    fn settle_early<N: Naming, G: Gate, R: Wait>(
+    fn settle_early<N: SearchBrand, G: Gate, R: Wait>(
         &mut self,
         rt: &R,
         shared: &Shared<N, G>,
@@ -245,18 +245,18 @@ impl Worker {
     ) -> Result<(), AllocError>
         requires round { IsRoundOf N.program N.mode round.now }
         requires on { IsOn shared.now.board.id N.program self.old }
-        requires kept { AreKept round.now self.old.hand }
+        requires kept { AreKept round.now self.old.batch }
         ensures on { IsOn shared.now.board.id N.program self.new }
-        ensures kept { AreKept round.now self.new.hand }
-        ensures room { OnOk result (vec_len self.new.hand.places < KEPT_WALKS) }
+        ensures kept { AreKept round.now self.new.batch }
+        ensures room { OnOk result (vec_len self.new.batch.places < KEPT_WALKS) }
     {
         if round.quick && is_bad {
             self.settle(rt, shared, round, true)?;
             self.tells_of(&shared.board, round, item);
             Ok(())
-        } else if self.hand.is_full() {
+        } else if self.batch.is_full() {
             self.settle(rt, shared, round, false)
-        } else if self.hand.is_worth_a_lock() {
+        } else if self.batch.is_worth_a_lock() {
             self.settle_if_free(shared, round)
         } else {
             Ok(())
@@ -265,7 +265,7 @@ impl Worker {
 
     // Draws items of a round and walks them, until all are drawn. Answers how it ended where it
     // can't go on.
-    fn walk_items<N: Naming, G: Gate, R: Wait>(
+    fn walk_items<N: SearchBrand, G: Gate, R: Wait>(
         &mut self,
         rt: &R,
         shared: &Shared<N, G>,
@@ -273,10 +273,10 @@ impl Worker {
     ) -> Option<Ending>
         requires round { IsRoundOf N.program N.mode round.now }
         requires on { IsOn shared.now.board.id N.program self.old }
-        requires kept { AreKept round.now self.old.hand }
-        requires none { self.old.hand.places.items ≡ [] }
+        requires kept { AreKept round.now self.old.batch }
+        requires none { self.old.batch.places.items ≡ [] }
         ensures on { IsOn shared.now.board.id N.program self.new }
-        ensures kept { AreKept round.now self.new.hand }
+        ensures kept { AreKept round.now self.new.batch }
         ensures stopped { result ≡ Some Stopped → G.stops shared.now.gate.now ≡ true }
     {
         for _ in rt.forever() {
@@ -295,7 +295,7 @@ impl Worker {
             if shared.gate.before(self.number, place as u64) == Answer::Stop {
                 return Some(Ending::Stopped);
             }
-            let Ok(is_bad) = self.hand.walk(shared.alloc, round, place) else {
+            let Ok(is_bad) = self.batch.walk(shared.alloc, round, place) else {
                 return Some(Ending::OutOfMemory);
             };
             shared.gate.walked(self.number, place as u64);
@@ -310,7 +310,7 @@ impl Worker {
 
 /// Lets all workers work, each in a thread of its own. Those for which no thread can be made work one
 /// after another.
-pub(crate) fn work_all<N: Naming + Send + Sync, G: Gate, R: Threads + Wait + Sync>(
+pub(crate) fn work_all<N: SearchBrand + Send + Sync, G: Gate, R: Threads + Wait + Sync>(
     rt: &R,
     shared: &Shared<N, G>,
     workers: &mut Vec<Worker>,

@@ -58,7 +58,7 @@ no_frame = record {
 abbrev pub frame_at : List Frame → ℕ → Frame
 frame_at fs k = get_or fs k no_frame
 
--- the words of frame k, where each has so many
+-- the words of frame k, where each frame has `size` of them
 abbrev pub words_at : ℕ → List ℤ → ℕ → List ℤ
 words_at size ws k = take size (drop (k * size) ws)
 

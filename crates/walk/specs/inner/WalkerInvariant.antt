@@ -29,8 +29,8 @@ here p t = item_of p t.steps.items t.node
 abbrev pub open_at : Mode → Program → List ℕ → Node → List ItemView
 open_at mode p w n = children_of mode (item_of p w n) (members_from n.todo 0)
 
--- what is open at the nodes of so many frames after the first ones, the last first, on the way of
--- these steps
+-- what is open at the nodes of the n frames after the first `base` ones, the last first, on the way
+-- of these steps
 abbrev pub open_from : Mode → Program → List ℕ → List Frame → ℕ → ℕ → List ItemView
 open_from mode p w fs base zero = []
 open_from mode p w fs base (suc n) =

@@ -5,7 +5,6 @@ use crate::walks::{COUNTERS, found, program_of, root_of};
 use prefix_list::Prefixes;
 use std::alloc::{Alloc, Global};
 use std::process::Abort;
-use std::sync::Arc;
 use std::test::*;
 use walk::found::Found;
 use walk::walker::walk;
@@ -31,7 +30,8 @@ fn add_from_the_last(line: &mut String, prefixes: &mut Prefixes) -> Result<(), F
 /// The walk of the counters' schedules that begin with a prefix within a bound, in parts.
 fn parts_after(alloc: Global, prefix: &[u8], bound: u32) -> Result<Found, Fail> {
     let item = Item::at(alloc, program_of(alloc, COUNTERS)?, prefix)?;
-    Ok(walk(alloc, &item, Mode::Bounded(bound), 256)?.into_found())
+    let (_, found) = walk(alloc, &item, Mode::Bounded(bound), 256)?.into_parts();
+    Ok(found)
 }
 
 /// What it finds, and then the prefixes that the bound put off, from the last on.
@@ -147,17 +147,6 @@ fn prefixes_that_do_not_run(rt: HostRuntime) -> Result<(), Fail> {
     refuses(&rt, &[0, 0], "schedule P2 NotEnabled at 1")
 }
 
-#[test]
-fn an_item_becomes_another(rt: HostRuntime) -> Result<(), Fail> {
-    let program = program_of(rt.alloc(), COUNTERS)?;
-    let mut item = Item::root(rt.alloc(), Arc::try_clone(&program)?)?;
-    let other = Item::at(rt.alloc(), program, &[0, 1])?;
-    item.try_clone_from(&other)?;
-    let line = format!(in rt.alloc(); "{:?} {}", item.prefix(), item.is_same(&other))?;
-    assert_eq!(rt; line.as_str(), "[0, 1] true");
-    Ok(())
-}
-
 /// Two threads whose steps are independent.
 const READERS: &str = "var x; thread A { load r x; } thread B { load r x; }";
 
@@ -170,12 +159,12 @@ fn is_awake(alloc: Global, item: &Item) -> Result<bool, Fail> {
 /// How many items the first schedule leaves where sleep sets prune, and whether one of them is awake.
 fn left_awake(alloc: Global) -> Result<(usize, bool), Fail> {
     let root = root_of(alloc, READERS)?;
-    let left = walk(alloc, &root, Mode::Reduced, 1)?.into_found().rest;
+    let (_, found) = walk(alloc, &root, Mode::Reduced, 1)?.into_parts();
     let mut some = false;
-    for item in &left {
+    for item in &found.rest {
         some |= is_awake(alloc, item)?;
     }
-    Ok((left.len(), some))
+    Ok((found.rest.len(), some))
 }
 
 #[test]

@@ -21,13 +21,9 @@ const WITHIN_TWO: &str = "23 0 4 true Some([1, 1, 1, 1, 0, 1, 2, 2, 0]) Done [1]
 
 /// Joins what a walk found into the whole, and adds what it leaves to the open items.
 fn take_over(walked: Walked, whole: &mut Summary, open: &mut Vec<Item>) -> Result<(), Fail> {
-    let Found {
-        mut part,
-        mut rest,
-        ..
-    } = walked.into_found();
-    whole.join_in_by(&mut EndHints::new(), &mut part)?;
-    open.append(&mut rest)?;
+    let (_, mut found) = walked.into_parts();
+    whole.join_in_by(&mut EndHints::new(), &mut found.part)?;
+    open.append(&mut found.rest)?;
     Ok(())
 }
 
@@ -95,7 +91,7 @@ fn left_and_put_off(walked: &Walked) -> (usize, usize) {
 
 /// How many schedules a walk tried, how many items it left and how many prefixes it put off, by its
 /// parts.
-fn counts_of(parts: Found) -> (u64, usize, usize) {
+fn counts_of(parts: &Found) -> (u64, usize, usize) {
     (
         parts.part.tried(),
         parts.rest.len(),
@@ -108,7 +104,7 @@ fn the_parts_of_a_walk_are_taken_over(rt: HostRuntime) -> Result<(), Fail> {
     let alloc = rt.alloc();
     let walked = walk(alloc, &root_of(alloc, COUNTERS)?, Mode::Bounded(0), 1)?;
     let (left, off) = left_and_put_off(&walked);
-    let counts = counts_of(walked.into_found());
-    assert_eq!(rt; counts, (1, left, off));
+    let (_, found) = walked.into_parts();
+    assert_eq!(rt; counts_of(&found), (1, left, off));
     Ok(())
 }

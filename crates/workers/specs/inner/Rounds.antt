@@ -6,7 +6,7 @@ use Rattle.items.specs.Items.{AreOf}
 use Rattle.items.specs.declared.mode.Mode.{Mode}
 use Rattle.book.specs.Books.{HaveFound}
 use Rattle.workers.specs.declared.limits.TheConstants.{WORKERS}
-use Rattle.workers.specs.declared.hand.Hand.{Hand}
+use Rattle.workers.specs.declared.batch.Batch.{Batch}
 use Rattle.workers.specs.declared.round.Round.{Round}
 use Rattle.workers.specs.declared.worker.Worker.{Worker}
 use Rattle.workers.specs.declared.stretch.Stretch.{Stretch}
@@ -20,12 +20,12 @@ pub record IsRoundOf (p : Program) (m : Mode) (r : Round) : Type 0 where
 -- the worker's seat is of this board, and its walker of this program
 pub record IsOn (board : BoardId) (p : Program) (w : Worker) : Type 0 where
   pub seat : w.seat.board ≡ board
-  pub walker : w.hand.walker ≡ p
+  pub walker : w.batch.walker ≡ p
 
--- what a hand keeps was found by walks of the round's items at its places
-pub record AreKept (r : Round) (h : Hand) : Type 0 where
-  pub found : HaveFound h.walker r.mode r.items.items h.places.items h.found
-  pub few : h.found.part.tried ≤ vec_len h.places * 2 ^ 32
+-- what a batch keeps was found by walks of the round's items at its places
+pub record AreKept (r : Round) (b : Batch) : Type 0 where
+  pub found : HaveFound b.walker r.mode r.items.items b.places.items b.found
+  pub few : b.found.part.tried ≤ vec_len b.places * 2 ^ 32
 
 -- as many workers as a search may have, one for each seat of the board
 pub record IsStretch (p : Program) (s : Stretch) : Type 0 where

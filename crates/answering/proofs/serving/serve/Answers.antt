@@ -9,6 +9,6 @@ returns-clause-served g c =
     let after = g.W.Write.contents c.write_out.new.out in
     let output = subst (λ (bytes : List ℕ). Appends before after bytes) c.output.ensures
     c.in_ok-write_out.ensures.written in
-    served (g.R.Read.remaining c.args.input.now) c.in_ok-text.text.items c.args.asked.now
+    served (g.R.Read.remaining c.args.input.now) c.in_ok-text.text.items c.args.request.now
     c.new-answer.result before after c.status.result c.in_ok-text.ensures.text c.new-answer.ensures
     output c.status.ensures

@@ -3,7 +3,7 @@ use Rattle.replay.specs.Spelling.{length_with_commas}
 use Rattle.replay.proofs.ReadPieces.{IsRead}
 use Rattle.replay.proofs.schedule.check_pieces.Given as goal
 
--- the pieces so far spell so many places, and the next piece begins after their commas
+-- the pieces so far spell a schedule of `places` places, and the next one begins after their commas
 abbrev pub invariant-loop-piece : goal.invariant-loop-piece
 invariant-loop-piece l = record {
   next : (goal.iterator-loop-piece).can_next l.piece-iterator;

@@ -3,7 +3,7 @@ use Rattle.guest_code.specs.Program.{Program}
 use Rattle.report.specs.declared.report.Report.{Report}
 use Rattle.report.specs.Promises.{IsReport}
 use Rattle.runner.specs.inner.Judging.{IsStage, IsAt, Follows}
-use Rattle.workers.proofs.Teams.{same_hands}
+use Rattle.workers.proofs.Teams.{same_batches}
 use Rattle.runner.proofs.together.explore.Goals as goal
 
 pub returns-in-Some-2-clause-report : goal.returns-in-Some-2-clause-report
@@ -32,5 +32,5 @@ loop-preserved g c =
       subst (λ (p : Program). IsStage p o.search c.after_round.new.book.mode) c.deref.ensures goes.0,
       subst (λ (p : Program). IsAt c.after_round.new.book p o c.after_round.new.book.mode)
           c.deref.ensures goes.1,
-      same_hands _ _ c.in_ok-next.next _ refl of.program kept,
+      same_batches _ _ c.in_ok-next.next _ refl of.program kept,
     )

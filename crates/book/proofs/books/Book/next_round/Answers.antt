@@ -3,14 +3,14 @@ use Rattle.items.specs.Items.{ItemView}
 use Rattle.book.specs.ItemLists.{all_of}
 use Rattle.book.specs.Books.{BookView}
 use Rattle.book.proofs.BookFields.{book_of}
-use Rattle.book.proofs.OpenItems.{loose_own}
+use Rattle.book.proofs.OpenItems.{unpacked_own}
 use Rattle.book.proofs.books.Book.next_round.Goals as goal
 
 pub copy_from-requires-clause-program : goal.copy_from-requires-clause-program
 copy_from-requires-clause-program c =
     let i = c.self.inside in
     let b = book_of i in
-    let own = loose_own b c.look_from.new.self
+    let own = unpacked_own b c.look_from.new.self
     (sym (ap (all_of b.program) c.look_from.ensures ∙ c.in_ok-unpack_from.ensures.same))
     c.self.invariant.0 in (
       b.program,
@@ -23,7 +23,7 @@ pub returns-clause-program : goal.returns-clause-program
 returns-clause-program c =
     let i = c.self.inside in
     let b = book_of i in
-    let own = loose_own b c.look_from.new.self
+    let own = unpacked_own b c.look_from.new.self
     (sym (ap (all_of b.program) c.look_from.ensures ∙ c.in_ok-unpack_from.ensures.same))
     c.self.invariant.0 in
     subst (λ (v : BookView). All (λ (j : ItemView). j.program ≡ v.program) c.copy_from.new.items.items)

@@ -3,7 +3,7 @@ use Rattle.items.specs.Items.{AreOf}
 use Rattle.book.specs.Books.{BookView, Keeps, AreOpenAt, HaveSettled}
 use Rattle.book.proofs.BookFields.{book_of}
 use Rattle.book.proofs.Lists.{open_within}
-use Rattle.book.proofs.OpenItems.{loose_own}
+use Rattle.book.proofs.OpenItems.{unpacked_own}
 use Rattle.book.proofs.Gathered.{walked_within, settled_together}
 use Rattle.book.proofs.books.Book.settle_all.Goals as goal
 use Rattle.book.proofs.books.Book.settle_all.Goals.{After-as_slice}
@@ -17,7 +17,7 @@ pub places_of-requires-clause-program : goal.places_of-requires-clause-program
 places_of-requires-clause-program c =
     let b = book_of c.self.inside in (
       b.program,
-      loose_own b c.self.inside.open_items refl c.self.invariant.0,
+      unpacked_own b c.self.inside.open_items refl c.self.invariant.0,
       subst (λ (z : BookView). AreOf z.program c.args.items.now) (sym c.self.view_is)
           c.requires.program,
     )

@@ -15,7 +15,7 @@ use Rattle.book.proofs.BookFields.{book_of}
 use Rattle.book.proofs.Lists.{within_more}
 use Rattle.book.proofs.Swept.{taken_swept}
 use Rattle.book.proofs.TakenOver.{grown, given_back, open_taken, taken_back, same_book, packs_none}
-use Rattle.book.proofs.TakenOver.{loose_after, none_there}
+use Rattle.book.proofs.TakenOver.{unpacked_after, none_there}
 use Rattle.book.proofs.OpenItems.{open_run, deferred_run, waiting_run}
 use Rattle.book.proofs.books.Book.take_over.Goals as goal
 
@@ -53,7 +53,7 @@ not_deferred c =
     same_book b b.finished (all_of p c.truncate.new.self) (all_of p c.append_prefixes.new.self) refl
     (given_back p c.unpack_from.new.self c.append.new.self c.truncate.new.self b.open_items
     c.args.found.now.rest.items c.length-open_length.result c.unpack_from.ensures.same
-    c.in_ok-append.ensures.packed c.in_ok-append.ensures.loose (c.length-open_length.ensures p)
+    c.in_ok-append.ensures.packed c.in_ok-append.ensures.unpacked (c.length-open_length.ensures p)
     (c.truncate.ensures.items p)) (c.in-Err.ensures.all ∙ c.unpack_from-2.ensures.same)
 
 pub invariant_of-self-in-Err : goal.invariant_of-self-in-Err
@@ -89,7 +89,7 @@ not_joined c =
     c.in-Err-join_in_by.ensures
     (given_back p c.unpack_from.new.self c.append.new.self open_items.new.self b.open_items
     found.rest.items c.length-open_length.result c.unpack_from.ensures.same
-    c.in_ok-append.ensures.packed c.in_ok-append.ensures.loose (c.length-open_length.ensures p)
+    c.in_ok-append.ensures.packed c.in_ok-append.ensures.unpacked (c.length-open_length.ensures p)
     (open_items.ensures.items p))
     (taken_back b.deferred (items_at p c.forget_unlisted.new.prefixes)
     (all_of p c.append_prefixes.new.self) (all_of p deferred.new.self) c.length-deferred_length.result
@@ -117,10 +117,10 @@ invariant_of-self-in-Err-join_in_by c = (
 pub returns-in-Err-join_in_by : goal.returns-in-Err-join_in_by
 returns-in-Err-join_in_by c = not_joined c ∙ c.self.view_is
 
-pub remove_each-requires-clause-loose : goal.remove_each-requires-clause-loose
-remove_each-requires-clause-loose c =
-    let n = c.in_ok-unpack_from.ensures.loose in
-    let m = c.first_loose.ensures.place in
+pub remove_each-requires-clause-unpacked : goal.remove_each-requires-clause-unpacked
+remove_each-requires-clause-unpacked c =
+    let n = c.in_ok-unpack_from.ensures.unpacked in
+    let m = c.first_unpacked.ensures.place in
     let same = ap length c.in_ok-append.ensures.packed in
     All-weaker (λ k. c.args.first ≤ k) (λ k. length c.append.new.self.packed ≤ k)
     (λ k l. omega (arith, n, m, same, l)) c.args.places.now c.requires.first
@@ -132,7 +132,7 @@ remove_each-requires-clause-within c =
     let rest = c.args.found.now.rest.items in (
       p,
       subst (λ xs. AreWithin xs places) (sym (grown p c.unpack_from.new.self c.append.new.self rest
-          c.in_ok-append.ensures.packed c.in_ok-append.ensures.loose))
+          c.in_ok-append.ensures.packed c.in_ok-append.ensures.unpacked))
           (within_more (all_of p c.unpack_from.new.self) rest places
           (subst (λ xs. AreWithin xs places) (sym c.unpack_from.ensures.same)
           (subst (λ (z : BookView). AreWithin z.open_items places) (sym c.self.view_is)
@@ -155,7 +155,7 @@ settled c =
     c.requires.within in
     let items = open_taken p c.unpack_from.new.self c.append.new.self c.remove_each.new.self
     b.open_items found.rest.items places c.unpack_from.ensures.same
-    c.in_ok-append.ensures.packed c.in_ok-append.ensures.loose (c.remove_each.ensures.items p)
+    c.in_ok-append.ensures.packed c.in_ok-append.ensures.unpacked (c.remove_each.ensures.items p)
     within in
     λ k. record b {
       finished = c.in_default-join_in_by.ensures k;
@@ -178,16 +178,16 @@ invariant_of-self-2 c =
           (sym c.both-self-inside.ensures)
           (taken_swept c.self.inside.swept c.is_quiet-quiet.result b c.args.places.now found
           c.self.invariant.1 c.is_quiet-quiet.ensures)),
-      loose_after c.is_packed-packs.result c.self.inside.quick c.self.inside.finished.first_bad
+      unpacked_after c.is_packed-packs.result c.self.inside.quick c.self.inside.finished.first_bad
           found.part.first_bad c.join_in_by.new.self.first_bad c.remove_each.new.self.packed
           c.append_prefixes.new.self.packed c.is_packed-packs.ensures
           (λ n. (
             c.remove_each.ensures.packed ∙ (c.in_ok-append.ensures.packed
-                ∙ none_there c.unpack_from.new.self.packed c.first_loose.result
-                c.in_ok-unpack_from.ensures.loose (c.first_loose.ensures.none n)),
+                ∙ none_there c.unpack_from.new.self.packed c.first_unpacked.result
+                c.in_ok-unpack_from.ensures.unpacked (c.first_unpacked.ensures.none n)),
             c.append_prefixes.ensures.packed n
-                ∙ none_there c.unpack_from-2.new.self.packed c.first_loose-2.result
-                c.in_ok-unpack_from-2.ensures.loose (c.first_loose-2.ensures.none n),
+                ∙ none_there c.unpack_from-2.new.self.packed c.first_unpacked-2.result
+                c.in_ok-unpack_from-2.ensures.unpacked (c.first_unpacked-2.ensures.none n),
           ))
           (ap (λ (z : SummaryView). z.first_bad) c.in_default-join_in_by.ensures
           ∙ join_first_bad b.finished found.part),
@@ -204,7 +204,7 @@ invariant_of-self-in_err-append c =
     let b = book_of c.self.inside in
     let p = arc_value c.self.inside.program in
     let left : all_of p c.append.new.self ≡ b.open_items =
-    (λ k. items_at p (c.in_err-append.ensures.packed k) ++ c.in_err-append.ensures.loose k)
+    (λ k. items_at p (c.in_err-append.ensures.packed k) ++ c.in_err-append.ensures.unpacked k)
     ∙ c.unpack_from.ensures.same in
     let same = same_book b b.finished (all_of p c.append.new.self)
     (all_of p c.unpack_from-2.new.self) refl left c.unpack_from-2.ensures.same in (

@@ -30,7 +30,7 @@ walk_on-requires-clause-program c =
     let b = book_of c.self.inside in
     let at = open_at b _ _ c.loop-place.place _ c.self.invariant.0 c.unpack_from.ensures.same
     (c.length-end.ensures b.program) c.loop-place-test.true
-    (c.loose_item-item.ensures b.program) in
+    (c.unpacked_item-item.ensures b.program) in
     sym at.1
     ∙ (ap (λ (z : BookView). z.program) c.self.view_is ∙ (sym c.requires.walker
     ∙ sym c.loop-place.invariant.walker))
@@ -38,13 +38,13 @@ walk_on-requires-clause-program c =
 pub loop-place-preserved : goal.loop-place-preserved
 loop-place-preserved c =
     let b = book_of c.self.inside in
-    let item : ItemView = c.loose_item-item.result.now in
+    let item : ItemView = c.unpacked_item-item.result.now in
     let from = c.loop-place.auto.place in
     let tried = c.loop-place.invariant.tried in
     let quota = c.ranges.quota.fits in
     let at = open_at b _ _ c.loop-place.place item c.self.invariant.0 c.unpack_from.ensures.same
     (c.length-end.ensures b.program) c.loop-place-test.true
-    (c.loose_item-item.ensures b.program) in
+    (c.unpacked_item-item.ensures b.program) in
     let more = added_tried c.self.inside.mode item c.args.quota c.loop-place.found
     c.walk_on.new.found c.in_ok-walk_on.ensures.added in
     record {

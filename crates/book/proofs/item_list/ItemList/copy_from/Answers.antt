@@ -14,16 +14,16 @@ returns-clause-items c = λ p.
     let packed = ap (λ (v : ListView). length v.packed) c.self.view_is in
     let m = place - c.length.result in
     let whole : length (items_at p l.packed) + m ≡ place =
-    omega (arith, n, packed, c.length.ensures.length, c.requires.loose) in
-    let same : drop m l.loose.items ≡ drop place (all_of p c.args.self.now) =
-    sym (drop-append-add (items_at p l.packed) l.loose.items m)
-    ∙ (ap (λ k. drop k (items_at p l.packed ++ l.loose.items)) whole
+    omega (arith, n, packed, c.length.ensures.length, c.requires.unpacked) in
+    let same : drop m l.unpacked.items ≡ drop place (all_of p c.args.self.now) =
+    sym (drop-append-add (items_at p l.packed) l.unpacked.items m)
+    ∙ (ap (λ k. drop k (items_at p l.packed ++ l.unpacked.items)) whole
     ∙ ap (λ v. drop place (all_of p v)) c.self.view_is) in
     subst (λ (is : List ItemView). OnOk c.copy_over.result (c.copy_over.new.items.items ≡ is)) same
     c.copy_over.ensures.items
 
 pub returns-clause-program : goal.returns-clause-program
-returns-clause-program c = λ p loose items.
+returns-clause-program c = λ p unpacked items.
     c.copy_over.ensures.program p
-    (subst (λ (l : ListView). AreOf p l.loose) (sym c.self.view_is) loose)
+    (subst (λ (l : ListView). AreOf p l.unpacked) (sym c.self.view_is) unpacked)
     items

@@ -29,7 +29,7 @@ returns c =
     ∙ (c.truncate.ensures ∙ ap (take (c.args.place + 1)) c.in_ok-prefixes.ensures) in
     let low : c.args.place < length i.packed =
     omega (arith, c.if-packed-place.false, c.length-packed.ensures.length) in
-    let l : ListView = record { packed = i.packed; loose = i.loose.items } in
+    let l : ListView = record { packed = i.packed; unpacked = i.unpacked.items } in
     if_ok c.last_item.result (λ x. x ≡ item_at p (last_of c.in_ok-reading.reading)) _
     (λ x e. ap (λ m. slice_get (all_of p m) c.args.place) (sym c.self.view_is)
     ∙ (got-packed p l c.args.place (last_of (take (c.args.place + 1) i.packed)) low

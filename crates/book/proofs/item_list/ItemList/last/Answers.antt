@@ -13,22 +13,22 @@ returns c =
     let p = arc_value c.args.program.now in
     let most = c.args.most in
     let n = length-map i.packed (item_at p) in
-    let count : c.min-count.result ≡ min (most - length i.loose.items) (length i.packed) =
+    let count : c.min-count.result ≡ min (most - length i.unpacked.items) (length i.packed) =
     omega (
       arith,
       c.min-count.ensures,
       c.saturating_sub.ensures,
-      c.len-loose.ensures,
+      c.len-unpacked.ensures,
       c.length.ensures.length,
-      i.loose.ok.0,
+      i.unpacked.ok.0,
     ) in
-    let e : c.saturating_sub-2.result ≡ length i.loose.items - most =
-    omega (arith, c.saturating_sub-2.ensures, c.len-loose.ensures, i.loose.ok.0) in
-    let d : drop c.saturating_sub-2.result i.loose.items
-    ≡ drop (length i.loose.items - most) i.loose.items =
-    ap (λ k. drop k i.loose.items) e in
+    let e : c.saturating_sub-2.result ≡ length i.unpacked.items - most =
+    omega (arith, c.saturating_sub-2.ensures, c.len-unpacked.ensures, i.unpacked.ok.0) in
+    let d : drop c.saturating_sub-2.result i.unpacked.items
+    ≡ drop (length i.unpacked.items - most) i.unpacked.items =
+    ap (λ k. drop k i.unpacked.items) e in
     c.in_ok-push_copies.ensures
     ∙ ((λ k. c.in_ok-items.ensures k ++ d k)
-    ∙ (last_of_both (items_at p i.packed) i.loose.items (length i.packed) most c.min-count.result
+    ∙ (last_of_both (items_at p i.packed) i.unpacked.items (length i.packed) most c.min-count.result
     (sym n) count
     ∙ ap (λ l. drop (length (all_of p l) - most) (all_of p l)) c.self.view_is))

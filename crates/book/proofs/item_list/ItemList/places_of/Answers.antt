@@ -6,7 +6,7 @@ use Rattle.guest_code.specs.Program.{Program}
 use Rattle.items.specs.Items.{ItemView}
 use Rattle.book.specs.ItemLists.{all_of}
 use Rattle.book.specs.Books.{remove_each, AreOpenAt}
-use Rattle.book.proofs.PackedItems.{length-all, got-or, got-loose}
+use Rattle.book.proofs.PackedItems.{length-all, got-or, got-unpacked}
 use Rattle.book.proofs.Lists.{IsBehind, behind_first, behind_next, each_more, open_more}
 use Rattle.book.proofs.item_list.ItemList.places_of.Goals as goal
 
@@ -15,8 +15,8 @@ loop-k-init c =
     let v = c.args.self.now in
     let none = sym c.in_ok-found.ensures.items in
     let few = c.min-start.ensures in
-    let view = ap (λ l. length l.loose) c.self.view_is in
-    let loose = c.self.inside.loose.ok.0 in
+    let view = ap (λ l. length l.unpacked) c.self.view_is in
+    let unpacked = c.self.inside.unpacked.ok.0 in
     let len = c.len.ensures in
     record {
       there = λ p. subst (AreOpenAt (all_of p v) c.args.items.now []) none tt;
@@ -24,8 +24,8 @@ loop-k-init c =
           subst (λ qs. IsBehind (all_of p v) (remove_each (all_of p v) qs) (length v.packed)
           (length v.packed + c.min-start.result) 0) none
           (behind_first (all_of p v) (length v.packed) (length v.packed + c.min-start.result)
-          (omega (arith, all, few, view, loose, len)) (omega arith));
-      loose = subst (All (λ q. length v.packed ≤ q)) none (All-nil (λ q. length v.packed ≤ q));
+          (omega (arith, all, few, view, unpacked, len)) (omega arith));
+      unpacked = subst (All (λ q. length v.packed ≤ q)) none (All-nil (λ q. length v.packed ≤ q));
       out = omega arith;
     }
 
@@ -46,7 +46,7 @@ loop-k-preserved c =
     let high = s.1 in
     let packed = c.length-packed.ensures.length in
     let view = ap (λ l. length l.packed) c.self.view_is in
-    let wide = ap (λ l. length l.loose) c.self.view_is in
+    let wide = ap (λ l. length l.unpacked) c.self.view_is in
     let item : slice_get items at ≡ Some x =
     got-or items at x (c.requires.places k 0 c.loop-k-test.true)
     ∙ ap (λ i. Some i) (sym c.index-items-places.is) in
@@ -61,9 +61,9 @@ loop-k-preserved c =
     let all = length-all p v in
     behind_next (all_of p v) (remove_each (all_of p v) found) n (n + c.loop-k.start) k (n + place) x
     (c.loop-k.invariant.behind p) (omega (arith, low)) (omega (arith, all, high, wide))
-    (got-loose p v (n + place) x (omega arith)
-    (ap (slice_get v.loose) (let e : n + place - n ≡ place = omega arith in e)
-    ∙ (ap (λ l. slice_get l.loose place) (sym c.self.view_is) ∙ s.2))) in
+    (got-unpacked p v (n + place) x (omega arith)
+    (ap (slice_get v.unpacked) (let e : n + place - n ≡ place = omega arith in e)
+    ∙ (ap (λ l. slice_get l.unpacked place) (sym c.self.view_is) ∙ s.2))) in
     record {
       there = λ p.
           let r = next p in
@@ -76,8 +76,8 @@ loop-k-preserved c =
           (k + 1)) (let e : n + place + 1 ≡ n + (place + 1) = omega arith in e)
           (subst (λ zs. IsBehind (all_of p v) zs n (n + place + 1) (k + 1))
           (sym (each_more (all_of p v) found q) ∙ ap (remove_each (all_of p v)) pushed) (next p).3);
-      loose = subst (All (λ m. n ≤ m)) pushed
-          (All-append (λ m. n ≤ m) found (q ∷ []) c.loop-k.invariant.loose
+      unpacked = subst (All (λ m. n ≤ m)) pushed
+          (All-append (λ m. n ≤ m) found (q ∷ []) c.loop-k.invariant.unpacked
           (All-cons (λ m. n ≤ m) q [] (next c.requires.program.0).0 (All-nil (λ m. n ≤ m))));
       out = let o = c.loop-k.invariant.out in omega (arith, o, low);
     }

@@ -11,6 +11,6 @@ invariant-loop-k l = record {
   there : (p : Program) → AreOpenAt (all_of p l.self) l.items (take l.k l.places) l.found.items;
   behind : (p : Program) → IsBehind (all_of p l.self) (remove_each (all_of p l.self) l.found.items)
       (length l.self.packed) (length l.self.packed + l.start) l.k;
-  loose : All (λ q. length l.self.packed ≤ q) l.found.items;
+  unpacked : All (λ q. length l.self.packed ≤ q) l.found.items;
   out : l.k ≤ l.start;
 }

@@ -17,7 +17,7 @@ returns-clause-items c = λ p.
     let b : c.args.end - c.length-packed.result ≡ c.args.end - length (items_at p i.packed) =
     omega (arith, n, c.length-packed.ensures.length) in
     ap (λ is. items_at p i.packed ++ is) (c.drop-drain.ensures.items ∙ (c.drain.ensures.kept
-    ∙ (λ k. remove_range i.loose.items (a k) (b k))))
-    ∙ (range_right (items_at p i.packed) i.loose.items c.args.first c.args.end
-    (omega (arith, n, v, c.requires.loose)) c.requires.range
+    ∙ (λ k. remove_range i.unpacked.items (a k) (b k))))
+    ∙ (range_right (items_at p i.packed) i.unpacked.items c.args.first c.args.end
+    (omega (arith, n, v, c.requires.unpacked)) c.requires.range
     ∙ ap (λ l. remove_range (all_of p l) c.args.first c.args.end) c.self.view_is)

@@ -19,25 +19,25 @@ loop-k-preserved c =
     let q = get_or places k 0 in
     let n = c.length-packed.result in
     let out = c.remove-item in
-    let taken : out.new.self.items ≡ remove i.loose.items (q - n) =
-    removed_any out.result i.loose.items out.new.self.items (q - n) i.loose.len
-    out.ensures.items out.ensures.variant i.loose.ok.0
-    (if_none out.result (out.new.self ≡ i.loose) (out.new.self.items ≡ i.loose.items)
+    let taken : out.new.self.items ≡ remove i.unpacked.items (q - n) =
+    removed_any out.result i.unpacked.items out.new.self.items (q - n) i.unpacked.len
+    out.ensures.items out.ensures.variant i.unpacked.ok.0
+    (if_none out.result (out.new.self ≡ i.unpacked) (out.new.self.items ≡ i.unpacked.items)
     (λ e. ap (λ d. d.items) e) out.ensures.unchanged) in
     let same = c.length-packed.ensures.length in
     let view = ap (λ l. length l.packed) c.self.view_is in
     let kept = ap length c.loop-k.invariant.packed in
-    let low = c.requires.loose k 0 c.loop-k-test.true in
+    let low = c.requires.unpacked k 0 c.loop-k-test.true in
     let next : drop k places ≡ q ∷ drop (k + 1) places =
     drop-cons places k 0 c.loop-k-test.true
     ∙ ap (λ m. q ∷ drop m places) (let e : suc k ≡ k + 1 = omega arith in e) in
     record {
       left = λ p.
-          let all = all_of p (list_view i.packed i.loose) in
+          let all = all_of p (list_view i.packed i.unpacked) in
           let len = length-map i.packed (item_at p) in
           ap (λ xs. remove_each xs (drop (k + 1) places))
           (ap (λ xs. items_at p i.packed ++ xs) taken
-          ∙ sym (remove-append_right (items_at p i.packed) i.loose.items n q
+          ∙ sym (remove-append_right (items_at p i.packed) i.unpacked.items n q
           (omega (arith, len, same, view, kept)) (omega (arith, low, same, view))))
           ∙ (ap (remove_each all) (sym next) ∙ c.loop-k.invariant.left p);
       packed = c.loop-k.invariant.packed;

@@ -1,42 +1,97 @@
-use Rattle.std.proofs.Common.{◌≢◌, ◌∙◌, arith, below_more, sym, rules, inl, inr}
-use Rattle.std.proofs.lemmas.Bool.{cases_lt}
+use Rattle.std.proofs.Common.{◌≡◌, ◌≢◌, ◌||◌, ◌∙◌, ℕ, nat_lt, length, true, false, refl, ap, sym, arith, inl, inr, rules}
+use Rattle.std.proofs.lemmas.Bool.{cases_order}
 use Rattle.semantics.specs.Mask.{has}
-use Rattle.schedules.specs.Sleep.{next_sleep_set}
-use Rattle.semantics.proofs.Masks.{is_mask_of, none_left}
-use Rattle.machine.proofs.Sleepers.{disabled, enabled_are}
+use Rattle.schedules.specs.Sleep.{apart, next_sleep_set}
+use Rattle.semantics.proofs.Masks.{is_mask_of, none_left, members-without_first}
+use Rattle.machine.proofs.Sleepers.{enabled_are, both_true, asleep_where, untried}
 use Rattle.machine.proofs.machine.Machine.sleepers.Goals as goal
 
+pub returns-then-is_empty : goal.returns-then-is_empty
+returns-then-is_empty c = λ s shows on.
+    let none = c.if-is_empty.ensures.none refl in
+    let Z = has c.args.asleep in
+    is_mask_of c.tried-sleepers.result (next_sleep_set c.args.program.now s Z c.args.thread)
+    (search rules)
+    (λ v l. none v ∙ untried c.args.program.now c.args.self.now s Z c.args.thread
+    c.tried-sleepers.result shows c.tried-sleepers.ensures.others v (none v))
+
+pub loop-other-init : goal.loop-other-init
+loop-other-init c =
+    let all = c.tried-sleepers.result in
+    let apart : (v : ℕ) → has all v ≡ true → c.args.thread ≢ v =
+    λ v h e. (let no : true ≡ false =
+    sym h ∙ (ap (has all) (sym e) ∙ c.tried-sleepers.ensures.itself) in cc) in
+    record {
+      fits = search rules;
+      tried = λ v h. (
+        apart v h,
+        sym (c.tried-sleepers.ensures.others v (λ e. apart v h (sym e))) ∙ h,
+      );
+      over = λ s shows on v h. h ∙ untried c.args.program.now c.args.self.now s
+          (has c.args.asleep) c.args.thread all shows c.tried-sleepers.ensures.others v h;
+    }
+
+pub next-requires : goal.next-requires
+next-requires c =
+    let s = c.requires.0 in
+    let shows = c.requires.1 in
+    let tried = c.loop-other.invariant.tried c.in-Some.other c.in-Some.ensures.member.0 in (
+      s,
+      shows.of,
+      shows.control,
+      sym (enabled_are c.args.program.now c.args.self.now s shows c.in-Some.other)
+          ∙ (both_true _ _ tried.1).0,
+    )
+
+pub loop-other-smaller : goal.loop-other-smaller
+loop-other-smaller c =
+    let first = ap length c.in-Some.ensures.list in
+    let rest = ap length (members-without_first c.loop-other.left c.with-left.result c.in-Some.other
+    c.in-Some.ensures.member.2 (λ u l. c.in-Some.ensures.none u (omega arith) l)
+    c.with-left.ensures.same c.with-left.ensures.others) in
+    omega (arith, first, rest)
+
 pub loop-other-preserved : goal.loop-other-preserved
-loop-other-preserved c = record {
-  fits = search rules;
-  near = omega (arith, c.in-Some.ensures.member.2);
-  below = λ s shows on. below_more _ _
-      (λ k h. let ne : k ≢ c.in-Some.other = omega (arith, h) in
-      c.with-sleepers.ensures.others k ne ∙ elim (cases_lt k c.loop-other.from) [
-        | inl a ↦ c.loop-other.invariant.below s shows on k a
-        | inr b ↦ c.loop-other.invariant.above k b
-            ∙ disabled c.args.program.now s (has c.args.asleep) c.args.thread k
-            (sym (enabled_are c.args.program.now c.args.self.now s shows k)
-            ∙ c.in-Some.ensures.none k b h)
-      ])
-      (c.with-sleepers.ensures.same ∙ c.falls_asleep-sleeps.ensures s shows on
-      (sym (enabled_are c.args.program.now c.args.self.now s shows c.in-Some.other)
-      ∙ c.in-Some.ensures.member.0));
-  above = λ k h. let ne : k ≢ c.in-Some.other = omega (arith, h) in
-      c.with-sleepers.ensures.others k ne
-      ∙ c.loop-other.invariant.above k (omega (arith, h, c.in-Some.ensures.member.1));
-}
+loop-other-preserved c =
+    let p = c.args.program.now in
+    let Z = has c.args.asleep in
+    let t = c.args.thread in
+    let other = c.in-Some.other in
+    let known = c.loop-other.invariant in
+    let tried = known.tried other c.in-Some.ensures.member.0 in
+    let both = both_true (has c.args.self.now.control.enabled other) (Z other || nat_lt other t)
+    tried.1 in
+    record {
+      fits = search rules;
+      tried = λ v h. elim (cases_order v other) [
+        | inl e ↦ (let no : true ≡ false =
+            sym h ∙ (ap (has c.with-left.result) e ∙ c.with-left.ensures.same) in cc)
+        | inr (inl l) ↦ (let ne : v ≢ other = omega (arith, l) in
+            known.tried v (sym (c.with-left.ensures.others v ne) ∙ h))
+        | inr (inr l) ↦ (let ne : v ≢ other = omega (arith, l) in
+            known.tried v (sym (c.with-left.ensures.others v ne) ∙ h))
+      ];
+      over = λ s shows on v h.
+          let awake = sym (enabled_are p c.args.self.now s shows other) ∙ both.0 in
+          elim (cases_order v other) [
+            | inl e ↦ ap (has c.with-sleepers.result) e ∙ (c.with-sleepers.ensures.same
+                ∙ (asleep_where p s Z t other awake both.1 tried.0 (c.next_apart-sleeps.ensures
+                ∙ (λ i. apart (c.next-step.ensures s shows.of shows.control on i)
+                (c.next.ensures s shows.of shows.control awake i)))
+                ∙ ap (next_sleep_set p s Z t) (sym e)))
+            | inr (inl l) ↦ (let ne : v ≢ other = omega (arith, l) in
+                c.with-sleepers.ensures.others v ne
+                ∙ known.over s shows on v (sym (c.with-left.ensures.others v ne) ∙ h))
+            | inr (inr l) ↦ (let ne : v ≢ other = omega (arith, l) in
+                c.with-sleepers.ensures.others v ne
+                ∙ known.over s shows on v (sym (c.with-left.ensures.others v ne) ∙ h))
+          ];
+    }
 
 pub returns : goal.returns
 returns c = λ s shows on.
     is_mask_of c.loop-other.sleepers
     (next_sleep_set c.args.program.now s (has c.args.asleep) c.args.thread)
     c.loop-other.invariant.fits
-    (λ t l. elim (cases_lt t c.loop-other.from) [
-      | inl a ↦ c.loop-other.invariant.below s shows on t a
-      | inr b ↦ c.loop-other.invariant.above t b
-          ∙ disabled c.args.program.now s (has c.args.asleep) c.args.thread t
-          (sym (enabled_are c.args.program.now c.args.self.now s shows t)
-          ∙ none_left c.args.self.now.control.enabled c.loop-other.from t
-          c.in_default.ensures.list b l)
-    ])
+    (λ v l. c.loop-other.invariant.over s shows on v
+    (none_left c.loop-other.left 0 v c.in_default.ensures.list (omega arith) l))

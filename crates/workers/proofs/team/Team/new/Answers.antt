@@ -1,13 +1,13 @@
 use Rattle.std.proofs.Common.{rules, ◌≡◌, arith}
 use Rattle.std.proofs.lemmas.List.Elements.{All-push, All-same}
-use Rattle.workers.specs.declared.hand.Hand.{Hand}
+use Rattle.workers.specs.declared.batch.Batch.{Batch}
 use Rattle.workers.proofs.team.Team.new.Goals as goal
 
 pub loop-preserved : goal.loop-preserved
 loop-preserved c =
     let i = c.loop.invariant in
-    let H : Hand → Type 0 = λ h. h.walker ≡ c.args.book.program in
+    let B : Batch → Type 0 = λ b. b.walker ≡ c.args.book.program in
     record {
-      of = All-same H _ _ c.in_ok-push.ensures.items (All-push H _ _ i.of (search rules));
+      of = All-same B _ _ c.in_ok-push.ensures.items (All-push B _ _ i.of (search rules));
       many = let m = i.many in let n = c.in_ok-push.ensures.len in omega (arith, m, n);
     }

@@ -4,6 +4,6 @@ use Rattle.workers.proofs.team.Team.new.Given as goal
 
 abbrev pub invariant-loop : goal.invariant-loop
 invariant-loop l = record {
-  of : All (λ h. h.walker ≡ l.fn.book.program) l.hands.items;
-  many : vec_len l.hands ≡ l.counter;
+  of : All (λ b. b.walker ≡ l.fn.book.program) l.batches.items;
+  many : vec_len l.batches ≡ l.counter;
 }

@@ -6,5 +6,5 @@ use Rattle.workers.proofs.worker.Worker.walk_items.Given as goal
 abbrev pub invariant-loop : goal.invariant-loop
 invariant-loop g l =
     (goal.iterator-loop g).can_next l.iterator' × (goal.iterator-loop g).is_finite l.iterator'
-    × IsOn l.shared.board.id g.N.Naming.program l.self × AreKept l.round l.self.hand
-    × (vec_len l.self.hand.places < KEPT_WALKS)
+    × IsOn l.shared.board.id g.N.SearchBrand.program l.self × AreKept l.round l.self.batch
+    × (vec_len l.self.batch.places < KEPT_WALKS)

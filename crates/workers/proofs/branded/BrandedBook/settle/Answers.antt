@@ -2,14 +2,14 @@ use Rattle.std.proofs.Common.{sym, subst}
 use Rattle.book.specs.Books.{HaveSettled}
 use Rattle.workers.specs.Teams.{IsOf}
 use Rattle.workers.proofs.Kept.{found_in, settled_of, either_way}
-use Rattle.workers.proofs.named.NamedBook.settle.Goals as goal
+use Rattle.workers.proofs.branded.BrandedBook.settle.Goals as goal
 
 pub invariant_of-self : goal.invariant_of-self
 invariant_of-self g c =
-    let p = g.N.Naming.program in
-    let mode = g.N.Naming.mode in
-    let quick = g.N.Naming.quick in
-    let lists = g.N.Naming.lists in
+    let p = g.N.SearchBrand.program in
+    let mode = g.N.SearchBrand.mode in
+    let quick = g.N.SearchBrand.quick in
+    let lists = g.N.SearchBrand.lists in
     let b = c.self.inside.book in
     let new = c.settle_all.new.self in
     let of = c.self.invariant in
@@ -25,5 +25,5 @@ returns-clause-taken g c = λ f taken.
     let of = c.self.invariant in
     subst (λ z. HaveSettled z f.walks c.settle_all.new.self) c.self.view_is
     (c.settle_all.ensures.taken
-    (found_in g.N.Naming.program b.program g.N.Naming.mode b.mode c.args.items.now c.args.places.now
+    (found_in g.N.SearchBrand.program b.program g.N.SearchBrand.mode b.mode c.args.items.now c.args.places.now
     c.args.found.now of.program of.mode f) taken)

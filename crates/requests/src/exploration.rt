@@ -3,7 +3,7 @@
 ghost use Rattle.std.specs.Prelude.{◌≤◌};
 ghost use Rattle.report.specs.Promises.{IsSearch};
 ghost use Rattle.workers.specs.declared.limits.TheConstants.{WORKERS};
-ghost use Rattle.asked.specs.inner.Searches.{IsSearch-prop};
+ghost use Rattle.requests.specs.inner.Searches.{IsSearch-prop};
 
 use report::Options;
 
@@ -12,7 +12,7 @@ pub const DEFAULT_BOUND: u32 = 2;
 
 /// What is asked of a guest program.
 #[derive(Debug, Drop)]
-pub enum Asked {
+pub enum GuestRequest {
     /// To replay one schedule, in schedule text, and print its trace.
     Replay { schedule: String },
     /// To search for a bad schedule, and print the report.

@@ -12,7 +12,7 @@ use std::marker::{Brand, Model, PhantomData};
 use walk::found::Found;
 
 /// Which search a book is of. Each stretch of rounds picks it.
-pub(crate) trait Naming {
+pub(crate) trait SearchBrand {
     ghost use Rattle.std.specs.Prelude.{Bool};
     ghost use Rattle.guest_code.specs.Program.{Program};
     ghost use Rattle.items.specs.declared.mode.Mode.{Mode};
@@ -27,7 +27,7 @@ pub(crate) trait Naming {
 }
 
 // What stands here is never used: each call picks its own.
-impl Naming for Brand {
+impl SearchBrand for Brand {
     ghost use Rattle.std.specs.Prelude.{[], false};
     ghost use Rattle.items.specs.declared.mode.Mode.TheVariants.{Reduced};
 
@@ -49,12 +49,12 @@ impl Naming for Brand {
 /// A book that is known to be of one search: a worker that gets it from a lock compares nothing.
 /// Contracts see the book.
 #[derive(Drop)]
-pub(crate) struct NamedBook<N: Naming> {
+pub(crate) struct BrandedBook<N: SearchBrand> {
     book: Book,
     of: PhantomData<N>,
 }
 
-impl<N: Naming> Model for NamedBook<N> {
+impl<N: SearchBrand> Model for BrandedBook<N> {
     ghost use Rattle.book.specs.Books.{BookView};
     ghost use Rattle.workers.specs.Teams.{IsOf};
 
@@ -65,13 +65,13 @@ impl<N: Naming> Model for NamedBook<N> {
     ghost invariant = { λ n. IsOf n.book N.program N.mode N.quick N.lists };
 }
 
-impl<N: Naming> NamedBook<N> {
+impl<N: SearchBrand> BrandedBook<N> {
     /// A book of this search.
-    pub fn new(book: Book) -> NamedBook<N>
+    pub fn new(book: Book) -> BrandedBook<N>
         requires { IsOf book N.program N.mode N.quick N.lists }
         ensures { result ≡ book }
     {
-        NamedBook {
+        BrandedBook {
             book,
             of: PhantomData,
         }

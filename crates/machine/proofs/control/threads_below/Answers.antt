@@ -3,7 +3,7 @@ use Rattle.std.proofs.lemmas.Bool.{cases_order}
 use Rattle.std.proofs.lemmas.Bool.Decides.{nat_tests}
 use Rattle.semantics.specs.Mask.{has}
 use Rattle.semantics.proofs.Masks.{empty_has}
-use Rattle.machine.proofs.control.threads_of.Goals as goal
+use Rattle.machine.proofs.control.threads_below.Goals as goal
 
 pub loop-t-init : goal.loop-t-init
 loop-t-init c = λ u. ap (λ w. has w u) c.empty-all.ensures ∙ (empty_has u

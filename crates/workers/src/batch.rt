@@ -1,4 +1,4 @@
-//! What a worker walks with, and what it walked.
+//! The walks of a worker that it settles together.
 
 ghost use Rattle.std.specs.Prelude.{◌≡◌, ◌<◌, false, [], vec_len, IfOk, OnOk};
 ghost use Rattle.std.specs.Arc.{arc_value};
@@ -14,21 +14,21 @@ use std::sync::Arc;
 use walk::found::Found;
 use walk::walker::Walker;
 
-/// A walker, the places in a round of the items that it walked and that aren't settled yet, and what
-/// all these walks found.
+/// A worker's walker, the places in a round of the items that it walked and that aren't settled yet,
+/// and what all these walks found.
 #[derive(Drop)]
-pub(crate) struct Hand {
+pub(crate) struct Batch {
     pub walker: Walker,
     pub places: Vec<usize>,
     pub found: Found,
 }
 
-impl Hand {
-    /// A hand that keeps no walk, for a program.
-    pub fn new(alloc: Global, program: Arc<Program>) -> Result<Hand, AllocError>
-        ensures { IfOk result (λ h. h.walker ≡ arc_value program) }
+impl Batch {
+    /// A batch that keeps no walk, for a program.
+    pub fn new(alloc: Global, program: Arc<Program>) -> Result<Batch, AllocError>
+        ensures { IfOk result (λ b. b.walker ≡ arc_value program) }
     {
-        Ok(Hand {
+        Ok(Batch {
             walker: Walker::new(alloc, program)?,
             places: Vec::new(alloc),
             found: Found::new(alloc),

@@ -1,13 +1,13 @@
 //! What command words can ask for.
 
-use crate::exploration::{Asked, Exploration};
+use crate::exploration::{Exploration, GuestRequest};
 use crate::limits::Limits;
 
 /// What the command words ask for.
 #[derive(Debug, Drop)]
 pub enum Request {
     /// Something of the guest program in this file.
-    One { file: String, asked: Asked },
+    One { file: String, request: GuestRequest },
     /// To explain a schedule.
     Explain(ExplainRequest),
     /// A suite.
