@@ -14,7 +14,7 @@ import time
 TOP = os.path.dirname(os.path.dirname(os.path.abspath(__file__)))
 GUESTS = [("four_by_five.guest", "3"), ("four_by_five.guest", "4"),
           ("programs/lottery.guest", "0"), ("programs/coin_box.guest", "1"),
-          ("programs/ballot.guest", "unbounded"), ("programs/sensors.guest", "unbounded")]
+          ("programs/ballot.guest", "unbounded"), ("programs/coats.guest", "unbounded")]
 WORKERS = (1, 2, 4, 8)
 RUNS = 3
 
