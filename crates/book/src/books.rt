@@ -50,6 +50,8 @@ pub struct Book {
     dropped: bool,
     // Nothing that is open is to be dropped.
     swept: bool,
+    // Where end views were found in the finished summary, for the next look-up.
+    hints: Box<EndHints>,
 }
 
 impl Model for Book {
@@ -99,6 +101,7 @@ impl Book {
     ) -> Result<Book, AllocError>
         ensures { IfOk result (λ b. b ≡ opening (arc_value program) mode quick) }
     {
+        let hints = Box::new(alloc, EndHints::new())?;
         let root = Item::root(alloc, Arc::try_clone(&program)?)?;
         let mut roots = Vec::new(alloc);
         roots.push(root)?;
@@ -115,6 +118,7 @@ impl Book {
             quick,
             dropped: false,
             swept: false,
+            hints,
         })
     }
 
@@ -478,10 +482,7 @@ impl Book {
             self.open_items.truncate(open_length);
             return Err(error);
         }
-        if let Err(error) = self
-            .finished
-            .join_in_by(&mut EndHints::new(), &mut found.part)
-        {
+        if let Err(error) = self.finished.join_in_by(&mut self.hints, &mut found.part) {
             self.open_items.truncate(open_length);
             self.deferred.truncate(deferred_length);
             return Err(error);

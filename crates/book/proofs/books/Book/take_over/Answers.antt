@@ -140,7 +140,7 @@ remove_each-requires-clause-within c =
     )
 
 -- the book where the walks are settled
-settled : (c : goal.After-self-1) → record (book_of c.self.inside) {
+settled : (c : goal.After-self-2-1) → record (book_of c.self.inside) {
   finished = c.join_in_by.new.self;
   open_items = all_of (arc_value c.self.inside.program) c.remove_each.new.self;
   deferred = all_of (arc_value c.self.inside.program) c.append_prefixes.new.self;
