@@ -14,13 +14,17 @@ ghost use Rattle.machine.specs.inner.Opening.{IsOpening};
 
 use crate::control::{Control, threads_below};
 use crate::local::Landing;
-use guest_code::limits::{LOCALS, THREADS};
+use guest_code::limits::{LOCALS, THREADS, VARIABLES};
 use guest_code::program::Program;
 use schedules::independence::next_apart;
 use semantics::mask::Mask;
 use semantics::state::State;
 use semantics::view::Kind;
 use std::alloc::{AllocError, Global};
+
+// For how many values a machine has room: the most that there are, and more than a line of a
+// processor's cache, so that no two machines' values are in one.
+const ROOM: usize = VARIABLES + THREADS * LOCALS + 16;
 
 /// A state of a program, in a form that is fast to step and to copy.
 #[derive(Drop)]
@@ -90,9 +94,11 @@ impl Machine {
     {
         program.keeps_limits();
         let state = State::start(alloc, program)?;
+        let mut values = Vec::with_capacity(alloc, ROOM)?;
+        values.extend_from_slice(state.variables())?;
         let mut machine = Machine {
             control: Control::unbegun(program),
-            values: state.variables().to_vec(alloc)?,
+            values,
             fixed: program.variables() as usize,
             width: width_of(program),
         };

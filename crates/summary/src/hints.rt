@@ -1,13 +1,14 @@
 //! Hints at where end views stand, and their memory.
 
 ghost use Rattle.std.specs.Prelude.{◌≡◌, ◌<◌, [], IfOk};
+ghost use Rattle.summary.specs.declared.hints.TheConstants.{PLACES};
 ghost use Rattle.summary.specs.Summaries.{end_with};
 
 use semantics::view::{EndView, Kind};
 use std::alloc::{AllocError, Global};
 
-// Places of the table.
-const PLACES: usize = 256;
+// Places of the table: some for each of hundreds of end views, so that most hints are right.
+const PLACES: usize = 2048;
 
 /// A small table from a hash of an end view to the index at which one of that hash was seen last in
 /// a sorted list. A hint may be wrong: who takes one tests it.
@@ -26,7 +27,7 @@ impl EndHints {
 
     // The place of the views of this kind and these values of the variables.
     pub(crate) fn place_of(kind: Kind, values: &[i64]) -> usize
-        ensures { result < 256 }
+        ensures { result < PLACES }
     {
         let mut hash: u64 = kind as u64;
         for value in values {
@@ -34,12 +35,12 @@ impl EndHints {
                 .wrapping_mul(0x9E37_79B9_7F4A_7C15)
                 .wrapping_add(value.cast_unsigned());
         }
-        (hash.wrapping_mul(0xBF58_476D_1CE4_E5B9) >> 56) as usize % PLACES
+        (hash.wrapping_mul(0xBF58_476D_1CE4_E5B9) >> 53) as usize % PLACES
     }
 
     // The hint at a place.
     fn hint(&self, place: usize) -> usize
-        requires { place < 256 }
+        requires { place < PLACES }
     {
         usize::from(self.indexes[place])
     }
@@ -57,7 +58,7 @@ impl EndHints {
 
     // Keeps a hint; an index of 65,536 or more is no hint.
     pub(crate) fn keep(&mut self, place: usize, index: usize)
-        requires { place < 256 }
+        requires { place < PLACES }
     {
         match u16::try_from(index) {
             Ok(index) => self.indexes[place] = index,

@@ -246,8 +246,8 @@ impl Path {
         self.depth = depth + 1;
     }
 
-    // Takes the step of a schedule at this place. The node after it gets a frame, unless it is the
-    // last.
+    // Takes the step of a schedule at this place. Every second node on the way gets a frame, but the
+    // last: so half the copies are saved, and to go back takes at most one step again.
     fn go_along(
         &mut self,
         program: &Program,
@@ -264,7 +264,7 @@ impl Path {
         ensures steps { OnOk result (self.new.steps.items ≡ take (place + 1) schedule.now) }
     {
         self.go(program, schedule[place], Mask::empty())?;
-        if place + 1 < schedule.len() {
+        if place + 1 < schedule.len() && place % 2 == 1 {
             self.open(program)
         } else {
             Ok(())
