@@ -26,7 +26,7 @@ define HELP
                     half an hour at first, up to 8 GB, and 3 GB on disk
   make test       the gate: each proof from nothing, each wrong body, each test, the commands
                   that the documents show, and refused memory
-                    some 40 minutes on four processors, up to 84 on two; up to 12 GB, and up to 10 GB on disk
+                    some 40 minutes on four processors, 69 on two; up to 12 GB, and up to 10 GB on disk
   make shown      runs the documents' commands by build/ctxbound, and all else that is tried of it by
                   scripts: a few minutes
   make fuzz [MINUTES=10]
