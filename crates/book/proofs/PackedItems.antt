@@ -1,7 +1,7 @@
 -- Items of packed prefixes, read from the last on.
 use Rattle.std.proofs.Common.{◌≡◌, ℕ, zero, suc, Option, Some, None, Result, Ok, Err, IfSome, IfNone, IfOk, slice_get, ◌+◌, ◌-◌, ◌<◌, ◌≤◌, List, [], ◌∷◌, ◌++◌, length, get_or, take, drop, map, min, reverse, refl, ap, sym, ◌∙◌, subst, arith, append_assoc, length-append, length-take, ⊎_elim}
 use Rattle.std.specs.List.{All}
-use Rattle.std.proofs.lemmas.List.Elements.{All-nil, All-cons, All-head, All-tail, All-weaker}
+use Rattle.std.proofs.lemmas.List.Elements.{All-nil, All-cons, All-append, All-head, All-tail, All-weaker}
 use Rattle.std.proofs.Math.Seq.{take-suc}
 use Rattle.std.proofs.lemmas.Bool.{cases_lt}
 use Rattle.std.proofs.lemmas.List.{reverse-append, take_all, drop_at, drop_all, drop-drop, drop-append-le, length-map, take-append-drop, get_or-take}
@@ -71,7 +71,7 @@ last_runs p r some h =
     h))
 
 -- the item of an equal program and of a prefix that is the last of these
-last_is : (p q : Program) (r : List (List ℕ)) (w : List ℕ) → q ≡ p →
+pub last_is : (p q : Program) (r : List (List ℕ)) (w : List ℕ) → q ≡ p →
     Some w ≡ slice_get r (length r - 1) → item_at q w ≡ item_at p (last_of r)
 last_is p q r w same e = λ k. item_at (same k) (sym (got r (length r - 1) w (sym e)) k)
 
@@ -268,3 +268,18 @@ pub packed_there : (item : ItemView) (ws : List (List ℕ)) (k : ℕ) (w : List 
 packed_there item ws k w e m h =
     got-map (item_at item.program) ws k w h
     ∙ (λ j. Some (record { program = item.program; prefix = e j; mask = sym m j }))
+
+-- the items of prefixes are of their program
+items_own : (p : Program) (ws : List (List ℕ)) → AreOf p (items_at p ws)
+items_own p [] = All-nil (λ (i : ItemView). i.program ≡ p)
+items_own p (w ∷ ws) =
+    All-cons (λ (i : ItemView). i.program ≡ p) (item_at p w) (items_at p ws) refl (items_own p ws)
+
+-- a list with the items of another of this program is of this program, too
+pub still_own : (p : Program) (old new : ListView) → all_of p new ≡ all_of p old →
+    AreOf p old.unpacked → AreOf p new.unpacked
+still_own p old new same own =
+    all_right (λ (i : ItemView). i.program ≡ p) (items_at p new.packed) new.unpacked
+    (subst (AreOf p) (sym same)
+    (All-append (λ (i : ItemView). i.program ≡ p) (items_at p old.packed) old.unpacked
+    (items_own p old.packed) own))

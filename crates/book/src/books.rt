@@ -213,12 +213,14 @@ impl Book {
         ensures { IfOk result (λ v. v.items
             ≡ drop (length self.now.open_items - ROUND) self.now.open_items) }
     {
-        self.open_items.last(alloc, &self.program, ROUND)
+        let mut items = Vec::new(alloc);
+        self.open_items
+            .copy_last(alloc, &self.program, ROUND, &mut items)?;
+        Ok(items)
     }
 
     /// Writes copies of the last open items over these, in their order: at most `ROUND`. The memory
-    /// of these serves the copies. The open items are unpacked, for a caller that settles their
-    /// walks next; no contract sees that.
+    /// of these serves the copies. Their walks are looked for there first; no contract sees that.
     ///
     /// # Errors
     ///
@@ -232,9 +234,9 @@ impl Book {
         ensures book { self.new ≡ self.old }
     {
         let first = self.open_items.length().saturating_sub(ROUND);
-        self.open_items.unpack_from(alloc, &self.program, first)?;
         self.open_items.look_from(first);
-        self.open_items.copy_from(alloc, first, items)
+        self.open_items
+            .copy_last(alloc, &self.program, ROUND, items)
     }
 
     /// The summary of the whole program in its mode, where nothing is open and program and mode are
@@ -407,7 +409,10 @@ impl Book {
         if self.lists && !found.lists {
             return Ok(false);
         }
-        let Some(stand) = self.open_items.places_of(alloc, items, places)? else {
+        let Some(stand) = self
+            .open_items
+            .places_of(alloc, &self.program, items, places)?
+        else {
             return Ok(false);
         };
         let first = self.open_items.packed_length();

@@ -1,6 +1,6 @@
 // Lists of a book's items.
 
-ghost use Rattle.std.specs.Prelude.{◌≡◌, ℕ, ◌+◌, ◌-◌, ◌<◌, ◌≤◌, ◌↔◌, [], ◌++◌, ◌∷◌, false, not, max, length, vec_len, take, drop, filter, count_by, is_ok, if◌then◌else◌, IfOk, OnOk, IfSome, IfNone, IsTrue, Some, slice_get, slice_index_or, All};
+ghost use Rattle.std.specs.Prelude.{◌≡◌, ℕ, ◌+◌, ◌-◌, ◌<◌, ◌≤◌, ◌↔◌, [], ◌++◌, false, not, length, take, drop, filter, count_by, is_ok, if◌then◌else◌, IfOk, OnOk, IfSome, IfNone, IsTrue, Some, slice_get, slice_index_or, All};
 ghost use Rattle.std.specs.Arc.{arc_value};
 ghost use Rattle.guest_code.specs.Program.{Program};
 ghost use Rattle.items.specs.Items.{ItemView, AreOf, IsItem};
@@ -10,6 +10,7 @@ ghost use Rattle.book.specs.ItemLists.{all_of};
 ghost use Rattle.std.specs.List.{remove_range};
 ghost use Rattle.book.specs.Books.{remove_each, AreWithin, AreOpenAt};
 
+use crate::limits::ROUND;
 use crate::packed::{last_item, last_items, last_packed};
 use guest_code::program::Program;
 use items::item::Item;
@@ -82,46 +83,26 @@ impl ItemList {
         last_item(alloc, program, &reading)
     }
 
-    // Copies of the last items, at most `most` of them.
-    pub(crate) fn last(
+    // Writes copies of the last items, at most `most` of them, over others of their program.
+    pub(crate) fn copy_last(
         &self,
         alloc: Global,
         program: &Arc<Program>,
         most: usize,
-    ) -> Result<Vec<Item>, AllocError>
-        requires { All IsItem (items_at (arc_value program.now) self.now.packed) }
-        ensures { IfOk result (λ v. v.items ≡
+        items: &mut Vec<Item>,
+    ) -> Result<(), AllocError>
+        requires run { All IsItem (items_at (arc_value program.now) self.now.packed) }
+        requires unpacked { AreOf (arc_value program.now) self.now.unpacked }
+        requires program { AreOf (arc_value program.now) items.old.items }
+        ensures items { OnOk result (items.new.items ≡
             drop (length (all_of (arc_value program.now) self.now) - most)
             (all_of (arc_value program.now) self.now)) }
+        ensures program { AreOf (arc_value program.now) items.new.items }
     {
         let unpacked = self.unpacked.len();
         let count = most.saturating_sub(unpacked).min(self.packed.length());
-        let mut items = last_items(alloc, program, &self.packed, count)?;
-        push_copies(
-            alloc,
-            &mut items,
-            &self.unpacked,
-            unpacked.saturating_sub(most),
-        )?;
-        Ok(items)
-    }
-
-    // Writes copies of the items from a place on, which aren't packed, over others of their program.
-    pub(crate) fn copy_from(
-        &self,
-        alloc: Global,
-        place: usize,
-        items: &mut Vec<Item>,
-    ) -> Result<(), AllocError>
-        requires unpacked { length self.now.packed ≤ place }
-        requires place { place ≤ length self.now.packed + length self.now.unpacked }
-        requires program { (p : Program) × AreOf p self.now.unpacked × AreOf p items.old.items }
-        ensures items { (p : Program) → OnOk result
-            (items.new.items ≡ drop place (all_of p self.now)) }
-        ensures program { (p : Program) → AreOf p self.now.unpacked →
-            AreOf p items.old.items → AreOf p items.new.items }
-    {
-        copy_over(alloc, items, &self.unpacked, place - self.packed.length())
+        last_items(alloc, program, &self.packed, count, items)?;
+        push_copies(alloc, items, &self.unpacked, unpacked.saturating_sub(most))
     }
 
     // An item that isn't packed, by its place among all.
@@ -214,9 +195,39 @@ impl ItemList {
         self.hint = place.saturating_sub(self.packed.length());
     }
 
+    // Where the items at some places of the last round stand, if they are found in their order: each is
+    // counted without those before it. What of the round is packed is unpacked for this, so a round is
+    // unpacked where its first walks are settled.
+    pub(crate) fn places_of(
+        &mut self,
+        alloc: Global,
+        program: &Arc<Program>,
+        items: &[Item],
+        places: &[usize],
+    ) -> Result<Option<Vec<usize>>, AllocError>
+        requires run { All IsItem (items_at (arc_value program.now) self.old.packed) }
+        requires places { All (λ k. k < length items.now) places.now }
+        requires unpacked { AreOf (arc_value program.now) self.old.unpacked }
+        requires program { AreOf (arc_value program.now) items.now }
+        ensures same { all_of (arc_value program.now) self.new ≡
+            all_of (arc_value program.now) self.old }
+        ensures none { self.old.packed ≡ [] → self.new.packed ≡ [] }
+        ensures there { IfOk result (λ o. IfSome o (λ v.
+            AreOpenAt (all_of (arc_value program.now) self.old) items.now places.now v.items)) }
+        ensures unpacked { IfOk result (λ o. IfSome o (λ v.
+            All (λ k. length self.new.packed ≤ k) v.items)) }
+    {
+        if let Some(found) = self.unpacked_places_of(alloc, items, places)? {
+            return Ok(Some(found));
+        }
+        let first = self.length().saturating_sub(ROUND);
+        self.unpack_from(alloc, program, first)?;
+        self.unpacked_places_of(alloc, items, places)
+    }
+
     // Where the items at some places of a round stand, if they are found in their order and not
     // packed: each is counted without those before it.
-    pub(crate) fn places_of(
+    fn unpacked_places_of(
         &self,
         alloc: Global,
         items: &[Item],
@@ -314,7 +325,8 @@ impl ItemList {
         if packs && self.unpacked.is_empty() {
             return self.packed.append(prefixes);
         }
-        let mut items = last_items(alloc, program, prefixes, prefixes.length())?;
+        let mut items = Vec::new(alloc);
+        last_items(alloc, program, prefixes, prefixes.length(), &mut items)?;
         self.append(alloc, &mut items)
     }
 
@@ -360,57 +372,16 @@ fn push_copies(
     more: &VecDeque<Item>,
     first: usize,
 ) -> Result<(), AllocError>
-    requires { first ≤ length more.now.items }
-    ensures { OnOk result (items.new.items ≡ items.old.items ++ drop first more.now.items) }
+    requires first { first ≤ length more.now.items }
+    ensures items { OnOk result (items.new.items ≡ items.old.items ++ drop first more.now.items) }
+    ensures program { (p : Program) → AreOf p more.now.items → AreOf p items.old.items →
+        AreOf p items.new.items }
 {
     items.reserve(more.len() - first)?;
     for place in first..more.len() {
         items.push(more[place].try_clone(alloc)?)?;
     }
     Ok(())
-}
-
-// Writes copies of the items from a place on over others of their program.
-fn copy_over(
-    alloc: Global,
-    items: &mut Vec<Item>,
-    more: &VecDeque<Item>,
-    first: usize,
-) -> Result<(), AllocError>
-    requires first { first ≤ length more.now.items }
-    requires program { (p : Program) × AreOf p more.now.items × AreOf p items.old.items }
-    ensures items { OnOk result (items.new.items ≡ drop first more.now.items) }
-    ensures program { (p : Program) → AreOf p more.now.items →
-        AreOf p items.old.items → AreOf p items.new.items }
-{
-    items.truncate(more.len() - first);
-    for place in first..more.len() {
-        copy_at(alloc, items, place - first, &more[place])?;
-    }
-    Ok(())
-}
-
-// Writes a copy of an item over the one at a place, or after the others.
-fn copy_at(
-    alloc: Global,
-    items: &mut Vec<Item>,
-    place: usize,
-    item: &Item,
-) -> Result<(), AllocError>
-    requires place { place ≤ vec_len items.old }
-    requires program { AreOf item.now.program items.old.items }
-    ensures items { OnOk result (take (place + 1) items.new.items
-        ≡ take place items.old.items ++ item.now ∷ []) }
-    ensures program { AreOf item.now.program items.new.items }
-    ensures length { OnOk result (length items.new.items
-        ≡ max (length items.old.items) (place + 1)) }
-{
-    if place < items.len() {
-        items[place].try_clone_from(item)
-    } else {
-        items.push(item.try_clone(alloc)?)?;
-        Ok(())
-    }
 }
 
 // Where an item stands among others of its program: looked for from this place on, and else in the

@@ -111,21 +111,20 @@ impl Item {
         })
     }
 
-    /// Becomes equal to another item of the same program. The memory of its prefix serves the new
-    /// one.
+    /// Becomes the item of its program's schedules that begin with a prefix that is known to run. The
+    /// memory of its own prefix serves the new one.
     ///
     /// # Errors
     ///
     /// `AllocError` where memory runs out. It is the item of all schedules of its program then.
-    pub fn try_clone_from(&mut self, other: &Item) -> Result<(), AllocError>
-        requires { self.old.program ≡ other.now.program }
-        ensures item { OnOk result (self.new ≡ other.now) }
+    pub fn run_to(&mut self, prefix: &[u8]) -> Result<(), AllocError>
+        requires { IsItem (item_at self.old.program prefix.now) }
+        ensures item { OnOk result (self.new ≡ item_at self.old.program prefix.now) }
         ensures root { OnErr result (self.new ≡ root_of self.old.program) }
     {
         self.mask = Mask::empty();
         self.prefix.clear();
-        self.prefix.extend_from_slice(other.prefix.as_slice())?;
-        self.mask = other.mask;
+        self.prefix.extend_from_slice(prefix)?;
         Ok(())
     }
 

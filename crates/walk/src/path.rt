@@ -247,7 +247,7 @@ impl Path {
     }
 
     // Takes the step of a schedule at this place. Every second node on the way gets a frame, but the
-    // last: so half the copies are saved, and to go back takes at most one step again.
+    // last: so half the copies are saved, and to go back takes a step or two again.
     fn go_along(
         &mut self,
         program: &Program,

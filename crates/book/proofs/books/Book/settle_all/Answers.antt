@@ -1,9 +1,9 @@
-use Rattle.std.proofs.Common.{rules, ◌≡◌, false, not, ◌&&◌, refl, sym, subst, IfSome}
+use Rattle.std.proofs.Common.{rules, ◌≡◌, ◌∙◌, false, not, ◌&&◌, refl, ap, sym, subst, IfSome}
 use Rattle.items.specs.Items.{AreOf}
-use Rattle.book.specs.Books.{BookView, Keeps, AreOpenAt, HaveSettled}
+use Rattle.book.specs.Books.{BookView, Keeps, AreWithin, AreOpenAt, HaveSettled, taken_in, remove_each}
 use Rattle.book.proofs.BookFields.{book_of}
 use Rattle.book.proofs.Lists.{open_within}
-use Rattle.book.proofs.OpenItems.{unpacked_own}
+use Rattle.book.proofs.OpenItems.{open_run, unpacked_own}
 use Rattle.book.proofs.Gathered.{walked_within, settled_together}
 use Rattle.book.proofs.books.Book.settle_all.Goals as goal
 use Rattle.book.proofs.books.Book.settle_all.Goals.{After-as_slice}
@@ -13,14 +13,18 @@ places_of-requires-clause-places c =
     let f = c.requires.walked in
     walked_within c.args.self.now.mode c.args.items.now c.args.places.now f.walks f.of
 
+pub places_of-requires-clause-run : goal.places_of-requires-clause-run
+places_of-requires-clause-run c =
+    open_run (book_of c.self.inside) c.self.inside.open_items refl c.self.invariant.0
+
+pub places_of-requires-clause-unpacked : goal.places_of-requires-clause-unpacked
+places_of-requires-clause-unpacked c =
+    unpacked_own (book_of c.self.inside) c.self.inside.open_items refl c.self.invariant.0
+
 pub places_of-requires-clause-program : goal.places_of-requires-clause-program
 places_of-requires-clause-program c =
-    let b = book_of c.self.inside in (
-      b.program,
-      unpacked_own b c.self.inside.open_items refl c.self.invariant.0,
-      subst (λ (z : BookView). AreOf z.program c.args.items.now) (sym c.self.view_is)
-          c.requires.program,
-    )
+    subst (λ (z : BookView). AreOf z.program c.args.items.now) (sym c.self.view_is)
+    c.requires.program
 
 -- the items stand at the places that were answered
 there : (c : After-as_slice) → AreOpenAt c.args.self.now.open_items c.args.items.now
@@ -31,7 +35,14 @@ there c =
     subst (λ (z : BookView). AreOpenAt z.open_items c.args.items.now c.args.places.now
     c.as_slice.result.now) c.self.view_is
     (subst at (sym c.as_slice.ensures.value)
-    (subst (λ o. IfSome o (λ v. at v.items)) c.in-Some.is (c.in_ok-stand.ensures.there b.program)))
+    (subst (λ o. IfSome o (λ v. at v.items)) c.in-Some.is c.in_ok-stand.ensures.there))
+
+-- to unpack items changes nothing in the book
+moved : (c : After-as_slice) →
+    book_of (record c.self.inside { open_items = c.places_of.new.self }) ≡ c.args.self.now
+moved c =
+    ap (λ is. record (book_of c.self.inside) { open_items = is }) c.in_ok-stand.ensures.same
+    ∙ c.self.view_is
 
 -- the walks list what the book lists
 lists : (c : After-as_slice) → (c.args.self.now.lists && not c.args.found.now.lists) ≡ false
@@ -39,19 +50,26 @@ lists c = search rules
 
 pub take_over-requires-clause-within : goal.take_over-requires-clause-within
 take_over-requires-clause-within c =
-    open_within c.args.self.now.open_items c.args.items.now c.args.places.now
-    c.as_slice.result.now (there c)
+    subst (λ (z : BookView). AreWithin z.open_items c.as_slice.result.now) (sym (moved c))
+    (open_within c.args.self.now.open_items c.args.items.now c.args.places.now
+    c.as_slice.result.now (there c))
+
+-- the book where what was found is settled
+abbrev taken : (c : After-as_slice) → BookView → BookView
+taken c z = taken_in z (remove_each z.open_items c.as_slice.result.now) c.args.found.now
 
 pub take_over-requires-clause-keeps : goal.take_over-requires-clause-keeps
 take_over-requires-clause-keeps c =
+    subst (λ (z : BookView). Keeps (taken c z)) (sym (moved c))
     (settled_together c.args.items.now c.args.places.now _ c.args.found.now c.args.self.now
     c.requires.program (subst Keeps c.self.view_is c.self.invariant.0) (there c) (lists c)
     c.requires.walked).1
 
 pub returns-clause-taken : goal.returns-clause-taken
-returns-clause-taken c = λ f taken.
-    let at = there (goal.at.returns-clause-taken c).After-as_slice in
-    subst (HaveSettled c.args.self.now f.walks) (sym c.in_ok-take_over.ensures)
+returns-clause-taken c = λ f is_taken.
+    let before = (goal.at.returns-clause-taken c).After-as_slice in
+    subst (HaveSettled c.args.self.now f.walks)
+    (ap (taken before) (sym (moved before)) ∙ sym c.in_ok-take_over.ensures)
     (settled_together c.args.items.now c.args.places.now _ c.args.found.now c.args.self.now
-    c.requires.program (subst Keeps c.self.view_is c.self.invariant.0) at
-    (lists (goal.at.returns-clause-taken c).After-as_slice) f).0
+    c.requires.program (subst Keeps c.self.view_is c.self.invariant.0) (there before)
+    (lists before) f).0

@@ -4,7 +4,7 @@ use Rattle.guest_code.specs.Program.{Program}
 use Rattle.book.specs.ItemLists.{all_of}
 use Rattle.book.specs.Books.{remove_each, AreOpenAt}
 use Rattle.book.proofs.Lists.{IsBehind}
-use Rattle.book.proofs.item_list.ItemList.places_of.Given as goal
+use Rattle.book.proofs.item_list.ItemList.unpacked_places_of.Given as goal
 
 abbrev pub invariant-loop-k : goal.invariant-loop-k
 invariant-loop-k l = record {
