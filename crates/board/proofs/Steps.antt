@@ -1,5 +1,5 @@
 -- Each step of a board keeps its rule.
-use Rattle.std.proofs.Common.{◌≡◌, ℕ, suc, ◌+◌, ◌%◌, ◌^◌, ◌<◌, ◌≤◌, inl, inr, min, eqb, cond, List, [], ◌∷◌, ◌++◌, length, get_or, set, sym, refl, ap, ◌∙◌, subst, ⊎_elim, arith, length-set, length-append}
+use Rattle.std.proofs.Common.{◌≡◌, ℕ, zero, suc, ◌+◌, ◌%◌, ◌^◌, ◌<◌, ◌≤◌, inl, inr, min, eqb, cond, List, [], ◌∷◌, ◌++◌, length, get_or, set, sym, refl, ap, ◌∙◌, subst, ⊎_elim, arith, length-set, length-append}
 use Rattle.std.specs.List.{All, sum_by}
 use Rattle.std.proofs.lemmas.List.Elements.{All-append, All-push, All-weaker, All-nil}
 use Rattle.std.proofs.lemmas.List.Sums.{sum_by-cons, sum_by_push}
@@ -10,6 +10,7 @@ use lib.ListN.{get_elem?}
 use Rattle.atomic_table.specs.Table.{State, Act, Valid, carried_after, keeps, stepped, Allows, Splits, Joins}
 use Rattle.atomic_table.proofs.Lists.{at_set, at_snoc, set_again}
 use Rattle.board.specs.declared.account.Account.{Account}
+use Rattle.board.specs.declared.board.TheConstants.{WORDS, DRAWN, LEAST}
 use Rattle.board.specs.declared.account.Size.{Size}
 use Rattle.board.specs.Claims.{times, IsOneBelow}
 use Rattle.board.specs.inner.Rule.{Mine, account, IsAccount, EachView, drawn_in, marks_in, seats_in, times_in, told_in, IsAmongTold, IsGiven, IsLeast, IsBoard, Claimed, Told, Asked, Counted, Closed, IsOfAccount, without_one, of_one_seat, both, empty}
@@ -57,29 +58,40 @@ seated_is limit v marks same some_seat = record {
   untold = λ no_seat. absurd (omega arith);
 }
 
--- two words, one of them set
+-- words, one of them set
 
-set_first : (ws : List ℕ) (n : ℕ) → length ws ≡ 2 →
-    (get_or (set ws 0 n) 0 0 ≡ n) × (get_or (set ws 0 n) 1 0 ≡ get_or ws 1 0)
-set_first [] n e = absurd (omega arith)
-set_first (x ∷ xs) n e = (refl, refl)
+set_there : (ws : List ℕ) (i n : ℕ) → i < length ws → get_or (set ws i n) i 0 ≡ n
+set_there [] i n h = absurd (omega arith)
+set_there (x ∷ xs) zero n h = refl
+set_there (x ∷ xs) (suc i) n h = set_there xs i n (omega arith)
 
-set_second : (ws : List ℕ) (n : ℕ) → length ws ≡ 2 →
-    (get_or (set ws 1 n) 1 0 ≡ n) × (get_or (set ws 1 n) 0 0 ≡ get_or ws 0 0)
-set_second [] n e = absurd (omega arith)
-set_second (x ∷ []) n e = absurd (omega arith)
-set_second (x ∷ (y ∷ ys)) n e = (refl, refl)
+set_other : (ws : List ℕ) (i j n : ℕ) → (i ≡ j → ⊥) → get_or (set ws i n) j 0 ≡ get_or ws j 0
+set_other [] i j n h = refl
+set_other (x ∷ xs) zero zero n h = absurd (h refl)
+set_other (x ∷ xs) zero (suc j) n h = refl
+set_other (x ∷ xs) (suc i) zero n h = refl
+set_other (x ∷ xs) (suc i) (suc j) n h = set_other xs i j n (λ e. h (ap suc e))
 
-same_first : (ws : List ℕ) → length ws ≡ 2 → set ws 0 (get_or ws 0 0) ≡ ws
-same_first [] e = refl
-same_first (x ∷ xs) e = refl
+same_there : (ws : List ℕ) (i : ℕ) → set ws i (get_or ws i 0) ≡ ws
+same_there [] i = refl
+same_there (x ∷ xs) zero = refl
+same_there (x ∷ xs) (suc i) = ap (λ ys. x ∷ ys) (same_there xs i)
 
-same_second : (ws : List ℕ) → length ws ≡ 2 → set ws 1 (get_or ws 1 0) ≡ ws
-same_second [] e = refl
-same_second (x ∷ []) e = refl
-same_second (x ∷ (y ∷ ys)) e = refl
+set_drawn : (ws : List ℕ) (n : ℕ) → length ws ≡ WORDS →
+    (get_or (set ws DRAWN n) DRAWN 0 ≡ n) × (get_or (set ws DRAWN n) LEAST 0 ≡ get_or ws LEAST 0)
+set_drawn ws n e = (
+  set_there ws DRAWN n (omega (arith, e)),
+  set_other ws DRAWN LEAST n (λ same. omega (arith, same)),
+)
 
--- the first word: the accounts are others, and say the same in all
+set_least : (ws : List ℕ) (n : ℕ) → length ws ≡ WORDS →
+    (get_or (set ws LEAST n) LEAST 0 ≡ n) × (get_or (set ws LEAST n) DRAWN 0 ≡ get_or ws DRAWN 0)
+set_least ws n e = (
+  set_there ws LEAST n (omega (arith, e)),
+  set_other ws LEAST DRAWN n (λ same. omega (arith, same)),
+)
+
+-- the word of what was drawn: the accounts are others, and say the same in all
 abbrev SameInAll : List Account → List Account → Type 0
 SameInAll views views' = (drawn_in views' ≡ drawn_in views) × (marks_in views' ≡ marks_in views)
     × (seats_in views' ≡ seats_in views) × ((x : ℕ) → times_in x views' ≡ times_in x views)
@@ -101,7 +113,7 @@ given_by size word views views' r same each =
       each = each;
     }
 
--- the second word: the accounts are others, and what was told is no less
+-- the word of the least number told: the accounts are others, and what was told is no less
 
 abbrev NotLess : List Account → List Account → Type 0
 NotLess views views' = (x : ℕ) → told_in x views ≤ told_in x views'
@@ -163,7 +175,7 @@ module _ (size : Size) (slots id : ℕ) (me : Mine) (small : size.limit < 2 ^ 32
     (few : size.seats < 2 ^ 32) (one : me.0.seats ≡ 1) (fresh : me.0.marks ≡ 0)
     (s : State (Unit {0}) Account) (r : Kept size s) (at : get_elem? s.views id ≡ some me.0) where
   abbrev n : ℕ
-  n = get_or s.words 0 0
+  n = get_or s.words DRAWN 0
 
   abbrev v : Account
   v = me.0
@@ -177,18 +189,18 @@ module _ (size : Size) (slots id : ℕ) (me : Mine) (small : size.limit < 2 ^ 32
 
   by_word : (w : Account) → w.told ≡ v.told → w.answered ≡ v.answered →
       IsGiven size.limit size.seats next (set s.views id w) →
-      Kept size (stepped s 0 next id me.1 w keeps)
-  by_word w t e given = let f = set_first s.words next r.two in record {
-    two = length-set s.words 0 next ∙ r.two;
+      Kept size (stepped s DRAWN next id me.1 w keeps)
+  by_word w t e given = let f = set_drawn s.words next r.count in record {
+    count = length-set s.words DRAWN next ∙ r.count;
     given = subst (λ (z : ℕ). IsGiven size.limit size.seats z (set s.views id w)) (sym f.0) given;
     least = subst (λ (z : ℕ). IsLeast z (set s.views id w)) (sym f.1)
-        (least_same (get_or s.words 1 0) s.views id v w r.least at t e);
+        (least_same (get_or s.words LEAST 0) s.views id v w r.least at t e);
   }
 
   abbrev with_drawn : Account
   with_drawn = account v.limit v.seats v.marks (v.drawn ++ n ∷ []) v.told v.answered
 
-  draws_here : n < size.limit → Kept size (stepped s 0 next id me.1 with_drawn keeps)
+  draws_here : n < size.limit → Kept size (stepped s DRAWN next id me.1 with_drawn keeps)
   draws_here lt =
       let views' = set s.views id with_drawn in let g = r.given in
       let d = replaced (λ (u : Account). length u.drawn) with_drawn in
@@ -222,7 +234,7 @@ module _ (size : Size) (slots id : ℕ) (me : Mine) (small : size.limit < 2 ^ 32
   abbrev with_mark : Account
   with_mark = account v.limit v.seats (v.marks + 1) v.drawn v.told v.answered
 
-  marks_here : size.limit ≤ n → Kept size (stepped s 0 next id me.1 with_mark keeps)
+  marks_here : size.limit ≤ n → Kept size (stepped s DRAWN next id me.1 with_mark keeps)
   marks_here le =
       let views' = set s.views id with_mark in let g = r.given in
       let d = replaced (λ (u : Account). length u.drawn) with_mark in
@@ -259,7 +271,7 @@ module _ (size : Size) (slots id : ℕ) (me : Mine) (small : size.limit < 2 ^ 32
 
   abbrev MayClaim : Type 0
   MayClaim = (w : Account) × (a : Act (Unit {0})) × Valid s.homes me.1 a
-      × Kept size (stepped s 0 next id me.1 w a) × Claimed me n (w, carried_after me.1 a)
+      × Kept size (stepped s DRAWN next id me.1 w a) × Claimed me n (w, carried_after me.1 a)
 
   pub claiming : v.limit ≡ size.limit → MayClaim
   claiming limit = dite (dec_lt n size.limit)
@@ -295,19 +307,19 @@ record SameDrawn (v w : Account) : Type 0 where
   marks : w.marks ≡ v.marks
   drawn : w.drawn ≡ v.drawn
 
-by_second : (size : Size) (s : State (Unit {0}) Account) (id : ℕ) (me : Mine) (w : Account) (m : ℕ)
+by_least : (size : Size) (s : State (Unit {0}) Account) (id : ℕ) (me : Mine) (w : Account) (m : ℕ)
     →
     Kept size s → get_elem? s.views id ≡ some me.0 → SameDrawn me.0 w → 0 < me.0.seats →
-    IsLeast m (set s.views id w) → Kept size (stepped s 1 m id me.1 w keeps)
-by_second size s id me w m r at same live least =
+    IsLeast m (set s.views id w) → Kept size (stepped s LEAST m id me.1 w keeps)
+by_least size s id me w m r at same live least =
     let v = me.0 in let views' = set s.views id w in
-    let f = set_second s.words m r.two in let mine = r.given.each id v at in
+    let f = set_least s.words m r.count in let mine = r.given.each id v at in
     let marks = mine.marks in let of_marks = same.marks in let of_seats = same.seats in
     let sum : (f : Account → ℕ) → f w ≡ f v → sum_by f views' ≡ sum_by f s.views = λ f e.
     let t = sum_by-replaced f s.views id v w at in omega arith in record {
-      two = length-set s.words 1 m ∙ r.two;
+      count = length-set s.words LEAST m ∙ r.count;
       given = subst (λ (z : ℕ). IsGiven size.limit size.seats z views') (sym f.1)
-          (given_by size (get_or s.words 0 0) s.views views' r.given (
+          (given_by size (get_or s.words DRAWN 0) s.views views' r.given (
             sum (λ (u : Account). length u.drawn) (ap length same.drawn),
             sum (λ (u : Account). u.marks) same.marks,
             sum (λ (u : Account). u.seats) same.seats,
@@ -323,9 +335,9 @@ lower : (a b : ℕ) → b ≤ a → (xs : List ℕ) → All (λ x. a ≤ x) xs �
 lower a b le xs all = All-weaker (λ x. a ≤ x) (λ x. b ≤ x) (λ x h. omega arith) xs all
 
 pub telling : (size : Size) (slots id : ℕ) (me : Mine) (k : ℕ) → 0 < me.0.seats →
-    Allows (Kept size) slots id me 1 (λ n. min n k) (λ _ after. Told k me after)
+    Allows (Kept size) slots id me LEAST (λ n. min n k) (λ _ after. Told k me after)
 telling size slots id me k live s r _ at _ =
-    let v = me.0 in let n : ℕ = get_or s.words 1 0 in let m : ℕ = min n k in
+    let v = me.0 in let n : ℕ = get_or s.words LEAST 0 in let m : ℕ = min n k in
     let w : Account = account v.limit v.seats v.marks v.drawn (v.told ++ k ∷ []) v.answered in
     let views' = set s.views id w in let old = r.least in
     let more : (y : ℕ) → told_in y views' ≡ told_in y s.views + cond (eqb k y) 1 0 = λ y.
@@ -351,7 +363,7 @@ telling size slots id me k live s r _ at _ =
       w,
       keeps,
       tt,
-      by_second size s id me w m r at same live record {
+      by_least size s id me w m r at same live record {
         told = λ i u a. (all i u a).told;
         answered = λ i u a. (all i u a).answered;
         among = dite (dec_le n k)
@@ -363,9 +375,9 @@ telling size slots id me k live s r _ at _ =
     )
 
 pub asking : (size : Size) (slots id : ℕ) (me : Mine) → 0 < me.0.seats →
-    Allows (Kept size) slots id me 1 (λ n. n) (Asked me)
+    Allows (Kept size) slots id me LEAST (λ n. n) (Asked me)
 asking size slots id me live s r _ at _ =
-    let v = me.0 in let n : ℕ = get_or s.words 1 0 in
+    let v = me.0 in let n : ℕ = get_or s.words LEAST 0 in
     let w : Account = account v.limit v.seats v.marks v.drawn v.told (v.answered ++ n ∷ []) in
     let views' = set s.views id w in let old = r.least in let mine = fits n s.views old id v at in
     let least : IsLeast n views' = least_by n s.views views' old
@@ -380,7 +392,7 @@ asking size slots id me live s r _ at _ =
       w,
       keeps,
       tt,
-      by_second size s id me w n r at same live least,
+      by_least size s id me w n r at same live least,
       record { after_is = refl; told = mine.told; answered = mine.answered },
     )
 
@@ -390,14 +402,14 @@ pub splitting : (size : Size) (id : ℕ) (v : Account) → 0 < v.seats → v.dra
     v.told ≡ [] → Splits (Kept size) id v (without_one v) (of_one_seat v)
 splitting size id v live undrawn unmarked untold s r at =
     let left = set s.views id (without_one v) in let views' = left ++ of_one_seat v ∷ [] in
-    let mine = r.given.each id v at in let word : ℕ = get_or s.words 1 0 in
+    let mine = r.given.each id v at in let word : ℕ = get_or s.words LEAST 0 in
     let limit_is = mine.limit_is live in
     let sum : (f : Account → ℕ) → f (without_one v) + f (of_one_seat v) ≡ f v →
     sum_by f views' ≡ sum_by f s.views = λ f e.
     let a = sum_by-replaced f s.views id v (without_one v) at in
     let b = sum_by_push f left (of_one_seat v) in omega arith in record {
-      two = r.two;
-      given = given_by size (get_or s.words 0 0) s.views views' r.given (
+      count = r.count;
+      given = given_by size (get_or s.words DRAWN 0) s.views views' r.given (
         sum (λ (u : Account). length u.drawn) (omega arith),
         sum (λ (u : Account). u.marks) (omega arith),
         sum (λ (u : Account). u.seats) (omega arith),
@@ -425,7 +437,7 @@ pub joining : (size : Size) (id : ℕ) (v : Account) (other : ℕ) (w : Account)
     Joins (Kept size) id v other w (both v w) empty
 joining size id v other w live s r at apart at' =
     let left = set s.views id (both v w) in let views' = set left other empty in
-    let mine = r.given.each id v at in let word : ℕ = get_or s.words 1 0 in
+    let mine = r.given.each id v at in let word : ℕ = get_or s.words LEAST 0 in
     let there : get_elem? s.views other ≡ some w =
     ⊎_elim (λ t. absurd (apart t.0)) (λ t. t.1) (at_set s.views id other (both v w) w at') in
     let theirs : IsAccount size.limit w = r.given.each other w there in
@@ -436,8 +448,8 @@ joining size id v other w live s r at apart at' =
     let b = sum_by-replaced f left other w empty at' in omega arith in
     let a = fits word s.views r.least id v at in
     let b = fits word s.views r.least other w there in record {
-      two = r.two;
-      given = given_by size (get_or s.words 0 0) s.views views' r.given (
+      count = r.count;
+      given = given_by size (get_or s.words DRAWN 0) s.views views' r.given (
         sum (λ (u : Account). length u.drawn) (length-append v.drawn w.drawn) refl,
         sum (λ (u : Account). u.marks) refl refl,
         sum (λ (u : Account). u.seats) refl refl,
@@ -481,10 +493,10 @@ unchanged size s i id me r same at =
     (λ j. (sym same j, sym (set_again s.views id me.0 at) j)) r
 
 pub counting : (size : Size) (slots id : ℕ) (me : Mine) → me.0.seats ≡ size.seats →
-    me.0.limit ≡ size.limit → Allows (Kept size) slots id me 0 (λ n. n) (Counted me)
+    me.0.limit ≡ size.limit → Allows (Kept size) slots id me DRAWN (λ n. n) (Counted me)
 counting size slots id me all limit s r _ at _ =
     let g = r.given in let word = g.word_is in let late = g.late in let within = g.within in
-    let sum = alone size id me.0 (get_or s.words 0 0) s.views g at all in
+    let sum = alone size id me.0 (get_or s.words DRAWN 0) s.views g at all in
     let d = sum (λ (u : Account). length u.drawn) refl (λ u h e. ap length (h.undrawn e)) in
     let m = sum (λ (u : Account). u.marks) refl (λ u h e. let of = h.marks in omega arith) in
     let same : (x : ℕ) → times x me.0.drawn ≡ times_in x s.views = λ x.
@@ -492,7 +504,7 @@ counting size slots id me all limit s r _ at _ =
       me.0,
       keeps,
       tt,
-      unchanged size s 0 id me r (same_first s.words r.two) at,
+      unchanged size s DRAWN id me r (same_there s.words DRAWN) at,
       record {
         same = refl;
         once = subst (λ (z : ℕ). IsOneBelow z (λ x. times x me.0.drawn)) d
@@ -505,11 +517,11 @@ counting size slots id me all limit s r _ at _ =
     )
 
 pub closing : (size : Size) (slots id : ℕ) (me : Mine) → me.0.seats ≡ size.seats →
-    Allows (Kept size) slots id me 1 (λ n. n) (λ found _. Closed me.0 found)
+    Allows (Kept size) slots id me LEAST (λ n. n) (λ found _. Closed me.0 found)
 closing size slots id me all s r _ at _ =
-    let g = r.given in let word : ℕ = get_or s.words 1 0 in
+    let g = r.given in let word : ℕ = get_or s.words LEAST 0 in
     let told : (x : ℕ) → told_in x s.views ≡ times x me.0.told = λ x.
-    alone size id me.0 (get_or s.words 0 0) s.views g at all
+    alone size id me.0 (get_or s.words DRAWN 0) s.views g at all
     (λ (u : Account). times x u.told) refl (λ u h e. ap (times x) (h.untold e)) in
     let mine = fits word s.views r.least id me.0 at in
     let of_mine : (x : ℕ) → IsAmongTold s.views x → IsOfAccount me.0 x = λ x t.
@@ -517,7 +529,7 @@ closing size slots id me all s r _ at _ =
       me.0,
       keeps,
       tt,
-      unchanged size s 1 id me r (same_second s.words r.two) at,
+      unchanged size s LEAST id me r (same_there s.words LEAST) at,
       record {
         told = mine.told;
         answered = mine.answered;

@@ -17,11 +17,15 @@ use std::marker::Model;
 /// The answer of [`Board::least`] where no number was told: no told number is above it.
 pub const NONE_TOLD: u64 = u64::MAX;
 
+// How many words a table has. Two are used, and 128 bytes before and behind them are left alone: so
+// nothing else in memory shares a line of a processor's cache with a word that all threads write.
+const WORDS: usize = 34;
+
 // The word of the numbers drawn: how many, and one more for each mark.
-const DRAWN: usize = 0;
+const DRAWN: usize = 16;
 
 // The word of the least number told.
-const LEAST: usize = 1;
+const LEAST: usize = 17;
 
 /// A board, which threads share by a `&`. A contract sees which board it is, the limit of its
 /// numbers, and how many seats were made with it.
@@ -35,6 +39,7 @@ pub struct Board {
 impl Model for Board {
     ghost use Rattle.std.specs.Prelude.{◌≡◌, ◌<◌, ◌^◌};
     ghost use Rattle.board.specs.Board.{BoardView};
+    ghost use Rattle.board.specs.declared.board.TheConstants.{WORDS};
 
     ghost Value = { BoardView };
 
@@ -43,7 +48,7 @@ impl Model for Board {
       seats = b.seats;
     } };
 
-    ghost invariant = { λ b. (b.table.shared.table_id.words ≡ 2)
+    ghost invariant = { λ b. (b.table.shared.table_id.words ≡ WORDS)
         × (b.table.shared.key.limit ≡ b.limit) × (b.table.shared.key.seats ≡ b.seats)
         × (b.limit < 2 ^ 32) × (b.seats < 2 ^ 32) × (0 < b.seats) };
 }
@@ -67,7 +72,9 @@ impl Board {
             limit,
             seats: count,
         };
-        let (table, mut root) = Table::of_words(alloc, &[0, NONE_TOLD], &size)?;
+        let mut words = [0; WORDS];
+        words[LEAST] = NONE_TOLD;
+        let (table, mut root) = Table::of_words(alloc, &words, &size)?;
         let mut all = Vec::new(alloc);
         for _ in 0..count {
             let inner = table.shared.split_seat::<Seating>(&mut root);

@@ -220,7 +220,8 @@ impl Book {
     }
 
     /// Writes copies of the last open items over these, in their order: at most `ROUND`. The memory
-    /// of these serves the copies. Their walks are looked for there first; no contract sees that.
+    /// of these serves the copies of packed ones, and the others are copied anew. Their walks are
+    /// looked for there first; no contract sees that.
     ///
     /// # Errors
     ///
@@ -386,7 +387,8 @@ impl Book {
     /// Settles at once what walks of items of the book's last round found, in its mode and one after
     /// another: of those at these places of the round. Answers whether it took them: it doesn't where
     /// they aren't open in that order, or what they put off isn't listed and the book lists it. No
-    /// program is compared. The memory of what was found serves later walks.
+    /// program is compared. What of the round is packed is unpacked for its first walks, which no
+    /// contract sees. The memory of what was found serves later walks.
     ///
     /// # Errors
     ///

@@ -11,6 +11,7 @@ ghost use Rattle.workers.specs.inner.Rounds.{IsRoundOf, AreKept};
 use crate::batch::Batch;
 use crate::branded::{BrandedBook, SearchBrand};
 use crate::gate::Gate;
+use crate::limits::APART;
 use crate::round::Round;
 use book::books::Book;
 use book::progress::Progress;
@@ -23,6 +24,8 @@ use std::sync::Arc;
 /// The book of a search, and its round.
 #[derive(Drop)]
 pub(crate) struct Desk<N: SearchBrand> {
+    /// What stands before it in memory is the lock, which workers try while one is at the desk.
+    apart: [u64; APART],
     book: BrandedBook<N>,
     limit: Option<u64>,
     round: Arc<Round>,
@@ -49,6 +52,7 @@ impl<N: SearchBrand> Desk<N> {
         requires quota { 1 ≤ options.quota }
     {
         let none = Round {
+            apart: [0; APART],
             mode: book.mode(),
             quick: book.is_quick(),
             lists: book.lists(),
@@ -58,6 +62,7 @@ impl<N: SearchBrand> Desk<N> {
             items: Vec::new(alloc),
         };
         let mut desk = Desk {
+            apart: [0; APART],
             book: BrandedBook::new(book),
             limit: options.limit,
             round: Arc::new(alloc, none)?,
@@ -107,6 +112,7 @@ impl<N: SearchBrand> Desk<N> {
         let before = &self.round;
         self.left = items.len();
         let round = Round {
+            apart: [0; APART],
             mode: before.mode,
             quick: before.quick,
             lists: before.lists,

@@ -14,5 +14,9 @@ pub const YIELDS: u32 = 50;
 /// them at the end of a round.
 pub const SETTLED_WALKS: usize = 4;
 
+/// How many words stand between values of which different threads write one and read the other: so no
+/// two share a line of a processor's cache, nor a pair of lines that it fetches together.
+pub const APART: usize = 16;
+
 /// How many walks a worker keeps at most. It waits for the book where it keeps that many.
 pub const KEPT_WALKS: usize = 32;

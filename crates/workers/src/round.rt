@@ -2,6 +2,7 @@
 
 ghost use Rattle.std.specs.Prelude.{◌<◌, vec_len, IfSome};
 
+use crate::limits::APART;
 use board::NONE_TOLD;
 use items::item::Item;
 use items::mode::Mode;
@@ -9,6 +10,8 @@ use items::mode::Mode;
 /// The items of a round, and how they are walked. Nobody changes it while workers have it.
 #[derive(Drop)]
 pub(crate) struct Round {
+    /// What stands before it in memory is the count of its owners.
+    pub apart: [u64; APART],
     pub mode: Mode,
     pub quick: bool,
     /// Whether what its walks put off is listed.

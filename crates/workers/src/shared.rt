@@ -4,7 +4,7 @@ ghost use Rattle.std.specs.Prelude.{◌≡◌};
 
 use crate::branded::SearchBrand;
 use crate::desk::Desk;
-use crate::limits::{SPINS, YIELDS};
+use crate::limits::{APART, SPINS, YIELDS};
 use board::Board;
 use std::alloc::Global;
 use std::sync::atomic::{AtomicU64, Ordering};
@@ -17,9 +17,12 @@ pub(crate) struct Shared<'a, N: SearchBrand, G> {
     pub alloc: Global,
     pub gate: &'a G,
     pub board: Board,
+    before_desk: [u64; APART],
     desk: Mutex<Desk<N>>,
-    /// How many rounds of the stretch have ended.
+    before_word: [u64; APART],
+    /// How many rounds of the stretch have ended. Workers look at it while others are at the desk.
     ended: AtomicU64,
+    behind: [u64; APART],
 }
 
 impl<'a, N: SearchBrand, G> Shared<'a, N, G> {
@@ -32,8 +35,11 @@ impl<'a, N: SearchBrand, G> Shared<'a, N, G> {
             alloc,
             gate,
             board,
+            before_desk: [0; APART],
             desk: Mutex::new(desk),
+            before_word: [0; APART],
             ended: AtomicU64::new(0),
+            behind: [0; APART],
         }
     }
 

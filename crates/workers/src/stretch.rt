@@ -10,6 +10,7 @@ use crate::batch::Batch;
 use crate::branded::SearchBrand;
 use crate::desk::Desk;
 use crate::gate::Gate;
+use crate::limits::APART;
 use crate::shared::Shared;
 use crate::team::Team;
 use crate::worker::{Ending, Worker, ending_of, work_all};
@@ -56,7 +57,7 @@ fn assign_seats(
             ahead: None,
             drawn: 0,
             ending: Ending::Drawn,
-            apart: [0; 16],
+            apart: [0; APART],
         })?;
         number = number.wrapping_add(1);
     }

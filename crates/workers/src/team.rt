@@ -9,6 +9,7 @@ ghost use Rattle.workers.specs.inner.Rounds.{IsRoundOf};
 
 use crate::batch::Batch;
 use crate::gate::{Answer, Gate};
+use crate::limits::APART;
 use crate::round::Round;
 use crate::stretch::Stretch;
 use crate::worker::Ending;
@@ -97,6 +98,7 @@ impl Team {
         let mut items = Vec::new(alloc);
         self.book.next_round(alloc, &mut items)?;
         let round = Round {
+            apart: [0; APART],
             mode: self.book.mode(),
             quick: self.book.is_quick(),
             lists: self.book.lists(),

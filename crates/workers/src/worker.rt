@@ -11,7 +11,7 @@ use crate::batch::Batch;
 use crate::branded::SearchBrand;
 use crate::desk::Desk;
 use crate::gate::{Answer, Gate};
-use crate::limits::WORKERS;
+use crate::limits::{APART, WORKERS};
 use crate::round::Round;
 use crate::shared::Shared;
 use board::{Board, Seat};
@@ -65,9 +65,8 @@ pub(crate) struct Worker {
     /// How many items of the round it drew of which the desk has not taken note yet.
     pub drawn: usize,
     pub ending: Ending,
-    /// What follows in memory is another worker's. So far apart no two share a line of a processor's
-    /// cache.
-    pub apart: [u64; 16],
+    /// What follows in memory is another worker's.
+    pub apart: [u64; APART],
 }
 
 impl Worker {

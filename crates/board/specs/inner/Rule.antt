@@ -1,4 +1,4 @@
--- The rule that a board's two words and the accounts of its seats keep between any two steps, and
+-- The rule that the words of a board and the accounts of its seats keep between any two steps, and
 -- what each step tells the one who makes it.
 use Rattle.std.specs.Prelude.{◌≡◌, ◌⊎◌, ℕ, ◌+◌, ◌-◌, ◌<◌, ◌≤◌, List, [], ◌∷◌, ◌++◌, length, slice_index}
 use Rattle.std.specs.List.{All, sum_by}
@@ -6,7 +6,7 @@ use mathlib.Core.Option.{some}
 use lib.ListN.{get_elem?}
 use Rattle.atomic_table.specs.Table.{Me}
 use Rattle.board.specs.declared.account.Account.{Account}
-use Rattle.board.specs.declared.board.TheConstants.{NONE_TOLD}
+use Rattle.board.specs.declared.board.TheConstants.{NONE_TOLD, WORDS, DRAWN, LEAST}
 use Rattle.board.specs.Claims.{times, IsOneBelow}
 
 abbrev pub account : ℕ → ℕ → ℕ → List ℕ → List ℕ → List ℕ → Account
@@ -63,8 +63,8 @@ told_in x views = sum_by (λ v. times x v.told) views
 abbrev pub EachView : (Account → Type 0) → List Account → Type 0
 EachView P views = (id : ℕ) (v : Account) → get_elem? views id ≡ some v → P v
 
--- the first word is the count of the numbers drawn and of the marks; a seat is marked only where
--- all numbers are drawn
+-- one word is the count of the numbers drawn and of the marks; a seat is marked only where all
+-- numbers are drawn
 pub record IsGiven (limit seats word : ℕ) (views : List Account) : Type 0 where
   pub once : IsOneBelow (drawn_in views) (λ x. times_in x views)
   pub within : drawn_in views ≤ limit
@@ -77,7 +77,7 @@ pub record IsGiven (limit seats word : ℕ) (views : List Account) : Type 0 wher
 abbrev pub IsAmongTold : List Account → ℕ → Type 0
 IsAmongTold views x = (x ≡ NONE_TOLD) ⊎ (0 < told_in x views)
 
--- the second word is the least number told: what was told or answered is not below it
+-- another is the least number told: what was told or answered is not below it
 pub record IsLeast (word : ℕ) (views : List Account) : Type 0 where
   pub told : EachView (λ v. All (λ x. word ≤ x) v.told) views
   pub answered : EachView (λ v. All (λ x. word ≤ x) v.answered) views
@@ -85,9 +85,9 @@ pub record IsLeast (word : ℕ) (views : List Account) : Type 0 where
   pub answers : EachView (λ v. All (IsAmongTold views) v.answered) views
 
 pub record IsBoard (limit seats : ℕ) (words : List ℕ) (views : List Account) : Type 0 where
-  pub two : length words ≡ 2
-  pub given : IsGiven limit seats (slice_index words 0) views
-  pub least : IsLeast (slice_index words 1) views
+  pub count : length words ≡ WORDS
+  pub given : IsGiven limit seats (slice_index words DRAWN) views
+  pub least : IsLeast (slice_index words LEAST) views
 
 -- what a step tells
 
