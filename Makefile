@@ -16,7 +16,8 @@ define HELP
                   the same with a guest of yours; with SCHEDULE it only replays that
                     half a minute to a minute, 2 GB
   make quick      all that needs no proof: the tests, the commands that the documents show,
-                  the table of wrong bodies
+                  the table of wrong bodies; in a copy whose path has a space; and what `make shown`
+                  tries, where build/ctxbound is of these sources
                     four to five minutes on four processors, up to 12 GB
   make check C=crate
                   proves one crate, over what earlier checks kept
@@ -31,8 +32,8 @@ define HELP
                   scripts: a few minutes
   make fuzz [MINUTES=10]
                   compares build/ctxbound with an independent explorer, on programs made at random
-  make bench      times walks and, where build/ctxbound is there, searches, and four of them beside
-                  Spin's; it proves the benchmark first, so it takes some minutes after `make build`
+  make bench      times walks and, where build/ctxbound is there, searches, four of them beside
+                  Spin's, and explanations; it proves the benchmark first, so it takes some minutes after `make build`
   make install    copies build/ctxbound to $$(DESTDIR)$$(PREFIX)/bin, and the man page, the completions,
                   the syntax files and the examples to $$(DESTDIR)$$(PREFIX)/share
   make uninstall  removes all that
@@ -59,7 +60,7 @@ SEARCH = words="explore program.guest --trace"; $(TRY)
 
 COMPILING = echo "Compiling without proofs, which takes half a minute to a minute .."
 
-NEEDS_PROGRAM = test -x $(PROGRAM) || \
+NEEDS_PROGRAM = test -x "$(PROGRAM)" || \
 	{ echo "$(PROGRAM) isn't there: run \`make build\` first" >&2; exit 2; }
 
 VERSION = $(shell sed -n 's/^pub const VERSION: &str = "\(.*\)";/\1/p' crates/words/src/reading.rt)
@@ -73,9 +74,17 @@ SHARED = man/ctxbound.1=man/man1/ctxbound.1 \
 	completions/ctxbound.fish=fish/vendor_completions.d/ctxbound.fish \
 	vim/syntax/guest.vim=vim/vimfiles/syntax/guest.vim \
 	vim/ftdetect/guest.vim=vim/vimfiles/ftdetect/guest.vim \
+	vim/ftplugin/guest.vim=vim/vimfiles/ftplugin/guest.vim \
+	vim/indent/guest.vim=vim/vimfiles/indent/guest.vim \
+	vim/compiler/guest.vim=vim/vimfiles/compiler/guest.vim \
 	vscode/package.json=ctxbound/vscode/package.json \
 	vscode/language-configuration.json=ctxbound/vscode/language-configuration.json \
-	vscode/syntaxes/guest.tmLanguage.json=ctxbound/vscode/syntaxes/guest.tmLanguage.json
+	vscode/syntaxes/guest.tmLanguage.json=ctxbound/vscode/syntaxes/guest.tmLanguage.json \
+	vscode/snippets/guest.json=ctxbound/vscode/snippets/guest.json \
+	vscode/tasks.json=ctxbound/vscode/tasks.json
+
+# The pages that the archive has beside the program.
+PAGES = docs/LANGUAGE.md docs/FORMATS.md docs/GALLERY.md docs/COOKBOOK.md docs/SHRINKING.md docs/CI.md docs/GLOSSARY.md
 
 run:
 	@$(COMPILING)
@@ -92,12 +101,22 @@ try:
 # The crates with tests; those of up to four are run side by side.
 TESTED = $(sort $(shell grep -rl --include=*.rt '^\#\[test\]' crates | cut -d/ -f2))
 
+# In a copy: its path has a space, and so has that of temporary files, so what isn't quoted fails.
 quick:
 	python3 tests/edits.py
-	@$(MAKE) --no-print-directory -k -j4 -Otarget quick-shown $(TESTED:%=quick-%)
+	@there=$$(mktemp -d) && trap 'rm -rf "$$there"' EXIT && mkdir "$$there/a copy" "$$there/for now" && \
+	tar --exclude=./.git --exclude='./crates/*/out' -c . | tar -x -C "$$there/a copy" && \
+	TMPDIR="$$there/for now" $(MAKE) --no-print-directory -C "$$there/a copy" -k -j4 -Otarget \
+		quick-shown quick-tried $(TESTED:%=quick-%)
 
 quick-shown:
 	@python3 tests/docs.py --unproved
+
+# What scripts try of the program, if it is there and of these sources.
+quick-tried:
+	@if test -x "$(PROGRAM)" && test -z "$$(find crates -name '*.rt' -newer "$(PROGRAM)")"; \
+	then $(MAKE) --no-print-directory shown; \
+	else echo "what scripts try of $(PROGRAM) is left out: it isn't there, or older than the sources"; fi
 
 quick-%:
 	@mkdir -p build
@@ -115,7 +134,7 @@ build:
 
 install:
 	@$(NEEDS_PROGRAM)
-	install -D -m 755 $(PROGRAM) "$(DESTDIR)$(PREFIX)/bin/ctxbound"
+	install -D -m 755 "$(PROGRAM)" "$(DESTDIR)$(PREFIX)/bin/ctxbound"
 	@for pair in $(SHARED); do \
 		install -D -m 644 "share/$${pair%%=*}" "$(SHARE)/$${pair#*=}" || exit 1; done
 	@cd examples && for guest in $$(find . -name '*.guest'); do \
@@ -123,6 +142,8 @@ install:
 	@echo "Installed. If your shell doesn't find ctxbound: export PATH=\"$(PREFIX)/bin:\$$PATH\""
 
 uninstall:
+	@test -e "$(DESTDIR)$(PREFIX)/bin/ctxbound" || \
+		{ echo "$(DESTDIR)$(PREFIX)/bin/ctxbound isn't there: nothing is installed at PREFIX=$(PREFIX)" >&2; exit 2; }
 	rm -f "$(DESTDIR)$(PREFIX)/bin/ctxbound"
 	@for pair in $(SHARED); do rm -f "$(SHARE)/$${pair#*=}"; done
 	rm -rf "$(SHARE)/ctxbound"
@@ -132,6 +153,12 @@ dist:
 	@$(NEEDS_PROGRAM)
 	@mkdir -p build && rm -rf build/dist
 	@$(MAKE) --no-print-directory install DESTDIR="$(CURDIR)/build/dist/$(NAMED)" PREFIX= > build/log
+	@install -m 755 share/archive/install.sh "build/dist/$(NAMED)/install.sh"
+	@install -m 644 share/archive/README.md CHANGELOG.md "build/dist/$(NAMED)"
+	@install -D -m 644 -t "build/dist/$(NAMED)/share/doc/ctxbound" $(PAGES)
+	@sed -i -e 's,](\.\./examples,](../../ctxbound/examples,g' \
+		-e 's,\[FIGURES.md\](\.\./bench/FIGURES.md),FIGURES.md of the sources,' \
+		build/dist/$(NAMED)/share/doc/ctxbound/*.md
 	@tar -C build/dist --sort=name --owner=0 --group=0 --numeric-owner --mtime=@0 \
 		-czf build/$(NAMED)-linux-x86_64.tar.gz $(NAMED)
 	@rm -rf build/dist
@@ -147,19 +174,20 @@ test:
 
 shown:
 	@$(NEEDS_PROGRAM)
-	python3 tests/docs.py $(PROGRAM)
-	python3 tests/commands.py $(PROGRAM) $(wildcard crates/first/out/first)
-	python3 tests/check.py $(PROGRAM)
-	python3 tests/explain.py $(PROGRAM)
-	python3 tests/page.py $(PROGRAM)
-	python3 tests/around.py $(PROGRAM)
-	@test ! -x crates/rounds/out/rounds || python3 tests/rounds.py $(PROGRAM) crates/rounds/out/rounds
-	$(PROGRAM) suite examples examples/real
+	python3 tests/docs.py "$(PROGRAM)"
+	python3 tests/commands.py "$(PROGRAM)" $(wildcard crates/first/out/first)
+	python3 tests/check.py "$(PROGRAM)"
+	python3 tests/explain.py "$(PROGRAM)"
+	python3 tests/simulator.py "$(PROGRAM)"
+	python3 tests/page.py "$(PROGRAM)"
+	python3 tests/around.py "$(PROGRAM)"
+	@test ! -x crates/rounds/out/rounds || python3 tests/rounds.py "$(PROGRAM)" crates/rounds/out/rounds
+	"$(PROGRAM)" suite examples
 
 # Small programs made at random, other ones each time.
 fuzz:
 	@$(NEEDS_PROGRAM)
-	python3 tests/reference.py $(PROGRAM) --minutes $(MINUTES) --seed $(shell date +%s)
+	python3 tests/reference.py "$(PROGRAM)" --minutes $(MINUTES) --seed $(shell date +%s)
 
 bench:
 	@mkdir -p build
@@ -168,6 +196,7 @@ bench:
 	@test ! -x build/ctxbound || python3 bench/workers.py build/ctxbound
 	@test ! -x build/ctxbound || python3 bench/beside.py build/ctxbound
 	@test ! -x build/ctxbound || python3 bench/spin.py build/ctxbound
+	@test ! -x build/ctxbound || python3 bench/explanations.py build/ctxbound
 
 clean:
 	rm -rf build crates/*/out

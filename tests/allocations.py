@@ -4,7 +4,8 @@ turn, alone, with all later ones, or with all of its size.
 
 BINARY is the program. With ample memory each run must end with its own status and say something.
 With a request refused, its answer must be the same, or `ctxbound: memory` with status 4 and nothing
-on standard output. WALKER is the program of the benchmark, which walks all schedules of a guest:
+on standard output; a suite may also say it of one of its files, if all else that it says is the same, and
+`verify` after the lines of some searches. WALKER is the program of the benchmark, which walks all schedules of a guest:
 with ample memory it must count them and end with status 0, and with a request refused do the same,
 or say nothing and end with status 1 or 2. AGAIN is the program of the crate `again`, which makes each
 call of the libraries again that was refused: it must say the same, or nothing with status 2. A run that
@@ -13,6 +14,7 @@ request; since runs of several threads have more requests or fewer, it ends only
 in a row. Several workers must make a thread for all but one of them, once for all rounds of a bound. The
 last line is `N passed, M failed`.
 """
+import json
 import os
 import subprocess
 import sys
@@ -46,6 +48,8 @@ PROGRAMS = {
     "cut": "thread A { assert 0;",
     "unknown": "thread A { lock m; }",
     "odd": "var x; thread A { store x q; }",
+    # Schedules of more steps than an item has room for.
+    "long": "var x; thread A { repeat 50 { store x 1; } } thread B { store x 2; } thread C { store x 3; }",
     # Some rounds of several items.
     "six": stores("abcdef"), "five": stores("abcde"),
     # All fail that have Y before X.
@@ -78,6 +82,7 @@ RUNS = [
     ("explore", "six", "--bound 0 --limit 100", 3), ("explore", "bad", "--bound 0 --quick", 1),
     ("explore", "race", "--trace", 1), ("explain", "locks", "0,1", 1), ("explain", "race", "", 1),
     ("explain", "race", "1,1,1", 2), ("explain", "waits", "--json", 1), ("explain", "race", "0,1,0 --html", 1),
+    ("explain", "race", "0,1,0 --json", 1), ("explain", "updates", "--json", 0),
     ("check", "unknown", "", 2), ("check", "cut", "", 2), ("check", "odd", "", 0), ("check", "odd", "--deep", 0),
 ]
 # The same, where all later requests fail, too.
@@ -86,6 +91,11 @@ LASTING = [
     ("explore", "six", "--bound 0 --workers 2", 0), ("explore", "bad", "--bound 0 --workers 2", 1),
     ("unbounded", "locks", "--workers 3", 1), ("replay", "race", "0,1,0", 1),
 ]
+# A suite of a folder with these guests, further words, and the status with ample memory.
+SUITES = [("race updates", "", 1), ("late locks", "--json --workers 2", 1)]
+# The same of questions whether a program is right.
+QUESTIONS = [("verify", "updates", "", 0), ("verify", "late", "", 1), ("verify", "loops", "", 0),
+             ("verify", "waits", "--workers 2", 1)]
 # Searches of `six` with some rounds of one bound, or one round without a bound.
 THREADED = [("explore", "--bound 0"), ("explore", "--bound 0 --trace"), ("explore", "--bound 0 --quick"),
             ("unbounded", ""), ("explain", "--bound 0"), ("suite", "--bound 0")]
@@ -99,18 +109,20 @@ SIZES = range(8, 4097, 8)
 WALKS = [("race", "1"), ("locks", "1"), ("waits", "0"), ("two", "1"),
          ("two", "reduced"), ("locks", "reduced")]
 # A guest and a schedule of it.
-AGAIN = [("updates", "0,1,0,1"), ("locks", "0,1"), ("waits", "1,1,1,0,0"), ("late", "1,0,0"), ("five", "0,1,2,3,4")]
+AGAIN = [("updates", "0,1,0,1"), ("locks", "0,1"), ("waits", "1,1,1,0,0"), ("late", "1,0,0"), ("five", "0,1,2,3,4"),
+         ("long", "0x50,1,2")]
 
 
 def run(binary, words, library=None, refused=None):
-    """What a run writes and its status, and what the library told of it, which is told what to refuse."""
+    """What a run writes and its status, and what the library told of it, which is told what to refuse. The
+    library is named from its folder, since no blank may be in what is preloaded."""
     env = dict(os.environ)
     told, tells = os.pipe()
     if library:
-        env.update(refused or {}, LD_PRELOAD=library, TOLD_FD=str(tells))
+        env.update(refused or {}, LD_PRELOAD="./" + os.path.basename(library), TOLD_FD=str(tells))
     try:
         done = subprocess.run([binary] + words, env=env, capture_output=True, timeout=SECONDS,
-                              pass_fds=[tells])
+                              pass_fds=[tells], cwd=library and os.path.dirname(library))
         answer = done.stdout, done.stderr, done.returncode
     except subprocess.TimeoutExpired:
         answer = b"", b"no end after %d seconds" % SECONDS, None
@@ -119,16 +131,49 @@ def run(binary, words, library=None, refused=None):
         return answer, file.read()
 
 
-def says_memory(answer):
+def says_memory(answer, _=None):
     return answer == (b"", b"ctxbound: memory\n", 4)
 
 
-def says_nothing(answer):
+def says_memory_after_lines(answer, ample):
+    return ample[0].startswith(answer[0]) and says_memory((b"",) + answer[1:])
+
+
+def says_nothing(answer, _):
     return answer in [(b"", b"", 1), (b"", b"", 2)]
 
 
-def says_nothing_of_words(answer):
+def says_nothing_of_words(answer, _):
     return answer == (b"", b"", 2)
+
+
+def entries_of(text):
+    """What a suite says of each file: its name, and the rest as words or members; the head of a table counts as
+    one, and the line with its totals is left out."""
+    lines = text.decode().splitlines()
+    if lines and lines[0].startswith("{"):
+        return [(entry.pop("file"), entry) for entry in map(json.loads, lines)]
+    column = lines[0].index("verdict") if lines else 0
+    return [(line[:column].rstrip(), line[column:].split()) for line in lines[:-1]]
+
+
+def is_out_of_memory(entry):
+    return entry == ["refused", "-", "-", "-", "-", "memory"] or \
+        entry == {"expect": None, "status": 4, "note": "memory", "fault": "memory"}
+
+
+def says_memory_of_a_file(answer, ample):
+    """Whether a suite says that memory ran out, or says it of the folder, or of one file and of the others what it
+    says with ample memory. The totals of a table count what wasn't read."""
+    if says_memory(answer):
+        return True
+    told, wanted = dict(entries_of(answer[0])), dict(entries_of(ample[0]))
+    changed = [name for name in wanted if told.get(name) != wanted[name]]
+    is_file = list(told) == list(wanted) and [is_out_of_memory(told[name]) for name in changed] == [True]
+    is_folder = is_out_of_memory(told.get(os.path.dirname(list(wanted)[-1])))
+    totals = answer[0].decode().splitlines()[-1]
+    is_counted = totals.startswith("{") or totals.endswith(" 1 not read")
+    return answer[1:] == (b"", 4) and (is_file or is_folder) and is_counted
 
 
 def sweep(binary, words, library, status, is_refusal, lasting=False):
@@ -140,7 +185,7 @@ def sweep(binary, words, library, status, is_refusal, lasting=False):
     for fail_at in range(1, MOST):
         answer, told = run(binary, words, library, {"FAIL_AT": str(fail_at), **({"FAIL_ON": "1"} if lasting else {})})
         was_refused = b"r" in told
-        if answer != ample and not (was_refused and is_refusal(answer)):
+        if answer != ample and not (was_refused and is_refusal(answer, ample)):
             return refusals, "%s, request %d refused: %r" % (" ".join(words), fail_at, answer)
         refusals += was_refused
         quiet = 0 if was_refused else quiet + 1
@@ -163,6 +208,16 @@ def sizes(binary, words, library, status):
             return refusals, "%s, each request for %d bytes refused: %r" % (" ".join(words), size, answer)
         refusals += was_refused
     return refusals, None
+
+
+def suite_of(folder, names):
+    """A folder with these guests, each as `NAME.guest`."""
+    suite = os.path.join(folder, "_".join(names.split()))
+    os.mkdir(suite)
+    for name in names.split():
+        with open(os.path.join(suite, name + ".guest"), "w") as file:
+            file.write(PROGRAMS[name])
+    return suite
 
 
 def threads(binary, words, library, workers):
@@ -190,6 +245,10 @@ def main(binary, walker, again):
         trials += [(sweep, program, [command, os.path.join(folder, name)] + words.split(), library, status,
                     says_memory, lasting)
                    for runs, lasting in ((RUNS, False), (LASTING, True)) for command, name, words, status in runs]
+        trials += [(sweep, program, ["suite", suite_of(folder, names)] + words.split(), library, status,
+                    says_memory_of_a_file) for names, words, status in SUITES]
+        trials += [(sweep, program, [command, os.path.join(folder, name)] + words.split(), library, status,
+                    says_memory_after_lines) for command, name, words, status in QUESTIONS]
         trials += [(sizes, program, [command, os.path.join(folder, name)] + words.split(), library, status)
                    for command, name, words, status in OF_SIZE]
         trials += [(sweep, walk, [os.path.join(folder, name), mode], library, 0, says_nothing)

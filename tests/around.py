@@ -12,6 +12,7 @@ import os
 import pty
 import re
 import select
+import shlex
 import shutil
 import subprocess
 import sys
@@ -122,8 +123,12 @@ class Checker:
             self.check("%s: %s --" % (shell, command), offered == self.options(command),
                        sorted(offered), sorted(self.options(command)))
             files = ask(["ctxbound", command, "lock_order"])
-            self.check("%s: %s FILE" % (shell, command),
-                       {"lock_order.guest", "lock_order_fixed.guest"} <= files, files)
+            wanted = {"lock_order.guest", "lock_order_fixed.guest"}
+            self.check("%s: %s FILE" % (shell, command), wanted <= files, files)
+            more = ask(["ctxbound", command, "--limit", "9", "first.guest", "lock_order"])
+            is_taken = command in ("check", "suite")
+            self.check("%s: %s FILE and another word" % (shell, command),
+                       wanted <= more if is_taken else not wanted & more, more)
 
     def ask_bash(self, words):
         script = ('source "$1"; shift; COMP_WORDS=("$@"); COMP_CWORD=$(($# - 1)); _ctxbound; '
@@ -151,7 +156,8 @@ class Checker:
                 "  local -a hits; builtin compadd -A hits \"$@\"; print -l -- $hits >> %s\n"
                 "}\n"
                 "finished() { print done >> %s.end; zle kill-whole-line }\n"
-                "zle -N finished; bindkey '^X' finished\n" % (SHARE / "completions", told, told))
+                "zle -N finished; bindkey '^X' finished\n"
+                % tuple(shlex.quote(str(path)) for path in (SHARE / "completions", told, told)))
             return self.in_terminal(["zsh", "-f", "-i"], setup, words, told)
 
     def in_terminal(self, shell, setup, words, told):
@@ -161,7 +167,7 @@ class Checker:
             os.environ["TERM"] = "dumb"
             os.execvp(shell[0], shell)
         end = Path(str(told) + ".end")
-        os.write(terminal, ("source %s\n%s\t\x18" % (setup, " ".join(words))).encode())
+        os.write(terminal, ("source %s\n%s\t\x18" % (shlex.quote(str(setup)), " ".join(words))).encode())
         stop = time.time() + SECONDS
         while not end.exists() and time.time() < stop:
             if select.select([terminal], [], [], 0.1)[0]:
@@ -214,7 +220,8 @@ class Checker:
         with tempfile.TemporaryDirectory() as folder:
             script, classes = Path(folder) / "script.vim", Path(folder) / "classes"
             script.write_text("\n".join([
-                "set nocompatible", "set rtp=%s,$VIMRUNTIME" % (SHARE / "vim"),
+                "set nocompatible",
+                "let &rtp = escape(%s, ' ,\\') . ',' . $VIMRUNTIME" % json.dumps(str(SHARE / "vim")),
                 "filetype on", "syntax on", "let told = []",
                 "for file in %s" % json.dumps([str(path) for path in guests()]),
                 "  execute 'edit' fnameescape(file)",
@@ -235,6 +242,69 @@ class Checker:
                         if here != {VIM[kind]}:
                             odd.append((number, line[start:end], here))
                 self.check("Vim: " + path.name, not odd, *odd[:3])
+
+    # ---- what editors read of `check --short`
+
+    def short_lines(self, folder):
+        """A warned and a refused guest, and what is said of them: (file, line, column, severity) each."""
+        warned, refused = Path(folder) / "warned one.guest", Path(folder) / "refused.guest"
+        warned.write_text("var x;\nthread A { store x 1; }\n")
+        refused.write_text("var x;\nthread A { store x 1 }\n")
+        return [(str(warned), 1, 5, "warning"), (str(refused), 2, 22, "error")]
+
+    def problem_matcher(self):
+        package = json.loads((SHARE / "vscode" / "package.json").read_text())["contributes"]
+        pattern = package["problemMatchers"][0]["pattern"]
+        tasks = json.loads((SHARE / "vscode" / "tasks.json").read_text())["tasks"]
+        self.check("a task uses the problem matcher",
+                   "$" + package["problemMatchers"][0]["name"] in [task["problemMatcher"] for task in tasks])
+        with tempfile.TemporaryDirectory() as folder:
+            wanted = self.short_lines(folder)
+            lines = self.run([self.binary, "check", "--short", *(each[0] for each in wanted)]).stdout.decode()
+            found = [re.match(pattern["regexp"], line) for line in lines.splitlines()]
+            found = [(hit[pattern["file"]], int(hit[pattern["line"]]), int(hit[pattern["column"]]),
+                      hit[pattern["severity"]]) for hit in found if hit]
+            self.check("the problem matcher finds each line", found == wanted, found, wanted)
+
+    def snippets(self):
+        package = json.loads((SHARE / "vscode" / "package.json").read_text())["contributes"]
+        snippets = json.loads((SHARE / "vscode" / package["snippets"][0]["path"]).read_text())
+        words = set(DECLARATIONS) | set(STEPS) | set(LOCALS) | set(CONTROLS) - {"else"}
+        self.check("a snippet for each statement and declaration", set(snippets) == words,
+                   set(snippets) ^ words)
+
+    def vim_edits(self):
+        """Vim's `:make` fills the quickfix list, and its indents leave each example as it is."""
+        if not self.has("vim", "the files for Vim"):
+            return
+        if "+quickfix" not in self.run(["vim", "--version"]).stdout.decode():
+            self.left_out.append("the files for Vim (this `vim` has no quickfix list)")
+            return
+        with tempfile.TemporaryDirectory() as folder:
+            script, told, copy = (Path(folder) / name for name in ("script.vim", "told", "copy.guest"))
+            tool = Path(folder) / "bin"
+            tool.mkdir()
+            (tool / "ctxbound").symlink_to(self.binary)
+            # Vim doesn't quote the names of its own temporary files in what `:make` runs.
+            environment = dict(self.environment, PATH="%s:%s" % (tool, os.environ["PATH"]), TMPDIR="/tmp")
+            head = ["set nocompatible", "set rtp=%s,$VIMRUNTIME" % str(SHARE / "vim").replace(" ", "\\ "),
+                    "filetype plugin indent on"]
+            for file, line, column, severity in self.short_lines(folder):
+                script.write_text("\n".join(head + [
+                    "execute 'edit' fnameescape(%s)" % json.dumps(file), "silent make",
+                    "let all = filter(getqflist(), 'v:val.valid')",
+                    "call writefile(map(all, 'v:val.lnum . \" \" . v:val.col . \" \" . v:val.type'), %s)"
+                    % json.dumps(str(told)), "qall!"]) + "\n")
+                self.run(["vim", "-n", "-i", "NONE", "-es", "-u", script], env=environment)
+                wanted = "%d %d %s\n" % (line, column, severity[0])
+                self.check("Vim's :make: " + severity, told.exists() and told.read_text() == wanted,
+                           told.exists() and told.read_text(), wanted)
+            script.write_text("\n".join(head + ["execute 'edit' fnameescape(%s)" % json.dumps(str(copy)),
+                                                "normal gg=G", "write", "qall!"]) + "\n")
+            for path in guests():
+                copy.write_text(path.read_text())
+                self.run(["vim", "-n", "-i", "NONE", "-es", "-u", script])
+                self.check("Vim's indents: " + path.name, copy.read_text() == path.read_text())
 
     # ---- installation and archive
 
@@ -262,25 +332,44 @@ class Checker:
             done = self.make("uninstall", "DESTDIR=" + folder, "PREFIX=/usr")
             left = list(Path(folder).iterdir())
             self.check("make uninstall leaves nothing", done.returncode == 0 and not left, left)
+            done = self.make("uninstall", "DESTDIR=" + folder, "PREFIX=/usr")
+            self.check("make uninstall says where nothing is", done.returncode != 0
+                       and b"isn't there" in done.stderr, done.stderr.decode())
 
     def archive(self):
         """Makes the archive, unpacks it in an empty folder and runs its program there."""
         if not self.has("make", "the archive"):
             return None
         done = self.make("dist")
-        archives = sorted((ROOT / "build").glob("ctxbound-*-linux-x86_64.tar.gz"))
-        self.check("make dist", done.returncode == 0 and len(archives) == 1, done.stderr.decode())
-        if not archives:
+        named = re.search(r"^The archive is (build/ctxbound-[0-9.]+-linux-x86_64\.tar\.gz)$", done.stdout.decode(), re.M)
+        self.check("make dist", done.returncode == 0 and named, done.stderr.decode())
+        if not named:
             return None
+        archive = ROOT / named[1]
         with tempfile.TemporaryDirectory() as folder:
-            self.run(["tar", "-xzf", archives[0], "-C", folder, "--strip-components=1"])
+            self.run(["tar", "-xzf", archive, "-C", folder, "--strip-components=1"])
             there = Path(folder)
             for name in ("share/man/man1/ctxbound.1", "share/ctxbound/vscode/package.json",
-                         "share/vim/vimfiles/syntax/guest.vim", "share/zsh/site-functions/_ctxbound"):
+                         "share/vim/vimfiles/syntax/guest.vim", "share/zsh/site-functions/_ctxbound",
+                         "README.md", "CHANGELOG.md"):
                 self.check("in the archive: " + name, (there / name).is_file())
+            readme = (there / "README.md").read_text()
+            for page in re.findall(r"share/doc/ctxbound/\w+\.md", readme):
+                self.check("a page that the archive's README names: " + page, (there / page).is_file())
+            for page in sorted(there.rglob("share/doc/ctxbound/*.md")):
+                for link in re.findall(r"\]\(([^)#:]+)(?:#[^)]*)?\)", page.read_text(encoding="utf-8")):
+                    self.check("a link of %s: %s" % (page.name, link), (page.parent / link).exists())
+            done = self.run(re.search(r"^ +(bin/ctxbound explain .*)$", readme, re.M)[1].split(), cwd=there)
+            self.check("the archive's README leads to an explanation",
+                       done.returncode == 1 and b"Why nobody can go on" in done.stdout, done.stderr.decode())
+            done = self.run([there / "install.sh", there / "in a place"], cwd=folder)
+            self.check("install.sh", done.returncode == 0
+                       and (there / "in a place/share/man/man1/ctxbound.1").is_file(), done.stderr.decode())
+            done = self.run([there / "in a place/bin/ctxbound", "--version"])
+            self.check("what install.sh installed runs", b"ctxbound " in done.stdout + done.stderr)
             done = self.run([there / "bin/ctxbound", "suite", "share/ctxbound/examples"], cwd=there)
             self.check("the archive's program runs", done.returncode == 0, done.stdout.decode())
-        return archives[0]
+        return archive
 
     # ---- docs/CI.md
 
@@ -339,7 +428,7 @@ class Checker:
         shutil.copy(archive, there / "tools")
         for step in steps:
             path = there / "path"
-            added = path.read_text().split() if path.exists() else []
+            added = path.read_text().splitlines() if path.exists() else []
             now = dict(environment, PATH=":".join(added + ["/usr/bin", "/bin"]))
             done = self.run(["sh", "-e", "-c", step], cwd=there, env=now)
             self.check("the workflow: " + step, done.returncode == 0, done.stderr.decode())
@@ -363,6 +452,9 @@ def main():
     checker.completions("zsh", checker.ask_zsh)
     checker.textmate()
     checker.vim()
+    checker.problem_matcher()
+    checker.snippets()
+    checker.vim_edits()
     checker.installation()
     checker.ci(checker.archive())
     for part in checker.left_out:

@@ -9,6 +9,8 @@ is shown is that line of the text, cut round the place where it is long, and the
 the marked bytes.
 """
 import json
+import os
+import pty
 import re
 import subprocess
 import sys
@@ -70,11 +72,53 @@ REFUSED = [
     ("var x;\nthread A { set ^x 1; }", 1, "check C3 WrongKind at", "a name of its own"),
     ("mutex m; cond c; thread A { wait ^m c; }", 1, "check C3 WrongKind at", "wait COND MUTEX;"),
     ("mutex a; mutex b; mutex c; mutex d; mutex e; mutex f; mutex g; mutex h;\nmutex ^i;", 1,
-     "check C5 TooMany at", "at most 8"),
+     "check C5 TooMany at", "the 9th mutex: at most 8"),
     ("thread A { ^leave; }", 5, "check C7 LeaveOutside at", "no `repeat` is round this"),
     ("var x;\n\tthread A {\t\tlock ^x; }", 1, "check C3 WrongKind at", "a mutex"),
     ("var x; " + " " * 100 + "thread A { lock ^x; }" + " " * 200, 1, "check C3 WrongKind at",
      "a mutex"),
+    # at the end of the text, and after lines without a piece
+    ("var x;\nthread A { store x 1^", 1, "syntax S3 Expected at", "is a `;` missing after `1` in line 2?"),
+    ("var x; thread A { store x 1\n\n# a note\n ^store x 2; }", 5, "syntax S3 Expected at",
+     "is a `;` missing after `1` in line 1?"),
+    ("var x; thread A { load r x; assert r == 1^.5; }", 1, "syntax S2 BadChar at", "numbers are whole"),
+    ("var x^: 1; thread A { }", 1, "syntax S2 BadChar at", "a declaration has no type"),
+    ("thread A { set r^: 1; }", 1, "syntax S2 BadChar at", "no token begins"),
+    ("cond c; thread A { signal ^other; }", 5, "check C2 Unknown at", "no condition has this name"),
+    ("sem s = 1; thread A { acquire ^other; }", 5, "check C2 Unknown at", "no semaphore has this name"),
+    ("mutex m; thread A { unlock ^other; }", 5, "check C2 Unknown at", "no mutex has this name"),
+    # two edits from the first name, one from the second
+    ("var balanced; var balance; thread A { load r ^balnce; load r balanced; }", 6,
+     "check C2 Unknown at", "did you mean `balance` (declared at 1:19)?"),
+    ("var x; thread A { ^sotre x 1; }", 5, "syntax S3 Expected at", "did you mean `store`?"),
+    ("var x; ^thraed A { }", 6, "syntax S3 Expected at", "did you mean `thread`?"),
+    # one edit from `unlock`, two from `lock`
+    ("mutex m; thread A { ^ulock m; }", 5, "syntax S3 Expected at", "did you mean `lock`?"),
+    ("mutex m; thread A { ^unlok m; }", 5, "syntax S3 Expected at", "did you mean `unlock`?"),
+    ("var x; thread A { if r ^= 1 { } }", 1, "syntax S3 Expected at", "is `==` meant?"),
+    ("var x ^== 1; thread A { }", 2, "syntax S3 Expected at", "is `=` meant?"),
+    ("var x; thread A { set r -^q; }", 1, "syntax S3 Expected at",
+     "only a number has a sign: write 0 - q in a `set`"),
+    ("var x; thread A { ^x += 2; }", 1, "syntax S3 Expected at",
+     "write: add old x 2; for a variable, set x x + 2; for a local"),
+    ("var x; thread A { ^x -= 2; }", 1, "syntax S3 Expected at",
+     "write: add old x -2; for a variable, set x x - 2; for a local"),
+    ("var x; thread A { ^x++; }", 1, "syntax S3 Expected at", "write: add old x 1; for a variable"),
+    ("var x; thread A { ^x = x + 1; }", 1, "syntax S3 Expected at", "write: add old x 1; for a variable"),
+    ("var x; thread A { ^x = y * 2; }", 1, "syntax S3 Expected at", "write: set x y * 2; for a local"),
+    ("thread A { set r 1;^; }", 1, "syntax S3 Expected at", "is this `;` one too many?"),
+    # a sign is no value of its own
+    ("var x; thread A { cas r x -1 ^; }", 1, "syntax S3 Expected at", "a local or a number was expected"),
+    (" ".join("var v%02d;" % n for n in range(16)) + " var ^v16; thread A { }", 3,
+     "check C5 TooMany at", "the 17th variable: at most 16"),
+    (" ".join("cond c%d;" % n for n in range(8)) + " cond ^c8; thread A { }", 2,
+     "check C5 TooMany at", "the 9th condition: at most 8"),
+    (" ".join("sem s%d = 1;" % n for n in range(8)) + " sem ^s8 = 1; thread A { }", 2,
+     "check C5 TooMany at", "the 9th semaphore: at most 8"),
+    ("thread T { } " + " ".join("thread T%02d { }" % n for n in range(15)) + "\nthread ^T15 { }", 3,
+     "check C5 TooMany at", "the 17th thread: at most 16"),
+    ("thread A { " + " ".join("set r%02d 1;" % n for n in range(16)) + " set ^r16 1; }", 3,
+     "check C5 TooMany at", "the 17th local of its thread: at most 16"),
 ]
 
 # Refusals without a place.
@@ -84,53 +128,172 @@ WHOLE = [
      "check C6 CodeTooLong in thread 1", "1,024 instructions"),
 ]
 
-# A text with a warning, marked as above, how many bytes are marked, the warning, and the text
-# repaired.
+# A text with a warning, marked as above, how many bytes are marked, the warning, words of it, and the
+# text repaired.
 WARNED = [
-    ("var x;\nthread A { load total x; assert ^totl == 0; store x 1; }", 4, "W1 NeverSet",
+    ("var x;\nthread A { load total x; assert ^totl == 0; store x 1; }", 4, "W1 NeverSet", "no statement of A gives `totl` a value: it is 0",
      "var x;\nthread A { load total x; assert total == 0; store x 1; }"),
-    ("var x;\nthread A { load ^r x; store x 1; }", 1, "W2 NeverRead",
+    ("var x;\nthread A { load ^r x; store x 1; }", 1, "W2 NeverRead", "no statement of A reads `r`",
      "var x;\nthread A { load r x; assert r == 0; store x 1; }"),
-    ("var ^x;\nthread A { }", 1, "W3 Unused", "thread A { }"),
-    ("mutex ^m;\nthread A { }", 1, "W3 Unused", "mutex m;\nthread A { lock m; unlock m; }"),
-    ("cond ^c;\nthread A { }", 1, "W3 Unused", "cond c;\nthread A { signal c; }"),
-    ("sem ^s = 1;\nthread A { }", 1, "W3 Unused", "sem s = 1;\nthread A { acquire s; }"),
-    ("var ^x;\nthread A { load r x; assert r == 0; }", 1, "W4 NeverStored",
+    ("var ^x;\nthread A { }", 1, "W3 Unused", "no statement names this variable", "thread A { }"),
+    ("mutex ^m;\nthread A { }", 1, "W3 Unused", "no statement names this mutex", "mutex m;\nthread A { lock m; unlock m; }"),
+    ("cond ^c;\nthread A { }", 1, "W3 Unused", "no statement names this condition", "cond c;\nthread A { signal c; }"),
+    ("sem ^s = 1;\nthread A { }", 1, "W3 Unused", "no statement names this semaphore", "sem s = 1;\nthread A { acquire s; }"),
+    ("var ^x;\nthread A { load r x; assert r == 0; }", 1, "W4 NeverStored", "no statement writes this variable",
      "var x;\nthread A { load r x; assert r == 0; store x 1; }"),
-    ("var ^x;\nthread A { store x 1; }", 1, "W5 NeverLoaded",
+    ("var ^x;\nthread A { store x 1; }", 1, "W5 NeverLoaded", "no statement reads this variable",
      "var x;\nthread A { add old x 1; }"),
-    ("thread A { ^assert 1 == 1; }", 6, "W6 Constant", "thread A { assert r == 0; set r 1; }"),
-    ("thread A { ^assert 1; }", 6, "W6 Constant", "thread A { set r 1; assert r; }"),
-    ("var x;\nthread A { repeat 2 { add r x 1; leave; ^store x 2; } }", 5, "W7 Unreached",
+    ("thread A { ^assert 1 == 1; }", 6, "W6 Constant", "an assertion of numbers alone has one outcome", "thread A { assert r == 0; set r 1; }"),
+    ("thread A { ^assert 1; }", 6, "W6 Constant", "an assertion of numbers alone has one outcome", "thread A { set r 1; assert r; }"),
+    ("var x;\nthread A { repeat 2 { add r x 1; leave; ^store x 2; } }", 5, "W7 Unreached", "no run comes here",
      "var x;\nthread A { repeat 2 { add r x 1; if r { leave; } store x 2; } }"),
-    ("mutex m; var x;\nthread A { ^lock m; add r x 1; if r { unlock m; } }", 4, "W8 MayKeep",
+    ("mutex m; var x;\nthread A { ^lock m; add r x 1; if r { unlock m; } }", 4, "W8 MayKeep", "A may end with this mutex locked: on some way to its end nothing unlocks it",
      "mutex m; var x;\nthread A { lock m; add r x 1; if r { unlock m; } else { unlock m; } }"),
-    ("mutex m; var x;\nthread A { add r x 1; if r { lock m; } ^unlock m; }", 6, "W9 MayLack",
+    ("mutex m; var x;\nthread A { add r x 1; if r { lock m; } ^unlock m; }", 6, "W9 MayLack", "A may come here without this mutex",
      "mutex m; var x;\nthread A { add r x 1; if r { lock m; unlock m; } }"),
-    ("mutex m; cond c;\nthread A { ^wait c m; } thread B { signal c; }", 4, "W9 MayLack",
+    ("mutex m; cond c;\nthread A { ^wait c m; } thread B { signal c; }", 4, "W9 MayLack", "A may come here without this mutex",
      "mutex m; cond c;\nthread A { lock m; wait c m; unlock m; } thread B { signal c; }"),
     ("mutex m; var x;\nthread A { repeat 3 { ^lock m; add r x 1; if r { leave; } unlock m; } }", 4,
-     "W8 MayKeep",
+     "W8 MayKeep", "A may end with this mutex locked",
      "mutex m; var x;\nthread A { repeat 3 { lock m; add r x 1; unlock m; if r { leave; } } }"),
+    # the second of two locks on the way to here is the fault, not the last unlock
+    ("mutex m; var x;\nthread A { lock m; load r x; if r { ^lock m; store x 2; unlock m; } unlock m; }",
+     4, "W15 LocksAgain", "A comes here with this mutex locked by itself",
+     "mutex m; var x;\nthread A { lock m; load r x; if r { store x 2; } unlock m; }"),
+    # only in the second turn
+    ("mutex m; var x;\nthread A { repeat 2 { ^lock m; store x 1; } unlock m; }", 4, "W15 LocksAgain",
+     "A comes here with this mutex locked by itself",
+     "mutex m; var x;\nthread A { repeat 2 { lock m; store x 1; unlock m; } }"),
+    # nothing is loaded after it
+    ("mutex m; cond c; var x;\nthread A { lock m; load r x; if r == 0 { ^wait c m; } unlock m; }\n"
+     "thread B { store x 1; signal c; }", 4, "W14 WaitNotLookedAtAgain",
+     "on some way from here no value is loaded and tested",
+     "mutex m; cond c; var x;\nthread A { lock m; repeat 2 { load r x; if r { leave; } wait c m; } unlock m; }"
+     "\nthread B { store x 1; signal c; }"),
+    # what was loaded after it isn't tested
+    ("mutex m; cond c; var x;\nthread A { lock m; ^wait c m; load r x; assert r; store x 0; unlock m; }\n"
+     "thread B { store x 1; signal c; }", 4, "W14 WaitNotLookedAtAgain",
+     "on some way from here no value is loaded and tested",
+     "mutex m; cond c; var x;\nthread A { lock m; wait c m; load r x; if r { store x 0; } unlock m; }\n"
+     "thread B { store x 1; signal c; }"),
+    # a test of what was loaded before it
+    ("mutex m; cond c; var x;\nthread A { lock m; load r x; ^wait c m; if r { store x 0; } unlock m; }\n"
+     "thread B { store x 1; signal c; }", 4, "W14 WaitNotLookedAtAgain", "",
+     "mutex m; cond c; var x;\nthread A { lock m; wait c m; cas r x 1 0; unlock m; if r { lock m; unlock m; } }\n"
+     "thread B { store x 1; signal c; }"),
+    ("mutex m; cond ^c;\nthread A { lock m; wait c m; unlock m; }", 1, "W16 NeverSignalled",
+     "no statement signals this condition",
+     "mutex m; cond c;\nthread A { lock m; wait c m; unlock m; } thread B { broadcast c; }"),
+    ("cond ^c;\nthread A { signal c; }", 1, "W17 NeverWaitedFor", "no statement waits for this condition",
+     "mutex m; cond c;\nthread A { signal c; } thread B { lock m; wait c m; unlock m; }"),
+    ("sem ^s = 0;\nthread A { acquire s; }", 1, "W18 NeverReleased", "no statement releases it",
+     "sem s = 0;\nthread A { acquire s; } thread B { release s; }"),
+    ("mutex m; mutex n; cond c;\nthread A { lock m; ^wait c m; unlock m; }\n"
+     "thread B { lock n; wait c n; unlock n; broadcast c; }", 4, "W19 WaitsElsewhere",
+     "another statement waits for this condition with another mutex",
+     "mutex m; mutex n; cond c;\nthread A { lock m; wait c m; unlock m; }\n"
+     "thread B { lock n; unlock n; broadcast c; }"),
+    # an `assert 0;` that each run comes to
+    ("thread A { ^assert 0; }", 6, "W6 Constant", "an assertion of numbers alone",
+     "var x; thread A { load r x; if r { assert 0; } store x 0; }"),
 ]
 
-# Warnings of `--deep`.
+# Texts of which nothing is said.
+CLEAN = [
+    # the second copy of the `store` is reached by no path, the first is
+    "var x;\nthread A { repeat 2 { store x 1; leave; } }\nthread B { load r x; assert r < 2; }",
+    # the last `unlock` is come to with the mutex alone
+    "mutex m; var x;\nthread A { add r x 1; lock m; if r { store x 1; } unlock m; }",
+    # starts above 0
+    "sem s = 1;\nthread A { acquire s; }",
+    # what must not be come to, passed over by a test and by a `leave`
+    "var x;\nthread A { load r x; if r == 7 { assert 0; } store x 1; }",
+    "var x;\nthread A { repeat 1 { add r x 1; if r == 0 { leave; } assert 0; } }",
+]
+
+# Warnings of `--deep`, with words of it, and further options.
 DEEP = [
     ("var x;\nthread A { load r x; if r == 5 { ^assert r == 1; } }\nthread B { store x 1; }", 6,
-     "W10 NeverRun"),
+     "warning W10 NeverRun", "no schedule comes to this assertion", []),
     ("var x;\nthread A { ^repeat 2 { load r x; if r { leave; } } }\nthread B { store x 1; }", 6,
-     "W12 RanOut"),
+     "warning W12 RanOut", "", []),
     # before any step
-    ("var x;\nthread A { set r 0; ^repeat 2 { if r { leave; } } store x 1; }", 6, "W12 RanOut"),
+    ("var x;\nthread A { set r 0; ^repeat 2 { if r { leave; } } store x 1; }", 6,
+     "warning W12 RanOut", "", []),
     # in the last step of four
     ("var x;\nthread A { store x 1; store x 1; ^repeat 2 { load r x; if r { leave; } } }\n"
-     "thread B { load s x; if s { store x 0; } }", 6, "W12 RanOut"),
+     "thread B { load s x; if s { store x 0; } }", 6, "warning W12 RanOut", "", []),
+    # of two nested loops, the inner one
+    ("var x;\nthread A { repeat 2 { ^repeat 2 { load r x; if r { leave; } } store x 1; leave; } }", 6,
+     "warning W12 RanOut", "", []),
+    # a `cas` that hits, and one that misses: each leads one way
+    ("var x;\nthread A { cas r x 0 1; if r == 0 { ^assert r == 1; } }", 6, "warning W10 NeverRun", "", []),
+    ("var x;\nthread A { cas r x 1 0; if r { ^assert r == 1; } }", 6, "warning W10 NeverRun", "", []),
+    # it holds in no schedule, whatever is loaded
+    ("var x;\nthread A { load r x; ^assert r == 5; }\nthread B { store x 1; }", 6,
+     "warning W20 NeverHolds", "in each schedule that comes here it fails", []),
+    ("var x = 3;\nthread A { load r x; ^assert r != 5; }\nthread B { load r x; store x r; }", 6,
+     "remark W11 OneOutcome", "in all schedules this assertion has the values 3 and 5", ["--remarks"]),
+    # two wait in the schedules where both come before it
+    ("mutex m; cond c;\nthread A { lock m; wait c m; unlock m; }\nthread B { lock m; wait c m; unlock m; }\n"
+     "thread C { ^signal c; }", 6, "warning W13 SignalToOneOfMany", "two threads or more wait", []),
 ]
 
-# Texts of which `--deep` says nothing.
+# Texts of which `--deep` says none of these.
 DEEP_CLEAN = [
-    "var x;\nthread A { load r x; if r { assert r == 2; } }\nthread B { store x 1; store x 2; }",
-    "var x;\nthread A { add r x 1; repeat 2 { load r x; if r { leave; } } }",
+    ("var x;\nthread A { load r x; if r { assert r == 2; } }\nthread B { store x 1; store x 2; }",
+     ["W10", "W11", "W12", "W20"], []),
+    ("var x;\nthread A { add r x 1; repeat 2 { load r x; if r { leave; } } }", ["W12"], []),
+    # one thread alone waits
+    ("mutex m; cond c;\nthread A { lock m; wait c m; unlock m; }\nthread B { signal c; }", ["W13"], []),
+    # a broadcast wakes all
+    ("mutex m; cond c;\nthread A { lock m; wait c m; unlock m; }\nthread B { lock m; wait c m; unlock m; }\n"
+     "thread C { broadcast c; }", ["W13"], []),
+    # a remark is told where it is asked for
+    ("var x = 3;\nthread A { load r x; assert r != 5; }\nthread B { load r x; store x r; }", ["W11"], []),
+    # what must not be come to
+    ("var x;\nthread A { load r x; if r { assert 0; } store x 0; }", ["W10", "W20"], []),
+    # the limit was reached: of two schedules, one comes to the assertion
+    ("var x;\nthread A { load r x; if r == 1 { assert r == 1; } }\nthread B { store x 1; store x 2; }",
+     ["W10", "W11", "W20"], ["--remarks", "--limit", "1"]),
+]
+
+# A text with two warnings, the name of one, and comments that silence it and that don't.
+ALLOWED = [" # allow W5", "# allow W9 W5", " # allow W5 since nobody asks"]
+NOT_ALLOWED = ["", " # W5", " # allow W6", " # allow  ", " # don't allow W5", " ## allow W5"]
+
+# Texts with the lines of `--short`, after the name of the file.
+SHORT = [
+    ("var x;\nthread A { store x 1; assert totl == 0; }",
+     ["1:5: warning W5 NeverLoaded: no statement reads this variable",
+      "2:30: warning W1 NeverSet: no statement of A gives `totl` a value: it is 0"]),
+    ("thread A { lock m; }", ["1:17: error C2 Unknown: no mutex has this name"]),
+    ("thread A { set r 1 }", ["1:20: error S3 Expected: an operator or `;` was expected"]),
+    # of the whole text
+    ("var x;", ["1:1: error C4 NoThreads: a program has at least one thread: thread A { .. }"]),
+    ("thread A { set r 1; assert r; }", []),
+]
+
+# The same as JSON, but for the file, with all keys in the order of their bytes.
+JSON = [
+    ("var x;\nvar yes;\nthread A { store x 1; load r yes; assert r == 0; store yess 1; }", [
+        {"code": "C2 Unknown", "column": 56, "end": {"column": 60, "line": 3}, "line": 3,
+         "message": "no variable has this name",
+         "notes": [{"column": None, "end": None, "line": None,
+                    "message": "did you mean `yes` (declared at 2:5)?"}], "severity": "error"}]),
+    ("var x;\nmutex x;\nthread A { }", [
+        {"code": "C1 Duplicate", "column": 7, "end": {"column": 8, "line": 2}, "line": 2,
+         "message": "`x` is declared already",
+         "notes": [{"column": 5, "end": {"column": 6, "line": 1}, "line": 1,
+                    "message": "the first is this variable"}],
+         "severity": "error"}]),
+    ("var abc;\nthread A { store abc 1; }", [
+        {"code": "W5 NeverLoaded", "column": 5, "end": {"column": 8, "line": 1}, "line": 1,
+         "message": "no statement reads this variable", "notes": [], "severity": "warning"}]),
+    ("var x;", [
+        {"code": "C4 NoThreads", "column": None, "end": None, "line": None,
+         "message": "a program has at least one thread: thread A { .. }", "notes": [],
+         "severity": "error"}]),
 ]
 
 CLEAN_EXAMPLES = {
@@ -138,7 +301,9 @@ CLEAN_EXAMPLES = {
     "aba_stack": ["W4"],
     "aba_stack_fixed": ["W4"],
     "forgotten_unlock": ["W8", "W8"],
+    "lost_wakeup": ["W14"],
     "pruned_away": ["W5"],
+    "wait_without_loop": ["W14", "W14"],
 }
 
 
@@ -211,6 +376,112 @@ class Checker:
                     done.stdout.decode())
 
 
+    def crowded(self):
+        """In the schedule that is told with W13, both others wait when the signal is sent."""
+        text, _, _ = marked(DEEP[-1][0])
+        _, err = self.run(text, "--deep")
+        named = re.findall(r"replay: (\S+)$", err, re.M)
+        steps = [] if not named else re.sub(r"(\d+)x(\d+)", lambda m: ",".join([m[1]] * int(m[2])),
+                                            named[0]).split(",")
+        self.expect("W13: %s" % named, sorted(steps) == ["0", "0", "1", "1", "2"] and steps[-1] == "2", err)
+
+    def in_order(self):
+        """Warnings are in the order of the text, those of `--deep` among the others."""
+        text = (b"var x;\nthread A { repeat 2 { load r x; if r { leave; } } }\n"
+                b"thread B { store x 1; load unused x; }\n"
+                b"thread C { repeat 2 { leave; store x 5; } load q x; assert p == 0; }\n")
+        _, err = self.run(text, "--deep")
+        places = [tuple(map(int, at.split(":"))) for at in re.findall(r"^ctxbound: warning .* at (\S+)$", err, re.M)]
+        self.expect("the order", len(places) == 5 and places == sorted(places), err)
+
+    def allowed(self):
+        """A comment silences the warnings that it names, in its line."""
+        for comment in ALLOWED + NOT_ALLOWED:
+            text = "var x;%s\nvar y; thread A { store x 1; }" % comment
+            status, err = self.run(text.encode(), "--strict")
+            self.expect("%r: W5" % comment, ("W5" in err) == (comment in NOT_ALLOWED), err)
+            self.expect("%r: W3" % comment, "W3" in err and status == 1, err)
+        status, err = self.run(b"var x; # allow W5\nthread A { store x 1; }", "--strict")
+        self.expect("all is allowed", status == 0 and err == "", err)
+
+    def told(self, text, *words):
+        path = self.folder / "text.guest"
+        path.write_bytes(text.encode())
+        done = subprocess.run([self.binary, "check", *words, str(path)], capture_output=True, timeout=60)
+        return done.returncode, done.stdout.decode(), done.stderr.decode()
+
+    def folders(self):
+        """Each guest of a folder is told of, and the greatest status is that of the command."""
+        folder = self.folder / "guests"
+        folder.mkdir()
+        for name, text in (("a", "var x; thread A { }"), ("b", "thread A { lock m; }"),
+                           ("c", "var y; thread A { }"), ("d", "thread A { }")):
+            (folder / (name + ".guest")).write_text(text)
+        for words in ([str(folder)], [str(folder / (name + ".guest")) for name in "abcd"]):
+            done = subprocess.run([self.binary, "check", "--strict", "--short", *words], capture_output=True,
+                                  timeout=60)
+            lines = [line.split(": ")[0] for line in done.stdout.decode().splitlines()]
+            want = ["%s/%s.guest:%s" % (folder, name, at) for name, at in
+                    (("a", "1:5"), ("b", "1:17"), ("c", "1:5"))]
+            self.expect("a folder: %s" % words, lines == want and done.returncode == 2, done.stdout.decode())
+
+    def forms(self):
+        """What is told in short lines and as JSON, on standard output."""
+        path = str(self.folder / "text.guest")
+        for text, lines in SHORT:
+            status, out, err = self.told(text, "--short")
+            want = "".join("%s:%s\n" % (path, line) for line in lines)
+            refused = any(": error " in line for line in lines)
+            self.expect("%r: short" % text, (out, err) == (want, "") and status == (2 if refused else 0), out + err)
+        for text, objects in JSON:
+            status, out, err = self.told(text, "--json")
+            seen = [json.loads(line) for line in out.splitlines()]
+            want = [dict(o, file=path) for o in objects]
+            self.expect("%r: JSON" % text, seen == want and err == "", out + err)
+            self.expect("%r: keys" % text, all(list(o) == sorted(o) for o in seen), out)
+            refused = any(o["severity"] == "error" for o in objects)
+            self.expect("%r: status" % text, status == (2 if refused else 0), out)
+        _, out, _ = self.told(DEEP[-2][0].replace("^", ""), "--deep", "--remarks", "--json")
+        self.expect("a remark", '"severity":"remark"' in out, out)
+
+
+    def on_terminal(self, text, *words):
+        """What a command writes on standard error where that is a terminal."""
+        path = self.folder / "text.guest"
+        path.write_text(text)
+        ours, theirs = pty.openpty()
+        subprocess.run([self.binary, words[0], str(path), *words[1:]], stdout=subprocess.DEVNULL, stderr=theirs,
+                       timeout=60)
+        os.close(theirs)
+        seen = b""
+        try:
+            while True:
+                part = os.read(ours, 4096)
+                if not part:
+                    break
+                seen += part
+        except OSError:  # the end, as a pseudo terminal tells it
+            pass
+        os.close(ours)
+        return seen.decode().replace("\r\n", "\n")
+
+    def says_more(self):
+        """Where a person sees that a text is refused, the command that says more is named; nowhere else."""
+        more = "(ctxbound check %s says more)\n" % (self.folder / "text.guest")
+        first = "ctxbound: check C2 Unknown at 1:17\n"
+        refused = "thread A { lock m; }"
+        for words in (["replay"], ["explore"], ["unbounded"], ["explain"]):
+            seen = self.on_terminal(refused, *words)
+            self.expect("%s on a terminal" % words, seen == first + more, seen)
+            done = subprocess.run([self.binary, *words, str(self.folder / "text.guest")], capture_output=True)
+            self.expect("%s in a pipe" % words, done.stderr.decode() == first, done.stderr.decode())
+        # the schedule is refused, not the text
+        seen = self.on_terminal("var x; thread A { store x 1; }", "replay", "5")
+        self.expect("a refused schedule", seen == "ctxbound: schedule P1 NoSuchThread at 0\n", seen)
+        seen = self.on_terminal(refused, "check")
+        self.expect("check on a terminal", "says more" not in seen and seen.startswith(first), seen)
+
+
 def main():
     with tempfile.TemporaryDirectory() as folder:
         check = Checker(str(Path(sys.argv[1]).resolve()), folder)
@@ -220,18 +491,28 @@ def main():
             status, err = check.run(text.encode())
             check.expect("%r" % text, status == 2 and words in err
                          and err.startswith("ctxbound: %s\n" % head), err)
-        for text, length, name, repaired in WARNED:
-            check.place(text, length, "warning %s at" % name, "", 0)
+        for text, length, name, words, repaired in WARNED:
+            check.place(text, length, "warning %s at" % name, words, 0)
             check.place(text, length, "warning %s at" % name, "", 1, "--strict")
             status, err = check.run(repaired.encode(), "--strict")
             check.expect("%r" % repaired, name not in err, err)
-        for text, length, name in DEEP:
-            check.place(text, length, "warning %s at" % name, "", 0, "--deep")
-            if name == "W12 RanOut":
+        for text in CLEAN:
+            status, err = check.run(text.encode(), "--strict")
+            check.expect("%r" % text, status == 0 and err == "", err)
+        for text, length, head, words, options in DEEP:
+            check.place(text, length, "%s at" % head, words, 0, "--deep", *options)
+            if head == "warning W12 RanOut":
                 check.replays(text)
-        for text in DEEP_CLEAN:
-            status, err = check.run(text.encode(), "--deep")
-            check.expect("%r" % text, not any(w in err for w in ("W10", "W11", "W12")), err)
+        for text, names, options in DEEP_CLEAN:
+            status, err = check.run(text.encode(), "--deep", *options)
+            check.expect("%r" % text, status == 0 and not any(w in err for w in names), err)
+            check.expect("%r: the limit" % text, ("W21 CutShort" in err) == ("--limit" in options), err)
+        check.crowded()
+        check.in_order()
+        check.allowed()
+        check.forms()
+        check.folders()
+        check.says_more()
         examples = sorted((Path(__file__).resolve().parent.parent / "examples").glob("*.guest"))
         for path in examples:
             status, err = check.run(path.read_bytes())

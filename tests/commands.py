@@ -7,7 +7,9 @@ FIRST is the program of the crate `first`. What is expected was worked out by ha
 command has to print. `make shown` runs it.
 """
 import json
+import os
 import re
+import shlex
 import subprocess
 import sys
 import tempfile
@@ -28,7 +30,33 @@ FAILING_EIGHTS = EIGHTS.replace("thread B {", "thread B { load r x; assert r == 
 LATE = EIGHTS.replace("var x;", "var x; var y;").replace("}\nthread B {",
                       "store y 1; store y 0; }\nthread B { load r y; assert r == 0;")
 
+# A waits for B in a loop that may run out of turns.
+WAITS = ("var x;\nthread A { repeat 2 { load r x; if r == 1 { leave; } } }\nthread B { store x 1; }\n")
+# Sleep sets leave one schedule to its end, and cut others short. A loop of LEFT may be left.
+THREE = ("cond c; var x; var y; var z; var w;\nthread A { store x 1; }\nthread B { store y 1; }\n"
+         "thread C { store z 1; }\n")
+LEFT = THREE + "thread D { repeat 2 { load r w; if r == 0 { leave; } } }\n"
+# Both A and B may wait when C signals, which wakes the first; the second signal wakes the other. The critical sections come
+# in ten orders: two by who retakes the mutex first, where A or B, or both, came before C. In SIGNALS nobody waits.
+CROWDED = ("mutex m; cond c; var x;\n"
+           "thread A { lock m; load r x; if r == 0 { wait c m; } unlock m; }\n"
+           "thread B { lock m; load r x; if r == 0 { wait c m; } unlock m; }\n"
+           "thread C { lock m; store x 1; signal c; signal c; unlock m; }\n")
+SIGNALS = THREE + "thread D { load r w; if r == 1 { signal c; } }\n"
+# Each thread locks the mutex that the other one locked before: one preemption, and both are stuck.
+CROSSED = ("mutex m; mutex n;\nthread A { lock m; lock n; unlock n; unlock m; }\n"
+           "thread B { lock n; lock m; unlock m; unlock n; }\n")
+# If B goes first, A fails with no preemption. In the first bad schedule of all B comes between A's
+# steps. There are seven threads more, so that there are 9! schedules without a preemption, and the
+# first of those that is bad comes after 8! of them: after those of the first round of a search.
+CROWD = ("var x; var y; " + "".join("var %s; " % name for name in "abcdefg")
+         + "\nthread A { store y 1; load r x; assert r == 0; }\nthread B { store x 1; }\n"
+         + "".join("thread %s { store %s 1; }\n" % (name, name.lower()) for name in "CDEFG")
+         + "thread H { store a 1; }\nthread I { store b 1; }\n")
+
 FILES = {
+    "pruned_away.guest": ("var x; var y;\nthread A { store y 1; load r x; assert r == 0; }\n"
+                          "thread B { store x 1; }\n"),
     "race.guest": RACE,
     "Füße": RACE,
     "as_expected.guest": "# expect: bad\n" + RACE,
@@ -38,76 +66,143 @@ FILES = {
     "eights.guest": EIGHTS,
     "failing_eights.guest": FAILING_EIGHTS,
     "late.guest": LATE,
+    "crowd.guest": CROWD,
+    "expects_none.guest": "# expect: bad 0\n" + CROWD,
+    "expects_two.guest": "# expect: bad 2\n" + CROWD,
+    "crossed.guest": CROSSED,
+    "waits.guest": WAITS,
+    "three.guest": THREE,
+    "left.guest": LEFT,
+    "crowded.guest": CROWDED,
+    "signals.guest": SIGNALS,
     "refused.guest": "var x\n",
     "unclear.guest": "# expect: bda\n" + RACE,
     "twice.guest": "# expect: bad\n# expect: bad\n" + RACE,
     "folder/b.guest": APART,
     "folder/a.guest": RACE,
     "folder/notes.txt": "no guest\n",
+    "tree/b.guest": RACE,
+    "tree/deeper/a.guest": APART,
+    "tree/deeper/still/notes.txt": "no guest\n",
+    "tree/named.guest/c.guest": APART,
     "empty/notes.txt": "no guest\n",
     "tab\tname.guest": APART,
+    "back\\slash.guest": APART,
+    "it's here.guest": RACE,
 }
 
-RACE_REPORT = ('"bound":null,"ends":[{"kind":"done","vars":[0]},{"kind":"failed","vars":[0]}],"failed":1,'
+RACE_REPORT = ('"bound":1,"ends":[{"kind":"done","vars":[0]},{"kind":"failed","vars":[0]}],"failed":1,'
                '"kind":"failed","preemptions":1,"schedule":"0,1,0","stuck":0,"tried":3,"verdict":"bad"}\n')
 APART_REPORT = ('"all":true,"bound":null,"ends":[{"kind":"done","vars":[1,1]}],"failed":0,"stuck":0,'
                 '"tried":1,"verdict":"clean"}\n')
 
-# The words, what is printed, and the status. Nothing is written on standard error.
+# The columns of a suite's table, and their widths after the first, which is as wide as the longest name.
+HEADS = ("file", "verdict", "bound", "preemptions", "schedule", "tried", "note")
+WIDTHS = (10, 5, 11, 12, 9)
+RACE_ROW = ("bad", "1", "1", "0,1,0", "3")
+APART_ROW = ("clean", "-", "-", "-", "1")
+NO_ROW = ("-", "-", "-", "-")
+UNCLEAR = "one `# expect:` is wanted, with bad, bad N, failed, stuck or clean"
+
+# The words, the table's rows, its last line, and the status. Nothing is written on standard error.
 SUITES = [
-    (["as_expected.guest", "clean.guest"], """\
-file               verdict  bound  preemptions  schedule  tried  note
-as_expected.guest  bad      -      1            0,1,0     3      expected
-clean.guest        clean    -      -            -         1
-""", 0),
-    (["race.guest"], """\
-file        verdict  bound  preemptions  schedule  tried  note
-race.guest  bad      -      1            0,1,0     3
-""", 1),
-    (["unexpected.guest", "not_bad.guest"], """\
-file              verdict  bound  preemptions  schedule  tried  note
-unexpected.guest  bad      -      1            0,1,0     3      clean was expected
-not_bad.guest     clean    -      -            -         1      bad was expected
-""", 1),
-    (["eights.guest", "--limit", "100", "--bound", "1"], """\
-file          verdict  bound  preemptions  schedule  tried  note
-eights.guest  clean    1      -            -         16     no proof: schedules with more preemptions are left out
-""", 0),
-    (["refused.guest", "clean.guest"], """\
-file           verdict  bound  preemptions  schedule  tried  note
-refused.guest  refused  -      -            -         -      syntax S3 Expected at 2:1
-clean.guest    clean    -      -            -         1
-""", 2),
-    (["unclear.guest", "twice.guest"], """\
-file           verdict  bound  preemptions  schedule  tried  note
-unclear.guest  refused  -      -            -         -      line 1: one `# expect: bad` or `# expect: clean` is wanted
-twice.guest    refused  -      -            -         -      line 2: one `# expect: bad` or `# expect: clean` is wanted
-""", 2),
-    (["gone.guest", "clean.guest"], """\
-file         verdict  bound  preemptions  schedule  tried  note
-gone.guest   unread   -      -            -         -      No such file or directory (os error 2)
-clean.guest  clean    -      -            -         1
-""", 4),
-    (["folder"], """\
-file            verdict  bound  preemptions  schedule  tried  note
-folder/a.guest  bad      -      1            0,1,0     3
-folder/b.guest  clean    -      -            -         1
-""", 1),
-    (["empty"], """\
-file   verdict  bound  preemptions  schedule  tried  note
-empty  unread   -      -            -         -      no file in it ends in .guest
-""", 4),
-    (["tab\tname.guest"], """\
-file               verdict  bound  preemptions  schedule  tried  note
-tab\\x09name.guest  clean    -      -            -         1
-""", 0),
-    (["--json", "as_expected.guest", "clean.guest"],
-     '{"file":"as_expected.guest","expect":"bad","status":0,' + RACE_REPORT
-     + '{"file":"clean.guest","expect":"clean","status":0,' + APART_REPORT, 0),
-    (["--json", "refused.guest", "gone.guest", "race.guest"],
-     '{"file":"refused.guest","expect":null,"status":2,"fault":"syntax S3 Expected at 2:1"}\n'
-     '{"file":"gone.guest","expect":null,"status":4,"fault":"No such file or directory (os error 2)"}\n'
-     '{"file":"race.guest","expect":null,"status":1,' + RACE_REPORT, 4),
+    (["as_expected.guest", "clean.guest"],
+     [("as_expected.guest", *RACE_ROW, "expected"), ("clean.guest", *APART_ROW)], "2 files: 2 as expected", 0),
+    (["race.guest"], [("race.guest", *RACE_ROW)], "1 file: 1 not as expected", 1),
+    (["unexpected.guest", "not_bad.guest"],
+     [("unexpected.guest", *RACE_ROW, "clean was expected"), ("not_bad.guest", *APART_ROW, "bad was expected")],
+     "2 files: 2 not as expected", 1),
+    (["eights.guest", "--limit", "100", "--bound", "1"],
+     [("eights.guest", "clean", "1", "-", "-", "16", "no proof: schedules with more preemptions are left out")],
+     "1 file: 1 as expected", 0),
+    # the limit is reached at bound 1, with 16 schedules tried, before bound 2
+    (["eights.guest", "--limit", "10"],
+     [("eights.guest", "incomplete", "1", "-", "-", "16", "cut short at the limit")], "1 file: 1 cut short", 3),
+    (["refused.guest", "clean.guest"],
+     [("refused.guest", "refused", *NO_ROW, "syntax S3 Expected at 2:1"), ("clean.guest", *APART_ROW)],
+     "2 files: 1 as expected, 1 refused", 2),
+    (["unclear.guest", "twice.guest"],
+     [("unclear.guest", "refused", *NO_ROW, "line 1: " + UNCLEAR), ("twice.guest", "refused", *NO_ROW, "line 2: " + UNCLEAR)],
+     "2 files: 2 refused", 2),
+    (["gone.guest", "clean.guest"],
+     [("gone.guest", "unread", *NO_ROW, "No such file or directory (os error 2)"), ("clean.guest", *APART_ROW)],
+     "2 files: 1 as expected, 1 not read", 4),
+    (["folder"], [("folder/a.guest", *RACE_ROW), ("folder/b.guest", *APART_ROW)],
+     "2 files: 1 as expected, 1 not as expected", 1),
+    (["tree"], [("tree/b.guest", *RACE_ROW), ("tree/deeper/a.guest", *APART_ROW),
+                ("tree/named.guest/c.guest", *APART_ROW)], "3 files: 2 as expected, 1 not as expected", 1),
+    (["empty"], [("empty", "unread", *NO_ROW, "no file in it ends in .guest")], "1 file: 1 not read", 4),
+    (["tab\tname.guest"], [("tab\\x09name.guest", *APART_ROW)], "1 file: 1 as expected", 0),
+    (["back\\slash.guest"], [("back\\x5cslash.guest", *APART_ROW)], "1 file: 1 as expected", 0),
+    (["crossed.guest"], [("crossed.guest", "bad", "1", "1", "0,1", "6")], "1 file: 1 not as expected", 1),
+]
+# What follows `# expect:` in RACE, which fails, or in CROSSED, which gets stuck, both with one preemption:
+# the status, and the note.
+EXPECTATIONS = [
+    ("bad", RACE, 0, "expected"), ("failed", RACE, 0, "expected"), ("stuck", RACE, 1, "stuck was expected"),
+    ("bad 1", RACE, 0, "expected"), ("bad  1", RACE, 0, "expected"), ("bad 0", RACE, 1, "bad 0 was expected"),
+    ("bad 2", RACE, 1, "bad 2 was expected"), ("clean", RACE, 1, "clean was expected"),
+    ("stuck", CROSSED, 0, "expected"), ("failed", CROSSED, 1, "failed was expected"),
+    ("clean", APART, 0, ""), ("failed", APART, 1, "failed was expected"), ("bad 0", APART, 1, "bad 0 was expected"),
+    *((words, RACE, 2, "line 1: " + UNCLEAR) for words in
+      ("Bad", "bad # why", "bad -1", "bad 1 2", "bad one", "bad 4294967296", "good", "")),
+]
+# Lines that look like an expectation and are none, and comments that don't.
+NEAR = ["# Expect: bad", "# expects: bad", "# expect : bad", "## expect: bad", "# expected: bad", "# EXPECT: bad",
+        "# expect bad", "# expect = bad", "# expects bad 1", "var z; # expect: bad"]
+NOT_NEAR = ["# expect no wonders", "# as we expect: bad", "# bad", "# expecting a bad end", "# an expectation: bad"]
+
+# What `verify` prints, and the status. Of EIGHTS a schedule of N blocks, of which each but the last two is left by a
+# preemption, has N - 2, and 2, 14 and 98 schedules have 2, 3 and 4 blocks. A round without a bound tries 256.
+VERIFIED = [
+    (["clean.guest"], "all schedules: none is bad (1 tried)\n"
+     "RIGHT: no schedule of clean.guest fails or gets stuck.\n", 0),
+    (["race.guest"], "all schedules: one with 1 preemption is bad (3 tried)\n"
+     "no preemption: none is bad (2 tried)\n"
+     "BAD: a schedule of race.guest with 1 preemption fails; none with fewer is bad.\n"
+     "See why: ctxbound explain race.guest 0,1,0\n", 1),
+    (["it's here.guest", "--workers", "2"], "all schedules: one with 1 preemption is bad (3 tried)\n"
+     "no preemption: none is bad (2 tried)\n"
+     "BAD: a schedule of it's here.guest with 1 preemption fails; none with fewer is bad.\n"
+     "See why: ctxbound explain 'it'\\''s here.guest' 0,1,0\n", 1),
+    (["eights.guest", "--limit", "100"], "all schedules: cut short, and none of the 256 tried is bad\n"
+     "no preemption: none is bad (2 tried)\nat most 1 preemption: none is bad (16 tried)\n"
+     "at most 2 preemptions: none is bad (114 tried)\n"
+     "at most 3 preemptions: cut short, and none of the 114 tried is bad\n"
+     "UNDECIDED: no schedule of eights.guest with at most 2 preemptions is bad. A higher --limit says more.\n", 3),
+    (["eights.guest", "--limit", "1"], "all schedules: cut short, and none of the 256 tried is bad\n"
+     "no preemption: none is bad (2 tried)\n"
+     "at most 1 preemption: cut short, and none of the 2 tried is bad\n"
+     "UNDECIDED: no schedule of eights.guest with no preemption is bad. A higher --limit says more.\n", 3),
+    (["crossed.guest"], "all schedules: one with 1 preemption is bad (3 tried)\n"
+     "no preemption: none is bad (2 tried)\n"
+     "BAD: a schedule of crossed.guest with 1 preemption gets stuck; none with fewer is bad.\n"
+     "See why: ctxbound explain crossed.guest 0,1\n", 1),
+    # two schedules are left, by whether A's load comes before B's store; a round tries 256 without a preemption
+    (["crowd.guest", "--limit", "1"], "all schedules: one with 1 preemption is bad (2 tried)\n"
+     "no preemption: cut short, and none of the 256 tried is bad\n"
+     "BAD: a schedule of crowd.guest with 1 preemption fails; whether one with fewer is bad isn't known.\n"
+     "See why: ctxbound explain crowd.guest 0,1,0,2,3,4,5,6,7,8\n", 1),
+    (["waits.guest"], "all schedules: none is bad (3 tried)\nRIGHT: no schedule of waits.guest fails or gets stuck.\n"
+     "But W12 RanOut at 2:12: this `repeat` runs out of turns with no `leave` in some schedule\n", 0),
+    # loops are looked for in as many schedules as the limit says, those that are cut short among them
+    (["three.guest", "--limit", "1"], "all schedules: none is bad (1 tried)\n"
+     "RIGHT: no schedule of three.guest fails or gets stuck.\n", 0),
+    (["left.guest", "--limit", "1"], "all schedules: none is bad (1 tried)\n"
+     "RIGHT: no schedule of left.guest fails or gets stuck.\n"
+     "But loops that run out of turns were looked for up to the limit alone.\n", 0),
+    (["crowded.guest"], "all schedules: none is bad (10 tried)\n"
+     "RIGHT: no schedule of crowded.guest fails or gets stuck.\n"
+     "But W13 SignalToOneOfMany at 4:31: in some schedule two threads or more wait for this: a guest wakes the one that "
+     "came first, a platform may wake another\n", 0),
+    (["signals.guest", "--limit", "1"], "all schedules: none is bad (1 tried)\n"
+     "RIGHT: no schedule of signals.guest fails or gets stuck.\n"
+     "But signals for which several threads wait were looked for up to the limit alone.\n", 0),
+    # that B goes first takes no preemption, and comes second of those schedules
+    (["pruned_away.guest"], "all schedules: one with 1 preemption is bad (2 tried)\n"
+     "no preemption: one with no preemption is bad (2 tried)\n"
+     "BAD: a schedule of pruned_away.guest with no preemption fails.\n"
+     "See why: ctxbound explain pruned_away.guest 1,0x2\n", 1),
 ]
 
 # What `--progress` writes on standard error. Of RACE no schedule but the bad one has a preemption. Of
@@ -123,6 +218,9 @@ PROGRESS = [
      "bound 0: 2 tried, 0 bad, 0 open, 14 deferred\nbound 1: 16 tried, 0 bad, 0 open\n"),
     (["unbounded", "race.guest"], "unbounded: 3 tried, 1 bad, 0 open\n"),
     (["explain", "race.guest", "--unbounded"], "unbounded: 3 tried, 1 bad, 0 open\n"),
+    (["suite", "race.guest", "clean.guest"],
+     "race.guest:\nunbounded: 3 tried, 1 bad, 0 open\nbound 0: 2 tried, 0 bad, 0 open, 1 deferred\n"
+     "bound 1: 3 tried, 1 bad, 0 open\nclean.guest:\nunbounded: 1 tried, 0 bad, 0 open\n"),
 ]
 PROGRESS_LINE = re.compile(r"(?:bound (\d+)|unbounded): ([\d,]+) tried, ([\d,]+) bad, ([\d,]+) open"
                            r"(?:, ([\d,]+) deferred)?")
@@ -133,11 +231,31 @@ REFUSED = [
     ["explore", "a", "--bound", "65"], ["explore", "a", "--bound", "x"], ["explore", "a", "--workers", "0"],
     ["explore", "a", "--workers", "17"], ["unbounded", "a", "--limit", "0"],
     ["unbounded", "a", "--limit", "9223372036854775808"], ["unbounded", "a", "--bound", "1"],
+    ["frobnicate"], ["suite"], ["verify"], ["verify", "a", "b"], ["verify", "a", "--bound", "1"],
+]
+# Words that would do nothing: nothing is searched where a schedule is given, JSON and a page have no columns,
+# and only a deep check goes through schedules. Each by itself is taken.
+USELESS = [
+    *(["explain", "race.guest", "0,1,0"] + words for words in (
+        ["--bound", "5"], ["--unbounded"], ["--workers", "4"], ["--limit", "9"], ["--quick"], ["--progress"])),
+    *(["explain", "race.guest", form] + words for form in ("--json", "--html")
+      for words in (["--all"], ["--width", "80"])),
+    ["explain", "race.guest", "--json", "--html"], ["check", "race.guest", "--limit", "9"],
+    ["check", "race.guest", "--remarks"], ["check", "race.guest", "--short", "--json"],
+    ["explain", "race.guest", "--steps", "3", "--all"], ["explain", "race.guest", "--bound", "1", "--unbounded"],
+]
+# What is said where the command is left out or misspelt.
+HINTED = [
+    ([], "[subcommands: explore, unbounded, replay, explain, check, suite, verify, help]\n"),
+    (["relay", "a"], "tip: a similar subcommand exists: 'replay'\n"),
+    (["verfy", "a"], "tip: a similar subcommand exists: 'verify'\n"),
+    (["frobnicate"], "For more information, try '--help'.\n"),
 ]
 HELPED = [["--help"], ["replay", "--help"], ["explore", "--help"], ["unbounded", "--help"], ["help", "replay"]]
 HELP_END = """
 
 Examples:
+  ctxbound verify examples/lock_order_fixed.guest
   ctxbound explore examples/first.guest --trace
   ctxbound unbounded examples/lost_update_fixed.guest
   ctxbound replay examples/first.guest 0,1,0
@@ -219,6 +337,25 @@ def line_of_cut(kept, rest):
     return "syntax S3 Expected at 1:%d" % (len(kept) - len(word) + 1)
 
 
+def table(rows, sums):
+    """A suite's table: each cell is at the start of its column, or two blanks after the one before."""
+    widths = (max(len(row[0]) for row in (HEADS, *rows)), *WIDTHS, 0)
+    text = ""
+    for row in (HEADS, *rows):
+        line, start = "", 0
+        for cell, width in zip(row, widths):
+            line = line.ljust(start) + cell
+            start = max(start + width, len(line)) + 2
+        text += line + "\n"
+    return text + sums + "\n"
+
+
+def json_line(file, expect, status, note, report):
+    """The object of a file: its keys in this order, and the members of its report, or why it has none."""
+    head = json.dumps({"file": file, "expect": expect, "status": status, "note": note}, separators=(",", ":"))
+    return head[:-1] + "," + (report or '"fault":%s}\n' % json.dumps(note))
+
+
 class Checker:
     def __init__(self, binary, folder):
         self.binary, self.folder, self.passed, self.failed = binary, folder, 0, 0
@@ -247,6 +384,14 @@ class Checker:
         for words in REFUSED:
             out, err, status = self.run(words)
             self.compare(words, (out, err[:7], status), ("", "error: ", 2))
+        for words in USELESS:
+            out, err, status = self.run(words)
+            told = re.match(r"error: the argument '[^']*' cannot be used with '[^']*'\n|"
+                            r"error: the following required arguments were not provided:\n  --deep\n", err)
+            self.compare(words, (out, bool(told), status), ("", True, 2))
+        for words, line in HINTED:
+            out, err, status = self.run(words)
+            self.compare(words, (out, line in err, status), ("", True, 2))
         for words in HELPED:
             out, err, status = self.run(words)
             self.compare(words, (out, err[-len(HELP_END):], status), ("", HELP_END, 2))
@@ -267,28 +412,87 @@ class Checker:
         self.compare(words, (out[:len(CUT_SHORT)], 1000 <= tried <= 17383, err, status), (CUT_SHORT, True, "", 3))
 
     def suites(self):
-        for words, table, status in SUITES:
-            self.compare(["suite"] + words, self.run(["suite"] + words), (table, "", status))
+        for words, rows, sums, status in SUITES:
+            self.compare(["suite"] + words, self.run(["suite"] + words), (table(rows, sums), "", status))
+        for words, files, status in (
+                (["as_expected.guest", "clean.guest"],
+                 [("as_expected.guest", "bad", 0, "expected", RACE_REPORT), ("clean.guest", "clean", 0, "", APART_REPORT)], 0),
+                (["refused.guest", "gone.guest", "race.guest"],
+                 [("refused.guest", None, 2, "syntax S3 Expected at 2:1", None),
+                  ("gone.guest", None, 4, "No such file or directory (os error 2)", None),
+                  ("race.guest", None, 1, "", RACE_REPORT)], 4)):
+            lines = "".join(json_line(*file) for file in files)
+            self.compare(["suite", "--json"] + words, self.run(["suite", "--json"] + words), (lines, "", status))
+
+    def expectations(self):
+        """What is expected is met or not, and a comment that is nearly an expectation is told of."""
+        for words, text, status, note in EXPECTATIONS:
+            self.told_of_text("# expect: %s\n%s" % (words, text), status, note)
+        for line in NEAR:
+            told = "looks like `# expect:` and isn't"
+            self.told_of_text(line + "\n" + APART, 0, "line 1 " + told)
+            self.told_of_text("# expect: bad\n%s\n%s" % (line, RACE), 0, "expected; line 2 " + told)
+        for line in NOT_NEAR:
+            self.told_of_text(line + "\n" + APART, 0, "")
+
+    def told_of_text(self, text, status, note):
+        """The status and the note of a text by itself."""
+        words = ["suite", "--json", "-"]
+        out, err, found = self.run(words, text.encode())
+        self.compare(words + [text], (json.loads(out)["note"], err, found), (note, "", status))
+
+    def rows_as_they_come(self):
+        """A row is written once its file is done: the one before a pipe that nobody writes to is there."""
+        pipe = Path(self.folder) / "pipe.guest"
+        os.mkfifo(pipe)
+        words = ["suite", "clean.guest", "pipe.guest"]
+        with subprocess.Popen([self.binary] + words, cwd=self.folder, stdout=subprocess.PIPE) as started:
+            lines = [started.stdout.readline().decode().split() for _ in range(2)]
+            pipe.write_text(APART)
+            rest, status = started.stdout.read().decode().split("\n"), started.wait(SECONDS)
+        pipe.unlink()
+        self.compare(words, (lines, [line.split() for line in rest[:2]], status),
+                     ([list(HEADS), ["clean.guest", *APART_ROW]],
+                      [["pipe.guest", *APART_ROW], "2 files: 2 as expected".split()], 0))
+
+    def verified(self):
+        """Whether a program is right: a line on each search, and then the answer."""
+        for words, lines, status in VERIFIED:
+            self.compare(["verify"] + words, self.run(["verify"] + words), (lines, "", status))
+        for words, line, status in ((["refused.guest"], "ctxbound: syntax S3 Expected at 2:1\n", 2),
+                                    (["gone.guest"], "ctxbound: gone.guest: No such file or directory (os error 2)\n", 4)):
+            self.compare(["verify"] + words, self.run(["verify"] + words), ("", line, status))
+        # the schedule that is named is the one that it says
+        told = self.run(["verify", "it's here.guest"])[0].split("ctxbound ")[-1]
+        self.compare(["verify"], self.run(shlex.split(told))[2], 1)
 
     def suites_cut_short(self):
-        """Where the search without a bound is cut short, the one up to the bound is told, unless only
-        the first found a bad schedule."""
-        for file, bound, wanted in (("failing_eights.guest", "0", ("bad", 0, True, 1)),
-                                    ("late.guest", "0", ("incomplete", None, True, 3)),
-                                    ("late.guest", "1", ("bad", 1, True, 1))):
-            words = ["suite", "--json", "--limit", "100", "--bound", bound, file]
+        """Where the search without a bound is cut short, or finds a schedule with preemptions, one with
+        fewest is looked for up to these. Where that is cut short too, the first one counts."""
+        for file, words, wanted in (
+                ("failing_eights.guest", ["--limit", "100"], ("bad", 0, 0, 1, "")),
+                ("late.guest", ["--limit", "100", "--bound", "0"], ("bad", 1, 1, 1, "")),
+                ("late.guest", ["--limit", "1"], ("incomplete", None, None, 1, "")),
+                ("crowd.guest", ["--limit", "1"], ("bad", None, 1, 1, "fewer preemptions may do")),
+                ("crowd.guest", [], ("bad", 0, 0, 1, "")),
+                ("expects_none.guest", [], ("bad", 0, 0, 0, "expected")),
+                ("expects_none.guest", ["--limit", "1"],
+                 ("bad", None, 1, 3, "bad 0 was expected; fewer preemptions may do")),
+                ("expects_two.guest", ["--limit", "1"],
+                 ("bad", None, 1, 1, "bad 2 was expected; fewer preemptions may do"))):
+            words = ["suite", "--json", file] + words
             out, _, status = self.run(words)
             report = json.loads(out)
-            found = (report["verdict"], report["bound"], bool(report["schedule"]), status)
-            self.compare(words, found, wanted)
+            found = (report["verdict"], report["bound"], report.get("preemptions"), status, report["note"])
+            self.compare(words, (found, bool(report["schedule"])), (wanted, True))
 
     def examples(self):
         """The examples are what they expect of themselves; each expects something."""
         words = ["suite", "--json", str(ROOT / "examples")]
         out, err, status = self.run(words)
         lines = [json.loads(line) for line in out.splitlines()]
-        odd = [line["file"] for line in lines if line["expect"] is None or line["verdict"] != line["expect"]]
-        guests = sorted(str(path) for path in (ROOT / "examples").glob("*.guest"))
+        odd = [line["file"] for line in lines if line["expect"] is None or line["verdict"] != line["expect"].split()[0]]
+        guests = sorted(str(path) for path in (ROOT / "examples").rglob("*.guest"))
         self.compare(words, ([line["file"] for line in lines], odd, err, status), (guests, [], "", 0))
 
     def traces(self):
@@ -340,14 +544,15 @@ class Checker:
         self.compare(words, [bad for _, bad, _, _ in counts], [0] * len(counts))
 
     def explanations(self):
-        """What is explained is what a replay of the schedule shows; where a search finds none, a sentence
-        says how far it went."""
+        """What is explained is what a replay of the schedule shows, and the last line replays what ran of it;
+        where a search finds none, a sentence says how far it went."""
+        ran = {"0x3": "0x2", "7": "-"}
         for words, schedule, status in ((["race.guest"], "0,1,0", 1), (["race.guest", "--unbounded"], "0,1,0", 1),
                                         (["race.guest", "0x2,1"], "0x2,1", 0), (["race.guest", "0"], "0", 0),
                                         (["race.guest", "0,0,0"], "0x3", 2), (["race.guest", "7"], "7", 2)):
             text, err, found = self.run(["explain"] + words)
             self.compare(["explain"] + words, (text.split("\n")[-2], err, found),
-                         ("Replay: ctxbound replay race.guest " + schedule, "", status))
+                         ("Replay: ctxbound replay race.guest " + ran.get(schedule, schedule), "", status))
             told, err, found = self.run(["explain"] + words + ["--json"])
             self.compare(["explain"] + words + ["--json"], (json.loads(told)["schedule"], err, found),
                          (schedule, "", status))
@@ -395,10 +600,8 @@ class Checker:
             by_name = self.run([word.replace("FILE", "race.guest") for word in words])
             by_stream = self.run([word.replace("FILE", "-") for word in words], RACE.encode())
             self.compare(words, by_stream, by_name)
-        self.compare(["suite", "-"], self.run(["suite", "-"], APART.encode()), ("""\
-file  verdict  bound  preemptions  schedule  tried  note
--     clean    -      -            -         1
-""", "", 0))
+        self.compare(["suite", "-"], self.run(["suite", "-"], APART.encode()),
+                     (table([("-", *APART_ROW)], "1 file: 1 as expected"), "", 0))
         self.compare(["replay", "-"], self.run(["replay", "-"], b" " * 65537),
                      ("", "ctxbound: syntax S5 TooLong at 1:1\n", 2))
 
@@ -431,13 +634,16 @@ def main():
     with tempfile.TemporaryDirectory() as folder:
         for name, text in FILES.items():
             path = Path(folder) / name
-            path.parent.mkdir(exist_ok=True)
+            path.parent.mkdir(parents=True, exist_ok=True)
             path.write_text(text, encoding="utf-8")
         checker = Checker(str(Path(sys.argv[1]).resolve()), folder)
         checker.words()
         checker.limits()
         checker.suites()
         checker.suites_cut_short()
+        checker.expectations()
+        checker.rows_as_they_come()
+        checker.verified()
         checker.examples()
         checker.traces()
         checker.progress()

@@ -5,6 +5,8 @@ Usage: tests/explain.py BINARY
 
 - The table CASES: each has a guest of examples/ or of tests/explain/, the words after its name, the
   status, and the file of tests/explain/ that has the output byte for byte.
+- What is said where a search finds nothing, that the last line is a command for a shell, and that the
+  width is kept whatever the names are.
 - Of each example, with the schedule that a search finds: the text is ASCII and no line but the last is
   wider than it may be; the steps of the JSON are those of the trace, in its order; and the page has
   one script of data, which is the JSON with the text of the guest.
@@ -25,6 +27,7 @@ SECONDS = 60
 CASES = [
     (EXAMPLES, "deadlock4.guest", [], 1, "deadlock4.txt"),
     (EXAMPLES, "bank60.guest", [], 1, "bank60.txt"),
+    (EXAMPLES, "bank60.guest", ["--steps", "53", "--width", "120"], 1, "bank60_53.txt"),
     (EXAMPLES, "deadlock4.guest", ["0x4,2x3", "--width", "60"], 1, "deadlock4_60.txt"),
     (HERE, "stops.guest", ["0x2,1"], 0, "not_held.txt"),
     (HERE, "stops.guest", ["2"], 0, "sem_full.txt"),
@@ -32,13 +35,55 @@ CASES = [
     (HERE, "start.guest", ["0"], 1, "start.txt"),
     (HERE, "stops.guest", ["0,3"], 2, "refused.txt"),
     (HERE, "stops.guest", ["0,16"], 2, "no_thread.txt"),
-    (HERE, "waits.guest", ["0x2,1x2,2x5", "--all"], 1, "retake.txt"),
+    (HERE, "waits.guest", ["0x2,1x2,2x5"], 1, "retake.txt"),
     (HERE, "lost_wakeup.guest", ["1,0x2"], 1, "lost_wakeup.txt"),
     (HERE, "no_slot.guest", ["-"], 1, "no_slot.txt"),
     (HERE, "sixteen.guest", ["3x5,9x4"], 1, "sixteen_100.txt"),
     (HERE, "sixteen.guest", ["3x5,9x4", "--width", "60"], 1, "sixteen_60.txt"),
+    (HERE, "late_preemption.guest", ["--unbounded"], 1, "late_preemption.txt"),
+    (HERE, "owner.guest", ["1,0,1x2,2x2"], 1, "owner.txt"),
+    (HERE, "owner_of_wait.guest", ["1,0x2,1x2"], 1, "owner_of_wait.txt"),
+    (HERE, "nested_monitor.guest", ["0x4"], 1, "nested_monitor.txt"),
+    (HERE, "unrelated.guest", ["0,1x3,0x3"], 1, "unrelated.txt"),
+    (HERE, "semaphores.guest", ["0x4,1x5"], 2, "past_the_end.txt"),
+    (HERE, "semaphores.guest", ["0,1,7"], 2, "past_a_deadlock.txt"),
+    (HERE, "wide.guest", ["0,1", "--width", "60"], 1, "wide_60.txt"),
+    (HERE, "five.guest", ["1x2,2x2,3x3,4x3"], 1, "five.txt"),
+    (HERE, "wrong_condition.guest", ["0x8,1x5"], 1, "wrong_condition.txt"),
+    (HERE, "two_circles.guest", ["0,1,2,3"], 1, "two_circles.txt"),
+    (HERE, "starved.guest", ["0x3,1x4,2x4,3x3"], 1, "starved.txt"),
+    (HERE, "stopped_owner.guest", ["0x2,0"], 2, "stopped_owner.txt"),
+    (HERE, "broadcast.guest", ["0x2,1x2,2x2,3x2,1x3,0x3,2x2"], 1, "broadcast.txt"),
+    (HERE, "broadcast.guest", ["0x2,1x2,2x2,3x2"], 0, "woken.txt"),
+    (HERE, "woken_twice.guest", ["0x2,1x2,2,0x2,1x2"], 1, "woken_twice.txt"),
+    (HERE, "lost_values.guest", ["0x3,1x3,0x4,2x3"], 1, "lost_values.txt"),
+    (HERE, "dirty_cow.guest", [], 1, "dirty_cow.txt"),
+    (HERE, "jdk_6801020.guest", [], 1, "jdk_6801020.txt"),
+    (HERE, "k8s_62464.guest", [], 1, "k8s_62464.txt"),
 ]
 
+# A guest of which no schedule is bad: two have no preemption, two have one, and two have two.
+APART = "var x; var y; thread A { store x 1; store x 2; } thread B { store y 1; store y 2; }"
+
+# What `explain` says of it by these words, and the status.
+NOTHING = [
+    ([], 0, "apart.guest: no schedule is bad (6 tried).\n"),
+    (["--bound", "0"], 0, "apart.guest: no schedule with at most 0 preemptions is bad (2 tried).\n"
+     "That is no proof: others have more. Try --unbounded, or a higher --bound.\n"),
+    (["--bound", "1"], 0, "apart.guest: no schedule with at most 1 preemption is bad (4 tried).\n"
+     "That is no proof: others have more. Try --unbounded, or a higher --bound.\n"),
+    (["--unbounded"], 0, "apart.guest: no schedule is bad (1 tried).\n"),
+    (["--limit", "3"], 3,
+     "apart.guest: the search was cut short; no schedule that it tried is bad (4 tried).\n"),
+]
+
+# A name of a file that is markup, and as the text of an element.
+MARKUP, ESCAPED = "<b>&amp;.guest", "&lt;b>&amp;amp;.guest"
+
+# Two threads lose an update, in a folder and a file whose names a shell has to be told in quotes.
+ODD = "my dir/it's a \u00e9.guest"
+LOST = "var x; thread A { load r x; set r r + 1; store x r; } thread B { load r x; set r r + 1; store x r; } " \
+    "thread C { load s x; load t x; assert s == t; }"
 
 class Tester:
     def __init__(self, binary):
@@ -61,6 +106,49 @@ class Tester:
         self.expect("explain %s %s" % (guest, " ".join(words)), got == want,
                     "-- expected: %r\n%s-- printed: %r\n%s%s" % (
                         want[0], want[1].decode(), got[0], got[1].decode("latin1"), got[2].decode("latin1")))
+
+    def nothing(self, folder):
+        """A search that finds nothing says so: how far it went, and what it leaves open."""
+        (folder / "apart.guest").write_text(APART)
+        for words, status, text in NOTHING:
+            got = self.run(folder, "explain", "apart.guest", *words)
+            self.expect("explain apart.guest %s: %r" % (words, got), got == (status, text.encode(), b""))
+        (folder / MARKUP).write_text(APART)
+        status, page, _ = self.run(folder, "explain", MARKUP, "--html")
+        told = re.findall(r"<(title|p)>(.*?)</\1>", page.decode(), re.S)
+        self.expect("a page that says so: %r" % told, status == 0 and told == [
+            ("title", ESCAPED + " - ctxbound"), ("p", ESCAPED + ": no schedule is bad (6 tried).\n")])
+
+    def odd_name(self, folder):
+        """The last line is a command that a shell carries out, whatever the file's name is; it leaves out
+        the part of the schedule that doesn't run."""
+        (folder / ODD).parent.mkdir()
+        (folder / ODD).write_text(LOST)
+        (folder / "ctxbound").symlink_to(self.binary)
+        for schedule, ran in (("2,0x2,2", "2,0x2,2"), ("0,1x2,0,0,2", "0,1x2,0"), ("0,7", "0")):
+            _, text, _ = self.run(folder, "explain", ODD, schedule)
+            line = text.decode().split("\n")[-2]
+            self.expect("the file's name is in quotes: %s" % line,
+                        line == "Replay: ctxbound replay 'my dir/it'\\''s a \u00e9.guest' " + ran)
+            done = subprocess.run(line[len("Replay: "):], shell=True, cwd=folder, stdout=subprocess.DEVNULL,
+                                  env={"PATH": str(folder)}, timeout=SECONDS)
+            self.expect("the command runs: %s" % line, done.returncode == 0)
+
+    def long_names(self, folder):
+        """However long the names are, no line is too wide, none ends with a blank, and each step's statement is
+        told."""
+        names = ["n" * 99 + str(n) for n in range(6)]
+        (folder / "long_names.guest").write_text("mutex m; " + " ".join(
+            "thread %s { lock m; unlock m; }" % name for name in names))
+        for width in (40, 60, 100):
+            _, text, _ = self.run(folder, "explain", "long_names.guest", "0x2,5", "--width", str(width))
+            lines = text.decode().split("\n")[:-2]
+            self.expect("lines of at most %d columns" % width, all(len(line) <= width for line in lines), text.decode())
+            self.expect("no blanks at their ends", all(line == line.rstrip() for line in lines), text.decode())
+            for row in ("0    1 ", "1    1 ", "2    1 "):
+                found = [line for line in lines if line.strip().startswith(row)]
+                statement = "unlock m" if row[0] == "1" else "lock m"
+                self.expect("step %s is told at width %d" % (row, width), len(found) == 1 and statement in found[0])
 
     def widths(self, guest, schedule):
         for width in (40, 60, 100):
@@ -92,7 +180,7 @@ class Tester:
         self.expect("%s: the page has its data once" % guest, len(found) == 1)
         self.expect("%s: nothing in the data ends it" % guest, all("<" not in data for data in found))
         data = json.loads(found[0])
-        source = data.pop("source")
+        source, _ = data.pop("source"), data.pop("why")
         self.expect("%s: the page has the source" % guest, source == (EXAMPLES / guest).read_text())
         self.expect("%s: the page has the explanation" % guest, data == told)
         self.expect("%s: the page asks no network" % guest, not re.search(r"https?://(?!www\.w3\.org)", page))
@@ -168,7 +256,8 @@ def main():
         tester.example(path)
     import tempfile
     with tempfile.TemporaryDirectory() as folder:
-        tester.long_run(Path(folder))
+        for test in (tester.nothing, tester.odd_name, tester.long_names, tester.long_run):
+            test(Path(folder))
     print("%d passed, %d failed" % (tester.passed, tester.failed))
     raise SystemExit(1 if tester.failed or not tester.passed else 0)
 

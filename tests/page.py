@@ -1,13 +1,20 @@
 #!/usr/bin/env python3
 """Opens the page of `ctxbound explain --html` in a browser without a window, for each example and for a
-guest whose names and whose file's name are markup or words of JavaScript.
+guest whose names and whose file's name are markup or words of JavaScript, and for numbers that a script
+rounds.
 
 Usage: tests/page.py BINARY
 
-The slider is moved to each step. The variables, owners, queues and counts that the page shows there
-must be those that the trace gives; where a search found the schedule, the ends and the counts must be
-those of its report; and the console must stay without an error. It needs Chromium (Debian's package
-`chromium`); where there is none it says so, and fails nothing.
+- The slider is moved to each step. The variables, owners, queues and counts that the page shows there must
+  be those that the trace gives, and the threads that it shows beside the lines those that the JSON names.
+- Where a search found the schedule, the ends and the counts must be those of its report.
+- The summary must have the kind, the steps and the preemptions that the trace has, up to a failure; the words
+  and the command must be those of the text.
+- Who waits for whom must be the edges and circles of the JSON, and not be there where nobody waits.
+- Each key moves where it says; the page is no wider than a window of 390 pixels; the chosen step can be seen;
+  and the console stays without an error.
+
+It needs Chromium (Debian's package `chromium`); where there is none it says so, and fails nothing.
 """
 import html
 import json
@@ -25,19 +32,42 @@ SECONDS = 120
 # The name of a file that would end an element, were it not told as text.
 MARKUP = """<img src=x onerror="window.broken = 1">&'.guest"""
 
+# Guests of which a script that rounds numbers shows a failure that can't be, and two ends as one.
+GUESTS = {
+    "big.guest": "var x = 9007199254740993; var y;\nthread A { load r x; store y 9007199254740992; "
+                 "assert r == 9007199254740992; }\nthread B { store x 9007199254740992; }\n",
+    "two_ends.guest": "var x; var y;\nthread A { load r y; store x 9007199254740992; set q r * 1; "
+                      "if r { store x 9007199254740993; } assert 0; }\nthread B { store y 1; }\n",
+    "at_the_start.guest": "var x;\nthread A { set r 2; assert r == 3; store x 1; }\nthread B { store x 2; }\n",
+    "itself.guest": "mutex m;\nthread A { lock m; lock m; }\nthread B { lock m; unlock m; }\n",
+}
+
 # Moves the slider to each step, and puts down what the page shows there, and beside it.
 WALK = """<script>
 window.addEventListener("load", () => {
-  const slider = document.getElementById("slider"), seen = [];
+  const slider = document.getElementById("slider"), seen = [], beside = [], unseen = [], keys = {};
+  const opened = Number(slider.value), all = (path) => [...document.querySelectorAll(path)];
+  const press = (key) => { document.dispatchEvent(new KeyboardEvent("keydown", { key: key })); keys[key] = Number(slider.value); };
+  const wide = document.documentElement.scrollWidth - document.documentElement.clientWidth;
+  ["End", "ArrowRight", "Home", "ArrowLeft", "ArrowDown", "ArrowUp"].forEach(press);
   for (let k = 0; k <= Number(slider.max); k++) {
     slider.value = k;
     slider.dispatchEvent(new Event("input"));
     seen.push([...document.querySelectorAll("#state > div")].map((d) => [d.querySelector("h2").textContent,
       [...d.querySelectorAll("tr")].map((tr) => [...tr.children].map((td) => td.textContent))]));
+    beside.push(all("#source .line").flatMap((line, i) => [...line.querySelectorAll(".badge")].map((b, j) =>
+      [b.textContent, i + 1, line.querySelectorAll(".statement")[j].textContent])));
+    const box = document.getElementById("lanes").getBoundingClientRect();
+    const step = k === 0 ? box : document.querySelector("#step" + (k - 1) + " circle").getBoundingClientRect();
+    if (step.top < box.top || step.bottom > box.bottom || step.left < box.left || step.right > box.right) unseen.push(k);
   }
   const text = (id) => document.getElementById(id).textContent, search = document.getElementById("search");
   const shown = { states: seen, title: text("title"), scripts: document.scripts.length,
     images: document.images.length, broken: window.broken === undefined ? 0 : 1, hidden: search.hidden,
+    beside: beside, unseen: unseen, keys: keys, wide: wide, opened: opened, summary: text("summary"), why: text("why"),
+    command: text("command"), waits: document.getElementById("waits").hidden, nodes: all("#graph .node").map((e) => e.textContent),
+    edges: all("#graph .edge").length, circles: all("#graph .edge.circle").length, label: all("#graph svg").map((e) =>
+    e.getAttribute("aria-label")), marks: all("#lanes .cause").map((e) => e.id), failed: all("#lanes .failed").length,
     counts: text("counts"), ends: [...search.querySelectorAll("tr")].map((tr) =>
       [...tr.children].map((td) => td.textContent)) };
   const out = document.createElement("pre");
@@ -115,10 +145,53 @@ def ends_of(report, path, trace):
     for end in report["ends"]:
         row = [end["kind"], *map(str, end["vars"])]
         rows.append(row + ["this schedule"] * (row == own))
-    few = lambda count, thing: "%d %s%s" % (count, thing, "" if count == 1 else "s")
     within = "" if report["bound"] is None else " with at most " + few(report["bound"], "preemption")
     return rows, "%s%s tried: %d failed, %d stuck." % (few(report["tried"], "schedule"), within,
                                                        report["failed"], report["stuck"])
+
+
+few = lambda count, thing: "%d %s%s" % (count, thing, "" if count == 1 else "s")
+
+
+def summary(trace, told):
+    """How the schedule ends, in a line, and the step at which the page opens: of a failure what was up to it."""
+    steps = [line.split() for line in trace if re.match(r"\d", line)]
+    kind = next(line.split()[1] for line in trace if line.startswith("kind "))
+    early = any(line.startswith("start ") for line in trace)
+    stop = 0 if early else next((at + 1 for at, words in enumerate(steps) if "stop" in words), None)
+    ran = len(steps) if stop is None else stop
+    kind = "failed" if stop is not None else "not complete" if kind == "none" else kind
+    preemptions = sum("preempt" in words for words in steps[:ran])
+    return "%s after %s with %s" % (kind, few(ran, "step"), few(preemptions, "preemption")), ran
+
+
+def beside(told):
+    """The threads beside the lines of the source, at the start and after each step, by line and column."""
+    text = told["source"].split("\n")
+    at = [thread["next"] for thread in told["opening"]["threads"]]
+    names = [thread["name"] for thread in told["opening"]["threads"]]
+    found = []
+    for step in [None, *told["steps"]]:
+        if step is not None:
+            at[step["thread"]] = step["next"]
+        places = [(place["line"], place["column"], place["end"], name) for place, name in zip(at, names) if place]
+        found.append([[name, line, text[line - 1][column - 1:end["column"] - 1 if end["line"] == line else None]]
+                      for line, column, end, name in sorted(places, key=lambda place: place[:2])])
+    return found
+
+
+def graph(told):
+    """Who waits for whom at the end: the names that are there, the edges, and those of a circle."""
+    waits = {thread["name"]: (thread["waits"] or {}).get("on", []) for thread in told["threads"]}
+    edges = [(name, other) for name, on in waits.items() for other in on]
+    blocked = {thread["name"] for thread in told["threads"] if thread["waits"]}
+    status = {thread["name"]: thread["status"] for thread in told["threads"]}
+    there = [name for name in waits if any(name in edge for edge in edges)]
+    red = [edge for edge in edges if any(set(edge) <= set(circle) for circle in told["circles"])]
+    objects = {thread["name"]: (thread["waits"] or {}).get("object") for thread in told["threads"]}
+    label = ["; ".join("%s waits for %s and %s" % (a, objects[a], b) for a, b in edges)] if edges else []
+    return {"waits": not edges, "edges": len(edges), "circles": len(red), "label": label,
+            "nodes": [name if name in blocked else "%s (%s)" % (name, status[name]) for name in there]}
 
 
 def seen(browser, page, folder):
@@ -126,6 +199,7 @@ def seen(browser, page, folder):
     file = folder / "page.html"
     file.write_text(page.replace("</body>", WALK))
     done = subprocess.run([browser, "--headless", "--no-sandbox", "--disable-gpu", "--enable-logging=stderr",
+                           "--window-size=390,844",
                            "--user-data-dir=%s" % (folder / "profile"), "--virtual-time-budget=10000",
                            "--dump-dom", file.as_uri()],
                           stdout=subprocess.PIPE, stderr=subprocess.PIPE, timeout=SECONDS)
@@ -141,9 +215,11 @@ def faults(binary, browser, path, search):
     report = json.loads(done.stdout)
     schedule = report.get("schedule")
     words = command if schedule else ["-"]
-    page = subprocess.run([binary, "explain", str(path), *words, "--html"], stdout=subprocess.PIPE, timeout=SECONDS)
+    page, text = (subprocess.run([binary, "explain", str(path), *words, *form], stdout=subprocess.PIPE,
+                                 timeout=SECONDS).stdout.decode() for form in (["--html"], []))
+    told = json.loads(re.search(r'<script type="application/json" id="data">(.*?)</script>', page, re.S).group(1))
     with tempfile.TemporaryDirectory() as folder:
-        got, errors = seen(browser, page.stdout.decode("ascii"), Path(folder))
+        got, errors = seen(browser, page, Path(folder))
     trace = replayed(binary, path, schedule or "-")
     kinds = {"Variables", "Mutexes", "Conditions", "Semaphores"}
     if errors or got is None:
@@ -151,10 +227,21 @@ def faults(binary, browser, path, search):
     shown_states = [{title: dict(rows) for title, rows in blocks if title in kinds} for blocks in got.pop("states")]
     rows, counts = ends_of(report, path, trace) if schedule else ([], "")
     marks = sum("this schedule" in row for row in rows)
+    last = len(told["steps"])
+    line, opened = summary(trace, told)
+    why = text.split("\n\n")[0].split("\n")[0]
+    command = text.rstrip("\n").split("\n")[-1].removeprefix("Replay: ")
     want = {"title": str(path), "scripts": 3, "images": 0, "broken": 0, "hidden": not schedule, "counts": counts,
-            "ends": rows}
+            "ends": rows, "beside": beside(told), "unseen": [], "wide": 0, "opened": opened, "summary": line,
+            "why": why, "command": command, **graph(told),
+            "keys": {"End": last, "ArrowRight": last, "Home": 0, "ArrowLeft": 0, "ArrowDown": min(1, last), "ArrowUp": 0},
+            "marks": ["step%d" % step["step"] for step in told["steps"] if step.get("cause")],
+            "failed": sum(step["stop"] is not None for step in told["steps"])}
+    got["why"] = got["why"].split("\n")[0]
     if shown_states != states(path, trace) or got != want or marks != bool(schedule):
-        return ["the page and the trace or the report differ", shown_states, states(path, trace), got, want]
+        return ["the page and the trace, the JSON or the report differ",
+                *("%s: %r, not %r" % (key, got[key], want[key]) for key in want if got.get(key) != want[key]),
+                *([] if shown_states == states(path, trace) else [shown_states, states(path, trace)])]
     return []
 
 
@@ -170,8 +257,10 @@ def main():
     with tempfile.TemporaryDirectory() as folder:
         markup = Path(folder) / MARKUP
         markup.write_text((ROOT / "tests/explain/names.guest").read_text())
-        pages = [(path, search) for path in [*sorted((ROOT / "examples").glob("*.guest")), markup]
-                 for search in ("explore", "unbounded")]
+        for name, text in GUESTS.items():
+            (Path(folder) / name).write_text(text)
+        paths = [*sorted((ROOT / "examples").glob("*.guest")), *sorted(Path(folder).glob("*.guest"))]
+        pages = [(path, search) for path in paths for search in ("explore", "unbounded")]
         for path, search in pages:
             found = faults(binary, browser, path, search)
             failed += bool(found)

@@ -49,7 +49,11 @@ GUESTS = {
     "thread B { store x 1; store x 2; store x 3; store x 4; }",
     "soon": "var x; thread A { store x 1; store x 2; store x 3; store x 4; } "
     "thread B { load r x; assert r != 1; }",
+    "stopped": "thread A { assert 0; }",
     "race": "var x; thread A { store x 1; } thread B { load r x; assert r == 0; }",
+    "between": "var x; thread A { store x 1; store x 0; } thread B { load r x; assert r == 0; }",
+    "twice": "mutex m; thread A { lock m; lock m; }",
+    "empty": "sem s = 0; thread A { acquire s; }",
     # Three threads of four steps: 12! / (4! 4! 4!) schedules.
     "steps": "var x; " + " ".join("thread %s { repeat 4 { load r x; } }" % name for name in "ABC"),
     # The last to store to each of three variables can be any of four threads: 64 ends.
@@ -88,14 +92,29 @@ def bad(bound, tried, kind, count, preemptions, schedule, *kinds):
 # A guest, a search, whether it is quick, the quotas, and its report, worked out by hand.
 QUOTAS = (1, 3, 256)
 WORKED = [
-    ("crossed", 2, False, QUOTAS, bad(1, 6, "stuck", 2, 1, "0,1", ["done"], ["stuck"])),
+    ("stopped", 2, False, QUOTAS, bad(0, 1, "failed", 1, 0, "-", ["failed"])),
+    ("race", 2, False, QUOTAS, bad(0, 2, "failed", 1, 0, "0,1", ["done", 1], ["failed", 1])),
+    ("updates", 0, False, QUOTAS, dict(good(0, 2, ["done", 2]), all=False)),
+    ("updates", 1, False, QUOTAS, dict(good(1, 4, ["done", 1], ["done", 2]), all=False)),
+    ("updates", 2, False, QUOTAS, good(2, 6, ["done", 1], ["done", 2])),
     ("updates", 9, False, QUOTAS, good(2, 6, ["done", 1], ["done", 2])),
     ("updates", "unbounded", False, QUOTAS, good(None, 4, ["done", 1], ["done", 2])),
     ("updates", 2, True, QUOTAS, good(2, 6, ["done", 1], ["done", 2])),
+    ("between", 0, False, QUOTAS, dict(good(0, 2, ["done", 0]), all=False)),
+    ("between", 2, False, QUOTAS, bad(1, 3, "failed", 1, 1, "0,1,0", ["done", 0], ["failed", 0])),
+    ("crossed", 0, False, QUOTAS, dict(good(0, 2, ["done"]), all=False)),
+    ("crossed", 2, False, QUOTAS, bad(1, 6, "stuck", 2, 1, "0,1", ["done"], ["stuck"])),
+    ("crossed", "unbounded", False, QUOTAS, bad(None, 3, "stuck", 1, 1, "0,1", ["done"], ["stuck"])),
     ("call", 2, False, QUOTAS, bad(0, 2, "stuck", 1, 0, "1x3,0x2", ["done"], ["stuck"])),
+    ("call", "unbounded", False, QUOTAS, bad(None, 2, "stuck", 1, 0, "1x3,0x2", ["done"], ["stuck"])),
+    ("twice", 0, False, QUOTAS, bad(0, 1, "stuck", 1, 0, "0", ["stuck"])),
+    ("empty", 0, False, QUOTAS, bad(0, 1, "stuck", 1, 0, "-", ["stuck"])),
     ("pruned", 2, False, QUOTAS, bad(0, 2, "failed", 1, 0, "1,0x2", ["done", 1, 1], ["failed", 1, 1])),
     ("pruned", "unbounded", False, QUOTAS, bad(None, 2, "failed", 1, 1, "0,1,0", ["done", 1, 1], ["failed", 1, 1])),
     ("pruned", 2, True, (256,), bad(0, 2, "failed", 1, 0, "1,0x2", ["done", 1, 1], ["failed", 1, 1])),
+    ("threads3", 0, False, QUOTAS, good(0, 6, ["done", 1, 1, 1])),
+    ("threads3", 2, False, QUOTAS, good(0, 6, ["done", 1, 1, 1])),
+    ("threads3", "unbounded", False, QUOTAS, good(None, 1, ["done", 1, 1, 1])),
     ("failing", 0, True, (1,), bad(0, 1, "failed", 1, 0, "0,1,2", ["failed", 1, 1, 1])),
 ]
 
@@ -115,10 +134,11 @@ class Trial:
         """What a run writes and its status. Where a size is given each request for so many bytes is refused, and
         `made` is how many threads the run made."""
         told, tells = os.pipe()
-        env = dict(os.environ, LD_PRELOAD=self.folder + "/fail_alloc.so", FAIL_SIZE=str(size),
-                   TOLD_FD=str(tells)) if size else None
+        # The library is named from its folder, since no blank may be in what is preloaded.
+        env = dict(os.environ, LD_PRELOAD="./fail_alloc.so", FAIL_SIZE=str(size), TOLD_FD=str(tells)) if size else None
         try:
-            done = subprocess.run(words, capture_output=True, timeout=SECONDS, env=env, pass_fds=[tells])
+            done = subprocess.run(words, capture_output=True, timeout=SECONDS, env=env, pass_fds=[tells],
+                                  cwd=self.folder)
         finally:
             os.close(tells)
             with os.fdopen(told, "rb") as file:

@@ -1,8 +1,8 @@
 # Completion of ctxbound's command words for bash.
 _ctxbound() {
     local word=${COMP_WORDS[COMP_CWORD]} before=${COMP_WORDS[COMP_CWORD - 1]}
-    local commands='explore unbounded replay explain check suite help'
-    local command=${COMP_WORDS[1]} words=
+    local commands='explore unbounded replay explain check suite verify help'
+    local command=${COMP_WORDS[1]} words= files=0 at
     if ((COMP_CWORD == 1)); then
         mapfile -t COMPREPLY < <(compgen -W "$commands --help --version" -- "$word")
         return
@@ -11,19 +11,30 @@ _ctxbound() {
     explore) words='--bound --workers --limit --quick --trace --progress --help' ;;
     unbounded) words='--workers --limit --quick --trace --progress --help' ;;
     replay) words='--help' ;;
-    explain) words='--bound --workers --limit --quick --progress --unbounded --all --width --html --json --help' ;;
-    check) words='--strict --deep --limit --help' ;;
-    suite) words='--bound --workers --limit --json --help' ;;
+    explain) words='--bound --workers --limit --quick --progress --unbounded --steps --all --width --html --json --help' ;;
+    check) words='--strict --short --json --deep --remarks --limit --help' ;;
+    suite) words='--bound --workers --limit --progress --json --help' ;;
+    verify) words='--workers --limit --help' ;;
     help)
         mapfile -t COMPREPLY < <(compgen -W "$commands" -- "$word")
         return
         ;;
     esac
+    # how many words that are no options come before
+    for ((at = 2; at < COMP_CWORD; at++)); do
+        case ${COMP_WORDS[at - 1]} in
+        --bound | --workers | --limit | --steps | --width) continue ;;
+        esac
+        [[ ${COMP_WORDS[at]} == -?* ]] || ((files += 1))
+    done
     case $before in
-    --bound | --workers | --limit | --width) COMPREPLY=() ;;
+    --bound | --workers | --limit | --steps | --width) COMPREPLY=() ;;
     *)
         if [[ $word == -* ]]; then
             mapfile -t COMPREPLY < <(compgen -W "$words" -- "$word")
+        elif ((files > 0)) && [[ $command != suite && $command != check ]]; then
+            # a schedule, or nothing
+            COMPREPLY=()
         else
             mapfile -t COMPREPLY < <(compgen -d -S / -- "$word"; compgen -f -X '!*.guest' -- "$word")
         fi

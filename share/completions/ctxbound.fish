@@ -1,5 +1,5 @@
 # Completion of ctxbound's command words for fish.
-set -l commands explore unbounded replay explain check suite help
+set -l commands explore unbounded replay explain check suite verify help
 complete -c ctxbound -f
 complete -c ctxbound -n "not __fish_seen_subcommand_from $commands" -a explore -d 'Search up to a bound on preemptions'
 complete -c ctxbound -n "not __fish_seen_subcommand_from $commands" -a unbounded -d 'Search without a bound'
@@ -7,20 +7,36 @@ complete -c ctxbound -n "not __fish_seen_subcommand_from $commands" -a replay -d
 complete -c ctxbound -n "not __fish_seen_subcommand_from $commands" -a explain -d 'Say why a schedule ends as it does'
 complete -c ctxbound -n "not __fish_seen_subcommand_from $commands" -a check -d 'Say what is wrong or odd about guests'
 complete -c ctxbound -n "not __fish_seen_subcommand_from $commands" -a suite -d 'Search many guests'
+complete -c ctxbound -n "not __fish_seen_subcommand_from $commands" -a verify -d 'Say whether a guest is right'
 complete -c ctxbound -n "not __fish_seen_subcommand_from $commands" -a help -d 'Print the help of a command'
 complete -c ctxbound -n "not __fish_seen_subcommand_from $commands" -l version -d 'Print the version'
 complete -c ctxbound -l help -d 'Print the help'
-complete -c ctxbound -n '__fish_seen_subcommand_from explore unbounded replay explain check suite' -k -a '(__fish_complete_suffix .guest)'
+# After the one guest that most commands take comes a schedule or nothing.
+function __ctxbound_takes_a_guest
+    set -l words (commandline -opc)
+    set -l files 0
+    for at in (seq 3 (count $words))
+        if not string match -q -- '-?*' $words[$at]; and not contains -- $words[(math $at - 1)] --bound --workers --limit --steps --width
+            set files (math $files + 1)
+        end
+    end
+    test $files -eq 0
+end
+complete -c ctxbound -n '__fish_seen_subcommand_from check suite' -k -a '(__fish_complete_suffix .guest)'
+complete -c ctxbound -n '__fish_seen_subcommand_from explore unbounded replay explain verify; and __ctxbound_takes_a_guest' -k -a '(__fish_complete_suffix .guest)'
 complete -c ctxbound -n '__fish_seen_subcommand_from explore explain suite' -l bound -x -d 'The most preemptions'
-complete -c ctxbound -n '__fish_seen_subcommand_from explore unbounded explain suite' -l workers -x -d 'How many threads work'
-complete -c ctxbound -n '__fish_seen_subcommand_from explore unbounded explain check suite' -l limit -x -d 'Cut the search short after this number of schedules'
+complete -c ctxbound -n '__fish_seen_subcommand_from explore unbounded explain suite verify' -l workers -x -d 'How many threads work'
+complete -c ctxbound -n '__fish_seen_subcommand_from explore unbounded explain check suite verify' -l limit -x -d 'Cut the search short after this number of schedules'
 complete -c ctxbound -n '__fish_seen_subcommand_from explore unbounded explain' -l quick -d 'Leave out what comes after a bad schedule'
 complete -c ctxbound -n '__fish_seen_subcommand_from explore unbounded' -l trace -d 'Print the trace of the schedule found'
-complete -c ctxbound -n '__fish_seen_subcommand_from explore unbounded explain' -l progress -d 'Tell how far the search is'
-complete -c ctxbound -n '__fish_seen_subcommand_from explain suite' -l json -d 'Print JSON'
+complete -c ctxbound -n '__fish_seen_subcommand_from explore unbounded explain suite' -l progress -d 'Tell how far the search is'
+complete -c ctxbound -n '__fish_seen_subcommand_from explain check suite' -l json -d 'Print JSON'
 complete -c ctxbound -n '__fish_seen_subcommand_from explain' -l unbounded -d 'Search without a bound'
+complete -c ctxbound -n '__fish_seen_subcommand_from explain' -l steps -x -d 'Show each step of at most this number'
 complete -c ctxbound -n '__fish_seen_subcommand_from explain' -l all -d 'Show each step'
 complete -c ctxbound -n '__fish_seen_subcommand_from explain' -l width -x -d 'The columns of a line'
 complete -c ctxbound -n '__fish_seen_subcommand_from explain' -l html -d 'Print a page'
 complete -c ctxbound -n '__fish_seen_subcommand_from check' -l strict -d 'Status 1 where there is a warning'
 complete -c ctxbound -n '__fish_seen_subcommand_from check' -l deep -d 'Go through schedules, too'
+complete -c ctxbound -n '__fish_seen_subcommand_from check' -l remarks -d 'Tell what need not be wrong, too'
+complete -c ctxbound -n '__fish_seen_subcommand_from check' -l short -d 'Print a line each'

@@ -7,6 +7,7 @@ use hints::message::{Advice, Grade, Span};
 use hints::pieces::piece_at;
 use hints::told::{Told, note};
 use hints::words::signed;
+use lint::uses::forbids;
 use probe::deep::explore;
 use probe::seen::{Seen, Sight, and_now};
 use replay::schedule_text;
@@ -34,40 +35,56 @@ impl Source<'_> {
         Span { at, length }
     }
 
-    /// What was seen of the assertion at a place, over all its instructions.
-    fn sight_at(&self, seen: &Seen, thread: u8, at: Pos) -> Sight {
+    /// What was seen of the assertion at a place, over all its instructions, and whether it held in
+    /// some schedule.
+    fn sight_at(&self, seen: &Seen, thread: u8, at: Pos) -> (Sight, bool) {
         let mut sight = Sight::Unseen;
-        if let Some(sights) = seen.asserts.get(thread as usize) {
-            for (i, other) in sights.iter().enumerate() {
-                if self.place(thread, i) == at {
-                    sight = both(sight, *other);
-                }
+        let mut has_held = false;
+        for (i, scene) in seen.scenes_of(thread).iter().enumerate() {
+            if self.place(thread, i) == at {
+                sight = both(sight, scene.sight);
+                has_held = has_held || scene.has_held;
             }
         }
-        sight
+        (sight, has_held)
     }
 
-    /// Whether the instruction is the first assertion of its statement.
-    fn is_first_assert(&self, thread: u8, at: usize) -> bool {
+    /// Whether the instruction is the first of its statement.
+    fn is_first(&self, thread: u8, at: usize) -> bool {
         let place = self.place(thread, at);
-        let is_assert = matches!(self.code(thread).get(at), Some(Instruction::Assert(_)));
-        is_assert && !(0..at).any(|i| self.place(thread, i) == place)
+        !(0..at).any(|i| self.place(thread, i) == place)
     }
 
-    /// What is told of an assertion.
+    /// Whether the instruction is the first assertion of its statement, and no `assert 0;`, which
+    /// says that no run is to come there.
+    fn is_first_assert(&self, thread: u8, at: usize) -> bool {
+        match self.code(thread).get(at) {
+            Some(assertion @ Instruction::Assert(_)) => {
+                !forbids(assertion) && self.is_first(thread, at)
+            }
+            _ => false,
+        }
+    }
+
+    /// What is told of an assertion that was seen so, and that held in some schedule or in none.
     fn of_assert(
         &self,
         alloc: Global,
-        sight: Sight,
+        (sight, has_held): (Sight, bool),
         at: Pos,
     ) -> Result<Option<Advice>, AllocError> {
         match sight {
-            Sight::Varied => Ok(None),
             Sight::Unseen => {
                 let told = Told::new(alloc, &[b"no schedule comes to this assertion"])?;
                 let headline = format!(in alloc; "warning W10 NeverRun at {at}")?;
                 Ok(Some(self.advice_at(Grade::Warning, headline, at, told)))
             }
+            _ if !has_held => {
+                let told = Told::new(alloc, &[b"in each schedule that comes here it fails"])?;
+                let headline = format!(in alloc; "warning W20 NeverHolds at {at}")?;
+                Ok(Some(self.advice_at(Grade::Warning, headline, at, told)))
+            }
+            Sight::Varied => Ok(None),
             Sight::Same(left, right) => {
                 let told = one_outcome(alloc, left, right)?;
                 let headline = format!(in alloc; "remark W11 OneOutcome at {at}")?;
@@ -87,11 +104,12 @@ impl Source<'_> {
         }
     }
 
-    /// What is told of the assertions.
+    /// What is told of the assertions, with remarks or without.
     fn of_asserts(
         &self,
         alloc: Global,
         seen: &Seen,
+        remarks: bool,
         all: &mut Vec<Advice>,
     ) -> Result<(), AllocError> {
         for thread in 0..self.program.threads() {
@@ -100,7 +118,9 @@ impl Source<'_> {
                     let at = self.place(thread, i);
                     let sight = self.sight_at(seen, thread, at);
                     if let Some(advice) = self.of_assert(alloc, sight, at)? {
-                        all.push(advice)?;
+                        if remarks || advice.grade == Grade::Warning {
+                            all.push(advice)?;
+                        }
                     }
                 }
             }
@@ -120,15 +140,54 @@ impl Source<'_> {
         Ok(self.advice_at(Grade::Warning, headline, at, told))
     }
 
-    /// What schedules show of the program, up to this many.
+    /// What is told of a `signal` for which several threads wait in this schedule.
+    fn of_crowd(&self, alloc: Global, at: Pos, path: &[u8]) -> Result<Advice, AllocError> {
+        let mut told = Told::new(
+            alloc,
+            &[
+                b"in some schedule two threads or more wait for this: a guest wakes the one that ",
+                b"came first, a platform may wake another",
+            ],
+        )?;
+        let schedule = schedule_text(alloc, path)?;
+        told.add(note(alloc, &[b"replay: ", &schedule])?)?;
+        let headline = format!(in alloc; "warning W13 SignalToOneOfMany at {at}")?;
+        Ok(self.advice_at(Grade::Warning, headline, at, told))
+    }
+
+    /// What is told of the `signal`s for which several threads wait in some schedule, each
+    /// statement once.
+    fn of_crowds(
+        &self,
+        alloc: Global,
+        seen: &Seen,
+        all: &mut Vec<Advice>,
+    ) -> Result<(), AllocError> {
+        let mut told: Vec<Pos> = Vec::new(alloc);
+        for thread in 0..self.program.threads() {
+            for (i, scene) in seen.scenes_of(thread).iter().enumerate() {
+                let at = self.place(thread, i);
+                if let Some(path) = &scene.crowd {
+                    if !told.iter().any(|other| *other == at) {
+                        told.push(at)?;
+                        all.push(self.of_crowd(alloc, at, path)?)?;
+                    }
+                }
+            }
+        }
+        Ok(())
+    }
+
+    /// What schedules show of the program.
     pub fn depths(
         &self,
         alloc: Global,
-        limit: u64,
+        depth: Depth,
         all: &mut Vec<Advice>,
     ) -> Result<(), AllocError> {
         let spins = self.spins(alloc)?;
-        let depths = explore(alloc, self.program, &spins, limit)?;
+        let depths = explore(alloc, self.program, &spins, depth.limit)?;
+        self.of_crowds(alloc, &depths.seen, all)?;
         let mut told: Vec<Pos> = Vec::new(alloc);
         for (i, spin) in spins.iter().enumerate() {
             if let Some(Some(path)) = depths.seen.ran_out.get(i) {
@@ -139,9 +198,9 @@ impl Source<'_> {
             }
         }
         if depths.is_whole {
-            return self.of_asserts(alloc, &depths.seen, all);
+            return self.of_asserts(alloc, &depths.seen, depth.remarks, all);
         }
-        all.push(cut_short(alloc, limit)?)?;
+        all.push(cut_short(alloc, depth.limit)?)?;
         Ok(())
     }
 }
@@ -161,6 +220,15 @@ fn one_outcome(alloc: Global, left: i64, right: i64) -> Result<Told, AllocError>
     )
 }
 
+/// How far schedules are gone through, and what is told of them.
+#[derive(Clone, Copy, Debug)]
+pub struct Depth {
+    /// Up to how many, those among them that sleep sets cut short.
+    pub limit: u64,
+    /// Whether that is told too in which nothing needs to be wrong.
+    pub remarks: bool,
+}
+
 /// That the limit was reached.
 fn cut_short(alloc: Global, limit: u64) -> Result<Advice, AllocError> {
     let told = Told::new(
@@ -169,7 +237,7 @@ fn cut_short(alloc: Global, limit: u64) -> Result<Advice, AllocError> {
     )?;
     Ok(Advice {
         grade: Grade::Remark,
-        headline: format!(in alloc; "remark: the limit of {limit} schedules was reached")?,
+        headline: format!(in alloc; "remark W21 CutShort after {limit} schedules")?,
         span: None,
         message: told.message,
         notes: told.notes,

@@ -5,9 +5,9 @@ ghost use Rattle.guest_code.specs.SourceMap.{IsMapOf};
 
 use guest_code::program::{Instruction, Program};
 use guest_code::source_map::SourceMap;
+use guest_syntax::pieces::Piece;
 use guest_syntax::place::Pos;
 use guest_syntax::tree::{Object, Tree};
-use hints::pieces::Piece;
 use lint::uses::Use;
 use lint::warning::{Kind, Warning};
 use lint::warnings::all_warnings;
@@ -62,7 +62,10 @@ fn thread_of(kind: Kind) -> Option<u8> {
         | Kind::Constant(thread)
         | Kind::Unreached(thread)
         | Kind::MayKeep(thread)
-        | Kind::MayLack(thread) => Some(thread),
+        | Kind::MayLack(thread)
+        | Kind::LocksAgain(thread)
+        | Kind::WaitNotLookedAtAgain(thread)
+        | Kind::WaitsElsewhere(thread) => Some(thread),
         _ => None,
     }
 }
@@ -71,8 +74,8 @@ fn thread_of(kind: Kind) -> Option<u8> {
 fn object_of(kind: Kind) -> &'static str {
     match kind {
         Kind::UnusedMutex => "mutex",
-        Kind::UnusedCondition => "condition",
-        Kind::UnusedSemaphore => "semaphore",
+        Kind::UnusedCondition | Kind::NeverSignalled | Kind::NeverWaitedFor => "condition",
+        Kind::UnusedSemaphore | Kind::NeverReleased => "semaphore",
         _ => "variable",
     }
 }
@@ -182,19 +185,22 @@ impl<'a> Source<'a> {
         Ok(all)
     }
 
-    /// The warnings in the order of the text, each statement's and each kind's once. A statement is
-    /// unreached where all its instructions are.
+    /// The warnings, each statement's and each kind's once. A statement is unreached where all its
+    /// instructions are, and a `wait` isn't looked at again where none is: in the last turn of a
+    /// `repeat` none is.
     pub fn findings(&self, alloc: Global) -> Result<Vec<Finding>, AllocError> {
         let all = self.placed(alloc)?;
         let mut some = Vec::new(alloc);
         for found in &all {
-            let kind = found.warning.kind;
-            let is_told = !matches!(kind, Kind::Unreached(_)) || self.has_all(&all, *found);
+            let is_of_all = matches!(
+                found.warning.kind,
+                Kind::Unreached(_) | Kind::WaitNotLookedAtAgain(_)
+            );
+            let is_told = !is_of_all || self.has_all(&all, *found);
             if is_told && !is_among(&some, *found) {
                 some.push(*found)?;
             }
         }
-        some.sort_by_key(|found| (found.at.line, found.at.col))?;
         Ok(some)
     }
 }

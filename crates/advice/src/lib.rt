@@ -22,11 +22,14 @@ ghost use Rattle.guest_code.specs.Code.{code};
 ghost use Rattle.guest_code.specs.Fault.{fault, Refuses};
 ghost use Rattle.advice.specs.Told.{Tells, is_warning, is_warned, checked_lines};
 
+mod allowed;
 mod depths;
 mod findings;
 mod remarks;
 mod spins;
 
+use crate::allowed::is_allowed;
+pub use crate::depths::Depth;
 use crate::findings::Source;
 use guest_code::error::CheckError;
 use guest_code::lowering::lower;
@@ -69,13 +72,13 @@ fn has_warning(all: &[Advice]) -> bool
         .any(|advice| matches!(advice.grade, Grade::Warning))
 }
 
-/// Why a text is refused, or what is odd about its program. With a depth, schedules are
-/// gone through, up to that many.
+/// Why a text is refused, or what is odd about its program, in the order of the text. With a depth,
+/// schedules are gone through.
 ///
 /// # Errors
 ///
 /// `AllocError` where memory runs out.
-pub fn check(alloc: Global, text: &[u8], depth: Option<u64>) -> Result<Checked, AllocError>
+pub fn check(alloc: Global, text: &[u8], depth: Option<Depth>) -> Result<Checked, AllocError>
     ensures { IfOk result (Tells text.now) }
 {
     match parse(alloc, text) {
@@ -133,7 +136,7 @@ fn refused_tree(
 fn check_tree(
     alloc: Global,
     text: &[u8],
-    depth: Option<u64>,
+    depth: Option<Depth>,
     tree: &SyntaxTree,
 ) -> Result<Checked, AllocError>
     requires { Spells text.now (tree_view tree.now) }
@@ -148,11 +151,11 @@ fn check_tree(
     }
 }
 
-/// All warnings of the program of a tree.
+/// All warnings of the program of a tree, in the order of the text.
 fn all_advice(
     alloc: Global,
     text: &[u8],
-    depth: Option<u64>,
+    depth: Option<Depth>,
     tree: &SyntaxTree,
     program: &Program,
 ) -> Result<Vec<Advice>, AllocError>
@@ -172,9 +175,11 @@ fn all_advice(
     for found in &source.findings(alloc)? {
         all.push(source.advice(alloc, *found)?)?;
     }
-    if let Some(limit) = depth {
-        source.depths(alloc, limit, &mut all)?;
+    if let Some(depth) = depth {
+        source.depths(alloc, depth, &mut all)?;
     }
+    all.retain(|advice| !is_allowed(text, advice));
+    all.sort_by_key(|advice| advice.place())?;
     Ok(all)
 }
 

@@ -25,6 +25,12 @@ fn title(kind: Kind) -> &'static str {
         Kind::Unreached(_) => "W7 Unreached",
         Kind::MayKeep(_) => "W8 MayKeep",
         Kind::MayLack(_) => "W9 MayLack",
+        Kind::WaitNotLookedAtAgain(_) => "W14 WaitNotLookedAtAgain",
+        Kind::LocksAgain(_) => "W15 LocksAgain",
+        Kind::NeverSignalled => "W16 NeverSignalled",
+        Kind::NeverWaitedFor => "W17 NeverWaitedFor",
+        Kind::NeverReleased => "W18 NeverReleased",
+        Kind::WaitsElsewhere(_) => "W19 WaitsElsewhere",
     }
 }
 
@@ -39,6 +45,15 @@ fn of_object(alloc: Global, kind: Kind) -> Result<Told, AllocError> {
         Kind::UnusedMutex => Told::new(alloc, &[b"no statement names this mutex"]),
         Kind::UnusedCondition => Told::new(alloc, &[b"no statement names this condition"]),
         Kind::UnusedSemaphore => Told::new(alloc, &[b"no statement names this semaphore"]),
+        Kind::NeverSignalled => Told::new(
+            alloc,
+            &[b"no statement signals this condition: who waits for it waits for ever"],
+        ),
+        Kind::NeverWaitedFor => Told::new(alloc, &[b"no statement waits for this condition"]),
+        Kind::NeverReleased => Told::new(
+            alloc,
+            &[b"it starts at 0 and no statement releases it: who acquires it waits for ever"],
+        ),
         _ => Told::new(alloc, &[b"no statement names this variable"]),
     }
 }
@@ -116,8 +131,28 @@ impl Source<'_> {
                 alloc,
                 &[
                     self.thread_name(thread),
-                    b" may come here without this mutex: on some way nothing has locked it",
+                    b" may come here without this mutex: on some way to here nothing locks it, ",
+                    b"or it is unlocked again",
                 ],
+            ),
+            Kind::LocksAgain(thread) => Told::new(
+                alloc,
+                &[
+                    self.thread_name(thread),
+                    b" comes here with this mutex locked by itself: it would wait for ever",
+                ],
+            ),
+            Kind::WaitNotLookedAtAgain(_) => Told::with(
+                alloc,
+                &[
+                    b"on some way from here no value is loaded and tested before the thread goes ",
+                    b"on: a platform may wake it for nothing, a guest doesn't",
+                ],
+                &[b"write: repeat 3 { load r x; if r { leave; } wait c m; }"],
+            ),
+            Kind::WaitsElsewhere(_) => Told::new(
+                alloc,
+                &[b"another statement waits for this condition with another mutex"],
             ),
             kind => of_object(alloc, kind),
         }

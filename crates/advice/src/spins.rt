@@ -4,9 +4,10 @@ ghost use Rattle.std.specs.Prelude.{◌<◌};
 
 use crate::findings::Source;
 use guest_code::program::Instruction;
+use guest_syntax::pieces::Piece;
 use guest_syntax::place::Pos;
 use hints::braces::closing;
-use hints::pieces::{Piece, piece_at};
+use hints::pieces::piece_at;
 use probe::spin::Spin;
 use std::alloc::{AllocError, Global};
 

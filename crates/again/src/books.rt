@@ -6,7 +6,7 @@ use book::errors::SettleError;
 use guest_code::program::Program;
 use items::item::Item;
 use items::mode::Mode;
-use std::alloc::Global;
+use std::alloc::{AllocError, Global};
 use std::sync::Arc;
 use summary::Summary;
 use walk::walked::Walked;
@@ -15,7 +15,8 @@ use walk::walker::walk;
 /// More walks than a search by hand makes.
 const MOST: usize = 10_000;
 
-/// What the calls answered, counted.
+/// What the calls answered, counted. `copied` is the steps of the schedule's item, and `next` those
+/// of the items that the next bound opens with.
 #[derive(Clone, Copy, Debug)]
 pub struct BookFacts {
     pub settled: u64,
@@ -23,18 +24,49 @@ pub struct BookFacts {
     pub joined: u64,
     pub ends: usize,
     pub copied: usize,
-    pub deferred: usize,
+    pub next: usize,
     pub seats: usize,
 }
 
-/// What is seen of a book.
-#[derive(Clone, Copy, Debug, PartialEq, Eq)]
+/// What is seen of a book: what it finished, and copies of its open items and of those that wait
+/// for the next bound.
+#[derive(Drop)]
 struct Seen {
     tried: u64,
-    open: usize,
-    deferred: usize,
-    steps: usize,
+    ends: usize,
+    is_beyond: bool,
     is_closed: bool,
+    open: Vec<Item>,
+    deferred: Vec<Item>,
+}
+
+// Whether two lists have the same items in the same order.
+fn are_same(first: &[Item], second: &[Item]) -> bool {
+    first.len() == second.len() && first.iter().zip(second).all(|(a, b)| a.is_same(b))
+}
+
+impl Seen {
+    // What is seen of a book.
+    fn of(alloc: Global, book: &Book, program: &Program) -> Result<Seen, AllocError> {
+        Ok(Seen {
+            tried: book.finished().tried(),
+            ends: book.finished().ends().len(),
+            is_beyond: book.finished().beyond(),
+            is_closed: book.closed(program, book.mode()).is_some(),
+            open: open_items(alloc, book)?,
+            deferred: deferred_items(alloc, book)?,
+        })
+    }
+
+    // Whether the same is seen of two books.
+    fn is_same(&self, other: &Seen) -> bool {
+        self.tried == other.tried
+            && self.ends == other.ends
+            && self.is_beyond == other.is_beyond
+            && self.is_closed == other.is_closed
+            && are_same(self.open.as_slice(), other.open.as_slice())
+            && are_same(self.deferred.as_slice(), other.deferred.as_slice())
+    }
 }
 
 // The items of a book's next round.
@@ -54,16 +86,30 @@ fn steps(items: &[Item]) -> usize {
     sum
 }
 
-// What is seen of a book.
+// Copies of the open items of a book.
+fn open_items(alloc: Global, book: &Book) -> Result<Vec<Item>, AllocError> {
+    let mut items = Vec::new(alloc);
+    for place in 0..book.open_length() {
+        items.push(book.open_item(alloc, place)?)?;
+    }
+    Ok(items)
+}
+
+// Copies of the items of a book that wait for the next bound.
+fn deferred_items(alloc: Global, book: &Book) -> Result<Vec<Item>, AllocError> {
+    let mut items = Vec::new(alloc);
+    for place in 0..book.deferred_length() {
+        items.push(book.deferred_item(alloc, place)?)?;
+    }
+    Ok(items)
+}
+
+// What is seen of a book, looked at again where that was refused.
 fn look_at(alloc: Global, book: &Book, program: &Program) -> Option<Seen> {
-    let items = round(alloc, book)?;
-    Some(Seen {
-        tried: book.finished().tried(),
-        open: book.open_length(),
-        deferred: book.deferred_length(),
-        steps: steps(items.as_slice()),
-        is_closed: book.closed(program, book.mode()).is_some(),
-    })
+    match Seen::of(alloc, book, program) {
+        Ok(seen) => Some(seen),
+        Err(_) => Seen::of(alloc, book, program).ok(),
+    }
 }
 
 // A walk of an item that tries one schedule.
@@ -80,33 +126,13 @@ fn settle(alloc: Global, book: &mut Book, program: &Program, item: &Item) -> Opt
     match book.settle(alloc, walked(alloc, item, book.mode())?) {
         Ok(()) => Some(()),
         Err(SettleError::OutOfMemory) => {
-            if look_at(alloc, book, program)? != before {
+            if !look_at(alloc, book, program)?.is_same(&before) {
                 return None;
             }
             book.settle(alloc, walked(alloc, item, book.mode())?).ok()
         }
         Err(_) => None,
     }
-}
-
-// Copies of the first open and deferred items, if there are any: how many steps they have.
-fn first_steps(alloc: Global, book: &Book) -> Option<usize> {
-    let mut sum = 0usize;
-    if book.open_length() > 0 {
-        let item = match book.open_item(alloc, 0) {
-            Ok(item) => item,
-            Err(_) => book.open_item(alloc, 0).ok()?,
-        };
-        sum = item.prefix().len();
-    }
-    if book.deferred_length() > 0 {
-        let item = match book.deferred_item(alloc, 0) {
-            Ok(item) => item,
-            Err(_) => book.deferred_item(alloc, 0).ok()?,
-        };
-        sum = sum.saturating_add(item.prefix().len());
-    }
-    Some(sum)
 }
 
 // How many schedules a summary joined with itself counts, and how many end views a copy of it has.
@@ -122,11 +148,11 @@ fn joined(alloc: Global, summary: &Summary) -> Option<(u64, usize)> {
     Some((copy.tried(), copy.ends().len()))
 }
 
-// The item of a program's schedules, made from its prefix and copied.
-fn root(alloc: Global, program: &Arc<Program>) -> Option<Item> {
-    let item = match Item::at(alloc, Arc::try_clone(program).ok()?, &[]) {
+// The item of the schedules that begin with these steps, made from them and copied.
+fn item_after(alloc: Global, program: &Arc<Program>, steps: &[u8]) -> Option<Item> {
+    let item = match Item::at(alloc, Arc::try_clone(program).ok()?, steps) {
         Ok(item) => item,
-        Err(_) => Item::at(alloc, Arc::try_clone(program).ok()?, &[]).ok()?,
+        Err(_) => Item::at(alloc, Arc::try_clone(program).ok()?, steps).ok()?,
     };
     match item.try_clone(alloc) {
         Ok(copy) => Some(copy),
@@ -151,29 +177,36 @@ fn opened(alloc: Global, program: &Arc<Program>) -> Option<Book> {
     }
 }
 
-/// What the calls of a search answer that tries all schedules without a preemption, one a walk.
-pub fn searched(alloc: Global, program: &Arc<Program>) -> Option<BookFacts> {
-    let mut book = opened(alloc, program)?;
+// Walks all items of a book's bound and settles them: how many.
+fn settle_bound(alloc: Global, book: &mut Book, program: &Arc<Program>) -> Option<u64> {
     let mut settled = 0u64;
-    let mut copied = 0usize;
-    settle(alloc, &mut book, program, &root(alloc, program)?)?;
+    settle(alloc, book, program, &item_after(alloc, program, &[])?)?;
     for _ in 0..MOST {
-        let items = round(alloc, &book)?;
+        let items = round(alloc, book)?;
         let Some(item) = items.as_slice().last() else {
             break;
         };
-        copied = copied.saturating_add(first_steps(alloc, &book)?);
-        settle(alloc, &mut book, program, item)?;
+        settle(alloc, book, program, item)?;
         settled = settled.saturating_add(1);
     }
+    Some(settled)
+}
+
+/// What the calls of a search answer that tries all schedules without a preemption, one a walk, and
+/// goes to the next bound then; and those on the item of a schedule.
+pub fn searched(alloc: Global, program: &Arc<Program>, schedule: &[u8]) -> Option<BookFacts> {
+    let mut book = opened(alloc, program)?;
+    let settled = settle_bound(alloc, &mut book, program)?;
+    let tried = book.finished().tried();
     let (joined, ends) = joined(alloc, book.finished())?;
+    book.raise().ok()?;
     Some(BookFacts {
         settled,
-        tried: book.finished().tried(),
+        tried,
         joined,
         ends,
-        copied,
-        deferred: book.deferred_length(),
+        copied: item_after(alloc, program, schedule)?.prefix().len(),
+        next: steps(round(alloc, &book)?.as_slice()),
         seats: seats(alloc)?,
     })
 }

@@ -4,16 +4,16 @@ ghost use Rattle.std.specs.Prelude.{◌≡◌, IfSome};
 ghost use Rattle.semantics.specs.Reachable.{IsOf};
 
 use guest_code::program::Program;
-use replay::{replay, schedule_from, schedule_text, trace_text};
+use replay::{replay, schedule_text, trace_text};
 use semantics::state::State;
 use std::alloc::Global;
 
-/// What the calls of a run answered: how many variables and end views there are, the steps, and how
-/// long the texts are.
+/// What the calls of a run answered: how many variables there are, the values of the end view, the
+/// steps, and how long the texts are.
 #[derive(Clone, Copy, Debug)]
 pub struct RunFacts {
-    pub values: usize,
-    pub ended: bool,
+    pub variables: usize,
+    pub viewed: usize,
     pub steps: usize,
     pub spelled: usize,
     pub traced: usize,
@@ -39,46 +39,48 @@ fn copied(alloc: Global, state: &State) -> Option<State>
     }
 }
 
-// Whether a state is an end.
-fn is_end(alloc: Global, program: &Program, state: &State) -> Option<bool>
-    requires { IsOf program.now state.now }
+// The state after a schedule, if it runs.
+fn state_after(alloc: Global, program: &Program, schedule: &[u8]) -> Option<State>
+    ensures { IfSome result (λ s. IsOf program.now s) }
 {
-    match state.view(alloc, program) {
-        Ok(view) => Some(view.is_some()),
-        Err(_) => Some(state.view(alloc, program).ok()?.is_some()),
+    let mut state = started(alloc, program)?;
+    for thread in schedule {
+        if !state.enabled(program).has(*thread) {
+            return None;
+        }
+        state.step(program, *thread);
     }
+    Some(state)
 }
 
-// The opening state's values in a copy of it, and whether it is an end.
-fn opening(alloc: Global, program: &Program) -> Option<(usize, bool)> {
-    let state = started(alloc, program)?;
-    let copy = copied(alloc, &state)?;
-    let ended = is_end(alloc, program, &state)?;
-    Some((copy.variables().len(), ended))
-}
-
-/// What a schedule's calls answer.
-pub fn carried_out(alloc: Global, program: &Program, text: &[u8]) -> Option<RunFacts> {
-    let (values, ended) = opening(alloc, program)?;
-    let schedule = match schedule_from(alloc, text) {
-        Ok(schedule) => schedule,
-        Err(_) => schedule_from(alloc, text).ok()?,
+// How many values the end view after a complete schedule has.
+fn viewed(alloc: Global, program: &Program, schedule: &[u8]) -> Option<usize> {
+    let state = state_after(alloc, program, schedule)?;
+    let view = match state.view(alloc, program) {
+        Ok(view) => view,
+        Err(_) => state.view(alloc, program).ok()?,
     };
-    let run = match replay(alloc, program, schedule.as_slice()) {
+    Some(view?.vars().len())
+}
+
+/// What the calls of a complete schedule answer.
+pub fn carried_out(alloc: Global, program: &Program, schedule: &[u8]) -> Option<RunFacts> {
+    let opening = copied(alloc, &started(alloc, program)?)?;
+    let run = match replay(alloc, program, schedule) {
         Ok(run) => run,
-        Err(_) => replay(alloc, program, schedule.as_slice()).ok()?,
+        Err(_) => replay(alloc, program, schedule).ok()?,
     };
-    let spelled = match schedule_text(alloc, schedule.as_slice()) {
+    let spelled = match schedule_text(alloc, schedule) {
         Ok(text) => text,
-        Err(_) => schedule_text(alloc, schedule.as_slice()).ok()?,
+        Err(_) => schedule_text(alloc, schedule).ok()?,
     };
     let traced = match trace_text(alloc, program, &run) {
         Ok(text) => text,
         Err(_) => trace_text(alloc, program, &run).ok()?,
     };
     Some(RunFacts {
-        values,
-        ended,
+        variables: opening.variables().len(),
+        viewed: viewed(alloc, program, schedule)?,
         steps: run.lines().len(),
         spelled: spelled.len(),
         traced: traced.len(),

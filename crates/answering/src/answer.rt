@@ -100,8 +100,8 @@ pub fn explore_text<R: Threads + Wait + Sync + Eprint>(
     })
 }
 
-/// The report of a search, as [`explore_text`] prints it, and then what [`replay_text`] prints of the
-/// schedule that the report names, if it names one. The status is that of the search.
+/// The report of a search, as [`explore_text`] prints it, and then what [`replay_text`] prints of
+/// the schedule that the report names, if it names one. The status is that of the search.
 ///
 /// # Errors
 ///

@@ -73,7 +73,8 @@ impl fmt::Display for Line {
 pub struct Teller<'a, R> {
     rt: &'a R,
     is_asked: bool,
-    /// One more than the bound that it told last; 0 before the first line.
+    /// Two more than the bound that it told last, 1 after a line without a bound; 0 before the
+    /// first.
     told: AtomicU64,
     /// How many schedules have to be tried before it tells of this bound again.
     next: AtomicU64,
@@ -102,7 +103,7 @@ impl<R: Eprint + Sync> Gate for Teller<'_, R> {
 
     fn round_ended(&self, progress: Progress) {
         let bound = match progress.bound {
-            Some(bound) => u64::from(bound) + 1,
+            Some(bound) => u64::from(bound) + 2,
             None => 1,
         };
         let is_new = self.told.swap(bound, Ordering::SeqCst) != bound;

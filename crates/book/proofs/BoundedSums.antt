@@ -16,7 +16,7 @@ use Rattle.items.specs.Walks.{clear_of}
 use Rattle.items.proofs.ListParts.{all_left}
 use Rattle.summary.proofs.SumsJoin.{sum_kept, nothing_kept, join_kept, join_comm, join_assoc, join_nothing, join_first_bad, join_members}
 use Rattle.items.proofs.WalkedItems.{HasItsOf, rest_has}
-use Rattle.items.proofs.Splits.{split_sum, split_kept}
+use Rattle.items.proofs.Splits.{root_within, split_sum, split_kept, split_part}
 use Rattle.book.specs.Books.{with_deferred, BookView, ComeAfter, IsThinned, Keeps, KeepsWhere, IsClosed, book_schedules}
 use Rattle.book.proofs.Keeping.{closes}
 use Rattle.book.proofs.Later.{begins_later, IsAfter, lesser_first, lesser_after, lesser_some, after_more}
@@ -103,7 +103,8 @@ whole_is : (b : BookView) → (t : IsThinned b) →
     whole b.program b.mode ≡
     join (join b.finished (item_sums b.mode b.open_items)) (item_sums b.mode t.gone)
 whole_is b t =
-    split_sum b.mode (root_of b.program) b.finished (t.gone ++ b.open_items) b.deferred t.split
+    split_sum b.mode (root_of b.program) b.finished (t.gone ++ b.open_items) b.deferred
+    (root_within b.mode b.program) t.split
     ∙ (ap (join b.finished) (sums-append b.mode t.gone b.open_items ∙ join_comm dropped still_open)
     ∙ sym (join_assoc b.finished still_open dropped))
   where
@@ -125,8 +126,8 @@ thinned_bounded b t =
     in
     let has : All (HasItsOf b.mode (root_of b.program)) t.gone =
     all_left (HasItsOf b.mode (root_of b.program)) t.gone b.open_items
-    (rest_has b.mode (root_of b.program) (t.gone ++ b.open_items) b.deferred
-    t.split.below t.split.cut) in
+    (rest_has b.mode (root_of b.program) b.finished (t.gone ++ b.open_items) b.deferred t.split)
+    in
     let after : IsAfter l.0 dropped.first_bad =
     after_more t.first l.0 dropped.first_bad l.2
     (sums_after b.mode (root_of b.program) t.first t.gone has t.later) in
@@ -181,7 +182,9 @@ thinned_found b t =
     is_first : least (bad_ones b.program tried) ≡ Some t.first
     is_first =
         bad_in b.program tried
-        ∙ (ap (λ (x : SummaryView). x.first_bad) (sym t.split.sum) ∙ t.found)
+        ∙ (ap (λ (x : SummaryView). x.first_bad) (sym (split_part b.mode (root_of b.program)
+        b.finished (t.gone ++ b.open_items) b.deferred (root_within b.mode b.program) t.split))
+        ∙ t.found)
 
 -- what closed books tell
 

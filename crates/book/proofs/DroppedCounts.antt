@@ -118,13 +118,6 @@ thinned_is b first items number h =
     count_is : IsDropped b first items number → number ≡ count_by (drops b) b.open_items
     count_is h = h.counted ∙ ap (λ (g : ItemView → Bool). count_by g b.open_items) f
 
-pub count_is_dropped : (b : BookView) (first : List ℕ) (items : List ItemView) (number : ℕ) →
-    IsDropped b first items number → number ≡ count_by (drops b) b.open_items
-count_is_dropped b first items number h =
-    h.counted
-    ∙ ap (λ (g : ItemView → Bool). count_by g b.open_items)
-    (later_are_dropped b first h.quick h.found)
-
 pub drop_keeps : (b : BookView) (first : List ℕ) (items : List ItemView) (number : ℕ) →
     IsDropped b first items number → Keeps b → Keeps (after_drop b items number)
 drop_keeps b first items number h k =

@@ -9,13 +9,17 @@ use Rattle.summary.specs.Summaries.{SummaryView, with_beyond}
 use Rattle.items.specs.Items.{ItemView, root_of, whole}
 use Rattle.items.specs.Walks.{WalkView, IsWalked, IsSplit, listed_if}
 use Rattle.items.proofs.Listed.{listed_none}
-use Rattle.items.proofs.Splits.{split_opening, split_further, split_next, split_closed}
+use Rattle.items.proofs.Splits.{root_within, split_open, split_further, split_next, split_closed}
 use Rattle.book.specs.Books.{BookView, IsBook, Keeps, KeepsWhere, with_deferred}
 use Rattle.book.specs.Books.{IsWalkOf, IsOpenAt, opening, settled, raised, bound_of}
 use Rattle.book.proofs.Lists.{parted}
 
 pub opens : (p : Program) (mode : Mode) (quick : Bool) → Keeps (opening p mode quick)
-opens p mode quick = record { put = []; listed = refl; split = split_opening mode p }
+opens p mode quick = record {
+  put = [];
+  listed = refl;
+  split = split_open mode (root_of p) refl (root_within mode p);
+}
 
 -- where what is put off is listed, the list is all of it
 pub all_listed : (b : BookView) → Keeps b → b.lists ≡ true → KeepsWhere b.dropped b
@@ -57,5 +61,6 @@ raises b h lists all none low = record {
 pub closes : (b : BookView) → IsBook b → (p : Program) (mode : Mode) → b.program ≡ p →
     b.mode ≡ mode → b.open_items ≡ [] → b.finished ≡ whole p mode
 closes b book p mode e g none =
-    split_closed b.mode (root_of b.program) b.finished b.open_items b.deferred book none
+    split_closed b.mode (root_of b.program) b.finished b.open_items b.deferred
+    (root_within b.mode b.program) book none
     ∙ (λ i. whole (e i) (g i))

@@ -89,15 +89,6 @@ after_more w v (Some u) f h = f u h
 
 -- place by place
 
-later_at : (w p : List ℕ) (k : ℕ) (a b : ℕ) → k < length w → k < length p →
-    is_later (drop k w) (drop k p) ≡
-    (nat_lt (get_or w k a) (get_or p k b)
-    || (nat_eq (get_or w k a) (get_or p k b) && is_later (drop (suc k) w) (drop (suc k) p)))
-later_at [] p k a b h l = absurd (omega arith)
-later_at (u ∷ w) [] k a b h l = absurd (omega arith)
-later_at (u ∷ w) (t ∷ p) zero a b h l = refl
-later_at (u ∷ w) (t ∷ p) (suc k) a b h l = later_at w p k a b (omega arith) (omega arith)
-
 pub later_past : (w p : List ℕ) (k : ℕ) → (length w ≤ k) ⊎ (length p ≤ k) →
     is_later (drop k w) (drop k p) ≡ false
 later_past [] p zero h = refl
@@ -112,34 +103,3 @@ later_past (u ∷ w) (t ∷ p) zero (inl h) = absurd (omega (arith, h))
 later_past (u ∷ w) (t ∷ p) zero (inr h) = absurd (omega (arith, h))
 later_past (u ∷ w) (t ∷ p) (suc k) (inl h) = later_past w p k (inl (omega (arith, h)))
 later_past (u ∷ w) (t ∷ p) (suc k) (inr h) = later_past w p k (inr (omega (arith, h)))
-
--- where the schedule and the prefix are alike at a place, the next place decides
-pub later_next : (w p : List ℕ) (k : ℕ) (a b : ℕ) → k < length w → k < length p →
-    get_or w k a ≡ get_or p k b →
-    is_later (drop k w) (drop k p) ≡ is_later (drop (k + 1) w) (drop (k + 1) p)
-later_next w p k a b h l e =
-    let n : suc k ≡ k + 1 = omega arith in
-    later_at w p k a b h l
-    ∙ (alike (get_or w k a) (get_or p k b) e (is_later (drop (suc k) w) (drop (suc k) p))
-    ∙ ap (λ j. is_later (drop j w) (drop j p)) n)
-  where
-    alike : (x y : ℕ) → x ≡ y → (c : Bool) → (nat_lt x y || (nat_eq x y && c)) ≡ c
-    alike x y e c =
-        let m : nat_lt x y ≡ false = grind (arith, nat_tests, e) in
-        let n : nat_eq x y ≡ true = grind (arith, nat_tests, e) in
-        (λ j. m j || (n j && c))
-
--- where they differ, the place decides
-pub later_here : (w p : List ℕ) (k : ℕ) (a b : ℕ) → k < length w → k < length p →
-    (get_or w k a ≡ get_or p k b → ⊥) →
-    is_later (drop k w) (drop k p) ≡ nat_lt (get_or w k a) (get_or p k b)
-later_here w p k a b h l d =
-    later_at w p k a b h l
-    ∙ differ (get_or w k a) (get_or p k b) d (is_later (drop (suc k) w) (drop (suc k) p))
-  where
-    differ : (x y : ℕ) → (x ≡ y → ⊥) → (c : Bool) → (nat_lt x y || (nat_eq x y && c)) ≡ nat_lt x y
-    differ x y d c = go (nat_lt x y) (let n : nat_eq x y ≡ false = grind (arith, nat_tests, d) in n)
-      where
-        go : (m : Bool) → nat_eq x y ≡ false → (m || (nat_eq x y && c)) ≡ m
-        go true n = refl
-        go false n = λ j. n j && c

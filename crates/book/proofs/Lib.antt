@@ -1,7 +1,6 @@
 pub mod Lists
 pub mod BookFields
 pub mod Later
-pub mod Parted
 pub mod Keeping
 pub mod Thinned
 pub mod DroppedCounts
@@ -12,3 +11,5 @@ pub mod TakenOver
 pub mod OpenItems
 pub mod Rounds
 pub mod Gathered
+pub mod Kept
+pub mod InOrder

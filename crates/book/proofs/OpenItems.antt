@@ -10,7 +10,7 @@ use Rattle.book.specs.ItemLists.{ListView, all_of}
 use Rattle.book.specs.Books.{BookView, Keeps, KeepsWhere, with_deferred}
 use Rattle.book.proofs.PackedItems.{below_run, got-or}
 
-left_below : (b : BookView) → Keeps b →
+pub left_below : (b : BookView) → Keeps b →
     All (IsBelow (root_of b.program)) (b.open_items ++ b.deferred)
 left_below b h = subst below (sym h.listed) (listed b.lists (go b.dropped h.split))
   where

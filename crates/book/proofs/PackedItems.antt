@@ -29,37 +29,6 @@ items_of_both : (p : Program) (xs ys : List (List ℕ)) →
 items_of_both p [] ys = refl
 items_of_both p (x ∷ xs) ys = ap (λ is. item_at p x ∷ is) (items_of_both p xs ys)
 
--- what is still to be read, and then what was read, turned round, are all
-pub one_back : (p : Program) (r : List (List ℕ)) (read : List ItemView) (x : ItemView)
-    (all : List ItemView) → 0 < length r → x ≡ item_at p (last_of r) →
-    items_at p r ++ reverse read ≡ all →
-    items_at p (take (length r - 1) r) ++ reverse (read ++ x ∷ []) ≡ all
-one_back p r read x all some is h =
-    ap (λ ys. items_at p (take (length r - 1) r) ++ ys) (reverse-append read (x ∷ []))
-    ∙ (ap (λ y. items_at p (take (length r - 1) r) ++ (y ∷ reverse read)) is
-    ∙ (sym (append_assoc (items_at p (take (length r - 1) r)) (item_at p (last_of r) ∷ [])
-    (reverse read))
-    ∙ (ap (λ is. is ++ reverse read)
-    (sym (items_of_both p (take (length r - 1) r) (last_of r ∷ []))
-    ∙ ap (items_at p) (sym (last_apart r some)))
-    ∙ h)))
-
--- the last of the packed ones is taken out
-pub one_unpacked : (p : Program) (ws : List (List ℕ)) (unpacked : List ItemView) (x : ItemView) →
-    0 < length ws → x ≡ item_at p (last_of ws) →
-    items_at p (take (length ws - 1) ws) ++ x ∷ unpacked ≡ items_at p ws ++ unpacked
-one_unpacked p ws unpacked x some e =
-    (λ k. items_at p (take (length ws - 1) ws) ++ e k ∷ unpacked)
-    ∙ (sym (append_assoc (items_at p (take (length ws - 1) ws)) (item_at p (last_of ws) ∷ []) unpacked)
-    ∙ ap (λ is. is ++ unpacked)
-    (sym (items_of_both p (take (length ws - 1) ws) (last_of ws ∷ []))
-    ∙ ap (items_at p) (sym (last_apart ws some))))
-
--- those still to be read run, where all do
-pub still_run : (p : Program) (r : List (List ℕ)) (read all : List ItemView) →
-    items_at p r ++ read ≡ all → All IsItem all → All IsItem (items_at p r)
-still_run p r read all e h = all_left IsItem (items_at p r) read (subst (All IsItem) (sym e) h)
-
 last_runs : (p : Program) (r : List (List ℕ)) → 0 < length r → All IsItem (items_at p r) →
     IsItem (item_at p (last_of r))
 last_runs p r some h =
@@ -94,21 +63,6 @@ last_item_made {p} {q} {w} r made same e is =
 pub below_run : (above : ItemView) (items : List ItemView) → All (IsBelow above) items →
     All IsItem items
 below_run above items h = All-weaker (IsBelow above) IsItem (λ i b. b.item) items h
-
--- those that were read, turned round, are the last ones
-pub last_read : (p : Program) (r all : List (List ℕ)) (read : List ItemView) (count : ℕ) →
-    items_at p r ++ read ≡ items_at p all → length r + count ≡ length all →
-    read ≡ drop (length all - count) (items_at p all)
-last_read p r all read count e n =
-    sym (ap (λ is. drop (length all - count) is) (sym e)
-    ∙ drop_at (items_at p r) read (length all - count)
-    (omega (arith, n, length-map r (item_at p))))
-
-pub none_read : (p : Program) (all : List (List ℕ)) (count : ℕ) → count ≡ 0 →
-    [] ≡ drop (length all - count) (items_at p all)
-none_read p all count none =
-    sym (drop_all (length all - count) (items_at p all)
-    (omega (arith, none, length-map all (item_at p))))
 
 pub length-all : (p : Program) (l : ListView) →
     length (all_of p l) ≡ length l.packed + length l.unpacked
@@ -209,22 +163,6 @@ first_run p ws n h =
     (subst (All IsItem)
     (sym (sym (items_of_both p (take n ws) (drop n ws)) ∙ ap (items_at p) (take-append-drop n ws)))
     h)
-
--- an item is known by its prefix and its mask, where the program is known
-pub same_item : (items : List ItemView) (k : ℕ) (x item : ItemView) →
-    AreOf item.program items → k < length items → x ≡ get_or items k x →
-    x.prefix ≡ item.prefix → x.mask ≡ item.mask → slice_get items k ≡ Some item
-same_item items k x item own h is e f =
-    let g : x.program ≡ item.program = ap (λ i. i.program) is ∙ own k x h in
-    got-or items k x h ∙ (ap (λ i. Some i) (sym is)
-    ∙ (λ j. Some (record { program = g j; prefix = e j; mask = f j })))
-
-pub item_there : (items : List ItemView) (k : ℕ) (x item : ItemView) → k < length items →
-    x ≡ get_or items k x → slice_get items k ≡ Some item → x ≡ item
-item_there items k x item h is e =
-    let f : Some (get_or items k x) ≡ Some item = sym (got-or items k x h) ∙ e in
-    let g : get_or items k x ≡ item = cc in
-    is ∙ g
 
 -- none of the items from one place to another is this one
 pub record NotBetween (first end : ℕ) (items : List ItemView) (item : ItemView) : Type 0 where

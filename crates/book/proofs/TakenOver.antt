@@ -29,13 +29,11 @@ pub taken_back : {X : Type 0} (before rest after cut : List X) (n : ℕ) → aft
 taken_back before rest after cut n e f g =
     g ∙ (ap (take n) e ∙ take_at before rest n (sym f))
 
--- the open items are as before where those that came are cut off again
-pub given_back : (p : Program) (base more cut : ListView) (items rest : List ItemView) (n : ℕ) →
-    all_of p base ≡ items → more.packed ≡ base.packed → more.unpacked ≡ base.unpacked ++ rest →
-    n ≡ length (all_of p base) → all_of p cut ≡ take n (all_of p more) → all_of p cut ≡ items
-given_back p base more cut items rest n same packed unpacked len is =
-    taken_back (all_of p base) rest (all_of p more) (all_of p cut) n
-    (grown p base more rest packed unpacked) len is ∙ same
+-- memory for more items changes none
+pub still_there : (p : Program) (base roomy : ListView) (items : List ItemView) →
+    all_of p base ≡ items → roomy.packed ≡ base.packed → roomy.unpacked ≡ base.unpacked →
+    all_of p roomy ≡ items
+still_there p base roomy items same e f = (λ k. items_at p (e k) ++ f k) ∙ same
 
 -- those at some places are out, and those that came are in
 pub open_taken : (p : Program) (base more out : ListView) (items rest : List ItemView)

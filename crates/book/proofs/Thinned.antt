@@ -2,19 +2,19 @@
 use Rattle.std.proofs.Common.{◌≡◌, ℕ, suc, Bool, true, false, cond, ◌&&◌, ◌||◌, not, List, [], ◌∷◌, ◌++◌, take, drop, Some, refl, ap, ◌∙◌, sym, subst, append_assoc}
 use Rattle.std.specs.List.{filter, list_any, All}
 use Rattle.std.proofs.lemmas.List.Elements.{All-nil, All-cons, All-append, All-weaker}
+use Rattle.std.proofs.lemmas.List.Sorted.{IsPermutation-append_right, IsPermutation-filter_both}
 use Rattle.schedules.specs.Order.{precedes, lesser}
 use Rattle.items.specs.declared.mode.Mode.{Mode}
 use Rattle.summary.specs.Summaries.{join}
 use Rattle.items.specs.Items.{ItemView, root_of}
 use Rattle.items.specs.Walks.{WalkView, IsWalked, IsSplit, listed_if}
 use Rattle.items.proofs.Listed.{listed_both}
-use Rattle.items.proofs.Splits.{split_further}
+use Rattle.items.proofs.Splits.{split_further, split_permuted}
 use Rattle.summary.proofs.SumsJoin.{join_first_bad}
 use Rattle.book.specs.Books.{BookView, ComeAfter, IsThinned, Keeps, KeepsWhere, with_deferred, IsWalkOf, IsOpenAt, settled, cannot_hold, drops, thinned}
 use Rattle.book.proofs.Keeping.{settles}
 use Rattle.book.proofs.Later.{later_precedes, lesser_some}
 use Rattle.book.proofs.Lists.{parted}
-use Rattle.book.proofs.Parted.{split_by}
 
 -- these are the open items of the book, besides its other parts
 abbrev pub IsBookWith : BookView → List ItemView → Type 0
@@ -63,7 +63,10 @@ thins_split b first q found h = go b.dropped refl (list_any (drops b) b.open_ite
         IsBookWith b ((gone ++ dropped_items b) ++ kept_items b)
     more gone s =
         subst (IsBookWith b) (sym (append_assoc gone (dropped_items b) (kept_items b)))
-        (split_by (drops b) b.mode (root_of b.program) b.finished gone b.open_items b.deferred s)
+        (split_permuted b.mode (root_of b.program) b.finished (gone ++ b.open_items)
+        (gone ++ (dropped_items b ++ kept_items b)) b.deferred
+        (IsPermutation-append_right gone _ _
+        (IsPermutation-filter_both (drops b) (λ i. not (drops b i)) (λ i. refl) b.open_items)) s)
 
     go : (d : Bool) → b.dropped ≡ d → (y : Bool) → list_any (drops b) b.open_items ≡ y →
         KeepsWhere d b → KeepsWhere (d || y) (thinned b)

@@ -1,5 +1,5 @@
 -- What a book keeps, and what its calls do.
-use Rattle.std.specs.Prelude.{◌≡◌, ℕ, zero, suc, ◌<◌, ◌≤◌, ◌+◌, ◌-◌, min, Bool, true, false, not, ◌||◌, ◌&&◌, List, [], ◌∷◌, ◌++◌, length, filter, Option, Some, None, slice_get, All, flat_map}
+use Rattle.std.specs.Prelude.{◌≡◌, ℕ, zero, suc, ◌<◌, ◌≤◌, ◌+◌, ◌-◌, min, Bool, true, false, not, ◌||◌, ◌&&◌, List, [], ◌∷◌, ◌++◌, length, filter, Option, Some, None, slice_get, All, flat_map, ◌⊎◌}
 use Rattle.std.specs.declared.alloc.Global.{Global}
 use Rattle.std.specs.declared.sync.Arc.{Arc}
 use Rattle.std.specs.Arc.{arc_value}
@@ -24,8 +24,8 @@ use Rattle.book.specs.declared.errors.RaiseError.{RaiseError}
 use Rattle.book.specs.declared.errors.RaiseError.TheVariants.{StillOpen, Dropped, LastBound}
 
 -- what contracts see of a book: the summary of what is finished, the items that are still open,
--- those that wait for the next bound, whether these are listed, whether the search is a quick one,
--- and whether it dropped an item
+-- those that wait for the next bound, whether these are listed (they are until the bound is made the
+-- last one), whether the search is a quick one, and whether it dropped an item
 pub record BookView : Type 0 where
   pub program : Program
   pub mode : Mode
@@ -203,6 +203,13 @@ AreOpenAt xs items (k ∷ ks) [] = ⊥
 AreOpenAt xs items (k ∷ ks) (q ∷ qs) =
     (q < length xs) × (slice_get items k ≡ slice_get xs q) × AreOpenAt (remove xs q) items ks qs
 
+-- the items at these places of a list stand in another one after another
+abbrev pub StandInOrder : List ItemView → List ItemView → List ℕ → Type 0
+StandInOrder xs items [] = Unit {0}
+StandInOrder [] items (k ∷ ks) = ⊥
+StandInOrder (x ∷ xs) items (k ∷ ks) =
+    ((slice_get items k ≡ Some x) × StandInOrder xs items ks) ⊎ StandInOrder xs items (k ∷ ks)
+
 -- the walks are of the items at these places of a list, in a mode
 abbrev pub AreWalksAt : Mode → List ItemView → List ℕ → List WalkView → Type 0
 AreWalksAt mode items [] [] = Unit {0}
@@ -233,6 +240,12 @@ HaveSettled old [] new = new ≡ old
 HaveSettled old (w ∷ ws) new =
     (between : BookView) × Settles old w between × HaveSettled between ws new
 
+-- why walks of the items at these places of a list aren't settled together: what they put off is
+-- wanted and wasn't listed, or the items aren't open one after another
+abbrev pub AreNotTaken : BookView → List ItemView → List ℕ → Found → Type 0
+AreNotTaken b items places found =
+    ((b.lists ≡ true) × (found.lists ≡ false)) ⊎ (StandInOrder b.open_items items places → ⊥)
+
 -- why a walk is refused
 abbrev pub IsRefused : BookView → WalkView → SettleError → Type 0
 IsRefused b w Stranger = IsWalkOf b w → ⊥
@@ -253,10 +266,13 @@ raised b = record b {
   deferred = [];
 }
 
--- the bound is the last one, where what it puts off is listed or not
-abbrev pub EndsAt : Bool → ℕ → Type 0
-EndsAt true bound = BOUND ≤ bound
-EndsAt false bound = Unit {0}
+-- the book whose bound is made the last one: what it put off is forgotten, and no more is listed
+abbrev pub made_last : BookView → BookView
+made_last b = record b { deferred = []; lists = false }
+
+-- the book's bound is the last one: it was made so, or it is the greatest
+abbrev pub IsAtLastBound : BookView → Type 0
+IsAtLastBound b = (b.lists ≡ false) ⊎ (BOUND ≤ bound_of b.mode)
 
 -- a book is raised where nothing is open, no item was dropped, and its bound is not the last
 pub record Raises (old new : BookView) : Type 0 where
@@ -270,8 +286,7 @@ pub record Raises (old new : BookView) : Type 0 where
 abbrev pub IsNotRaised : BookView → RaiseError → Type 0
 IsNotRaised b StillOpen = b.open_items ≡ [] → ⊥
 IsNotRaised b Dropped = (b.open_items ≡ []) × (b.dropped ≡ true)
-IsNotRaised b LastBound =
-    (b.open_items ≡ []) × (b.dropped ≡ false) × EndsAt b.lists (bound_of b.mode)
+IsNotRaised b LastBound = (b.open_items ≡ []) × (b.dropped ≡ false) × IsAtLastBound b
 
 -- the book is of this program and mode, and nothing is open
 abbrev pub IsClosed : BookView → Program → Mode → Type 0

@@ -1,6 +1,6 @@
 //! Books.
 
-ghost use Rattle.std.specs.Prelude.{true, false, None, count_by, ◌≡◌, ◌<◌, ◌≤◌, ◌+◌, ◌-◌, ◌&&◌, ◌↔◌, [], length, drop, is_ok, if◌then◌else◌, IfOk, OnOk, IfErr, Ok, IfSome, IfNone, IsTrue, slice_get, Some, All};
+ghost use Rattle.std.specs.Prelude.{true, false, None, count_by, ◌≡◌, ◌<◌, ◌≤◌, ◌+◌, ◌-◌, ◌&&◌, ◌↔◌, [], length, drop, is_ok, if◌then◌else◌, IfOk, OnOk, IfErr, OnErr, Ok, IfSome, IfNone, IsTrue, slice_get, Some, All};
 ghost use Rattle.std.specs.Arc.{arc_value};
 ghost use Rattle.std.specs.List.{remove};
 ghost use Rattle.items.specs.declared.limits.TheConstants.{BOUND};
@@ -10,7 +10,7 @@ ghost use Rattle.items.specs.Walks.{IsWalked, listed_if};
 ghost use Rattle.walk.specs.Founds.{found_walk};
 ghost use Rattle.book.specs.declared.limits.TheConstants.{ROUND};
 ghost use Rattle.summary.specs.Summaries.{IsBoundedBy};
-ghost use Rattle.book.specs.Books.{Keeps, drops, thinned, opening, IsFoundAt, HasWalkedRound, HaveFound, HaveSettled, taken_in, remove_each, AreWithin, Settles, IsRefused, Raises, IsNotRaised, IsClosed, bound_of};
+ghost use Rattle.book.specs.Books.{Keeps, drops, thinned, opening, IsFoundAt, HasWalkedRound, HaveFound, HaveSettled, AreNotTaken, taken_in, remove_each, AreWithin, Settles, IsRefused, Raises, IsNotRaised, IsClosed, bound_of, made_last};
 
 use crate::errors::{RaiseError, SettleError};
 use crate::item_list::{ItemList, is_later};
@@ -103,10 +103,7 @@ impl Book {
     {
         let hints = Box::new(alloc, EndHints::new())?;
         let root = Item::root(alloc, Arc::try_clone(&program)?)?;
-        let mut roots = Vec::new(alloc);
-        roots.push(root)?;
-        let mut open_items = ItemList::new(alloc);
-        open_items.append(alloc, &mut roots)?;
+        let open_items = ItemList::one(alloc, root)?;
         let deferred = ItemList::new(alloc);
         Ok(Book {
             program,
@@ -225,8 +222,8 @@ impl Book {
     ///
     /// # Errors
     ///
-    /// `AllocError` where memory runs out. The book is as before then, and these are some items of the
-    /// program, not its next round.
+    /// `AllocError` where memory runs out. The book is as before then, and these are some items of
+    /// the program, not its next round.
     pub fn next_round(&mut self, alloc: Global, items: &mut Vec<Item>) -> Result<(), AllocError>
         requires { AreOf self.old.program items.old.items }
         ensures items { OnOk result (items.new.items
@@ -345,8 +342,8 @@ impl Book {
     ///
     /// # Errors
     ///
-    /// As those of `settle`, but for `Stranger`. Of what was found some may be lost then, so an item that
-    /// is open has to be walked again.
+    /// As those of `settle`, but for `Stranger`. Book and what was found are as before then, so
+    /// what was found of an item that is open can be settled later.
     pub fn settle_found(
         &mut self,
         alloc: Global,
@@ -359,6 +356,7 @@ impl Book {
             OnOk result (Settles self.old w self.new) }
         ensures err { let w = found_walk self.old.mode item.now found.old in
             IfErr result (λ e. (self.new ≡ self.old) × IsRefused self.old w e) }
+        ensures found { OnErr result (found.new ≡ found.old) }
     {
         let Some(place) = self.open_items.place_of(item) else {
             return Err(SettleError::NotOpen);
@@ -377,23 +375,24 @@ impl Book {
         place: usize,
     ) -> Result<(), AllocError>
         requires { IsFoundAt self.old found.old place }
-        ensures { self.new ≡ (if is_ok result
+        ensures book { self.new ≡ (if is_ok result
             then taken_in self.old (remove self.old.open_items place) found.old else self.old) }
+        ensures found { OnErr result (found.new ≡ found.old) }
     {
         let _open = self.open_length();
         self.take_over(alloc, found, place, &[place])
     }
 
-    /// Settles at once what walks of items of the book's last round found, in its mode and one after
-    /// another: of those at these places of the round. Answers whether it took them: it doesn't where
-    /// they aren't open in that order, or what they put off isn't listed and the book lists it. No
-    /// program is compared. What of the round is packed is unpacked for its first walks, which no
-    /// contract sees. The memory of what was found serves later walks.
+    /// Settles at once what walks of items of the book's last round found, in its mode and one
+    /// after another: of those at these places of the round. Answers whether it took them: it
+    /// doesn't only where they aren't open in that order, or what they put off isn't listed and the
+    /// book lists it. No program is compared. What of the round is packed is unpacked for its first
+    /// walks, which no contract sees. The memory of what was found serves later walks.
     ///
     /// # Errors
     ///
-    /// `AllocError` where memory runs out. The book is as before then; of what was found some may be
-    /// lost, so the items that are open have to be walked again.
+    /// `AllocError` where memory runs out. Book and what was found are as before then, as where it
+    /// didn't take the walks.
     pub fn settle_all(
         &mut self,
         alloc: Global,
@@ -406,7 +405,10 @@ impl Book {
         ensures taken { let b = self.old in
             (f : HaveFound b.program b.mode items.now places.now found.old) →
             result ≡ Ok true → HaveSettled b f.walks self.new }
+        ensures not_taken { result ≡ Ok false →
+            AreNotTaken self.old items.now places.now found.old }
         ensures same { (result ≡ Ok true → ⊥) → self.new ≡ self.old }
+        ensures found { (result ≡ Ok true → ⊥) → found.new ≡ found.old }
     {
         if self.lists && !found.lists {
             return Ok(false);
@@ -422,14 +424,14 @@ impl Book {
         Ok(true)
     }
 
-    /// Walks the last open items, at most `ROUND`, in their order, each where it stands, and settles
-    /// the walks at once: no item is copied. What the walks found is kept in this memory, which
-    /// serves one round after another.
+    /// Walks the last open items, at most `ROUND`, in their order, each where it stands, and
+    /// settles the walks at once: no item is copied. What the walks found is kept in this memory,
+    /// which serves one round after another.
     ///
     /// # Errors
     ///
-    /// `AllocError` where memory runs out. The book is as before then, and the items have to be walked
-    /// again.
+    /// `AllocError` where memory runs out. The book is as before then, and the items have to be
+    /// walked again.
     pub fn walk_round(
         &mut self,
         alloc: Global,
@@ -456,9 +458,9 @@ impl Book {
     }
 
     // Settles what walks of the open items at these places, each counted without those before it,
-    // found, of which the memory is left; none stands before the first one. The lists grow first, by
-    // what they list; then the sum is joined, which is the last that can be refused, and the items are
-    // taken out.
+    // found, of which the memory is left; none stands before the first one. First there is memory
+    // for what is left open, and what is put off is listed; then the sum is joined, which is the
+    // last that can be refused; then items come and go.
     fn take_over(
         &mut self,
         alloc: Global,
@@ -470,8 +472,9 @@ impl Book {
         requires within { AreWithin self.old.open_items places.now }
         requires keeps { let left = remove_each self.old.open_items places.now in
             Keeps (taken_in self.old left found.old) }
-        ensures { let left = remove_each self.old.open_items places.now in
+        ensures book { let left = remove_each self.old.open_items places.now in
             self.new ≡ (if is_ok result then taken_in self.old left found.old else self.old) }
+        ensures found { OnErr result (found.new ≡ found.old) }
     {
         let packs = is_packed(self.quick, &self.finished, &found.part);
         self.open_items
@@ -479,30 +482,25 @@ impl Book {
         let deferred_length = self.deferred.length();
         self.deferred.unpack_from(alloc, &self.program, first_unpacked(packs, deferred_length))?;
         let quiet = is_quiet(found);
-        let open_length = self.open_items.length();
-        self.open_items.append(alloc, &mut found.rest)?;
-        forget_unlisted(self.lists, &mut found.deferred);
-        if let Err(error) = self
-            .deferred
-            .append_prefixes(alloc, &self.program, &mut found.deferred, packs)
-        {
-            self.open_items.truncate(open_length);
-            return Err(error);
-        }
+        self.open_items.make_room(found.rest.len())?;
+        let none = Prefixes::new(alloc);
+        let listed = listed_of(self.lists, &found.deferred, &none);
+        self.deferred
+            .append_prefixes(alloc, &self.program, listed, packs)?;
         if let Err(error) = self.finished.join_in_by(&mut self.hints, &mut found.part) {
-            self.open_items.truncate(open_length);
             self.deferred.truncate(deferred_length);
             return Err(error);
         }
+        self.open_items.append(alloc, &mut found.rest);
         self.open_items.remove_each(places);
         self.swept = both(self.swept, quiet);
         Ok(())
     }
 
-    /// Makes the bound the last one: what it put off is forgotten, and what it puts off isn't listed
-    /// any more. It takes no memory.
+    /// Makes the bound the last one: what it put off is forgotten, and what it puts off isn't
+    /// listed any more. It takes no memory.
     pub fn make_last(&mut self)
-        ensures { self.new ≡ record self.old { deferred = []; lists = false } }
+        ensures { self.new ≡ made_last self.old }
     {
         self.deferred.truncate(0);
         self.lists = false;
@@ -514,8 +512,8 @@ impl Book {
     /// # Errors
     ///
     /// `StillOpen` where an item is open, else `Dropped` where one was dropped, else `LastBound`
-    /// where the bound is the greatest or was made the last one, or the mode has none. The book is as
-    /// before then.
+    /// where the bound is the greatest or was made the last one, or the mode has none. The book is
+    /// as before then.
     pub fn raise(&mut self) -> Result<(), RaiseError>
         ensures ok { OnOk result (Raises self.old self.new) }
         ensures err { IfErr result (λ e. (self.new ≡ self.old) × IsNotRaised self.old e) }
@@ -540,13 +538,12 @@ impl Book {
     }
 }
 
-// Leaves out prefixes that aren't listed.
-fn forget_unlisted(lists: bool, prefixes: &mut Prefixes)
-    ensures { prefixes.new ≡ listed_if lists prefixes.old }
+// The prefixes, where they are listed, or none.
+fn listed_of<'a>(lists: bool, prefixes: &'a Prefixes, none: &'a Prefixes) -> &'a Prefixes
+    requires { none.now ≡ [] }
+    ensures { result.now ≡ listed_if lists prefixes.now }
 {
-    if !lists {
-        prefixes.clear();
-    }
+    if lists { prefixes } else { none }
 }
 
 // Whether the modes are equal.

@@ -1,6 +1,6 @@
 // Lists of a book's items.
 
-ghost use Rattle.std.specs.Prelude.{◌≡◌, ℕ, ◌+◌, ◌-◌, ◌<◌, ◌≤◌, ◌↔◌, [], ◌++◌, false, not, length, take, drop, filter, count_by, is_ok, if◌then◌else◌, IfOk, OnOk, IfSome, IfNone, IsTrue, Some, slice_get, slice_index_or, All};
+ghost use Rattle.std.specs.Prelude.{◌≡◌, ℕ, ◌+◌, ◌-◌, ◌<◌, ◌≤◌, ◌↔◌, [], ◌∷◌, ◌++◌, false, not, length, take, drop, filter, count_by, is_ok, if◌then◌else◌, IfOk, OnOk, IfSome, IfNone, IsTrue, Some, slice_get, slice_index_or, All};
 ghost use Rattle.std.specs.Arc.{arc_value};
 ghost use Rattle.guest_code.specs.Program.{Program};
 ghost use Rattle.items.specs.Items.{ItemView, AreOf, IsItem};
@@ -8,12 +8,12 @@ ghost use Rattle.items.specs.Walks.{items_at};
 ghost use Rattle.book.specs.Quick.{is_later};
 ghost use Rattle.book.specs.ItemLists.{all_of};
 ghost use Rattle.std.specs.List.{remove_range};
-ghost use Rattle.book.specs.Books.{remove_each, AreWithin, AreOpenAt};
+ghost use Rattle.book.specs.Books.{remove_each, AreWithin, AreOpenAt, StandInOrder};
 
 use crate::limits::ROUND;
 use crate::packed::{last_item, last_items, last_packed};
 use guest_code::program::Program;
-use items::item::Item;
+use items::item::{Item, same_masks};
 use prefix_list::Prefixes;
 use semantics::mask::Mask;
 use std::alloc::{AllocError, Global};
@@ -42,6 +42,16 @@ impl Model for ItemList {
 }
 
 impl ItemList {
+    // A list of one item.
+    pub(crate) fn one(alloc: Global, item: Item) -> Result<ItemList, AllocError>
+        ensures packed { IfOk result (λ l. l.packed ≡ []) }
+        ensures unpacked { IfOk result (λ l. l.unpacked ≡ item ∷ []) }
+    {
+        let mut list = ItemList::new(alloc);
+        list.unpacked.push_back(item)?;
+        Ok(list)
+    }
+
     // A list of none.
     pub(crate) fn new(alloc: Global) -> ItemList
         ensures packed { result.packed ≡ [] }
@@ -152,6 +162,7 @@ impl ItemList {
         requires { All IsItem (items_at (arc_value program.now) self.old.packed) }
         ensures same { all_of (arc_value program.now) self.new ≡
             all_of (arc_value program.now) self.old }
+        ensures run { All IsItem (items_at (arc_value program.now) self.new.packed) }
         ensures unpacked { OnOk result (length self.new.packed ≤ place) }
         ensures none { self.old.packed ≡ [] → self.new.packed ≡ [] }
     {
@@ -195,9 +206,9 @@ impl ItemList {
         self.hint = place.saturating_sub(self.packed.length());
     }
 
-    // Where the items at some places of the last round stand, if they are found in their order: each is
-    // counted without those before it. What of the round is packed is unpacked for this, so a round is
-    // unpacked where its first walks are settled.
+    // Where the items at some places of the last round stand, if they stand in their order: each is
+    // counted without those before it. What of the round is packed is unpacked for this, so a round
+    // is unpacked where its first walks are settled; all is, where they aren't found in it.
     pub(crate) fn places_of(
         &mut self,
         alloc: Global,
@@ -211,25 +222,32 @@ impl ItemList {
         requires program { AreOf (arc_value program.now) items.now }
         ensures same { all_of (arc_value program.now) self.new ≡
             all_of (arc_value program.now) self.old }
-        ensures none { self.old.packed ≡ [] → self.new.packed ≡ [] }
+        ensures packed { self.old.packed ≡ [] → self.new.packed ≡ [] }
         ensures there { IfOk result (λ o. IfSome o (λ v.
             AreOpenAt (all_of (arc_value program.now) self.old) items.now places.now v.items)) }
+        ensures none { IfOk result (λ o. IfNone o
+            (StandInOrder (all_of (arc_value program.now) self.old) items.now places.now → ⊥)) }
         ensures unpacked { IfOk result (λ o. IfSome o (λ v.
             All (λ k. length self.new.packed ≤ k) v.items)) }
     {
-        if let Some(found) = self.unpacked_places_of(alloc, items, places)? {
+        if let Some(found) = self.places_from(alloc, self.hint, items, places)? {
             return Ok(Some(found));
         }
         let first = self.length().saturating_sub(ROUND);
         self.unpack_from(alloc, program, first)?;
-        self.unpacked_places_of(alloc, items, places)
+        if let Some(found) = self.places_from(alloc, self.hint, items, places)? {
+            return Ok(Some(found));
+        }
+        self.unpack_from(alloc, program, 0)?;
+        self.places_from(alloc, 0, items, places)
     }
 
-    // Where the items at some places of a round stand, if they are found in their order and not
-    // packed: each is counted without those before it.
-    fn unpacked_places_of(
+    // Where the items at some places of a round stand, if they stand in their order among those
+    // that aren't packed, from a place of these on: each is counted without those before it.
+    fn places_from(
         &self,
         alloc: Global,
+        first: usize,
         items: &[Item],
         places: &[usize],
     ) -> Result<Option<Vec<usize>>, AllocError>
@@ -237,12 +255,14 @@ impl ItemList {
         requires program { (p : Program) × AreOf p self.now.unpacked × AreOf p items.now }
         ensures there { (p : Program) → IfOk result (λ o. IfSome o (λ v.
             AreOpenAt (all_of p self.now) items.now places.now v.items)) }
+        ensures none { first ≡ 0 → IfOk result (λ o. IfNone o
+            (StandInOrder self.now.unpacked items.now places.now → ⊥)) }
         ensures unpacked { IfOk result (λ o. IfSome o (λ v.
             All (λ k. length self.now.packed ≤ k) v.items)) }
     {
         let packed = self.packed.length();
         let mut found = Vec::with_capacity(alloc, places.len())?;
-        let mut start = self.hint.min(self.unpacked.len());
+        let mut start = first.min(self.unpacked.len());
         for k in 0..places.len() {
             let Some(place) = find_behind(&self.unpacked, start, &items[places[k]]) else {
                 return Ok(None);
@@ -266,8 +286,8 @@ impl ItemList {
         self.unpacked.drain(first - packed..end - packed);
     }
 
-    // Takes out the items at these places, which aren't packed: each is counted without those before
-    // it. So the items of a range are all at one place, and are taken out at once.
+    // Takes out the items at these places, which aren't packed: each is counted without those
+    // before it. So the items of a range are all at one place, and are taken out at once.
     pub(crate) fn remove_each(&mut self, places: &[usize])
         requires unpacked { All (λ k. length self.old.packed ≤ k) places.now }
         requires within { (p : Program) × AreWithin (all_of p self.old) places.now }
@@ -285,25 +305,33 @@ impl ItemList {
         }
     }
 
-    // Puts items after the others. Mostly there is none.
+    // Gets memory for so many more items that aren't packed.
     //
     // # Errors
     //
-    // `AllocError` where memory runs out; the list is then as before.
-    pub(crate) fn append(&mut self, alloc: Global, items: &mut Vec<Item>) -> Result<(), AllocError>
+    // `AllocError` where memory runs out.
+    pub(crate) fn make_room(&mut self, more: usize) -> Result<(), AllocError>
         ensures packed { self.new.packed ≡ self.old.packed }
-        ensures unpacked { self.new.unpacked ≡
-            (if is_ok result then self.old.unpacked ++ items.old.items else self.old.unpacked) }
+        ensures unpacked { self.new.unpacked ≡ self.old.unpacked }
+        ensures room { OnOk result (length self.new.unpacked + more ≤ self.new.room) }
     {
-        if items.is_empty() {
-            return Ok(());
-        }
-        let taken = mem::replace(items, Vec::new(alloc));
-        self.unpacked.append(&mut VecDeque::from_vec(taken))
+        self.unpacked.reserve(more)
     }
 
-    // Puts the items of prefixes after the others, packed or as they are. The list of prefixes may
-    // be left with any of them.
+    // Puts items after the others, where there is memory for them. Mostly there is none to put.
+    pub(crate) fn append(&mut self, alloc: Global, items: &mut Vec<Item>)
+        requires { length self.old.unpacked + length items.old.items ≤ self.old.room }
+        ensures packed { self.new.packed ≡ self.old.packed }
+        ensures unpacked { self.new.unpacked ≡ self.old.unpacked ++ items.old.items }
+    {
+        if items.is_empty() {
+            return;
+        }
+        let taken = mem::replace(items, Vec::new(alloc));
+        let _ = self.unpacked.append(&mut VecDeque::from_vec(taken));
+    }
+
+    // Puts the items of prefixes after the others, packed or as they are.
     //
     // # Errors
     //
@@ -312,22 +340,24 @@ impl ItemList {
         &mut self,
         alloc: Global,
         program: &Arc<Program>,
-        prefixes: &mut Prefixes,
+        prefixes: &Prefixes,
         packs: bool,
     ) -> Result<(), AllocError>
-        requires { All IsItem (items_at (arc_value program.now) prefixes.old) }
+        requires { All IsItem (items_at (arc_value program.now) prefixes.now) }
         ensures all { all_of (arc_value program.now) self.new ≡ (if is_ok result
             then all_of (arc_value program.now) self.old
-            ++ items_at (arc_value program.now) prefixes.old
+            ++ items_at (arc_value program.now) prefixes.now
             else all_of (arc_value program.now) self.old) }
         ensures packed { packs ≡ false → self.new.packed ≡ self.old.packed }
     {
         if packs && self.unpacked.is_empty() {
-            return self.packed.append(prefixes);
+            return self.packed.append(alloc, prefixes);
         }
         let mut items = Vec::new(alloc);
         last_items(alloc, program, prefixes, prefixes.length(), &mut items)?;
-        self.append(alloc, &mut items)
+        self.make_room(items.len())?;
+        self.append(alloc, &mut items);
+        Ok(())
     }
 
     // Keeps the first items, at most `length` of them.
@@ -399,11 +429,13 @@ fn find(items: &VecDeque<Item>, first: usize, item: &Item) -> Option<usize>
     }
 }
 
-// Where an item stands among others of its program from a place on.
+// The first place from a place on where an item stands among others of its program.
 fn find_behind(items: &VecDeque<Item>, start: usize, item: &Item) -> Option<usize>
     requires { AreOf item.now.program items.now.items }
     ensures some { IfSome result (λ k. (start ≤ k) ×
         (k < length items.now.items) × (slice_get items.now.items k ≡ Some item.now)) }
+    ensures first { IfSome result (λ k. (j : ℕ) (d : ItemView) → start ≤ j → j < k →
+        slice_index_or items.now.items j d ≡ item.now → ⊥) }
     ensures none { IfNone result ((j : ℕ) (d : ItemView) → start ≤ j → j < length items.now.items →
         slice_index_or items.now.items j d ≡ item.now → ⊥) }
 {
@@ -447,13 +479,6 @@ fn is_at(items: &VecDeque<Item>, place: usize, item: &Item) -> bool
 // Whether the steps are the same.
 fn same_steps(first: &[u8], second: &[u8]) -> bool
     ensures { IsTrue result ↔ (first.now ≡ second.now) }
-{
-    first == second
-}
-
-// Whether the same threads are in both.
-fn same_masks(first: Mask, second: Mask) -> bool
-    ensures { IsTrue result ↔ (first ≡ second) }
 {
     first == second
 }

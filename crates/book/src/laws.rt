@@ -23,6 +23,35 @@ pub fn what_is_listed_is_all()
     ensures { (b : BookView) → Keeps b → b.lists ≡ true → KeepsWhere b.dropped b }
 {}
 
+/// Also where the bound was made the last one, and so nothing is listed of what it puts off: the
+/// program's summary is what is finished joined with the sums of the open items, where no item was
+/// dropped. Where one was, the join is bounded by the program's summary.
+pub fn every_book_joins()
+    ensures whole { (b : BookView) → Keeps b → b.dropped ≡ false →
+        whole b.program b.mode ≡ join b.finished (item_sums b.mode b.open_items) }
+    ensures bounded { (b : BookView) → Keeps b → b.dropped ≡ true →
+        IsBoundedBy (join b.finished (item_sums b.mode b.open_items)) (whole b.program b.mode) }
+{}
+
+/// Where the bound was made the last one, too, no schedule begins with the prefixes of two of the
+/// open and the deferred items, at different places.
+pub fn no_book_has_a_schedule_twice()
+    ensures { (b : BookView) (v : List ℕ) (i j : ℕ) (d : ItemView) → Keeps b →
+        i < j → j < length (items_left b) →
+        begins_with (slice_index_or (items_left b) i d).prefix v ≡ true →
+        begins_with (slice_index_or (items_left b) j d).prefix v ≡ false }
+{}
+
+/// Where the bound was made the last one, too, each open item is of the book's program, and has
+/// those of its schedules that begin with the item's prefix; and where no item was dropped, what is
+/// finished, `beyond` aside, is the sum of the book's schedules that lie under no open item.
+pub fn every_book_splits()
+    ensures below { (b : BookView) → Keeps b → All (IsBelow (root_of b.program)) b.open_items }
+    ensures schedules { (b : BookView) → Keeps b → All (HasItsSchedules b) b.open_items }
+    ensures finished { (b : BookView) → Keeps b → b.dropped ≡ false → b.finished ≡ with_beyond
+        (sum_of b.program (clear_of b.open_items (book_schedules b))) b.finished.beyond }
+{}
+
 // Books from which nothing was dropped.
 
 /// The program's summary is what is finished joined with the sums of the open items.

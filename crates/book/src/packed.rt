@@ -12,8 +12,8 @@ use prefix_list::{LastFirst, Prefixes};
 use std::alloc::{AllocError, Global};
 use std::sync::Arc;
 
-// Writes the items of the last `count` prefixes of a list, in their order, over others of their program.
-// The prefixes run.
+// Writes the items of the last `count` prefixes of a list, in their order, over others of their
+// program. The prefixes run.
 pub(crate) fn last_items(
     alloc: Global,
     program: &Arc<Program>,
@@ -57,8 +57,8 @@ pub(crate) fn last_item(
     Item::running(alloc, Arc::try_clone(program)?, prefix)
 }
 
-// Writes the item of the last of the prefixes that are still to be read over the one at a place, of the
-// same program, or after the others.
+// Writes the item of the last of the prefixes that are still to be read over the one at a place, of
+// the same program, or after the others.
 fn write_last(
     alloc: Global,
     program: &Arc<Program>,

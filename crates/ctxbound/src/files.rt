@@ -34,8 +34,8 @@ where
     Ok(text)
 }
 
-/// The files that a name stands for: itself, or where it is a folder the guest programs in it,
-/// sorted by name.
+/// The files that a name stands for: itself, or where it is a folder the guest programs in it and
+/// in the folders in it, sorted by name. A link to a folder inside it isn't followed.
 ///
 /// # Errors
 ///
@@ -44,11 +44,12 @@ pub fn files_of<H>(rt: &H, name: &str) -> io::Result<Vec<String>>
 where
     H: Files + Alloc<A = Global> + Clone + Drop,
 {
+    let first = String::from_str(rt.alloc(), name)?;
     if is_folder(rt, name) {
-        return guests_in(rt, name);
+        return guests_in(rt, first);
     }
     let mut files = Vec::new(rt.alloc());
-    files.push(String::from_str(rt.alloc(), name)?)?;
+    files.push(first)?;
     Ok(files)
 }
 
@@ -60,24 +61,48 @@ fn is_folder<H: Files>(rt: &H, name: &str) -> bool {
     }
 }
 
-// The guest programs in a folder, sorted by name.
-fn guests_in<H>(rt: &H, folder: &str) -> io::Result<Vec<String>>
+// The guest programs in a folder and in the folders in it, sorted by name.
+fn guests_in<H>(rt: &H, folder: String) -> io::Result<Vec<String>>
 where
     H: Files + Alloc<A = Global> + Clone + Drop,
 {
     let mut guests = Vec::new(rt.alloc());
-    for entry in fs::read_dir(rt, folder)? {
-        let entry = entry?;
-        let path = entry.path();
-        if path.as_str().ends_with(ENDING) {
-            guests.push(String::from_str(rt.alloc(), path.as_str())?)?;
-        }
+    let mut folders = Vec::new(rt.alloc());
+    folders.push(folder)?;
+    for _ in 0..u64::MAX {
+        let Some(folder) = folders.pop() else {
+            break;
+        };
+        put_listed(rt, folder.as_str(), &mut guests, &mut folders)?;
     }
     if guests.is_empty() {
         return Err(io::Error::new(ErrorKind::NotFound, NO_GUESTS));
     }
     guests.sort()?;
     Ok(guests)
+}
+
+// Puts the guest programs in a folder, and the folders in it, after the others.
+fn put_listed<H>(
+    rt: &H,
+    folder: &str,
+    guests: &mut Vec<String>,
+    folders: &mut Vec<String>,
+) -> io::Result<()>
+where
+    H: Files + Alloc<A = Global> + Clone + Drop,
+{
+    for entry in fs::read_dir(rt, folder)? {
+        let entry = entry?;
+        let path = entry.path();
+        let name = String::from_str(rt.alloc(), path.as_str())?;
+        if entry.file_type()?.is_dir() {
+            folders.push(name)?;
+        } else if path.as_str().ends_with(ENDING) {
+            guests.push(name)?;
+        }
+    }
+    Ok(())
 }
 
 /// Writes that a device failed, its name and the cause, and answers the status.

@@ -1,17 +1,20 @@
 //! The program `ctxbound`: what the command words ask for, done on a guest program.
 //!
-//! The crate `words` reads the words, `program` does what they ask for, and `main` joins both to the
-//! system. What is answered to a replay or a search is in the crate `answering`. The other commands are
-//! in `explained`, `checks` and `suites`.
+//! The crate `words` reads the words, `program` does what they ask for, and `main` joins both to
+//! the system. What is answered to a replay or a search is in the crate `answering`. The other
+//! commands are in `explained`, `checks`, `suites` and `verified`.
 #![tactic(auto)]
 
 mod checks;
+mod diagnostics;
 mod explained;
 mod files;
 mod program;
 mod suites;
+mod verified;
 
 use crate::program::serve_words;
+use std::io::IsTerminal;
 use std::process::ExitCode;
 use words::command_words;
 
@@ -19,7 +22,10 @@ fn main(rt: HostRuntime) -> ExitCode {
     let mut out = rt.stdout();
     let mut err = rt.stderr();
     let status = match command_words(&rt) {
-        Ok(words) => serve_words(&rt, words.as_slice(), &mut out, &mut err),
+        Ok(words) => {
+            let is_seen = err.is_terminal();
+            serve_words(&rt, words.as_slice(), is_seen, &mut out, &mut err)
+        }
         Err(fault) => fault.report(&mut err),
     };
     ExitCode::from(status)

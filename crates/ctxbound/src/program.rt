@@ -1,9 +1,10 @@
 //! The whole program, but for where its words come from and where its answer goes.
 
-use crate::checks::serve_check;
+use crate::checks::{is_refused, serve_check};
 use crate::explained::explain_text;
 use crate::files::{read_file, report_device, write_named};
 use crate::suites::serve_suite;
+use crate::verified::serve_verify;
 use answering::serve_file;
 use requests::{ExplainRequest, Request};
 use std::alloc::{Alloc, Global};
@@ -13,18 +14,48 @@ use std::sync::Wait;
 use std::thread::Threads;
 use words::request;
 
+/// The status where what the user gave is refused.
+const REFUSED: u8 = 2;
+
 /// Does what the command words ask for: the answer goes to `out`, the lines of faults to `err`.
-/// Answers the status that the program ends with.
-pub fn serve_words<H, W: Write, E: Write>(rt: &H, words: &[String], out: &mut W, err: &mut E) -> u8
+/// Where these are seen by a person, they are told which command says more. Answers the status that
+/// the program ends with.
+pub fn serve_words<H, W: Write, E: Write>(
+    rt: &H,
+    words: &[String],
+    is_seen: bool,
+    out: &mut W,
+    err: &mut E,
+) -> u8
 where
     H: Threads + Wait + Sync + Eprint + Files + Input + Alloc<A = Global> + Clone + Drop,
 {
     match request(rt.alloc(), words) {
-        Ok(Request::One { file, request }) => serve_file(rt, file.as_str(), &request, out, err),
-        Ok(Request::Explain(request)) => serve_explain(rt, &request, out, err),
-        Ok(Request::Check(request)) => serve_check(rt, &request, err),
+        Ok(Request::One { file, request }) => {
+            let status = serve_file(rt, file.as_str(), &request, out, err);
+            tell_check(rt, file.as_str(), is_seen && status == REFUSED, err);
+            status
+        }
+        Ok(Request::Explain(request)) => {
+            let status = serve_explain(rt, &request, out, err);
+            tell_check(rt, request.file.as_str(), is_seen && status == REFUSED, err);
+            status
+        }
+        Ok(Request::Check(request)) => serve_check(rt, &request, out, err),
         Ok(Request::Suite(request)) => serve_suite(rt, &request, out, err),
+        Ok(Request::Verify(request)) => serve_verify(rt, &request, out, err),
         Err(fault) => fault.report(err),
+    }
+}
+
+/// Where a person sees that something was refused, and it is the text of the file, tells which
+/// command says more.
+fn tell_check<H, E: Write>(rt: &H, file: &str, is_seen: bool, err: &mut E)
+where
+    H: Files + Input + Alloc<A = Global>,
+{
+    if is_seen && is_refused(rt, file) {
+        let _ = writeln!(err, "(ctxbound check {file} says more)");
     }
 }
 

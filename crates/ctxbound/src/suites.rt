@@ -1,23 +1,26 @@
 //! The command `suite`.
 
-ghost use Rattle.std.specs.Prelude.{◌≡◌, IfOk, IfErr};
-ghost use Rattle.suite.specs.Statuses.{IsWorst};
-ghost use Rattle.answering.specs.declared.fault.Fault.TheVariants.{Memory};
-
-use crate::files::{files_of, read_file, write_named};
-use answering::{Fault, Printed};
-use requests::{Limits, SuiteRequest};
+use crate::files::{files_of, read_file, report_device};
+use answering::Teller;
+use requests::SuiteRequest;
 use runner::ExploreError;
 use std::alloc::{Alloc, Global};
 use std::fs::Files;
 use std::io;
-use std::io::{ErrorKind, Input, Write};
+use std::io::{Eprint, ErrorKind, Input, Write};
 use std::sync::Wait;
 use std::thread::Threads;
-use suite::{Entry, Outcome, json_lines, table, worst_status};
+use suite::{Entry, Outcome, Table, Tally, json_line};
 
-/// Searches each file of a suite and prints what became of them. Answers the status: the greatest of
-/// those of its files, or that of a device that failed.
+/// A file that is to be searched, or a name that stands for no file, and why.
+#[derive(Drop)]
+struct Named {
+    name: String,
+    error: Option<io::Error>,
+}
+
+/// Searches each file of a suite and prints what became of it as soon as that is known. Answers the
+/// status: the greatest of those of its files, or that of a device that failed.
 pub fn serve_suite<H, W: Write, E: Write>(
     rt: &H,
     request: &SuiteRequest,
@@ -25,86 +28,132 @@ pub fn serve_suite<H, W: Write, E: Write>(
     err: &mut E,
 ) -> u8
 where
-    H: Threads + Wait + Sync + Files + Input + Alloc<A = Global> + Clone + Drop,
+    H: Threads + Wait + Sync + Eprint + Files + Input + Alloc<A = Global> + Clone + Drop,
 {
-    match answer_of(rt, request) {
-        Ok(printed) => write_named(out, err, printed.output.as_slice(), printed.status),
-        Err(fault) => fault.report(err),
+    match print_suite(rt, request, out, err) {
+        Ok(tally) => tally.worst(),
+        Err(error) => report_device(err, "standard output", &error),
     }
 }
 
-// What is answered to a suite.
-fn answer_of<H>(rt: &H, request: &SuiteRequest) -> Result<Printed, Fault>
+// Prints what becomes of the files, one after the other, and how many came to what.
+fn print_suite<H, W: Write, E: Write>(
+    rt: &H,
+    request: &SuiteRequest,
+    out: &mut W,
+    err: &mut E,
+) -> io::Result<Tally>
 where
-    H: Threads + Wait + Sync + Files + Input + Alloc<A = Global> + Clone + Drop,
+    H: Threads + Wait + Sync + Eprint + Files + Input + Alloc<A = Global> + Clone + Drop,
 {
-    let mut entries = Vec::new(rt.alloc());
-    for file in &request.files {
-        put_named(rt, &mut entries, file.as_str(), request.limits)?;
+    let named = all_named(rt, request)?;
+    let table = table_for(rt.alloc(), named.as_slice())?;
+    if !request.json {
+        write_now(out, table.head()?.as_slice())?;
     }
-    printed(rt.alloc(), entries.as_slice(), request.json)
+    let mut tally = Tally::new(rt.alloc());
+    for each in &named {
+        let entry = entry_of(rt, each, request, err)?;
+        tally.push(entry.status())?;
+        let line = if request.json {
+            json_line(rt.alloc(), &entry)?
+        } else {
+            table.row(&entry)?
+        };
+        write_now(out, line.as_slice())?;
+    }
+    if !request.json {
+        writeln!(out, "{tally}")?;
+        out.flush()?;
+    }
+    Ok(tally)
 }
 
-/// What is printed of the files of a suite. The status is the greatest of theirs.
-///
-/// # Errors
-///
-/// `Memory` where memory runs out.
-fn printed(alloc: Global, entries: &[Entry], json: bool) -> Result<Printed, Fault>
-    ensures status { IfOk result (λ a. IsWorst entries.now a.status) }
-    ensures memory { IfErr result (λ fault. fault ≡ Memory) }
-{
-    let output = if json {
-        json_lines(alloc, entries)?
-    } else {
-        table(alloc, entries)?
-    };
-    Ok(Printed {
-        output,
-        status: worst_status(entries),
-    })
+// Writes a line, so that it is seen at once.
+fn write_now<W: Write>(out: &mut W, line: &[u8]) -> io::Result<()> {
+    out.write_all(line)?;
+    out.flush()
 }
 
-// Puts what became of a file, or of each guest program of a folder, after the other entries.
-fn put_named<H>(rt: &H, entries: &mut Vec<Entry>, name: &str, limits: Limits) -> Result<(), Fault>
+// The files that the names of a suite stand for, in the order of the names.
+fn all_named<H>(rt: &H, request: &SuiteRequest) -> io::Result<Vec<Named>>
 where
-    H: Threads + Wait + Sync + Files + Input + Alloc<A = Global> + Clone + Drop,
+    H: Files + Alloc<A = Global> + Clone + Drop,
+{
+    let mut named = Vec::new(rt.alloc());
+    for name in &request.files {
+        put_named(rt, &mut named, name.as_str())?;
+    }
+    Ok(named)
+}
+
+// Puts the files that a name stands for after the others.
+fn put_named<H>(rt: &H, named: &mut Vec<Named>, name: &str) -> io::Result<()>
+where
+    H: Files + Alloc<A = Global> + Clone + Drop,
 {
     match files_of(rt, name) {
         Ok(files) => {
-            for file in &files {
-                entries.push(entry_of(rt, file.as_str(), limits)?)?;
+            for name in files {
+                named.push(Named { name, error: None })?;
             }
         }
-        Err(error) => entries.push(unread(rt.alloc(), name, &error)?)?,
+        Err(error) => {
+            let name = String::from_str(rt.alloc(), name)?;
+            named.push(Named {
+                name,
+                error: Some(error),
+            })?;
+        }
     }
     Ok(())
 }
 
-// What became of a file.
-fn entry_of<H>(rt: &H, file: &str, limits: Limits) -> Result<Entry, Fault>
+// The table for these files.
+fn table_for(alloc: Global, named: &[Named]) -> io::Result<Table> {
+    let mut table = Table::new(alloc);
+    for each in named {
+        table.make_room(each.name.as_str())?;
+    }
+    Ok(table)
+}
+
+// What becomes of a file.
+fn entry_of<H, E: Write>(
+    rt: &H,
+    named: &Named,
+    request: &SuiteRequest,
+    err: &mut E,
+) -> io::Result<Entry>
 where
-    H: Threads + Wait + Sync + Files + Input + Alloc<A = Global>,
+    H: Threads + Wait + Sync + Eprint + Files + Input + Alloc<A = Global>,
 {
-    let alloc = rt.alloc();
-    match read_file(rt, file) {
+    let file = String::from_str(rt.alloc(), named.name.as_str())?;
+    if let Some(error) = &named.error {
+        return unread(rt.alloc(), file, error);
+    }
+    match read_file(rt, named.name.as_str()) {
         Ok(text) => {
-            let file = String::from_str(alloc, file)?;
-            Ok(Entry::new(rt, alloc, file, text.as_slice(), limits))
+            if request.progress {
+                let _ = writeln!(err, "{file}:");
+            }
+            let gate = Teller::new(rt, request.progress);
+            Ok(Entry::new(rt, file, text.as_slice(), request.limits, &gate))
         }
-        Err(error) => unread(alloc, file, &error),
+        Err(error) => unread(rt.alloc(), file, &error),
     }
 }
 
 // A file that couldn't be read.
-fn unread(alloc: Global, file: &str, error: &io::Error) -> Result<Entry, Fault> {
+fn unread(alloc: Global, file: String, error: &io::Error) -> io::Result<Entry> {
     let outcome = match error.kind() {
         ErrorKind::OutOfMemory => Outcome::Refused(ExploreError::OutOfMemory),
         _ => Outcome::Unread(format!(in alloc; "{error}")?),
     };
     Ok(Entry {
-        file: String::from_str(alloc, file)?,
+        file,
         expected: None,
+        near: None,
         outcome,
     })
 }

@@ -13,12 +13,10 @@ use Rattle.explain.specs.declared.step.Step.{Step}
 use Rattle.explain.specs.declared.explanation.Holder.{Holder}
 use Rattle.explain.specs.Steps.{Tells, IsTakenStep}
 use Rattle.explain.specs.Holders.{IsHeldBy}
-use Rattle.explain.specs.Lost.{IsWithin}
 use Rattle.explain.specs.Explains.{carried_out, TellsHolders}
 use Rattle.explain.specs.inner.Carrying.{AreFollowed}
 use Rattle.explain.proofs.Pushed.{pushed_at}
 use Rattle.explain.proofs.HeldOn.{held_on, held_by_none}
-use Rattle.explain.proofs.Within.{is_within}
 
 abbrev pub line_in : Step → Line
 line_in told = told.line
@@ -31,7 +29,6 @@ pub record IsCarriedUpTo (p : Program) (w : List ℕ) (k : ℕ) (e : ExecutionVi
   pub told : IsToldUpTo p w k e (map line_in steps)
   pub each : (j : ℕ) (told : Step) → slice_get steps j ≡ Some told →
       Tells p (carried_out p w j) (number_at w j) told
-  pub within : All (λ told. IsWithin told.line) steps
   pub holders : TellsHolders p w k owned
 
 -- none is
@@ -47,7 +44,6 @@ carried_none p w e n r of same = record {
   count = refl;
   told = told_none p w e r;
   each = λ j told h. absurd cc;
-  within = All-nil (λ (told : Step). IsWithin told.line);
   holders = record {
     all = length-replicate n None ∙ same;
     each = λ m l. held_by_none p w m (get_or (replicate n None) m None) (free_at n m)
@@ -78,9 +74,6 @@ carried_more p w k t e new steps more holders follow told f inside_w is can old 
           ∙ (length-append steps (told ∷ []) ∙ ap (λ n. n + 1) old.count);
       told = further;
       each = λ j one h. each_of j one (subst (λ l. slice_get l j ≡ Some one) pushed h);
-      within = subst (All (λ (one : Step). IsWithin one.line)) (sym pushed)
-          (All-push (λ (one : Step). IsWithin one.line) steps told old.within
-          (is_within p told.line f taken.valid));
       holders = record {
         all = next.all ∙ old.holders.all;
         each = holds;

@@ -9,6 +9,8 @@ use Rattle.semantics.specs.Machine.{Snapshot, thread_at, next_of, owner_of, coun
 use Rattle.explain.specs.declared.standing.Reason.{Reason}
 use Rattle.explain.specs.declared.standing.Reason.TheVariants.{Lock, Retake, Acquire, Signal}
 use Rattle.explain.specs.declared.standing.Standing.{Standing}
+use Rattle.explain.specs.declared.object.Object.{Object}
+use Rattle.explain.specs.declared.object.Object.TheVariants.{Mutex, Condition, Semaphore}
 
 -- the mutex that a thread waits for by this reason
 abbrev pub mutex_of : Reason → Option ℕ
@@ -16,6 +18,13 @@ mutex_of (Lock m) = Some m
 mutex_of (Retake m) = Some m
 mutex_of (Acquire k) = None
 mutex_of (Signal c) = None
+
+-- the object that it waits for
+abbrev pub waited_for : Reason → Object
+waited_for (Lock m) = Mutex m
+waited_for (Retake m) = Mutex m
+waited_for (Acquire k) = Semaphore k
+waited_for (Signal c) = Condition c
 
 -- thread t can't take a step for this reason: it is to lock a mutex, or to take one again, that a
 -- thread owns, or to acquire a semaphore whose count is 0, or it waits for a condition
@@ -38,3 +47,9 @@ pub record Stands (p : Program) (s : Snapshot) (t : ℕ) (told : Standing) : Typ
   pub locals : told.locals ≡ (thread_at s t).locals
   pub blocked : (r : Reason) → told.reason ≡ Some r → IsBlockedBy p s t r
   pub unblocked : told.reason ≡ None → IsUnblocked p s t
+  pub enabled : told.enabled ≡ is_enabled p s t
+
+-- what a thread of which this is told waits for; nothing where nothing is told
+abbrev pub reason_of : Option Standing → Option Reason
+reason_of None = None
+reason_of (Some told) = told.reason

@@ -1,21 +1,21 @@
 -- What is told of a schedule.
-use Rattle.std.specs.Prelude.{◌≡◌, ℕ, ◌<◌, ◌≤◌, true, List, length, take, Option, Some, None, slice_get, slice_index_or}
-use Rattle.guest_code.specs.Program.{Program}
-use Rattle.semantics.specs.Machine.{Snapshot, start}
+use Rattle.std.specs.Prelude.{◌≡◌, ℕ, pos, ◌<◌, ◌≤◌, true, List, length, replicate, take, Option, Some, None, slice_get, slice_index_or}
+use Rattle.guest_code.specs.declared.limits.TheConstants.{LOCALS}
+use Rattle.guest_code.specs.Program.{Program, code_of}
+use Rattle.semantics.specs.Machine.{Snapshot, start, thread_at}
 use Rattle.schedules.specs.Schedules.{state_after, runs, preemptions, last_of}
-use Rattle.semantics.specs.Ends.{kind_of}
+use Rattle.semantics.specs.Ends.{kind_of, stop_of}
 use Rattle.schedules.specs.Execution.{ExecutionView}
 use Rattle.replay.specs.Run.{lines_from, number_at, IsFirstBad}
 use Rattle.explain.specs.declared.explanation.Explanation.{Explanation}
+use Rattle.explain.specs.declared.explanation.Start.{Start}
 use Rattle.explain.specs.declared.standing.Standing.{Standing}
 use Rattle.explain.specs.declared.explanation.Holder.{Holder}
 use Rattle.explain.specs.declared.step.Step.{Step}
-use Rattle.explain.specs.declared.lost.Lost.{Lost}
 use Rattle.explain.specs.Steps.{Tells, lines_of}
+use Rattle.explain.specs.Settings.{settings_in}
 use Rattle.explain.specs.Blocked.{Stands}
-use Rattle.explain.specs.Circles.{IsCircle}
 use Rattle.explain.specs.Holders.{IsHeldBy}
-use Rattle.explain.specs.Lost.{IsLost}
 
 -- a schedule that was carried out up to a place
 abbrev pub carried_out : Program → List ℕ → ℕ → ExecutionView
@@ -41,6 +41,17 @@ abbrev pub StopsAt : Program → List ℕ → ℕ → Option ℕ → Type 0
 StopsAt p w n None = length w ≤ n
 StopsAt p w n (Some t) = IsFirstBad p w n × (number_at w n ≡ t)
 
+-- thread t before its first step: the locals that it set by itself, where it is, and why it stopped
+pub record Begins (p : Program) (t : ℕ) (told : Start) : Type 0 where
+  pub settings : told.settings.items ≡ settings_in (code_of p t) 0 0 (replicate LOCALS (pos 0))
+  pub next : told.next ≡ (thread_at (start p) t).pc
+  pub stop : told.stop ≡ stop_of (thread_at (start p) t).status
+
+-- each thread before its first step
+pub record TellsOpening (p : Program) (told : List Start) : Type 0 where
+  pub all : length told ≡ length p.threads
+  pub each : (t : ℕ) (begins : Start) → slice_get told t ≡ Some begins → Begins p t begins
+
 -- each thread at the end
 pub record TellsThreads (p : Program) (s : Snapshot) (told : List Standing) : Type 0 where
   pub all : length told ≡ length p.threads
@@ -53,20 +64,13 @@ pub record TellsHolders (p : Program) (w : List ℕ) (n : ℕ) (told : List (Opt
   pub all : length told ≡ length p.mutexes
   pub each : (m : ℕ) → m < length p.mutexes → IsHeldBy p w n m (slice_index_or told m None)
 
--- what each step overwrites unread
-pub record TellsLost (steps : List Step) (told : List (Option Lost)) : Type 0 where
-  pub all : length told ≡ length steps
-  pub each : (k : ℕ) (lost : Lost) → slice_index_or told k None ≡ Some lost →
-      IsLost (lines_of steps) k lost
-
 -- this is told of a schedule of the program
 pub record Explains (p : Program) (w : List ℕ) (told : Explanation) : Type 0 where
   pub schedule : told.schedule.items ≡ w
   pub steps : TellsSteps p w (length told.steps.items) told.steps.items
   pub stops : StopsAt p w (length told.steps.items) told.refused
+  pub opening : TellsOpening p told.opening.items
   pub threads : TellsThreads p (reached p w (length told.steps.items)) told.standings.items
   pub holders : TellsHolders p w (length told.steps.items) told.holders.items
-  pub circle : IsCircle p (reached p w (length told.steps.items)) told.circle.items
-  pub lost : TellsLost told.steps.items told.lost.items
   pub preemptions : told.preemptions ≡ preemptions p (take (length told.steps.items) w)
   pub kind : told.kind ≡ kind_of p (reached p w (length told.steps.items))

@@ -2,9 +2,6 @@ pub mod Objects
 pub mod Settings
 pub mod Steps
 pub mod Blocked
-pub mod Circles
 pub mod Holders
-pub mod Lost
-pub mod Folding
 pub mod Explains
 pub mod inner

@@ -1,11 +1,9 @@
--- The objects of a program, what is to be seen of them in a state, and which a step touches.
-use Rattle.std.specs.Prelude.{◌<◌, List, [], ◌∷◌, length}
+-- The objects of a program, what is to be seen of them in a state.
+use Rattle.std.specs.Prelude.{◌<◌, length}
 use Rattle.guest_code.specs.Program.{Program}
 use Rattle.semantics.specs.declared.state.Action.{Action}
 use Rattle.semantics.specs.declared.state.Action.TheVariants.{OnVariable, OnMutex, Wait as Waits, OnCondition, OnSemaphore}
 use Rattle.semantics.specs.Machine.{Snapshot, value_of, owner_of, queue_of, count_of}
-use Rattle.replay.specs.declared.run.Act.{Act}
-use Rattle.replay.specs.declared.run.Act.TheVariants.{Load, Store, Add, Cas, Lock, Unlock, Wait, Retake, Signal, Broadcast, Acquire, Release}
 use Rattle.explain.specs.declared.object.Object.{Object}
 use Rattle.explain.specs.declared.object.Object.TheVariants.{Variable, Mutex, Condition, Semaphore}
 use Rattle.explain.specs.declared.object.Reading.{Reading}
@@ -32,18 +30,3 @@ IsObjectOf p (Variable x) = x < length p.variables
 IsObjectOf p (Mutex m) = m < length p.mutexes
 IsObjectOf p (Condition c) = c < length p.conditions
 IsObjectOf p (Semaphore k) = k < length p.semaphores
-
--- the objects that a step touches which did this: a `wait` two, any other one
-abbrev pub touched_by : Act → List Object
-touched_by (Load x v) = Variable x ∷ []
-touched_by (Store x v) = Variable x ∷ []
-touched_by (Add x v w) = Variable x ∷ []
-touched_by (Cas x v hit) = Variable x ∷ []
-touched_by (Lock m) = Mutex m ∷ []
-touched_by (Unlock m) = Mutex m ∷ []
-touched_by (Wait c m) = Condition c ∷ Mutex m ∷ []
-touched_by (Retake m) = Mutex m ∷ []
-touched_by (Signal c) = Condition c ∷ []
-touched_by (Broadcast c) = Condition c ∷ []
-touched_by (Acquire k) = Semaphore k ∷ []
-touched_by (Release k) = Semaphore k ∷ []

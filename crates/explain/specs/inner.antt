@@ -2,4 +2,3 @@
 -- cite it, so nobody has to believe it.
 pub mod Carrying
 pub mod Runs
-pub mod Accessing

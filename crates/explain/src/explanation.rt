@@ -1,13 +1,13 @@
 //! The explanation of a schedule, as a value.
 
-ghost use Rattle.std.specs.Prelude.{◌≡◌, ◌<◌, length, Option, Some, None, IfOk, take};
+ghost use Rattle.std.specs.Prelude.{◌≡◌, ◌<◌, length, Option, Some, None, IfOk, take, slice_get, slice_index_or};
+ghost use Rattle.std.specs.Option.{option_copied};
 ghost use Rattle.semantics.specs.Machine.{is_enabled};
 ghost use Rattle.semantics.specs.Reachable.{IsOf};
-ghost use Rattle.explain.specs.Explains.{Explains, TellsThreads};
+ghost use Rattle.explain.specs.Blocked.{reason_of};
+ghost use Rattle.explain.specs.Explains.{Explains, TellsOpening, TellsThreads};
 ghost use Rattle.explain.specs.inner.Carrying.{IsCarriedOut, AreFollowed, is_followed};
 
-use crate::circle::circle_of;
-use crate::lost::{Lost, lost_writes};
 use crate::settings::{Setting, put_settings};
 use crate::standing::{Reason, Standing};
 use crate::step::Step;
@@ -43,11 +43,9 @@ pub struct Start {
 pub struct Explanation {
     schedule: Vec<u8>,
     steps: Vec<Step>,
-    lost: Vec<Option<Lost>>,
     opening: Vec<Start>,
     standings: Vec<Standing>,
     holders: Vec<Option<Holder>>,
-    circle: Vec<u8>,
     preemptions: usize,
     kind: Option<Kind>,
     refused: Option<u8>,
@@ -65,18 +63,15 @@ impl Explanation {
         let carried = Carried::along(alloc, program, schedule)?;
         let state = carried.execution.state();
         let standings = standings_in(alloc, state, program)?;
-        let circle = circle_of(alloc, state, program)?;
         let kind = state.kind(program);
         let preemptions = carried.execution.preemptions();
-        let lost = lost_writes(alloc, carried.steps.as_slice())?;
+        let opening = starts_of(alloc, program)?;
         Ok(Explanation {
             schedule: schedule.to_vec(alloc)?,
             steps: carried.steps,
-            lost,
-            opening: starts_of(alloc, program)?,
+            opening,
             standings,
             holders: carried.holders,
-            circle,
             preemptions,
             kind,
             refused: carried.refused,
@@ -104,13 +99,6 @@ impl Explanation {
         self.steps.as_slice()
     }
 
-    /// For each step what it overwrites unread, if it does.
-    pub fn lost(&self) -> &[Option<Lost>]
-        ensures { result.now ≡ self.now.lost.items }
-    {
-        self.lost.as_slice()
-    }
-
     /// Each thread at the end of what ran.
     pub fn standings(&self) -> &[Standing]
         ensures { result.now ≡ self.now.standings.items }
@@ -123,14 +111,6 @@ impl Explanation {
         ensures { result.now ≡ self.now.holders.items }
     {
         self.holders.as_slice()
-    }
-
-    /// Threads of which each waits for a mutex that the next owns, and the last for one that the
-    /// first owns. Empty where there are none.
-    pub fn circle(&self) -> &[u8]
-        ensures { result.now ≡ self.now.circle.items }
-    {
-        self.circle.as_slice()
     }
 
     /// How many of its switches were preempting.
@@ -155,17 +135,23 @@ impl Explanation {
     }
 
     /// A thread at the end of what ran.
-    pub fn standing(&self, thread: u8) -> Option<&Standing> {
+    pub fn standing(&self, thread: u8) -> Option<&Standing>
+        ensures { option_copied result ≡ slice_get self.now.standings.items thread }
+    {
         self.standings.get(thread as usize)
     }
 
     /// What a thread waits for at the end, if it is blocked.
-    pub fn reason(&self, thread: u8) -> Option<Reason> {
+    pub fn reason(&self, thread: u8) -> Option<Reason>
+        ensures { result ≡ reason_of (slice_get self.now.standings.items thread) }
+    {
         self.standings.get(thread as usize)?.reason
     }
 
     /// Who owns a mutex at the end, if a thread does.
-    pub fn holder(&self, mutex: usize) -> Option<Holder> {
+    pub fn holder(&self, mutex: usize) -> Option<Holder>
+        ensures { result ≡ slice_index_or self.now.holders.items mutex None }
+    {
         self.holders.get(mutex).copied().flatten()
     }
 }
@@ -257,7 +243,9 @@ fn standings_in(
 }
 
 // Each thread before its first step.
-fn starts_of(alloc: Global, program: &Program) -> Result<Vec<Start>, AllocError> {
+fn starts_of(alloc: Global, program: &Program) -> Result<Vec<Start>, AllocError>
+    ensures { IfOk result (λ v. TellsOpening program.now v.items) }
+{
     let state = State::start(alloc, program)?;
     let mut starts = Vec::new(alloc);
     for t in 0..program.threads() {

@@ -5,23 +5,18 @@
 //! places that it is told with; the texts are made in crates above.
 #![tactic(auto)]
 
-mod circle;
 mod explanation;
-mod focus;
-mod lost;
 mod object;
 mod settings;
 mod source;
 mod standing;
 mod statement;
 mod step;
-pub mod words;
 
 pub use crate::explanation::{Explanation, Holder, Start};
-pub use crate::lost::{Lost, held_between};
 pub use crate::object::{Object, Reading};
 pub use crate::settings::Setting;
 pub use crate::source::Source;
 pub use crate::standing::{Reason, Standing};
-pub use crate::statement::op_text;
+pub use crate::statement::{Statement, name_text, op_text};
 pub use crate::step::Step;

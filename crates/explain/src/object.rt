@@ -1,12 +1,10 @@
 //! Objects of a program, and what is to be seen of them in a state.
 
-ghost use Rattle.std.specs.Prelude.{◌≡◌, ◌∷◌, ◌↔◌, [], IsTrue, IfSome, IfNone};
+ghost use Rattle.std.specs.Prelude.{◌≡◌};
 ghost use Rattle.semantics.specs.Reachable.{IsOf};
-ghost use Rattle.semantics.specs.Waiters.{In};
 ghost use Rattle.guest_code.specs.Program.{Program};
-ghost use Rattle.explain.specs.Objects.{object_of, reading_of, touched_by, IsObjectOf};
+ghost use Rattle.explain.specs.Objects.{object_of, reading_of, IsObjectOf};
 
-use replay::Act;
 use semantics::state::{Action, State};
 
 /// An object, by its kind and its number.
@@ -59,34 +57,5 @@ impl Object {
             Object::Condition(c) => Reading::Waiting(state.queue_length(c)),
             Object::Semaphore(k) => Reading::Count(state.count(k)),
         }
-    }
-
-    /// Whether a step that did this touched it.
-    pub fn is_touched(self, act: Act) -> bool
-        ensures { IsTrue result ↔ In (touched_by act) self }
-    {
-        match touched(act) {
-            (first, None) => self == first,
-            (first, Some(second)) => self == first || self == second,
-        }
-    }
-}
-
-/// The objects that a step touched which did this: one, and of a `wait` its mutex, too.
-pub fn touched(act: Act) -> (Object, Option<Object>)
-    ensures one { IfNone result.1 (touched_by act ≡ result.0 ∷ []) }
-    ensures two { IfSome result.1 (λ second. touched_by act ≡ result.0 ∷ second ∷ []) }
-{
-    match act {
-        Act::Load { variable, .. }
-        | Act::Store { variable, .. }
-        | Act::Add { variable, .. }
-        | Act::Cas { variable, .. } => (Object::Variable(variable), None),
-        Act::Lock(m) | Act::Unlock(m) | Act::Retake(m) => (Object::Mutex(m), None),
-        Act::Wait { condition, mutex } => {
-            (Object::Condition(condition), Some(Object::Mutex(mutex)))
-        }
-        Act::Signal(c) | Act::Broadcast(c) => (Object::Condition(c), None),
-        Act::Acquire(k) | Act::Release(k) => (Object::Semaphore(k), None),
     }
 }

@@ -1,15 +1,14 @@
 //! The locals that a thread sets, one after the other.
 
-ghost use Rattle.std.specs.Prelude.{List, ◌+◌, ◌∷◌, IfOk, ◌≡◌, ◌<◌, ◌++◌, length, drop, OnOk, IfSome};
+ghost use Rattle.std.specs.Prelude.{IfOk, ◌≡◌, ◌<◌, ◌++◌, length, drop, OnOk, IfSome};
 ghost use Rattle.guest_code.specs.Program.{Program, IsValidCode, IsValid};
-ghost use Rattle.guest_code.specs.declared.program.Instruction.{Instruction};
 ghost use Rattle.explain.specs.Settings.{settings_in, setting_by, listed, locals_with, settings_by};
-ghost use Rattle.explain.specs.inner.Runs.{settings_after};
+ghost use Rattle.explain.specs.inner.Runs.{set_at};
 
 use guest_code::limits::LOCALS;
 use guest_code::program::Instruction;
 use replay::Act;
-use semantics::expression_at;
+use semantics::{Turn, next_local};
 use std::alloc::{AllocError, Global};
 
 /// A local that gets a value.
@@ -119,58 +118,32 @@ pub fn put_settings(
     ensures { OnOk result (settings.new.items
         ≡ settings.old.items ++ settings_in (drop from code.now) from 0 locals.old) }
 {
-    let mut skip = 0;
-    for at in from..code.len() {
-        if skip > 0 {
-            skip -= 1;
-            continue;
-        }
-        match put_setting(settings, &code[at], locals, at)? {
-            Some(next) => skip = next,
-            None => return Ok(()),
-        }
+    let mut at = from;
+    while let Turn::Runs(next) = next_local(code, locals, at) {
+        put_setting(settings, at, &code[at], locals)?;
+        at = next;
     }
     Ok(())
 }
 
-// Adds what an instruction sets by itself. The answer is how many of the next ones are jumped over;
-// `None` where the local run is over.
+// Adds the local that a thread has set by itself at an instruction, after which these are its
+// locals.
 fn put_setting(
     settings: &mut Vec<Setting>,
-    instruction: &Instruction,
-    locals: &mut [i64; LOCALS],
     at: usize,
-) -> Result<Option<usize>, AllocError>
+    instruction: &Instruction,
+    locals: &[i64; LOCALS],
+) -> Result<(), AllocError>
     requires { (p : Program) × IsValid p instruction.now }
-    ensures { IfOk result (λ next. (rest : List Instruction) → settings.old.items
-        ++ settings_in (instruction.now ∷ rest) at 0 locals.old
-        ≡ settings.new.items ++ settings_after next rest (at + 1) locals.new) }
+    ensures { OnOk result (settings.new.items
+        ≡ settings.old.items ++ set_at at instruction.now locals.now) }
 {
-    match instruction {
-        Instruction::Set { local, value } => {
-            let local = *local;
-            let value = expression_at(locals, value);
-            locals[local] = value;
-            settings.push(Setting {
-                instruction: at,
-                local,
-                value,
-            })?;
-            Ok(Some(0))
-        }
-        Instruction::Assert(test) => {
-            if expression_at(locals, test) == 0 {
-                return Ok(None);
-            }
-            Ok(Some(0))
-        }
-        Instruction::SkipIfZero(test, n) => {
-            if expression_at(locals, test) == 0 {
-                return Ok(Some(*n));
-            }
-            Ok(Some(0))
-        }
-        Instruction::Skip(n) => Ok(Some(*n)),
-        _ => Ok(None),
+    if let Instruction::Set { local, .. } = instruction {
+        settings.push(Setting {
+            instruction: at,
+            local: *local,
+            value: locals[*local],
+        })?;
     }
+    Ok(())
 }

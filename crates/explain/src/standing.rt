@@ -3,8 +3,7 @@
 ghost use Rattle.std.specs.Prelude.{◌≡◌, ◌<◌, length, MatchOption, Some};
 ghost use Rattle.semantics.specs.Reachable.{IsOf};
 ghost use Rattle.semantics.specs.Ends.{is_stopped};
-ghost use Rattle.explain.specs.Blocked.{IsBlockedBy, IsUnblocked, Stands, mutex_of};
-ghost use Rattle.explain.specs.Folding.{counts, waited_for};
+ghost use Rattle.explain.specs.Blocked.{IsBlockedBy, IsUnblocked, Stands, mutex_of, waited_for};
 
 use crate::object::Object;
 use guest_code::limits::LOCALS;
@@ -60,6 +59,7 @@ pub struct Standing {
     pub locals: [i64; LOCALS],
     /// What it waits for; `None` where it is enabled, ended or stopped.
     pub reason: Option<Reason>,
+    enabled: bool,
 }
 
 impl Standing {
@@ -74,23 +74,15 @@ impl Standing {
             instruction: state.pc(thread),
             locals: *state.locals(thread),
             reason: reason_of(state, program, thread),
+            enabled: state.is_enabled(program, thread),
         }
     }
 
     /// Whether the thread can take a step.
-    pub fn is_enabled(&self) -> bool {
-        self.reason.is_none() && matches!(self.status, Status::Running | Status::Woken)
-    }
-
-    /// Whether it matters, where some thread failed or none did.
-    pub fn counts(&self, failed: bool) -> bool
-        ensures { result ≡ counts failed self.now }
+    pub fn is_enabled(&self) -> bool
+        ensures { result ≡ self.now.enabled }
     {
-        if failed {
-            self.is_stopped()
-        } else {
-            self.reason.is_some()
-        }
+        self.enabled
     }
 
     /// Whether it has stopped.

@@ -2,165 +2,189 @@
 
 use crate::object::Object;
 use crate::source::Source;
-use crate::words::{put_both, put_value};
 use guest_code::program::{Expression, Instruction, Value};
 use guest_syntax::tree::Op;
-use std::alloc::{AllocError, Global};
+use std::fmt;
+use std::str::from_utf8;
 
-impl Source<'_> {
-    /// The statement at which a thread is; nothing at the end of its code.
-    pub fn put_statement(
-        &self,
-        text: &mut Vec<u8>,
-        alloc: Global,
-        thread: u8,
-        instruction: usize,
-    ) -> Result<(), AllocError> {
-        let Some(instruction) = self.instruction(thread, instruction) else {
-            return Ok(());
-        };
-        self.put_word(text, thread, instruction)?;
-        self.put_values(text, alloc, thread, instruction)
+/// A name of a guest, which is ASCII, as text.
+pub fn name_text(name: &[u8]) -> &str {
+    from_utf8(name).unwrap_or("?")
+}
+
+/// The spelling of an operator.
+pub fn op_text(op: Op) -> &'static str {
+    match op {
+        Op::Add => "+",
+        Op::Subtract => "-",
+        Op::Multiply => "*",
+        Op::Equal => "==",
+        Op::NotEqual => "!=",
+        Op::Less => "<",
+        Op::LessOrEqual => "<=",
+        Op::Greater => ">",
+        Op::GreaterOrEqual => ">=",
     }
+}
 
-    // A word, a local's name and that of a variable.
-    fn put_access(
-        &self,
-        text: &mut Vec<u8>,
-        word: &[u8],
-        local: &[u8],
-        variable: usize,
-    ) -> Result<(), AllocError> {
-        put_both(text, word, local)?;
-        self.put_object(text, b" ", Object::Variable(variable))
-    }
+// A local or a number of a thread's statement.
+#[derive(Clone, Copy)]
+struct Operand<'a> {
+    source: &'a Source<'a>,
+    thread: u8,
+    value: Value,
+}
 
-    // The word of a statement, its local and its objects.
-    fn put_word(
-        &self,
-        text: &mut Vec<u8>,
-        thread: u8,
-        instruction: Instruction,
-    ) -> Result<(), AllocError> {
-        match instruction {
-            Instruction::Load { local, variable } => {
-                self.put_access(text, b"load ", self.local(thread, local), variable)
-            }
-            Instruction::Store { variable, .. } => {
-                self.put_object(text, b"store ", Object::Variable(variable))
-            }
-            Instruction::Add {
-                local,
-                variable,
-                ..
-            } => { self.put_access(text, b"add ", self.local(thread, local), variable) }
-            Instruction::Cas {
-                local,
-                variable,
-                ..
-            } => { self.put_access(text, b"cas ", self.local(thread, local), variable) }
-            Instruction::Lock(m) => self.put_object(text, b"lock ", Object::Mutex(m)),
-            Instruction::Unlock(m) => self.put_object(text, b"unlock ", Object::Mutex(m)),
-            Instruction::Wait { condition, mutex } => {
-                self.put_object(text, b"wait ", Object::Condition(condition))?;
-                self.put_object(text, b" ", Object::Mutex(mutex))
-            }
-            Instruction::Signal(c) => self.put_object(text, b"signal ", Object::Condition(c)),
-            Instruction::Broadcast(c) => {
-                self.put_object(text, b"broadcast ", Object::Condition(c))
-            }
-            Instruction::Acquire(k) => self.put_object(text, b"acquire ", Object::Semaphore(k)),
-            Instruction::Release(k) => self.put_object(text, b"release ", Object::Semaphore(k)),
-            Instruction::Set { local, .. } => put_both(text, b"set ", self.local(thread, local)),
-            Instruction::Assert(_) => text.extend_from_slice(b"assert"),
-            Instruction::SkipIfZero(_, _) => text.extend_from_slice(b"if"),
-            Instruction::Skip(_) => text.extend_from_slice(b"leave"),
+impl fmt::Display for Operand<'_> {
+    fn fmt<W: fmt::Write>(&self, f: &mut fmt::Formatter<W>) -> fmt::Result {
+        match self.value {
+            Value::Local(r) => f.write_str(name_text(self.source.local(self.thread, r))),
+            Value::Literal(n) => write!(f, "{n}"),
         }
     }
+}
 
-    // The values of a statement, each after a space.
-    fn put_values(
-        &self,
-        text: &mut Vec<u8>,
-        alloc: Global,
-        thread: u8,
-        instruction: Instruction,
-    ) -> Result<(), AllocError> {
-        match instruction {
-            Instruction::Store { value, .. } | Instruction::Add { value, .. } => {
-                text.push(b' ')?;
-                self.put_operand(text, alloc, thread, value)
-            }
-            Instruction::Cas { expected, new, .. } => {
-                text.push(b' ')?;
-                self.put_operand(text, alloc, thread, expected)?;
-                text.push(b' ')?;
-                self.put_operand(text, alloc, thread, new)
-            }
-            Instruction::Set { value, .. }
-            | Instruction::Assert(value)
-            | Instruction::SkipIfZero(value, _) => {
-                text.push(b' ')?;
-                self.put_expression(text, alloc, thread, value)
-            }
-            _ => Ok(()),
+// An expression of a thread's statement.
+#[derive(Clone, Copy)]
+struct Spelled<'a> {
+    source: &'a Source<'a>,
+    thread: u8,
+    expression: Expression,
+}
+
+impl Spelled<'_> {
+    // One of its operands.
+    fn operand(&self, value: Value) -> Operand<'_> {
+        Operand {
+            source: self.source,
+            thread: self.thread,
+            value,
         }
     }
+}
 
-    /// A word and the name of an object.
-    pub fn put_object(
-        &self,
-        text: &mut Vec<u8>,
-        word: &[u8],
-        object: Object,
-    ) -> Result<(), AllocError> {
-        put_both(text, word, self.object(object))
-    }
-
-    /// A local's name, or a number.
-    pub fn put_operand(
-        &self,
-        text: &mut Vec<u8>,
-        alloc: Global,
-        thread: u8,
-        value: Value,
-    ) -> Result<(), AllocError> {
-        match value {
-            Value::Local(r) => text.extend_from_slice(self.local(thread, r)),
-            Value::Literal(n) => put_value(text, alloc, n),
-        }
-    }
-
-    /// An expression.
-    pub fn put_expression(
-        &self,
-        text: &mut Vec<u8>,
-        alloc: Global,
-        thread: u8,
-        expression: Expression,
-    ) -> Result<(), AllocError> {
-        match expression {
-            Expression::Single(a) => self.put_operand(text, alloc, thread, a),
+impl fmt::Display for Spelled<'_> {
+    fn fmt<W: fmt::Write>(&self, f: &mut fmt::Formatter<W>) -> fmt::Result {
+        match self.expression {
+            Expression::Single(a) => write!(f, "{}", self.operand(a)),
             Expression::Both(a, op, b) => {
-                self.put_operand(text, alloc, thread, a)?;
-                text.extend_from_slice(op_text(op))?;
-                self.put_operand(text, alloc, thread, b)
+                let word = op_text(op);
+                write!(f, "{} {word} {}", self.operand(a), self.operand(b))
             }
         }
     }
 }
 
-/// An operator between spaces.
-pub fn op_text(op: Op) -> &'static [u8] {
-    match op {
-        Op::Add => b" + ",
-        Op::Subtract => b" - ",
-        Op::Multiply => b" * ",
-        Op::Equal => b" == ",
-        Op::NotEqual => b" != ",
-        Op::Less => b" < ",
-        Op::LessOrEqual => b" <= ",
-        Op::Greater => b" > ",
-        Op::GreaterOrEqual => b" >= ",
+/// The statement at which a thread is; nothing at the end of its code.
+#[derive(Clone, Copy)]
+pub struct Statement<'a> {
+    /// What has the names.
+    pub source: &'a Source<'a>,
+    /// The thread, by its number.
+    pub thread: u8,
+    /// The number of the instruction.
+    pub instruction: usize,
+}
+
+impl Statement<'_> {
+    // The name of a local.
+    fn local(&self, local: usize) -> &str {
+        name_text(self.source.local(self.thread, local))
+    }
+
+    // The name of an object.
+    fn object(&self, object: Object) -> &str {
+        name_text(self.source.object(object))
+    }
+
+    // A local's name or a number.
+    fn operand(&self, value: Value) -> Operand<'_> {
+        Operand {
+            source: self.source,
+            thread: self.thread,
+            value,
+        }
+    }
+
+    // An expression.
+    fn spelled(&self, expression: Expression) -> Spelled<'_> {
+        Spelled {
+            source: self.source,
+            thread: self.thread,
+            expression,
+        }
+    }
+
+    // Writes an access to a variable, or what the thread does by itself.
+    fn write_value<W: fmt::Write>(
+        &self,
+        f: &mut fmt::Formatter<W>,
+        instruction: Instruction,
+    ) -> fmt::Result {
+        match instruction {
+            Instruction::Load { local, variable } => {
+                write!(
+                    f,
+                    "load {} {}",
+                    self.local(local),
+                    self.object(Object::Variable(variable))
+                )
+            }
+            Instruction::Store { variable, value } => {
+                write!(
+                    f,
+                    "store {} {}",
+                    self.object(Object::Variable(variable)),
+                    self.operand(value)
+                )
+            }
+            Instruction::Add {
+                local,
+                variable,
+                value,
+            } => {
+                let x = self.object(Object::Variable(variable));
+                write!(f, "add {} {x} {}", self.local(local), self.operand(value))
+            }
+            Instruction::Cas {
+                local,
+                variable,
+                expected,
+                new,
+            } => {
+                let x = self.object(Object::Variable(variable));
+                let (expected, new) = (self.operand(expected), self.operand(new));
+                write!(f, "cas {} {x} {expected} {new}", self.local(local))
+            }
+            Instruction::Set { local, value } => {
+                write!(f, "set {} {}", self.local(local), self.spelled(value))
+            }
+            Instruction::Assert(value) => write!(f, "assert {}", self.spelled(value)),
+            Instruction::SkipIfZero(value, _) => write!(f, "if {}", self.spelled(value)),
+            _ => f.write_str("leave"),
+        }
+    }
+}
+
+impl fmt::Display for Statement<'_> {
+    fn fmt<W: fmt::Write>(&self, f: &mut fmt::Formatter<W>) -> fmt::Result {
+        let Some(instruction) = self.source.instruction(self.thread, self.instruction) else {
+            return Ok(());
+        };
+        match instruction {
+            Instruction::Lock(m) => write!(f, "lock {}", self.object(Object::Mutex(m))),
+            Instruction::Unlock(m) => write!(f, "unlock {}", self.object(Object::Mutex(m))),
+            Instruction::Wait { condition, mutex } => {
+                let c = self.object(Object::Condition(condition));
+                write!(f, "wait {c} {}", self.object(Object::Mutex(mutex)))
+            }
+            Instruction::Signal(c) => write!(f, "signal {}", self.object(Object::Condition(c))),
+            Instruction::Broadcast(c) => {
+                write!(f, "broadcast {}", self.object(Object::Condition(c)))
+            }
+            Instruction::Acquire(k) => write!(f, "acquire {}", self.object(Object::Semaphore(k))),
+            Instruction::Release(k) => write!(f, "release {}", self.object(Object::Semaphore(k))),
+            _ => self.write_value(f, instruction),
+        }
     }
 }

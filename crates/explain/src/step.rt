@@ -2,10 +2,9 @@
 
 ghost use Rattle.std.specs.Prelude.{◌≡◌, ◌<◌, ◌+◌, ◌^◌, IfOk, IsTrue, length, take};
 ghost use Rattle.guest_code.specs.Program.{Program};
-ghost use Rattle.semantics.specs.Machine.{is_enabled, owns, queue_of};
+ghost use Rattle.semantics.specs.Machine.{is_enabled, queue_of};
 ghost use Rattle.semantics.specs.Reachable.{IsOf, IsValidAction};
 ghost use Rattle.schedules.specs.Execution.{IsExecutionOf};
-ghost use Rattle.explain.specs.Lost.{line_of};
 ghost use Rattle.explain.specs.Steps.{IsTakenStep, held_in, lines_of, woken_in};
 
 use crate::object::{Object, Reading};
@@ -13,6 +12,7 @@ use crate::settings::{Passage, Setting, settings_of};
 use guest_code::program::Program;
 use replay::{Line, act_of};
 use schedules::execution::Execution;
+use semantics::owns;
 use semantics::state::{Action, ConditionAction, State};
 use std::alloc::{AllocError, Global};
 
@@ -113,16 +113,6 @@ fn held_by(
     Ok(held)
 }
 
-// Whether a thread is the owner.
-fn owns(thread: u8, owner: Option<u8>) -> bool
-    ensures { result ≡ owns thread owner }
-{
-    match owner {
-        Some(other) => thread == other,
-        None => false,
-    }
-}
-
 // The threads that an action wakes, the one that waited longest first.
 fn woken_by(alloc: Global, state: &State, action: Action) -> Result<Vec<u8>, AllocError>
     requires { (p : Program) × IsOf p state.now × IsValidAction p action }
@@ -155,12 +145,4 @@ fn first_queued(
         }
     }
     Ok(queued)
-}
-
-/// What the step at a place did.
-pub fn line_at(steps: &[Step], at: usize) -> Line
-    requires { at < length steps.now }
-    ensures { result ≡ line_of (lines_of steps.now) at }
-{
-    steps[at].line
 }

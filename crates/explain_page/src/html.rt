@@ -1,10 +1,18 @@
 //! The explanation as JSON and as a page.
 
-use crate::json::Teller;
-use crate::page::{PAGE_BEGIN, PAGE_END};
+use crate::page::{PAGE_BEGIN, PAGE_END, SENTENCE_BEGIN, SENTENCE_END, SENTENCE_TITLE};
+use crate::places::Places;
+use crate::tell::{Teller, text};
+use crate::told::{Beside, Unexplained};
+use causes::Causes;
 use explain::{Explanation, Source};
+use serde::Serialize;
 use serde_json::Value;
 use std::alloc::{AllocError, Global};
+use waits::Waits;
+
+// The digits of a number, with its sign, that a script keeps for certain.
+const DIGITS: usize = 15;
 
 /// The explanation as compact JSON of one object, its keys in the order of their bytes, with a line
 /// feed. `docs/FORMATS.md` says what each key has. `search` is the report of the search that found the
@@ -13,57 +21,147 @@ use std::alloc::{AllocError, Global};
 /// # Errors
 ///
 /// `AllocError` where memory runs out.
-pub fn explanation_json(
+pub fn explanation_json<'a>(
     alloc: Global,
-    explanation: &Explanation,
-    source: &Source<'_>,
+    explanation: &'a Explanation,
+    source: &'a Source<'a>,
     search: Option<Value>,
 ) -> Result<Vec<u8>, AllocError> {
-    let teller = Teller {
-        alloc,
-        explanation,
-        source,
-    };
-    let mut text = Value::Object(teller.members(search)?).to_vec(alloc)?;
-    text.push(b'\n')?;
-    Ok(text)
+    let mut data = data_of(alloc, explanation, source, search, None)?;
+    data.push(b'\n')?;
+    Ok(data)
 }
 
-/// The explanation as a page: one file, which asks no network. Its data is the JSON of the
-/// explanation with the text of the guest, and its script draws it. `search` is the report of the
-/// search that found the schedule, if one did: the page shows its other ends.
+/// What is told as JSON where a search found no bad schedule: the file, no schedule, and the report
+/// of the search.
 ///
 /// # Errors
 ///
 /// `AllocError` where memory runs out.
-pub fn explanation_html(
-    alloc: Global,
-    explanation: &Explanation,
-    source: &Source<'_>,
-    search: Option<Value>,
-) -> Result<Vec<u8>, AllocError> {
-    let mut page = Vec::from_slice(alloc, PAGE_BEGIN.as_bytes())?;
-    let teller = Teller {
-        alloc,
-        explanation,
-        source,
+pub fn nothing_json(alloc: Global, file: &str, search: Value) -> Result<Vec<u8>, AllocError> {
+    let told = Unexplained {
+        file,
+        schedule: None,
+        search,
     };
-    let mut members = teller.members(search)?;
-    teller.put(&mut members, "source", teller.text(source.text)?)?;
-    let data = Value::Object(members).to_vec(alloc)?;
-    put_data(&mut page, data.as_slice())?;
+    let mut data = json_of(alloc, &told)?;
+    data.push(b'\n')?;
+    Ok(data)
+}
+
+/// The explanation as a page: one file, which asks no network. Its data is the JSON of the
+/// explanation with the text of the guest, and its script draws it. `search` is the report of the
+/// search that found the schedule, if one did: the page shows its other ends. `why` says in words how
+/// the schedule ends and why, and its last line is the command that replays it.
+///
+/// # Errors
+///
+/// `AllocError` where memory runs out.
+pub fn explanation_html<'a>(
+    alloc: Global,
+    explanation: &'a Explanation,
+    source: &'a Source<'a>,
+    search: Option<Value>,
+    why: &'a str,
+) -> Result<Vec<u8>, AllocError> {
+    let beside = Beside {
+        source: text(source.text),
+        why,
+    };
+    let data = data_of(alloc, explanation, source, search, Some(beside))?;
+    let mut page = Vec::from_slice(alloc, PAGE_BEGIN.as_bytes())?;
+    put_data(&mut page, alloc, data.as_slice())?;
     page.extend_from_slice(PAGE_END.as_bytes())?;
     Ok(page)
 }
 
-// JSON inside a script element. A `<` is spelled by its number, so nothing in it ends the element.
-fn put_data(page: &mut Vec<u8>, data: &[u8]) -> Result<(), AllocError> {
-    for byte in data {
-        if *byte == b'<' {
-            page.extend_from_slice(b"\\u003c")?;
-        } else {
-            page.push(*byte)?;
+/// What is told as a page where a search found no bad schedule: a sentence.
+///
+/// # Errors
+///
+/// `AllocError` where memory runs out.
+pub fn nothing_html(alloc: Global, file: &str, sentence: &str) -> Result<Vec<u8>, AllocError> {
+    let mut page = Vec::from_slice(alloc, SENTENCE_BEGIN.as_bytes())?;
+    put_escaped(&mut page, file)?;
+    page.extend_from_slice(SENTENCE_TITLE.as_bytes())?;
+    put_escaped(&mut page, sentence)?;
+    page.extend_from_slice(SENTENCE_END.as_bytes())?;
+    Ok(page)
+}
+
+// The JSON of an explanation, with what only the page has, if it is given.
+fn data_of<'a>(
+    alloc: Global,
+    explanation: &'a Explanation,
+    source: &'a Source<'a>,
+    search: Option<Value>,
+    beside: Option<Beside<'a>>,
+) -> Result<Vec<u8>, AllocError> {
+    let causes = Causes::of(alloc, source.program, explanation)?;
+    let waits = Waits::new(alloc, source.program, explanation)?;
+    let teller = Teller {
+        alloc,
+        explanation,
+        causes: &causes,
+        waits: &waits,
+        source,
+        places: Places::new(alloc, source.text)?,
+    };
+    json_of(alloc, &teller.told(search, beside)?)
+}
+
+// A value as compact JSON. All that can go wrong is that memory runs out.
+fn json_of<T: Serialize>(alloc: Global, value: &T) -> Result<Vec<u8>, AllocError> {
+    serde_json::to_vec(alloc, value).map_err(|_| AllocError)
+}
+
+// Text inside an element, in which no name ends it.
+fn put_escaped(page: &mut Vec<u8>, words: &str) -> Result<(), AllocError> {
+    for byte in words.as_bytes() {
+        match *byte {
+            b'<' => page.extend_from_slice(b"&lt;")?,
+            b'&' => page.extend_from_slice(b"&amp;")?,
+            byte => page.push(byte)?,
         }
     }
     Ok(())
+}
+
+// JSON inside a script element: nothing in it ends the element, and no number is one that a script
+// would round.
+fn put_data(page: &mut Vec<u8>, alloc: Global, data: &[u8]) -> Result<(), AllocError> {
+    let mut number = Vec::new(alloc);
+    let mut is_text = false;
+    let mut is_escaped = false;
+    for byte in data {
+        if !is_text && matches!(*byte, b'-' | b'0'..=b'9') {
+            number.push(*byte)?;
+        } else {
+            put_number(page, number.as_slice())?;
+            number.clear();
+            put_byte(page, *byte)?;
+        }
+        is_text = is_text != (*byte == b'"' && !is_escaped);
+        is_escaped = is_text && *byte == b'\\' && !is_escaped;
+    }
+    Ok(())
+}
+
+// A number, as text where it has more digits than a script keeps.
+fn put_number(page: &mut Vec<u8>, number: &[u8]) -> Result<(), AllocError> {
+    if number.len() <= DIGITS {
+        return page.extend_from_slice(number);
+    }
+    page.push(b'"')?;
+    page.extend_from_slice(number)?;
+    Ok(page.push(b'"')?)
+}
+
+// A byte of JSON. A `<` is spelled by its number.
+fn put_byte(page: &mut Vec<u8>, byte: u8) -> Result<(), AllocError> {
+    if byte == b'<' {
+        page.extend_from_slice(b"\\u003c")
+    } else {
+        Ok(page.push(byte)?)
+    }
 }

@@ -9,34 +9,67 @@ pub const PAGE_BEGIN: &str = r##"<!DOCTYPE html>
 <link rel="icon" href="data:,">
 <title>ctxbound</title>
 <style>
-:root { --ink: #1c2430; --soft: #667085; --line: #d7dce3; --paper: #fff; --bad: #c62828; --band: #fde7e7; --held: #b8bec8; --now: #fff3c4; }
+:root { color-scheme: light dark; --ink: #1c2430; --soft: #5b6675; --line: #d7dce3; --paper: #fff; --back: #f5f6f8;
+  --bad: #c62828; --held: #c3cad6; --now: #fff3c4; --chosen: #ffd54f; --arrow: #8a94a6;
+  --t0: #3559a8; --t1: #2e7d32; --t2: #8e44ad; --t3: #b8601a; --t4: #00796b; --t5: #ad1457; --t6: #5d4037; --t7: #37474f; }
+@media (prefers-color-scheme: dark) {
+  :root { --ink: #e6e9ee; --soft: #9aa5b4; --line: #3a4350; --paper: #1d2229; --back: #14181d;
+    --bad: #ff7b72; --held: #4a5462; --now: #4a4220; --chosen: #b08900; --arrow: #7d8898;
+    --t0: #7aa2f7; --t1: #7bc47f; --t2: #cf8ef0; --t3: #f0a35e; --t4: #4fc3b0; --t5: #f48fb1; --t6: #bcaaa4; --t7: #b0bec5; }
+}
 * { box-sizing: border-box; }
-body { margin: 0; font: 14px/1.45 system-ui, sans-serif; color: var(--ink); background: #f5f6f8; }
+body { margin: 0; font: 14px/1.45 system-ui, sans-serif; color: var(--ink); background: var(--back); }
 header { padding: 12px 16px; background: var(--paper); border-bottom: 1px solid var(--line); }
-h1 { margin: 0; font-size: 17px; } h2 { margin: 0 0 6px; font-size: 13px; color: var(--soft); }
-#summary { margin: 4px 0 0; } .bad { color: var(--bad); font-weight: 600; }
-main { display: grid; grid-template-columns: minmax(240px, 2fr) 5fr; gap: 12px; padding: 12px 16px; }
+h1 { margin: 0; font-size: 17px; overflow-wrap: anywhere; } h2 { margin: 0 0 6px; font-size: 13px; color: var(--soft); }
+#summary { margin: 4px 0 0; overflow-wrap: anywhere; } .bad { color: var(--bad); font-weight: 600; }
+#why { margin: 8px 0 0; font: 12px/1.5 ui-monospace, monospace; white-space: pre-wrap; overflow-wrap: anywhere; }
+#replay { display: flex; gap: 8px; align-items: start; margin: 8px 0 0; }
+#command { font: 12px/1.5 ui-monospace, monospace; overflow-wrap: anywhere; }
+main { display: grid; grid-template-columns: minmax(240px, 2fr) minmax(0, 3fr); gap: 12px; padding: 12px 16px; align-items: start; }
 section { background: var(--paper); border: 1px solid var(--line); border-radius: 6px; padding: 10px; min-width: 0; }
-#source { max-height: 82vh; overflow: auto; font: 12px/1.5 ui-monospace, monospace; white-space: pre; }
-#source .line { display: flex; } #source .number { width: 3.2em; color: var(--soft); text-align: right; padding-right: 8px; flex: none; }
-#source .here { background: var(--now); } .badge { font: 11px system-ui, sans-serif; color: #fff; border-radius: 8px; padding: 0 6px; margin-left: 6px; }
+#source { max-height: 82vh; overflow: auto; position: relative; font: 12px/1.5 ui-monospace, monospace; white-space: pre; }
+#source .line { display: flex; min-width: max-content; } #source .number { width: 3em; color: var(--soft); text-align: right; flex: none; }
+#source .badges { min-width: 6px; padding: 0 4px; } #source .here { background: var(--now); }
+#source .statement { border-bottom: 2px solid; }
+.badge { font: 11px system-ui, sans-serif; color: var(--paper); border-radius: 8px; padding: 0 6px; margin-right: 2px; }
 #right { display: grid; gap: 12px; min-width: 0; }
-#lanes { max-height: 48vh; overflow: auto; } svg text { font: 11px ui-monospace, monospace; fill: var(--ink); }
-#control { display: flex; gap: 8px; align-items: center; } #slider { flex: 1; }
-#state { display: grid; grid-template-columns: repeat(auto-fit, minmax(180px, 1fr)); gap: 12px; }
-table { border-collapse: collapse; font: 12px ui-monospace, monospace; } td { padding: 1px 10px 1px 0; vertical-align: top; } .changed { background: var(--now); }
-@media (max-width: 800px) { main { grid-template-columns: 1fr; } }
+#lanes { max-height: 48vh; overflow: auto; }
+#lanes svg { display: block; } #names { position: sticky; top: 0; background: var(--paper); } svg text { font: 11px ui-monospace, monospace; fill: var(--ink); }
+.label { paint-order: stroke; stroke: var(--paper); stroke-width: 4px; stroke-linejoin: round; cursor: pointer; }
+.label.failed, .failed { fill: var(--bad); font-weight: 600; } .soft { fill: var(--soft); } .cause .label { font-weight: 600; }
+.mark { fill: var(--bad); } .held { fill: var(--held); } .lane { stroke: var(--line); } .interruption { fill: var(--bad); opacity: .35; }
+.arrow { fill: none; stroke: var(--arrow); stroke-dasharray: 3 3; } .tip { fill: var(--arrow); }
+#chosen { fill: var(--chosen); opacity: .3; }
+.edge { fill: none; stroke: var(--soft); stroke-width: 1.2; } .edge.circle { stroke: var(--bad); stroke-width: 2.5; }
+.edgetip { fill: var(--soft); } .circletip { fill: var(--bad); } .halo { paint-order: stroke; stroke: var(--paper); stroke-width: 4px; }
+#legend { margin: 8px 0 0; color: var(--soft); font-size: 12px; } #legend b { color: var(--bad); } #legend .soft { color: var(--soft); } #legend .grey { color: var(--held); } #legend span { margin-right: 14px; white-space: nowrap; }
+#control { display: flex; gap: 8px; align-items: center; flex-wrap: wrap; } #slider { flex: 1; min-width: 120px; } #place { flex-basis: 100%; }
+#state { display: grid; grid-template-columns: repeat(auto-fit, minmax(150px, 1fr)); gap: 12px; }
+table { border-collapse: collapse; font: 12px ui-monospace, monospace; } td { padding: 1px 10px 1px 0; vertical-align: top; overflow-wrap: anywhere; }
+.changed { background: var(--now); } #graph svg { max-width: 100%; height: auto; } #search { overflow-x: auto; }
+@media (max-width: 800px) {
+  main { grid-template-columns: minmax(0, 1fr); padding: 8px; } #source { max-height: 36vh; } #lanes { max-height: 40vh; }
+  #right { display: contents; } #steps { position: sticky; top: 0; z-index: 1; order: -1; }
+}
+@media print {
+  main { display: block; } section { margin: 0 0 10px; } #steps, #copy { display: none; }
+  #source, #lanes { max-height: none; overflow: visible; } #source { white-space: pre-wrap; } #source .line { min-width: 0; } #source .text { min-width: 0; overflow-wrap: anywhere; }
+  #lanes svg { max-width: 100%; height: auto; } #names { position: static; }
+}
 </style>
 </head>
 <body>
-<header><h1 id="title"></h1><p id="summary"></p></header>
+<header><h1 id="title"></h1><p id="summary"></p><pre id="why"></pre>
+<div id="replay"><code id="command"></code><button id="copy" type="button">Copy</button></div></header>
 <main>
-<section><h2>Source</h2><div id="source"></div></section>
+<section><h2>Source</h2><div id="source" tabindex="0"></div></section>
 <div id="right">
-<section><div id="control"><button id="back" type="button">&#8592;</button><input id="slider" type="range" min="0" value="0" aria-label="step"><button id="on" type="button">&#8594;</button><output id="place"></output></div></section>
-<section id="lanes"></section>
+<section id="steps"><div id="control"><button id="back" type="button" aria-label="one step back">&#8592;</button>
+<input id="slider" type="range" min="0" value="0" aria-label="step">
+<button id="on" type="button" aria-label="one step on">&#8594;</button><output id="place"></output></div></section>
+<section><h2>Steps</h2><div id="lanes" tabindex="0"></div><p id="legend"></p></section>
 <section id="state"></section>
-<section><h2>Who waits for whom</h2><div id="graph"></div></section>
+<section id="waits" hidden><h2>Who waits for whom at the end</h2><div id="graph"></div></section>
 <section id="search" hidden><h2>How schedules end</h2><p id="counts"></p><table id="ends"></table></section>
 </div>
 </main>
@@ -48,9 +81,9 @@ pub const PAGE_END: &str = r##"</script>
 "use strict";
 const data = JSON.parse(document.getElementById("data").textContent);
 const steps = data.steps, names = data.opening.threads.map((t) => t.name);
-const colours = ["#3559a8", "#2e7d32", "#8e44ad", "#b8601a", "#00796b", "#ad1457", "#5d4037", "#37474f"];
-const colour = (t) => colours[t % colours.length];
+const colour = (t) => "var(--t" + t % 8 + ")";
 const byId = (id) => document.getElementById(id);
+const few = (count, thing) => count + " " + thing + (count === 1 ? "" : "s");
 // A table by name, in which no name is there already, whatever it is.
 const byName = (of) => Object.assign(Object.create(null), of);
 function make(tag, text, name) {
@@ -66,113 +99,146 @@ function draw(parent, tag, attributes, text) {
   parent.appendChild(e);
   return e;
 }
-// The state after the first `count` steps.
+function tip(svg, id, name) {
+  const head = draw(draw(svg, "defs", {}), "marker", { id: id, viewBox: "0 0 8 8", refX: 7, refY: 4, markerWidth: 7, markerHeight: 7,
+    markerUnits: "userSpaceOnUse", orient: "auto" });
+  draw(head, "path", { d: "M0 0L8 4L0 8z", class: name });
+}
+// The state after the first `count` steps: each step has what it changed.
 function stateAfter(count) {
-  const s = { variables: byName(data.opening.variables), owners: byName(), queues: byName(),
-    counts: byName(data.opening.semaphores), locals: names.map(() => byName()), next: [], stop: [], waiting: names.map(() => null), woken: names.map(() => false) };
-  data.opening.mutexes.forEach((m) => { s.owners[m] = null; });
-  data.opening.conditions.forEach((c) => { s.queues[c] = []; });
-  data.opening.threads.forEach((t, i) => {
-    s.next[i] = t.next; s.stop[i] = t.stop;
+  const opening = data.opening, fill = (of, value) => byName(Object.fromEntries(of.map((name) => [name, value])));
+  const s = { variables: byName(opening.variables), mutexes: fill(opening.mutexes, null), conditions: fill(opening.conditions, []),
+    semaphores: byName(opening.semaphores), locals: names.map(() => byName()), next: [] };
+  opening.threads.forEach((t, i) => {
+    s.next[i] = t.next;
     t.sets.forEach((l) => { s.locals[i][l.local] = l.value; });
   });
-  for (const step of steps.slice(0, count)) take(s, step);
+  for (const step of steps.slice(0, count)) {
+    for (const name in step.after) {
+      for (const kind of ["variables", "mutexes", "conditions", "semaphores"]) if (name in s[kind]) s[kind][name] = step.after[name];
+    }
+    step.sets.forEach((l) => { s.locals[step.thread][l.local] = l.value; });
+    s.next[step.thread] = step.next;
+  }
   return s;
 }
-function take(s, step) {
-  const t = step.thread;
-  s.woken[t] = false;
-  if (step.act === "wait" && step.stop === null) {
-    s.owners[step.mutex] = null; s.queues[step.object].push(names[t]); s.waiting[t] = step.object;
-  } else if (step.act === "signal" || step.act === "broadcast") {
-    s.queues[step.object] = s.queues[step.object].filter((n) => !step.woken.includes(n));
-    step.woken.forEach((n) => { const u = names.indexOf(n); s.waiting[u] = null; s.woken[u] = true; });
-  } else if (["lock", "unlock", "retake"].includes(step.act)) s.owners[step.object] = step.new;
-  else if (["acquire", "release"].includes(step.act)) s.counts[step.object] = step.new;
-  else if (step.act !== "wait") s.variables[step.object] = step.new;
-  step.sets.forEach((l) => { s.locals[t][l.local] = l.value; });
-  s.next[t] = step.next; s.stop[t] = step.stop;
+// What a step did, with its values.
+function told(s) {
+  const from = s.act + " " + s.object;
+  if (s.act === "load") return from + ": " + s.new;
+  if (s.act === "cas" && String(s.sets[0].value) === "0") return from + ": " + s.old + ", miss";
+  if (["store", "add", "cas", "acquire", "release"].includes(s.act)) return from + ": " + s.old + " \u2192 " + s.new;
+  if (s.act === "signal" || s.act === "broadcast") return from + (s.woken.length ? ": wakes " + s.woken.join(", ") : ": wakes nobody");
+  return from;
 }
-// Whom a thread waits for: [object, holder or null], or null where it doesn't wait.
-function waitOf(s, t) {
-  const next = s.next[t];
-  if (s.stop[t] !== null || next === null) return null;
-  if (s.waiting[t] !== null) return [s.waiting[t], null];
-  if (next.wants === undefined || (next.text.startsWith("wait ") && !s.woken[t])) return null;
-  if (next.wants in s.counts) return s.counts[next.wants] === 0 ? [next.wants, null] : null;
-  return s.owners[next.wants] === null ? null : [next.wants, s.owners[next.wants]];
-}
-function circleOf(s) {
-  for (let t = 0; t < names.length; t++) {
-    const on = [];
-    for (let u = t; on.length <= names.length;) {
-      const wait = waitOf(s, u);
-      if (wait === null || wait[1] === null) break;
-      on.push(u);
-      u = names.indexOf(wait[1]);
-      if (u === t) return on;
-    }
-  }
-  return [];
-}
-const lane = 120, row = 22, top0 = 26, left = 44;
-const xOf = (t) => left + t * lane + 14, yOf = (k) => top0 + k * row + row / 2;
-// Where each load read what a store wrote, and each retake follows its signal.
+const label = (s) => told(s) + (s.stop === null ? "" : "  FAILED: " + s.stop);
+const row = 22, left = 60, lanes = [];
+const xOf = (t) => lanes[t], yOf = (k) => k * row + row / 2;
+let wide = left;
+// Where each step read what another thread wrote, and each thread took its mutex again after it was woken.
 function arrows() {
   const wrote = byName(), called = byName(), found = [];
   steps.forEach((s, k) => {
     if (["load", "add", "cas"].includes(s.act) && s.object in wrote && steps[wrote[s.object]].thread !== s.thread) found.push([wrote[s.object], k]);
     if (s.act === "retake" && s.name in called) found.push([called[s.name], k]);
-    if (["store", "add"].includes(s.act) || (s.act === "cas" && s.old !== s.new)) wrote[s.object] = k;
+    if (["store", "add"].includes(s.act) || (s.act === "cas" && String(s.sets[0].value) === "1")) wrote[s.object] = k;
     s.woken.forEach((n) => { called[n] = k; });
   });
   return found;
 }
+function setLanes() {
+  const most = names.map((n) => n.length);
+  steps.forEach((s) => { most[s.thread] = Math.max(most[s.thread], label(s).length); });
+  names.forEach((n, t) => { lanes[t] = wide + 14; wide += 34 + 6.8 * most[t]; });
+}
 function drawLanes() {
-  const svg = draw(byId("lanes"), "svg", { width: left + names.length * lane + 20, height: top0 + steps.length * row + 30, id: "chart" });
-  const defs = draw(svg, "defs", {});
-  const head = draw(defs, "marker", { id: "head", viewBox: "0 0 8 8", refX: 7, refY: 4, markerWidth: 6, markerHeight: 6, orient: "auto" });
-  draw(head, "path", { d: "M0 0L8 4L0 8z", fill: "#98a2b3" });
+  setLanes();
+  const tall = steps.length * row + 8, heads = draw(byId("lanes"), "svg", { width: wide, height: 24, viewBox: "0 0 " + wide + " 24", id: "names", "aria-hidden": "true" });
+  const svg = draw(byId("lanes"), "svg", { width: wide, height: tall, viewBox: "0 0 " + wide + " " + tall, id: "chart", role: "img",
+    "aria-label": "the steps of each thread" });
+  tip(svg, "head", "tip");
+  draw(svg, "rect", { id: "chosen", x: 0, y: 0, width: wide, height: row });
   names.forEach((n, t) => {
-    draw(svg, "line", { x1: xOf(t), x2: xOf(t), y1: top0, y2: top0 + steps.length * row, stroke: "#d7dce3" });
-    draw(svg, "text", { x: xOf(t) - 8, y: 15, style: "font-weight:600;fill:" + colour(t) }, n);
-  });
-  steps.forEach((s, k) => {
-    if (s.preempting) draw(svg, "rect", { x: 0, y: yOf(k) - row / 2 - 2, width: left + names.length * lane + 20, height: 4, fill: "#c62828", opacity: 0.35, class: "interruption" });
+    draw(svg, "line", { x1: xOf(t), x2: xOf(t), y1: 0, y2: tall, class: "lane" });
+    draw(heads, "text", { x: xOf(t) - 8, y: 15, style: "font-weight:600;fill:" + colour(t) }, n);
   });
   const owned = byName();
-  const stripe = (m, to) => { const [t, from] = owned[m]; draw(svg, "rect", { x: xOf(t) - 12 - 5 * (data.opening.mutexes.indexOf(m) % 2), y: yOf(from), width: 4, height: Math.max(4, yOf(to) - yOf(from)), fill: "#b8bec8", class: "held" }); delete owned[m]; };
+  const stripe = (m, to) => {
+    const [t, from] = owned[m];
+    draw(svg, "rect", { x: xOf(t) - 11 - 5 * (data.opening.mutexes.indexOf(m) % 3), y: yOf(from), width: 4, height: Math.max(4, yOf(to) - yOf(from)), class: "held" });
+    delete owned[m];
+  };
   steps.forEach((s, k) => {
-    if (s.act === "lock" || s.act === "retake") owned[s.object] = [s.thread, k];
-    const given = s.act === "unlock" ? s.object : s.act === "wait" ? s.mutex : null;
-    if (given !== null && s.stop === null && given in owned) stripe(given, k);
+    for (const m of data.opening.mutexes) {
+      if (!(m in s.after)) continue;
+      if (s.after[m] === s.name && !(m in owned)) owned[m] = [s.thread, k];
+      if (s.after[m] === null && m in owned) stripe(m, k);
+    }
   });
   Object.keys(owned).forEach((m) => stripe(m, steps.length - 0.5));
-  arrows().forEach(([from, to]) => draw(svg, "line", { x1: xOf(steps[from].thread) + 5, y1: yOf(from), x2: xOf(steps[to].thread) + 5, y2: yOf(to) - 4, stroke: "#98a2b3", "stroke-dasharray": "3 3", "marker-end": "url(#head)" }));
-  steps.forEach((s, k) => {
-    draw(svg, "text", { x: 6, y: yOf(k) + 4, style: "fill:#98a2b3" }, String(k));
-    draw(svg, "circle", { cx: xOf(s.thread), cy: yOf(k), r: 4, fill: s.stop === null ? colour(s.thread) : "#c62828" });
-    const mark = draw(svg, "text", { x: xOf(s.thread) + 9, y: yOf(k) + 4 }, s.act + " " + s.object);
-    mark.addEventListener("click", () => show(k + 1));
+  arrows().forEach(([from, to]) => {
+    const x = xOf(steps[from].thread), y = yOf(from), v = xOf(steps[to].thread), w = yOf(to), bend = Math.min(60, 10 + (w - y) / 3);
+    draw(svg, "path", { d: "M" + (x + 3) + " " + (y + 4) + "C" + (x + 3) + " " + (y + bend) + " " + (v + 1) + " " + (w - bend) + " " + (v + 1) + " " + (w - 5), class: "arrow", "marker-end": "url(#head)" });
   });
-  draw(svg, "rect", { id: "chosen", x: 0, y: 0, width: left + names.length * lane + 20, height: row, fill: "#ffd54f", opacity: 0.3 });
+  steps.forEach((s, k) => {
+    const group = draw(svg, "g", { class: "step" + (s.cause ? " cause" : ""), id: "step" + k });
+    if (s.preempting) draw(group, "rect", { x: 0, y: yOf(k) - row / 2 - 2, width: wide, height: 4, class: "interruption" });
+    if (s.cause) draw(group, "path", { d: "M4 " + (yOf(k) - 5) + "l8 5l-8 5z", class: "mark" });
+    draw(group, "text", { x: 18, y: yOf(k) + 4, class: "soft" }, String(k));
+    draw(group, "circle", { cx: xOf(s.thread), cy: yOf(k), r: 4, style: "fill:" + (s.stop === null ? colour(s.thread) : "var(--bad)") });
+    draw(group, "text", { x: xOf(s.thread) + 9, y: yOf(k) + 4, class: s.stop === null ? "label" : "label failed" }, label(s));
+    group.addEventListener("click", () => show(k + 1));
+  });
+  const legend = byId("legend");
+  const item = (sign, text, name) => { const e = make("span"); e.append(make("b", sign, name), " " + text); legend.append(e, " "); };
+  if (steps.some((s) => s.cause)) item("\u25b8", "in the cause");
+  if (steps.some((s) => s.preempting)) item("\u2501", "a thread is interrupted");
+  if (steps.some((s) => s.stop !== null)) item("\u25cf", "a thread fails");
+  if (arrows().length) item("\u2506", "where a value or a wake-up came from", "soft");
+  if (data.opening.mutexes.length) item("\u258c", "a mutex is held", "grey");
 }
-const lines = data.source.split("\n").map((text, i) => {
+const texts = data.source.split("\n");
+const lines = texts.map((text, i) => {
   const e = make("div", undefined, "line");
-  e.append(make("span", String(i + 1), "number"), make("span", text, "text"));
+  e.append(make("span", String(i + 1), "number"), make("span", "", "badges"), make("span", text, "text"));
   byId("source").appendChild(e);
   return e;
 });
-function showSource(s) {
-  document.querySelectorAll("#source .badge").forEach((b) => b.remove());
-  lines.forEach((l) => l.classList.remove("here"));
+// A line whose statements are marked that threads have come to.
+function markLine(i, marks) {
+  const text = lines[i].lastChild, pieces = [];
+  let at = 0;
+  marks.sort((a, b) => a.from - b.from).forEach((m) => {
+    const piece = make("span", texts[i].slice(m.from, m.to), "statement");
+    piece.style.borderColor = colour(m.thread);
+    pieces.push(texts[i].slice(at, m.from), piece);
+    at = m.to;
+  });
+  text.replaceChildren(...pieces, texts[i].slice(at));
+  lines[i].classList.toggle("here", marks.length > 0);
+  lines[i].querySelector(".badges").replaceChildren(...marks.map((m) => {
+    const badge = make("span", names[m.thread], "badge");
+    badge.style.background = colour(m.thread);
+    return badge;
+  }));
+}
+let marked = [];
+function showSource(s, count) {
+  const marks = {};
   s.next.forEach((next, t) => {
     if (next === null || next.line < 1 || next.line > lines.length) return;
-    const badge = make("span", names[t], "badge");
-    badge.style.background = colour(t);
-    lines[next.line - 1].append(badge);
-    lines[next.line - 1].classList.add("here");
+    const i = next.line - 1, to = next.end.line === next.line ? next.end.column - 1 : texts[i].length;
+    (marks[i] = marks[i] || []).push({ from: next.column - 1, to: to, thread: t });
   });
+  for (const i of marked) if (!(i in marks)) markLine(i, []);
+  for (const i in marks) markLine(i, marks[i]);
+  marked = Object.keys(marks);
+  if (count > 0) scrollTo(byId("source"), lines[Math.min(steps[count - 1].line, lines.length) - 1].offsetTop, 0, 0);
+}
+// Scrolls a box, and not the page, to a place in it, where that can't be seen.
+function scrollTo(box, y, x, width) {
+  if (y < box.scrollTop + 30 || y > box.scrollTop + box.clientHeight - 60) box.scrollTop = Math.max(0, y - box.clientHeight / 2);
+  if (width > 0 && (x < box.scrollLeft + 40 || x + width > box.scrollLeft + box.clientWidth)) box.scrollLeft = Math.max(0, x - 80);
 }
 function block(title, rows, changed) {
   const e = make("div"), table = make("table");
@@ -180,56 +246,63 @@ function block(title, rows, changed) {
   rows.forEach(([name, value]) => {
     const tr = make("tr");
     tr.append(make("td", name), make("td", String(value)));
-    if (changed === name) tr.className = "changed";
+    if (changed.includes(name)) tr.className = "changed";
     table.appendChild(tr);
   });
   return e;
 }
 function showState(s, count) {
-  const last = count > 0 ? steps[count - 1].object : null;
-  const parts = [block("Variables", Object.entries(s.variables), last),
-    block("Mutexes", Object.entries(s.owners).map(([m, o]) => [m, o === null ? "free" : o]), last),
-    block("Conditions", Object.entries(s.queues).map(([c, q]) => [c, q.length ? q.join(", ") : "nobody waits"]), last),
-    block("Semaphores", Object.entries(s.counts), last)];
-  s.locals.forEach((l, t) => parts.push(block(names[t], Object.entries(l))));
+  const step = count > 0 ? steps[count - 1] : null, touched = step === null ? [] : Object.keys(step.after);
+  const parts = [block("Variables", Object.entries(s.variables), touched),
+    block("Mutexes", Object.entries(s.mutexes).map(([m, o]) => [m, o === null ? "free" : o]), touched),
+    block("Conditions", Object.entries(s.conditions).map(([c, q]) => [c, q.length ? q.join(", ") : "nobody waits"]), touched),
+    block("Semaphores", Object.entries(s.semaphores), touched)];
+  s.locals.forEach((l, t) => parts.push(block(names[t], Object.entries(l), step !== null && step.thread === t ? step.sets.map((x) => x.local) : [])));
   byId("state").replaceChildren(...parts.filter((p) => p.querySelector("tr")));
 }
-function showGraph(s) {
-  const circle = circleOf(s), size = 260, r = 95, svg = document.createElementNS("http://www.w3.org/2000/svg", "svg");
-  svg.setAttribute("width", size + 120); svg.setAttribute("height", size);
-  const at = (t) => [size / 2 + 60 + r * Math.sin(2 * Math.PI * t / names.length), size / 2 - r * Math.cos(2 * Math.PI * t / names.length)];
-  const head = draw(draw(svg, "defs", {}), "marker", { id: "tip", viewBox: "0 0 8 8", refX: 7, refY: 4, markerWidth: 7, markerHeight: 7, orient: "auto" });
-  draw(head, "path", { d: "M0 0L8 4L0 8z", fill: "#667085" });
-  names.forEach((n, t) => {
-    const wait = waitOf(s, t);
-    if (wait === null) return;
-    const red = circle.includes(t), [x, y] = at(t);
-    if (wait[1] === null) { draw(svg, "text", { x: x, y: y + 26, "text-anchor": "middle", style: "fill:#667085" }, "waits for " + wait[0]); return; }
-    const [v, w] = at(names.indexOf(wait[1])), d = Math.hypot(v - x, w - y) || 1;
-    draw(svg, "line", { x1: x + 16 * (v - x) / d, y1: y + 16 * (w - y) / d, x2: v - 16 * (v - x) / d, y2: w - 16 * (w - y) / d, stroke: red ? "#c62828" : "#667085", "stroke-width": red ? 2.5 : 1.2, "marker-end": "url(#tip)", class: red ? "edge circle" : "edge" });
-    draw(svg, "text", { x: (2 * x + v) / 3, y: (2 * y + w) / 3 - 4, style: "fill:" + (red ? "#c62828" : "#667085") }, wait[0]);
+// An arrow from each thread that waits to each for which it waits, round a circle of those threads.
+function drawGraph() {
+  const edges = data.threads.flatMap((t, u) => (t.waits === null ? [] : t.waits.on).map((n) => [u, names.indexOf(n), t.waits.object]));
+  const there = names.map((n, t) => t).filter((t) => edges.some((e) => e[0] === t || e[1] === t));
+  if (edges.length === 0) return;
+  byId("waits").hidden = false;
+  const r = Math.max(80, there.length * 20), side = 2 * r + 110, width = side + 160, mid = [width / 2, side / 2];
+  const angle = (t) => 2 * Math.PI * there.indexOf(t) / there.length - Math.PI / 2;
+  const at = (t) => [mid[0] + r * Math.cos(angle(t)), mid[1] + r * Math.sin(angle(t))];
+  const svg = draw(byId("graph"), "svg", { width: width, height: side, viewBox: "0 0 " + width + " " + side, role: "img",
+    "aria-label": edges.map(([t, u, object]) => names[t] + " waits for " + object + " and " + names[u]).join("; ") });
+  tip(svg, "edgetip", "edgetip"); tip(svg, "circletip", "circletip");
+  const places = [];
+  edges.forEach(([t, u, object]) => {
+    const red = data.circles.some((c) => c.includes(names[t]) && c.includes(names[u])), [x, y] = at(t), [v, w] = at(u);
+    const out = [Math.cos(angle(t)), Math.sin(angle(t))], d = Math.hypot(v - x, w - y) || 1, n = [(w - y) / d, (x - v) / d];
+    const bend = [(x + v) / 2 + 26 * n[0], (y + w) / 2 + 26 * n[1]], to = Math.hypot(v - bend[0], w - bend[1]) || 1;
+    const path = t === u
+      ? "M" + (x - 8) + " " + (y + 10) + "C" + (x - 60 * out[0] - 45) + " " + (y - 60 * out[1] + 30) + " " + (x - 60 * out[0] + 45) + " " + (y - 60 * out[1] + 30) + " " + (x + 8) + " " + (y + 13)
+      : "M" + x + " " + y + "Q" + bend[0] + " " + bend[1] + " " + (v + 13 * (bend[0] - v) / to) + " " + (w + 13 * (bend[1] - w) / to);
+    draw(svg, "path", { d: path, class: red ? "edge circle" : "edge", "marker-end": red ? "url(#circletip)" : "url(#edgetip)" });
+    places.push([t === u ? x - 45 * out[0] : (3 * x + 6 * bend[0] + v) / 10, t === u ? y - 45 * out[1] + 20 : (3 * y + 6 * bend[1] + w) / 10, object, red]);
   });
-  names.forEach((n, t) => {
-    const [x, y] = at(t);
-    draw(svg, "circle", { cx: x, cy: y, r: 14, fill: circle.includes(t) ? "#c62828" : colour(t) });
-    draw(svg, "text", { x: x, y: y - 18, "text-anchor": "middle" }, n);
+  places.forEach(([x, y, object, red]) => draw(svg, "text", { x: x, y: y, "text-anchor": "middle", class: red ? "halo failed" : "halo soft" }, object));
+  there.forEach((t) => {
+    const [x, y] = at(t), c = Math.cos(angle(t)), anchor = c > 0.3 ? "start" : c < -0.3 ? "end" : "middle";
+    draw(svg, "circle", { cx: x, cy: y, r: 10, style: "fill:" + colour(t) });
+    draw(svg, "text", { x: x + 16 * c, y: y + 4 + 20 * Math.sin(angle(t)), "text-anchor": anchor, class: "halo node" }, names[t] + (data.threads[t].waits === null ? " (" + data.threads[t].status + ")" : ""));
   });
-  byId("graph").replaceChildren(svg);
 }
 // How the schedules end that the search tried, where one found this schedule.
 function showEnds() {
-  const search = data.search, kinds = byId("ends"), last = stateAfter(steps.length);
+  const search = data.search, kinds = byId("ends");
   if (search === null) return;
   byId("search").hidden = false;
-  const tried = search.tried + (search.tried === 1 ? " schedule" : " schedules");
-  const within = search.bound === null ? "" : " with at most " + search.bound + (search.bound === 1 ? " preemption" : " preemptions");
-  byId("counts").textContent = tried + within + " tried: " + search.failed + " failed, " + search.stuck + " stuck"
+  const within = search.bound === null ? "" : " with at most " + few(search.bound, "preemption");
+  byId("counts").textContent = few(search.tried, "schedule") + within + " tried: " + search.failed + " failed, " + search.stuck + " stuck"
     + (search.quick ? ", others left out by a quick search" : "") + (search.verdict === "incomplete" ? ", then cut short" : "") + ".";
   const head = make("tr");
   head.append(make("td", "ends"), ...data.opening.declared.map((name) => make("td", name)));
   kinds.append(head);
   search.ends.forEach((end) => {
-    const own = end.kind === data.kind && data.opening.declared.every((name, x) => last.variables[name] === end.vars[x]);
+    const own = end.kind === data.kind && data.opening.declared.every((name, x) => String(data.end.variables[name]) === String(end.vars[x]));
     const tr = make("tr", undefined, own ? "changed" : "");
     tr.append(make("td", end.kind, end.kind === "done" ? "" : "bad"), ...end.vars.map((value) => make("td", String(value))));
     if (own) tr.append(make("td", "this schedule"));
@@ -237,24 +310,63 @@ function showEnds() {
   });
 }
 function show(count) {
-  const s = stateAfter(count);
+  const s = stateAfter(count), step = count > 0 ? steps[count - 1] : null;
+  const words = step === null ? "at the start" : "after step " + step.step + " of 0 to " + (steps.length - 1) + ": " + step.name + " " + label(step);
   byId("slider").value = count;
-  byId("place").textContent = count === 0 ? "start" : "after step " + (count - 1) + " of 0 to " + (steps.length - 1);
-  byId("chosen").setAttribute("y", count === 0 ? -row : yOf(count - 1) - row / 2);
-  showSource(s); showState(s, count); showGraph(s);
+  byId("slider").setAttribute("aria-valuetext", words);
+  byId("place").textContent = words;
+  byId("chosen").setAttribute("y", step === null ? -row : yOf(count - 1) - row / 2);
+  scrollTo(byId("lanes"), step === null ? 0 : yOf(count - 1) + 24, step === null ? 0 : xOf(step.thread), step === null ? 0 : 20 + 6.8 * label(step).length);
+  showSource(s, count); showState(s, count);
 }
+window.addEventListener("resize", () => show(chosen()));
+const chosen = () => Number(byId("slider").value), move = (to) => show(Math.max(0, Math.min(steps.length, to)));
 document.title = data.file + " - ctxbound";
 byId("title").textContent = data.file;
-const kind = data.kind === null ? (data.refused === null ? "not complete" : "the schedule can't go on") : data.kind;
-byId("summary").append(make("span", kind, data.kind === "done" || data.kind === null ? "" : "bad"), " after " + steps.length + " steps with " + data.preemptions + (data.preemptions === 1 ? " preemption, schedule " : " preemptions, schedule ") + data.schedule);
+const failure = data.failures.length ? data.failures[0] : null;
+const kind = failure !== null ? "failed" : data.kind !== null ? data.kind : data.refused !== null ? "the schedule can't go on" : "not complete";
+const ran = failure === null ? steps.length : failure.step === null ? 0 : failure.step + 1;
+byId("summary").append(make("span", kind, kind === "done" || kind === "not complete" ? "" : "bad"), " after " + few(ran, "step") + " with "
+  + few(failure === null ? data.preemptions : failure.preemptions, "preemption") + (data.refused === null || failure === null && data.kind === null ? "" : "; then the schedule can't go on"));
+const cut = data.why.lastIndexOf("Replay: "), replay = data.why.slice(cut + 8).trim();
+byId("why").textContent = data.why.slice(0, cut).trim();
+byId("command").textContent = replay;
+byId("copy").addEventListener("click", () => navigator.clipboard.writeText(replay).then(() => { byId("copy").textContent = "Copied"; }));
 byId("slider").max = steps.length;
 byId("slider").addEventListener("input", (e) => show(Number(e.target.value)));
-byId("back").addEventListener("click", () => show(Math.max(0, Number(byId("slider").value) - 1)));
-byId("on").addEventListener("click", () => show(Math.min(steps.length, Number(byId("slider").value) + 1)));
+byId("back").addEventListener("click", () => move(chosen() - 1));
+byId("on").addEventListener("click", () => move(chosen() + 1));
+document.addEventListener("keydown", (e) => {
+  const to = { ArrowLeft: chosen() - 1, ArrowUp: chosen() - 1, ArrowRight: chosen() + 1, ArrowDown: chosen() + 1, Home: 0, End: steps.length }[e.key];
+  if (to === undefined || e.ctrlKey || e.altKey || e.metaKey) return;
+  e.preventDefault();
+  move(to);
+});
 drawLanes();
+drawGraph();
 showEnds();
-show(steps.length);
+show(failure === null ? steps.length : ran);
 </script>
 </body>
 </html>
 "##;
+
+/// The page where a search found no bad schedule, up to the name of the file.
+pub const SENTENCE_BEGIN: &str = r##"<!DOCTYPE html>
+<html lang="en">
+<head>
+<meta charset="utf-8">
+<meta name="viewport" content="width=device-width, initial-scale=1">
+<link rel="icon" href="data:,">
+<style>
+:root { color-scheme: light dark; }
+body { margin: 16px; font: 15px/1.5 system-ui, sans-serif; }
+p { white-space: pre-wrap; overflow-wrap: anywhere; }
+</style>
+<title>"##;
+
+/// The page where a search found no bad schedule, from the name of the file on.
+pub const SENTENCE_TITLE: &str = " - ctxbound</title>\n</head>\n<body>\n<p>";
+
+/// The page where a search found no bad schedule, from what is said on.
+pub const SENTENCE_END: &str = "</p>\n</body>\n</html>\n";

@@ -5,8 +5,8 @@
 pub struct Shape {
     /// Columns of a line, at most; fewer than 40 count as 40, more than 1,000 as 1,000.
     pub width: usize,
-    /// Whether each step is told, and none folded.
-    pub all: bool,
+    /// Each step has a row where there are at most this many; else some are folded.
+    pub steps: usize,
     /// Whether a search showed that no schedule with fewer preemptions is bad.
     pub is_least: bool,
 }

@@ -1,12 +1,16 @@
 //! The explanation of a schedule as text, in columns of a terminal.
 //!
-//! The table of the steps is in `rows`, what stands above and below it in `prose`.
+//! `head` says how it ended, and by `origins` where the values came from; `rows` has the table of the
+//! steps; under it `reasons` says why threads can't go on, and `enders` who could end that.
 #![tactic(auto)]
 
 mod columns;
-mod prose;
+mod enders;
+mod head;
+mod origins;
+mod reasons;
 mod rows;
 mod text;
 
 pub use crate::columns::Shape;
-pub use crate::text::explanation_text;
+pub use crate::text::{explanation_text, why_text};

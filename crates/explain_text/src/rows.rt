@@ -2,410 +2,418 @@
 
 use crate::columns::COLUMN;
 use crate::text::Teller;
-use explain::words::{
-    pad_to, put_both, put_cut, put_number, put_right, put_times, put_value, put_wrapped,
-};
-use explain::{Object, Reading, Reason, Setting, Step};
-use guest_code::program::{Expression, Instruction};
+use explain::{Object, Reading, Reason, Setting, Step, op_text};
+use guest_code::program::{Expression, Instruction, Value};
 use replay::Act;
 use semantics::state::Stop;
 use semantics::view::Kind;
 use std::alloc::AllocError;
+use text_lines::{Count, Page, pad_to, put_cut, put_times, width_of};
 
-/// The least number of steps with which a folded run has a row.
-const LONG: usize = 10;
-/// The column after the number of a step, and the one after the number of a line.
-const STEP: usize = 4;
+/// The fewest columns of a name that is cut, where it shares a column with its statement.
+const SHORTEST: usize = 4;
 
+/// Where the number of a line ends.
 const LINE: usize = 9;
 
 impl Teller<'_> {
-    /// The names of the columns, and a rule under each.
-    pub fn put_header(&self, text: &mut Vec<u8>) -> Result<(), AllocError> {
-        let mut names = Vec::from_slice(self.alloc, b"step line")?;
-        let mut rules = Vec::from_slice(self.alloc, b"---- ----")?;
+    /// The steps in columns. The answer is how many of them are told.
+    pub fn put_table(&self, page: &mut Page) -> Result<usize, AllocError> {
+        self.put_header(page)?;
+        self.put_opening_stops(page)?;
+        let steps = self.explanation.steps().len();
+        let mut told = 0;
+        let mut next = 0;
+        for at in 0..steps {
+            if steps <= self.shape.steps || self.is_told(at) {
+                told = usize::saturating_add(told, self.put_gap(page, next, at)?);
+                self.put_step_rows(page, at)?;
+                told = told.saturating_add(1);
+                next = at + 1;
+            }
+        }
+        told = told.saturating_add(self.put_gap(page, next, steps)?);
+        self.put_end_rows(page)?;
+        Ok(told)
+    }
+
+    // Whether a step is in the cause.
+    fn is_in_cause(&self, at: usize) -> bool {
+        self.causes.steps().get(at).copied().unwrap_or(false)
+    }
+
+    // Whether a step is told where others are folded: where it is in the cause, the first of a run
+    // after a switch, or beside a preemption.
+    fn is_told(&self, at: usize) -> bool {
+        let after = self.step(at.wrapping_add(1));
+        let before = match at.checked_sub(1) {
+            Some(at) => self.step(at),
+            None => None,
+        };
+        self.is_in_cause(at)
+            || after.is_some_and(|next| next.line.preempting)
+            || match (before, self.step(at)) {
+                (Some(last), Some(step)) => last.line.thread != step.line.thread,
+                _ => false,
+            }
+    }
+
+    // The names of the columns, and a rule under each.
+    fn put_header(&self, page: &mut Page) -> Result<(), AllocError> {
+        let mut names = String::from_str(self.alloc, "step line")?;
+        let mut rules = String::from_str(self.alloc, "---- ----")?;
         for t in 0..self.source.program.threads() {
             if self.has_column(t) {
                 pad_to(&mut names, self.columns.start(t as usize))?;
-                put_cut(&mut names, self.source.thread(t), COLUMN)?;
-                pad_to(&mut rules, self.columns.start(t as usize))?;
-                put_times(&mut rules, b'-', COLUMN)?;
+                put_cut(&mut names, self.thread(t), COLUMN)?;
+                put_rule(&mut rules, self.columns.start(t as usize), COLUMN)?;
             }
         }
+        let start = self.columns.start(self.columns.own);
         if self.columns.is_shared {
-            let start = self.columns.start(self.columns.own);
+            let alone = self.columns.own == 0;
             pad_to(&mut names, start)?;
-            names.extend_from_slice(if self.columns.own == 0 {
-                b"thread and step"
+            names.push_str(if alone {
+                "thread and step"
             } else {
-                b"other threads"
+                "other threads"
             })?;
-            pad_to(&mut rules, start)?;
-            put_times(&mut rules, b'-', self.columns.end().saturating_sub(start))?;
+            put_rule(&mut rules, start, self.columns.end().saturating_sub(start))?;
         }
+        let rest = self.columns.width.saturating_sub(self.columns.changes);
         pad_to(&mut names, self.columns.changes)?;
-        names.extend_from_slice(b"what changed\n")?;
-        pad_to(&mut rules, self.columns.changes)?;
-        put_times(
-            &mut rules,
-            b'-',
-            self.columns.width.saturating_sub(self.columns.changes),
-        )?;
-        put_both(text, names.as_slice(), rules.as_slice())?;
-        text.push(b'\n')?;
-        Ok(())
+        names.push_str("what changed")?;
+        put_rule(&mut rules, self.columns.changes, rest)?;
+        page.put_whole(names.as_str())?;
+        page.put_whole(rules.as_str())
     }
 
-    /// A row for each thread that stopped before its first step.
-    pub fn put_opening_stops(&self, text: &mut Vec<u8>) -> Result<(), AllocError> {
+    // A row for each thread that stopped before its first step.
+    fn put_opening_stops(&self, page: &mut Page) -> Result<(), AllocError> {
         for t in 0..self.source.program.threads() {
-            if self.is_stopped(t) && self.explanation.last_place(t as usize).is_none() {
-                let mut row = Vec::from_slice(self.alloc, b"start")?;
-                self.put_stop_row(text, &mut row, t)?;
+            let start = self.explanation.opening().get(t as usize);
+            if start.is_some_and(|start| start.stop.is_some()) {
+                self.put_stop_row(page, String::from_str(self.alloc, "start")?, t)?;
             }
         }
         Ok(())
     }
 
-    // Whether a thread has stopped.
-    pub fn is_stopped(&self, thread: u8) -> bool {
-        match self.explanation.standing(thread) {
-            Some(standing) => standing.is_stopped(),
-            None => false,
-        }
-    }
-
-    /// A row for the steps that are folded, from one place up to another, where they are many.
-    pub fn put_fold(&self, text: &mut Vec<u8>, from: usize, to: usize) -> Result<(), AllocError> {
-        let count = to.saturating_sub(from);
-        if count < LONG {
-            return Ok(());
-        }
-        let Some(step) = self.explanation.steps().get(from) else {
-            return Ok(());
+    // A row for the steps from one place up to another, which are of one thread, or the row of the
+    // step where it is a single one. The answer is how many of them are told.
+    fn put_gap(&self, page: &mut Page, from: usize, to: usize) -> Result<usize, AllocError> {
+        let steps = to.saturating_sub(from);
+        let Some(step) = self.step(from) else {
+            return Ok(0);
         };
-        let mut row = Vec::new(self.alloc);
-        put_number(&mut row, self.alloc, from)?;
-        row.push(b'-')?;
-        put_number(&mut row, self.alloc, to.saturating_sub(1))?;
+        if steps < 2 {
+            if steps == 1 {
+                self.put_step_rows(page, from)?;
+            }
+            return Ok(steps);
+        }
+        let last = to.saturating_sub(1);
+        let mut row = format!(in self.alloc; "{from}-{last}")?;
         pad_to(&mut row, self.columns.start(0))?;
-        let mut cell = Vec::from_slice(self.alloc, b".. ")?;
-        put_number(&mut cell, self.alloc, count)?;
-        put_both(
-            &mut cell,
-            b" steps of ",
-            self.source.thread(step.line.thread),
-        )?;
-        cell.extend_from_slice(b", none interrupted ..")?;
-        let space = self.columns.end().saturating_sub(row.len());
-        put_cut(&mut row, cell.as_slice(), space)?;
-        let mut changes = Vec::new(self.alloc);
-        self.put_values_after(&mut changes, from, to)?;
-        self.put_row(text, row.as_slice(), changes.as_slice())
+        let (steps, name) = (Count(steps, "step"), self.thread(step.line.thread));
+        let cell = format!(in self.alloc; ".. {steps} of {name} ..")?;
+        let room = self.columns.end().saturating_sub(width_of(row.as_str()));
+        put_cut(&mut row, cell.as_str(), room)?;
+        let changes = self.values_after(from, to)?;
+        self.put_row(page, row.as_str(), changes.as_str())?;
+        Ok(0)
     }
 
-    // The variables that steps change, with their values after these steps.
-    fn put_values_after(
-        &self,
-        changes: &mut Vec<u8>,
-        from: usize,
-        to: usize,
-    ) -> Result<(), AllocError> {
+    // The variables that the steps from one place up to another change, with their values then.
+    fn values_after(&self, from: usize, to: usize) -> Result<String, AllocError> {
+        let steps = self.explanation.steps().get(from..to).unwrap_or(&[]);
+        let mut changes = String::new(self.alloc);
         for x in 0..self.source.program.variables() as usize {
-            let mut last = None;
-            for step in self
-                .explanation
-                .steps()
+            let x = Object::Variable(x);
+            let writes = steps
                 .iter()
-                .skip(from)
-                .take(to.saturating_sub(from))
-            {
-                if step.object == Object::Variable(x) && step.old != step.new {
-                    last = Some(step.new);
-                }
-            }
-            if let Some(Reading::Value(value)) = last {
-                if !changes.is_empty() {
-                    changes.extend_from_slice(b", ")?;
-                }
-                put_both(changes, self.source.object(Object::Variable(x)), b" ")?;
-                put_value(changes, self.alloc, value)?;
+                .filter(|step| step.object == x && step.old != step.new);
+            let last = match writes.last() {
+                Some(step) => step.new,
+                None => Reading::Owner(None),
+            };
+            if let Reading::Value(value) = last {
+                let comma = if changes.is_empty() { "" } else { ", " };
+                write!(changes, "{comma}{} {value}", self.object(x))?;
             }
         }
-        Ok(())
+        Ok(changes)
     }
 
-    // A row with what changed, in further lines where it is long.
-    fn put_row(&self, text: &mut Vec<u8>, row: &[u8], changes: &[u8]) -> Result<(), AllocError> {
-        let start = text.len();
-        text.extend_from_slice(row)?;
-        if !changes.is_empty() {
-            let column = self.columns.changes;
-            let spaces = column
-                .saturating_sub(text.len().saturating_sub(start))
-                .max(1);
-            put_times(text, b' ', spaces)?;
-            let from = text.len().saturating_sub(start);
-            put_wrapped(text, changes, from, column, self.columns.width)?;
-        }
-        text.push(b'\n')?;
-        Ok(())
+    // A row with what changed.
+    fn put_row(&self, page: &mut Page, row: &str, changes: &str) -> Result<(), AllocError> {
+        page.put_columns(row, changes, self.columns.changes, self.columns.changes)
     }
 
-    // The number of a line, and then the column of a thread, with its name where it is shared.
-    fn put_place(&self, row: &mut Vec<u8>, line: u32, thread: u8) -> Result<(), AllocError> {
-        row.push(b' ')?;
-        put_right(row, self.alloc, line as usize, LINE)?;
-        self.put_column(row, thread)
-    }
-
-    // The column of a thread, with its name where it is shared.
-    fn put_column(&self, row: &mut Vec<u8>, thread: u8) -> Result<(), AllocError> {
+    // Adds the line and the statement of a thread to the beginning of a row. A name before it, where
+    // threads share a column, is cut off so far that the statement fits.
+    fn put_cell(
+        &self,
+        row: &mut String,
+        thread: u8,
+        line: u32,
+        statement: &str,
+    ) -> Result<(), AllocError> {
+        let line = line.to_string(self.alloc)?;
+        pad_to(row, LINE.saturating_sub(line.len()))?;
+        row.push_str(line.as_str())?;
         pad_to(row, self.columns.start(thread as usize))?;
-        if thread as usize >= self.columns.own {
-            put_both(row, self.source.thread(thread), b": ")?;
+        if !self.has_column(thread) {
+            let room = self.columns.end().saturating_sub(width_of(row.as_str()));
+            let rest = room.saturating_sub(width_of(statement).saturating_add(2));
+            self.put_label(row, thread, rest.max(SHORTEST))?;
         }
-        Ok(())
+        let room = self.columns.end().saturating_sub(width_of(row.as_str()));
+        put_cut(row, statement, room)
     }
 
-    /// The row of a step, and what belongs under it: that it failed, and that its thread was
-    /// interrupted.
-    pub fn put_step_rows(&self, text: &mut Vec<u8>, at: usize) -> Result<(), AllocError> {
-        let Some(step) = self.explanation.steps().get(at) else {
+    // Adds the name of a thread, or where it has more columns than these its beginning, or its number
+    // where another name begins alike.
+    fn put_label(&self, row: &mut String, thread: u8, room: usize) -> Result<(), AllocError> {
+        let name = self.thread(thread);
+        let begun = room.saturating_sub(2);
+        let is_alike = |other: u8| other != thread
+            && self
+                .thread(other)
+                .chars()
+                .take(begun)
+                .eq(name.chars().take(begun));
+        if width_of(name) > room && (0..self.source.program.threads()).any(is_alike) {
+            return write!(row, "{thread}: ");
+        }
+        put_cut(row, name, room)?;
+        row.push_str(": ")
+    }
+
+    // The row of a step, and what belongs under it: that it failed, and that its thread was
+    // interrupted.
+    fn put_step_rows(&self, page: &mut Page, at: usize) -> Result<(), AllocError> {
+        let Some(step) = self.step(at) else {
             return Ok(());
         };
-        self.put_step_row(text, at, step)?;
+        self.put_step_row(page, at, step)?;
         if step.line.stop == Some(Stop::Assert) {
-            let mut row = Vec::new(self.alloc);
-            put_right(&mut row, self.alloc, at, STEP)?;
-            self.put_stop_row(text, &mut row, step.line.thread)?;
+            let row = format!(in self.alloc; "{at:>4}")?;
+            self.put_stop_row(page, row, step.line.thread)?;
         }
-        match self.explanation.steps().get(at.wrapping_add(1)) {
-            Some(next) if next.line.preempting => self.put_interruption(text, step),
+        match self.step(at.wrapping_add(1)) {
+            Some(next) if next.line.preempting => self.put_interruption(page, step),
             _ => Ok(()),
         }
     }
 
     // The row of a step.
-    fn put_step_row(&self, text: &mut Vec<u8>, at: usize, step: &Step) -> Result<(), AllocError> {
-        let mut row = Vec::new(self.alloc);
-        put_right(&mut row, self.alloc, at, STEP)?;
+    fn put_step_row(&self, page: &mut Page, at: usize, step: &Step) -> Result<(), AllocError> {
+        let mut row = format!(in self.alloc; "{at:>4}")?;
         let thread = step.line.thread;
-        self.put_place(&mut row, self.source.line(thread, step.instruction), thread)?;
-        let mut cell = Vec::new(self.alloc);
-        self.put_cell(&mut cell, step)?;
-        let space = self.columns.end().saturating_sub(row.len());
-        put_cut(&mut row, cell.as_slice(), space)?;
-        let mut changes = Vec::new(self.alloc);
-        self.put_changes(&mut changes, step)?;
-        self.put_lost_mark(&mut changes, at)?;
-        self.put_row(text, row.as_slice(), changes.as_slice())
-    }
-
-    // What a step did.
-    fn put_cell(&self, cell: &mut Vec<u8>, step: &Step) -> Result<(), AllocError> {
-        match step.line.act {
-            Act::Retake(m) => self.source.put_object(cell, b"retake ", Object::Mutex(m)),
+        let statement = match step.line.act {
+            Act::Retake(m) => format!(in self.alloc; "retake {}", self.object(Object::Mutex(m)))?,
             _ => self
-                .source
-                .put_statement(cell, self.alloc, step.line.thread, step.instruction),
-        }
+                .statement(thread, step.instruction)
+                .to_string(self.alloc)?,
+        };
+        let line = self.source.line(thread, step.instruction);
+        self.put_cell(&mut row, thread, line, statement.as_str())?;
+        let mut changes = self.changes(step)?;
+        self.put_between(&mut changes, at)?;
+        self.put_row(page, row.as_str(), changes.as_str())
     }
 
     // What a step changed.
-    fn put_changes(&self, changes: &mut Vec<u8>, step: &Step) -> Result<(), AllocError> {
-        match step.line.stop {
-            Some(Stop::NotHeld) => {
-                put_both(changes, b"FALSE: ", self.source.thread(step.line.thread))?;
-                changes.extend_from_slice(b" doesn't own it")?;
-            }
-            Some(Stop::SemFull) => {
-                changes.extend_from_slice(b"FALSE: its count can't rise")?;
-            }
-            _ => self.put_object_change(changes, step)?,
-        }
+    fn changes(&self, step: &Step) -> Result<String, AllocError> {
+        let mut changes = self.object_change(step)?;
         for setting in step.settings.iter() {
-            self.put_setting(changes, step, *setting)?;
+            self.put_setting(&mut changes, step, *setting)?;
         }
-        Ok(())
+        Ok(changes)
     }
 
-    // What a step changed of its object.
-    fn put_object_change(&self, changes: &mut Vec<u8>, step: &Step) -> Result<(), AllocError> {
-        match step.line.act {
-            Act::Load { .. } => Ok(()),
-            Act::Wait { condition, mutex } => {
-                self.source.put_object(changes, b"", Object::Mutex(mutex))?;
-                self.source.put_object(
-                    changes,
-                    b" is free; waits for ",
-                    Object::Condition(condition),
-                )
+    // What a step changed of its object, or why it changed nothing.
+    fn object_change(&self, step: &Step) -> Result<String, AllocError> {
+        match (step.line.act, step.line.stop) {
+            (Act::Unlock(m) | Act::Wait { mutex: m, .. }, Some(Stop::NotHeld)) => {
+                let (name, m) = (self.thread(step.line.thread), self.object(Object::Mutex(m)));
+                format!(in self.alloc; "FALSE: {name} doesn't own {m}")
             }
-            Act::Signal(_) | Act::Broadcast(_) => self.put_woken(changes, step),
-            _ => {
-                put_both(changes, self.source.object(step.object), b" ")?;
-                self.put_readings(changes, step.old, step.new)
+            (_, Some(Stop::SemFull)) => {
+                String::from_str(self.alloc, "FALSE: its count can't rise")
             }
+            (Act::Load { .. }, _) => Ok(String::new(self.alloc)),
+            (Act::Wait { condition, mutex }, _) => {
+                let (c, m) = (Object::Condition(condition), Object::Mutex(mutex));
+                format!(in self.alloc; "{} is free; waits for {}", self.object(m), self.object(c))
+            }
+            (Act::Signal(_) | Act::Broadcast(_), _) if step.woken.is_empty() => {
+                String::from_str(self.alloc, "nobody waits")
+            }
+            (Act::Signal(_) | Act::Broadcast(_), _) => {
+                format!(in self.alloc; "wakes {}", self.names(step.woken.as_slice())?)
+            }
+            _ => self.readings(step),
         }
     }
 
-    // An object before and after a step.
-    fn put_readings(
-        &self,
-        changes: &mut Vec<u8>,
-        old: Reading,
-        new: Reading,
-    ) -> Result<(), AllocError> {
-        match (old, new) {
+    // The object of a step before and after it.
+    fn readings(&self, step: &Step) -> Result<String, AllocError> {
+        let name = self.object(step.object);
+        match (step.old, step.new) {
             (_, Reading::Owner(Some(owner))) => {
-                put_both(changes, b"-> ", self.source.thread(owner))
+                format!(in self.alloc; "{name} -> {}", self.thread(owner))
             }
-            (_, Reading::Owner(None)) => changes.extend_from_slice(b"is free"),
+            (_, Reading::Owner(None)) => format!(in self.alloc; "{name} is free"),
             (Reading::Value(old), Reading::Value(new)) if old == new => {
-                put_value(changes, self.alloc, new)?;
-                changes.extend_from_slice(b" (unchanged)")
+                format!(in self.alloc; "{name} {new} (unchanged)")
             }
             (Reading::Value(old), Reading::Value(new)) => {
-                put_value(changes, self.alloc, old)?;
-                changes.extend_from_slice(b" -> ")?;
-                put_value(changes, self.alloc, new)
+                format!(in self.alloc; "{name} {old} -> {new}")
             }
             (Reading::Count(old), Reading::Count(new)) => {
-                put_number(changes, self.alloc, old as usize)?;
-                changes.extend_from_slice(b" -> ")?;
-                put_number(changes, self.alloc, new as usize)
+                format!(in self.alloc; "{name} {old} -> {new}")
             }
-            _ => Ok(()),
+            _ => Ok(String::new(self.alloc)),
         }
-    }
-
-    // Whom a step woke.
-    fn put_woken(&self, changes: &mut Vec<u8>, step: &Step) -> Result<(), AllocError> {
-        if step.woken.is_empty() {
-            return changes.extend_from_slice(b"nobody waits");
-        }
-        for (i, thread) in step.woken.iter().enumerate() {
-            let word: &[u8] = if i == 0 { b"wakes " } else { b", " };
-            put_both(changes, word, self.source.thread(*thread))?;
-        }
-        Ok(())
     }
 
     // A local that was set: in the step itself, or after it with the line.
     fn put_setting(
         &self,
-        changes: &mut Vec<u8>,
+        changes: &mut String,
         step: &Step,
         setting: Setting,
     ) -> Result<(), AllocError> {
         let thread = step.line.thread;
         if !changes.is_empty() {
-            changes.extend_from_slice(b"; ")?;
+            changes.push_str("; ")?;
         }
         if setting.instruction != step.instruction {
-            changes.extend_from_slice(b"line ")?;
-            let line = self.source.line(thread, setting.instruction);
-            put_number(changes, self.alloc, line as usize)?;
-            changes.extend_from_slice(b": ")?;
+            write!(
+                changes,
+                "line {}: ",
+                self.source.line(thread, setting.instruction)
+            )?;
         }
-        put_both(changes, self.source.local(thread, setting.local), b" = ")?;
-        put_value(changes, self.alloc, setting.value)
+        write!(
+            changes,
+            "{} = {}",
+            self.local(thread, setting.local),
+            setting.value
+        )
     }
 
-    // That a store overwrote what another thread had written.
-    fn put_lost_mark(&self, changes: &mut Vec<u8>, at: usize) -> Result<(), AllocError> {
-        let Some(Some(lost)) = self.explanation.lost().get(at) else {
+    // That another thread wrote the variable of a store between this and its own last use of it,
+    // where the store is in the cause.
+    fn put_between(&self, changes: &mut String, at: usize) -> Result<(), AllocError> {
+        if !self.is_in_cause(at) {
             return Ok(());
-        };
-        let Some(write) = self.explanation.steps().get(lost.write) else {
-            return Ok(());
-        };
-        if let Reading::Value(value) = write.new {
-            changes.extend_from_slice(b"  lost: ")?;
-            put_value(changes, self.alloc, value)?;
-            put_both(changes, b" of ", self.source.thread(write.line.thread))?;
         }
-        Ok(())
+        match self.written_between(at) {
+            Some((writer, since)) => {
+                write!(
+                    changes,
+                    "; {} wrote it since step {since}",
+                    self.thread(writer)
+                )
+            }
+            None => Ok(()),
+        }
+    }
+
+    // The other thread that wrote the variable of a store last, and the step before that by which
+    // the store's own thread used it last.
+    fn written_between(&self, at: usize) -> Option<(u8, usize)> {
+        let store = self.step(at)?;
+        let Act::Store { .. } = store.line.act else {
+            return None;
+        };
+        let mut writer = None;
+        for earlier in (0..at).rev() {
+            let step = self.step(earlier)?;
+            if step.object == store.object {
+                if step.line.thread == store.line.thread {
+                    return Some((writer?, earlier));
+                }
+                if writer.is_none() && writes(step.line.act) {
+                    writer = Some(step.line.thread);
+                }
+            }
+        }
+        None
     }
 
     // The row of a thread's assertion that failed, after its beginning.
-    fn put_stop_row(
-        &self,
-        text: &mut Vec<u8>,
-        row: &mut Vec<u8>,
-        thread: u8,
-    ) -> Result<(), AllocError> {
-        let Some(standing) = self.explanation.standing(thread) else {
+    fn put_stop_row(&self, page: &mut Page, row: String, thread: u8) -> Result<(), AllocError> {
+        let mut row = row;
+        let Some(standing) = self.standing(thread) else {
             return Ok(());
         };
-        self.put_place(row, self.source.line(thread, standing.instruction), thread)?;
-        row.extend_from_slice(b"assert")?;
-        let mut changes = Vec::from_slice(self.alloc, b"FALSE: ")?;
-        if let Some(Instruction::Assert(e)) = self
-            .source
-            .instruction(thread, standing.instruction)
-        {
-            self.put_comparison(&mut changes, thread, e)?;
-        }
-        self.put_row(text, row.as_slice(), changes.as_slice())
+        let line = self.source.line(thread, standing.instruction);
+        self.put_cell(&mut row, thread, line, "assert")?;
+        let changes = match self.source.instruction(thread, standing.instruction) {
+            Some(Instruction::Assert(e)) => self.comparison(thread, e)?,
+            _ => String::new(self.alloc),
+        };
+        self.put_row(page, row.as_str(), changes.as_str())
     }
 
-    // An expression with the values of a thread's locals at the end.
-    fn put_comparison(
-        &self,
-        changes: &mut Vec<u8>,
-        thread: u8,
-        expression: Expression,
-    ) -> Result<(), AllocError> {
+    // An assertion that failed, with the values of its locals.
+    fn comparison(&self, thread: u8, expression: Expression) -> Result<String, AllocError> {
         match expression {
-            Expression::Single(a) => put_value(changes, self.alloc, self.value_at_end(thread, a)),
+            Expression::Single(a) => {
+                format!(in self.alloc; "FALSE: {}", self.value_at_end(thread, a))
+            }
             Expression::Both(a, op, b) => {
-                put_value(changes, self.alloc, self.value_at_end(thread, a))?;
-                changes.extend_from_slice(explain::op_text(op))?;
-                put_value(changes, self.alloc, self.value_at_end(thread, b))
+                let (a, b) = (self.value_at_end(thread, a), self.value_at_end(thread, b));
+                format!(in self.alloc; "FALSE: {a} {} {b}", op_text(op))
             }
         }
     }
 
-    // That the thread of a step was interrupted after it.
-    fn put_interruption(&self, text: &mut Vec<u8>, step: &Step) -> Result<(), AllocError> {
-        let thread = step.line.thread;
-        let column = self.columns.start(thread as usize);
-        let mut words = Vec::new(self.alloc);
-        put_both(
-            &mut words,
-            self.source.thread(thread),
-            b" is interrupted before line ",
-        )?;
-        let line = self.source.line(thread, step.next);
-        put_number(&mut words, self.alloc, line as usize)?;
-        words.extend_from_slice(b": ")?;
-        self.source
-            .put_statement(&mut words, self.alloc, thread, step.next)?;
-        put_times(text, b' ', column)?;
-        put_times(text, b'~', COLUMN)?;
-        text.push(b' ')?;
-        let from = column.saturating_add(COLUMN + 1);
-        put_wrapped(text, words.as_slice(), from, column, self.columns.width)?;
-        text.push(b'\n')?;
-        Ok(())
+    // The value of a thread's local at the end, or the number itself.
+    fn value_at_end(&self, thread: u8, value: Value) -> i64 {
+        match (value, self.standing(thread)) {
+            (Value::Literal(n), _) => n,
+            (Value::Local(r), Some(standing)) => standing.locals.get(r).copied().unwrap_or(0),
+            (Value::Local(_), None) => 0,
+        }
     }
 
-    /// Where each thread with a column of its own is at the end of a deadlock.
-    pub fn put_end_rows(&self, text: &mut Vec<u8>) -> Result<(), AllocError> {
+    // That the thread of a step was interrupted after it.
+    fn put_interruption(&self, page: &mut Page, step: &Step) -> Result<(), AllocError> {
+        let thread = step.line.thread;
+        let column = self.columns.start(thread as usize);
+        let mut row = String::new(self.alloc);
+        pad_to(&mut row, column)?;
+        put_times(&mut row, '~', COLUMN)?;
+        let (name, line) = (self.thread(thread), self.source.line(thread, step.next));
+        let statement = self.statement(thread, step.next);
+        let words = format!(in self.alloc;
+            "{name} is interrupted before line {line}: {statement}"
+        )?;
+        page.put_columns(row.as_str(), words.as_str(), 0, column)
+    }
+
+    // Where each thread with a column of its own is at the end of a deadlock.
+    fn put_end_rows(&self, page: &mut Page) -> Result<(), AllocError> {
         if self.explanation.kind() != Some(Kind::Stuck) || self.columns.own == 0 {
             return Ok(());
         }
-        let mut row = Vec::from_slice(self.alloc, b" end")?;
-        let mut under = Vec::new(self.alloc);
+        let mut row = String::from_str(self.alloc, " end")?;
+        let mut under = String::new(self.alloc);
         for t in 0..self.source.program.threads() {
             if self.has_column(t) {
                 self.put_end(&mut row, &mut under, t)?;
             }
         }
-        put_both(text, row.as_slice(), b"\n")?;
-        put_both(text, under.as_slice(), b"\n")
+        page.put_whole(row.as_str())?;
+        if under.is_empty() {
+            return Ok(());
+        }
+        page.put_whole(under.as_str())
     }
 
     // Whether a thread has a column of its own.
@@ -414,49 +422,53 @@ impl Teller<'_> {
     }
 
     // Where a thread is at the end, and what it can't do.
-    fn put_end(
-        &self,
-        row: &mut Vec<u8>,
-        under: &mut Vec<u8>,
-        thread: u8,
-    ) -> Result<(), AllocError> {
+    fn put_end(&self, row: &mut String, under: &mut String, thread: u8) -> Result<(), AllocError> {
         let start = self.columns.start(thread as usize);
         pad_to(row, start)?;
         let Some(reason) = self.explanation.reason(thread) else {
-            return row.extend_from_slice(b"ended");
+            return row.push_str("ended");
         };
-        row.extend_from_slice(b"BLOCKED at ")?;
-        put_number(row, self.alloc, self.line_at_end(thread))?;
+        write!(row, "BLOCKED at {}", self.line_at_end(thread))?;
         pad_to(under, start)?;
-        let mut cell = Vec::new(self.alloc);
-        self.put_blocked_statement(&mut cell, thread, reason)?;
-        put_cut(under, cell.as_slice(), COLUMN)
+        put_cut(
+            under,
+            self.blocked_statement(thread, reason)?.as_str(),
+            COLUMN,
+        )
     }
 
     /// The line at which a thread is at the end.
-    pub fn line_at_end(&self, thread: u8) -> usize {
-        match self.explanation.standing(thread) {
-            Some(standing) => self.source.line(thread, standing.instruction) as usize,
+    pub fn line_at_end(&self, thread: u8) -> u32 {
+        match self.standing(thread) {
+            Some(standing) => self.source.line(thread, standing.instruction),
             None => 0,
         }
     }
 
     /// What a thread can't do at the end.
-    pub fn put_blocked_statement(
-        &self,
-        text: &mut Vec<u8>,
-        thread: u8,
-        reason: Reason,
-    ) -> Result<(), AllocError> {
+    pub fn blocked_statement(&self, thread: u8, reason: Reason) -> Result<String, AllocError> {
         if let Reason::Retake(m) = reason {
-            return self.source.put_object(text, b"retake ", Object::Mutex(m));
+            return format!(in self.alloc; "retake {}", self.object(Object::Mutex(m)));
         }
-        match self.explanation.standing(thread) {
-            Some(standing) => {
-                self.source
-                    .put_statement(text, self.alloc, thread, standing.instruction)
-            }
-            None => Ok(()),
+        match self.standing(thread) {
+            Some(standing) => self
+                .statement(thread, standing.instruction)
+                .to_string(self.alloc),
+            None => Ok(String::new(self.alloc)),
         }
     }
+}
+
+// Whether a step that did this wrote a variable.
+fn writes(act: Act) -> bool {
+    matches!(
+        act,
+        Act::Store { .. } | Act::Add { .. } | Act::Cas { hit: Some(_), .. }
+    )
+}
+
+// Adds a rule of this many columns from a column on.
+fn put_rule(row: &mut String, start: usize, columns: usize) -> Result<(), AllocError> {
+    pad_to(row, start)?;
+    put_times(row, '-', columns)
 }

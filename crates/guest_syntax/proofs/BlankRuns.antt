@@ -1,13 +1,11 @@
 -- What is passed over is blank, and what is blank is passed over.
-use Rattle.std.proofs.Common.{◌≡◌, ℕ, ◌<◌, Bool, true, false, cond, not, List, [], ◌∷◌, ◌++◌, Option, Some, None, refl, sym, ap, subst, ◌∙◌}
+use Rattle.std.proofs.Common.{◌≡◌, ℕ, ◌<◌, Bool, true, false, cond, not, List, [], ◌∷◌, ◌++◌, Option, Some, None, refl, sym, ap, subst, ◌∙◌, ◌≤◌, arith}
 use Rattle.std.specs.Prelude.{nat_le, ◌==◌}
 use Rattle.std.specs.List.{AllByRecursion}
-use Rattle.std.proofs.lemmas.Bool.{leb-false, leb-true, lt-leb}
+use Rattle.std.proofs.lemmas.Bool.{leb-false, le-leb, lt-leb}
 use Rattle.guest_syntax.specs.declared.place.Pos.{Pos}
-use Rattle.guest_syntax.specs.declared.lexer.Step.{Step}
-use Rattle.guest_syntax.specs.declared.lexer.Step.TheVariants.{Passed, Stops, NotAscii}
 use Rattle.guest_syntax.specs.Place.{past, after, Follows}
-use Rattle.guest_syntax.specs.reader.BlankBytes.{gap_step}
+use Rattle.guest_syntax.specs.reader.BlankBytes.{Step, Passed, Stops, NotAscii, gap_step}
 use Rattle.guest_syntax.specs.Tokens.{is_space, blank}
 use Rattle.guest_syntax.specs.reader.Scanner.{skip_by, skipped}
 use Rattle.guest_syntax.proofs.OptionCases.{some_is}
@@ -56,18 +54,6 @@ pub stops_ascii : (b : ℕ) → gap_step false b ≡ Stops → b < 128
 stops_ascii b e = leb-false 128 b (stops_small (nat_le 128 b) false (b == 35) (is_space b)
     (not (b == 10)) e)
 
-not_ascii_big : (big c hash space nl : Bool)
-    → cond big NotAscii (choice c hash space nl Passed Stops) ≡ NotAscii → big ≡ true
-not_ascii_big true c hash space nl e = refl
-not_ascii_big false true hash space nl e = absurd cc
-not_ascii_big false false true space nl e = absurd cc
-not_ascii_big false false false true nl e = absurd cc
-not_ascii_big false false false false nl e = absurd cc
-
-pub not_ascii_above : (c : Bool) (b : ℕ) → gap_step c b ≡ NotAscii → 127 < b
-not_ascii_above c b e = leb-true 128 b (not_ascii_big (nat_le 128 b) c (b == 35) (is_space b)
-    (not (b == 10)) e)
-
 passes : (big c hash space nl : Bool) (P : Bool → Option Bool) (r : Bool) → big ≡ false
     → choice c hash space nl P None ≡ Some r → (d : Bool)
     × (cond big NotAscii (choice c hash space nl Passed Stops) ≡ Passed d) × (P d ≡ Some r)
@@ -76,6 +62,30 @@ passes false true hash space nl P r b e = (nl, refl, e)
 passes false false true space nl P r b e = (true, refl, e)
 passes false false false true nl P r b e = (false, refl, e)
 passes false false false false nl P r b e = absurd cc
+
+-- ---- one byte, as the code tells what it is
+
+stops_by : (c hash space nl : Bool) → choice c hash space nl (λ d. Some d) None ≡ None
+    → choice c hash space nl Passed Stops ≡ Stops
+stops_by true hash space nl e = absurd cc
+stops_by false true space nl e = absurd cc
+stops_by false false true nl e = absurd cc
+stops_by false false false nl e = refl
+
+pub above_step : (c : Bool) (b : ℕ) → 127 < b → gap_step c b ≡ NotAscii
+above_step c b lt = let above : nat_le 128 b ≡ true = le-leb 128 b lt in rw above refl
+
+pub passed_step : (c : Bool) (b : ℕ) (d : Bool) → b ≤ 127 → blank c (b ∷ []) ≡ Some d
+    → gap_step c b ≡ Passed d
+passed_step c b d le e =
+    let p = passes (nat_le 128 b) c (b == 35) (is_space b) (not (b == 10)) (λ d. Some d) d
+    (lt-leb 128 b (omega (arith, le))) (sym (blank_cond c b []) ∙ e) in
+    p.1 ∙ ap (λ d. Passed d) (some_is p.0 d p.2)
+
+pub stops_step : (c : Bool) (b : ℕ) → b ≤ 127 → blank c (b ∷ []) ≡ None → gap_step c b ≡ Stops
+stops_step c b le e =
+    let below : nat_le 128 b ≡ false = lt-leb 128 b (omega (arith, le)) in
+    rw below (stops_by c (b == 35) (is_space b) (not (b == 10)) (sym (blank_cond c b []) ∙ e))
 
 -- where what is left begins
 abbrev pub IsStop : List ℕ → Bool → Type 0

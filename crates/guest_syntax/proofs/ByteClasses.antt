@@ -1,8 +1,7 @@
 -- Classes of bytes.
 use Rattle.std.proofs.Common.{◌≡◌, ℕ, ◌<◌, Bool, true, false, ◌&&◌, ◌||◌, refl, arith}
 use Rattle.std.proofs.lemmas.Bool.Decides.{nat_tests}
-use Rattle.guest_syntax.specs.declared.lexer.Step.TheVariants.{Stops}
-use Rattle.guest_syntax.specs.reader.BlankBytes.{gap_step}
+use Rattle.guest_syntax.specs.reader.BlankBytes.{Stops, gap_step}
 use Rattle.guest_syntax.specs.Tokens.{is_letter, is_digit, is_name_byte}
 
 pub and_parts : (a b : Bool) → (a && b) ≡ true → (a ≡ true) × (b ≡ true)

@@ -3,9 +3,8 @@ use Rattle.std.proofs.Common.{◌≡◌, ℕ, ◌+◌, ◌-◌, ◌<◌, ◌≤�
 use Rattle.std.proofs.lemmas.List.{take_all, drop_all}
 use Rattle.std.proofs.Math.Seq.{drop-length}
 use Rattle.guest_syntax.specs.declared.place.Pos.{Pos}
-use Rattle.guest_syntax.specs.declared.lexer.Step.{Step}
 use Rattle.guest_syntax.specs.Place.{past, after}
-use Rattle.guest_syntax.specs.reader.BlankBytes.{gap_step}
+use Rattle.guest_syntax.specs.reader.BlankBytes.{Step, gap_step}
 use Rattle.guest_syntax.specs.reader.Scanner.{skip_by, skipped}
 
 -- &s[i..]

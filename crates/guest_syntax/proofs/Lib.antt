@@ -20,3 +20,5 @@ pub mod TokensOfText
 pub mod TreeOfText
 pub mod PlacesInText
 pub mod RefusalPlaces
+pub mod PiecesOfText
+pub mod BlocksOfPieces

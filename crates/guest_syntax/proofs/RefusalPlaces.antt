@@ -85,7 +85,7 @@ no_symbol bytes rest s none e =
     sym (ap (take n) e ∙ take_at (symbol_text s) rest n refl) in
     false_true other ((slice_eq-Decides Decides-eqb (symbol_text s) (take n bytes) _ refl).1 same)
 
-begins_none : (b : ℕ) (bs : List ℕ) → kind_at (b ∷ bs) ≡ None → BeginsNone (b ∷ bs)
+pub begins_none : (b : ℕ) (bs : List ℕ) → kind_at (b ∷ bs) ≡ None → BeginsNone (b ∷ bs)
 unfolding kind_at
 begins_none b bs none (name s) text rest e h =
     no_identifier b bs text rest (none_parts (is_letter b) (is_digit b) (b ∷ bs) none).0 e

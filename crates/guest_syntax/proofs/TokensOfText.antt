@@ -6,9 +6,8 @@ use Rattle.std.proofs.lemmas.List.{append-nil, take_at, drop_at, take-append-dro
 use Rattle.guest_syntax.specs.declared.place.Pos.{Pos}
 use Rattle.guest_syntax.specs.declared.token.Symbol.{Symbol}
 use Rattle.guest_syntax.specs.declared.token.Symbol.TheVariants as symbols
-use Rattle.guest_syntax.specs.declared.lexer.Step.TheVariants.{Stops}
 use Rattle.guest_syntax.specs.Place.{after}
-use Rattle.guest_syntax.specs.reader.BlankBytes.{gap_step}
+use Rattle.guest_syntax.specs.reader.BlankBytes.{Stops, gap_step}
 use Rattle.guest_syntax.specs.Tokens.{Kind, name, keyword, number, symbol, bad, Token, Tokens, Begins, Spelling, IsIdentifier, keyword_text, symbol_text, blank, is_digit}
 use Rattle.guest_syntax.specs.reader.Scanner.{◌>>=◌, skipped, kind_at, first_from, first, scan_with, scan, tokens_from}
 use Rattle.guest_syntax.proofs.OptionCases.{bind_some, some_is}

@@ -1,9 +1,8 @@
 //! From bytes to tokens, one at a time as they are asked for.
 
-ghost use Rattle.std.specs.Prelude.{◌≡◌, ◌+◌, ◌<◌, ◌≤◌, ◌^◌, length, false, IfOk, IfErr, IfSome, None, take, drop, [], option_map, find, nat_eq};
+ghost use Rattle.std.specs.Prelude.{◌≡◌, ◌+◌, ◌<◌, ◌≤◌, ◌^◌, length, false, IfOk, IfErr, IfSome, None, take, drop, [], ◌∷◌, option_map, find, nat_eq};
 ghost use Rattle.std.specs.List.{starts_with, prefix_len};
 ghost use Rattle.std.specs.Str.{bytes_eq};
-ghost use Rattle.guest_syntax.specs.reader.BlankBytes.{gap_step};
 ghost use Rattle.guest_syntax.specs.reader.Scanner.{skipped, name_or_keyword, capped, symbol_at, kind_at, first};
 ghost use Rattle.guest_syntax.specs.reader.Gives.{Gives};
 ghost use Rattle.guest_syntax.specs.reader.Reads.{Scans, StaysIn, IsTokenOf};
@@ -11,21 +10,12 @@ ghost use Rattle.guest_syntax.specs.Place.{after};
 ghost use Rattle.guest_syntax.specs.Place as place;
 ghost use Rattle.guest_syntax.specs.Answers.{RefusalIn};
 ghost use Rattle.guest_syntax.specs.reader.TokenViews.{kind_view, token_view};
-ghost use Rattle.guest_syntax.specs.Tokens.{keyword_text, symbol_text, is_space, is_letter, is_digit, is_name_byte};
+ghost use Rattle.guest_syntax.specs.Tokens.{keyword_text, symbol_text, is_space, is_letter, is_digit, is_name_byte, blank};
 
 use crate::cursor::Cursor;
 use crate::error::SyntaxError;
 use crate::place::Pos;
 use crate::token::{KEYWORDS, Keyword, Kind, SYMBOLS, Symbol, Token};
-
-/// What a byte is to spaces and comments.
-enum Step {
-    /// It is one of them. The flag says whether a comment goes on after it.
-    Passed(bool),
-    /// It is none of them.
-    Stops,
-    NotAscii,
-}
 
 fn is_space(byte: u8) -> bool
     ensures { result ≡ is_space byte }
@@ -51,19 +41,19 @@ fn is_name_byte(byte: u8) -> bool
     is_letter(byte) || is_digit(byte)
 }
 
-fn gap_step(comment: bool, byte: u8) -> Step
-    ensures { result ≡ gap_step comment byte }
+/// Whether a comment goes on after a byte, where one does before it or not; nothing where the byte
+/// is neither blank nor in a comment.
+pub fn blank_after(comment: bool, byte: u8) -> Option<bool>
+    ensures { result ≡ blank comment (byte ∷ []) }
 {
-    if byte > 127 {
-        Step::NotAscii
-    } else if comment {
-        Step::Passed(byte != b'\n')
+    if comment {
+        Some(byte != b'\n')
     } else if byte == b'#' {
-        Step::Passed(true)
+        Some(true)
     } else if is_space(byte) {
-        Step::Passed(false)
+        Some(false)
     } else {
-        Step::Stops
+        None
     }
 }
 
@@ -79,10 +69,12 @@ fn skip<'a>(text: &'a [u8], start: Pos) -> Result<(Pos, &'a [u8]), SyntaxError>
     let mut at = start;
     let mut comment = false;
     for (i, byte) in text.iter().enumerate() {
-        match gap_step(comment, *byte) {
-            Step::Passed(goes_on) => comment = goes_on,
-            Step::Stops => return Ok((at, &text[i..])),
-            Step::NotAscii => return Err(SyntaxError::NotAscii(at)),
+        if *byte > 127 {
+            return Err(SyntaxError::NotAscii(at));
+        }
+        match blank_after(comment, *byte) {
+            Some(goes_on) => comment = goes_on,
+            None => return Ok((at, &text[i..])),
         }
         at = at.past(*byte);
     }
@@ -97,15 +89,12 @@ fn skip_blanks<'a>(text: Cursor<'a>) -> Result<Cursor<'a>, SyntaxError>
     ensures refused { IfErr result (RefusalIn place.start text.entry.text.now) }
 {
     let (at, rest) = skip(text.rest, text.at)?;
-    Ok(Cursor {
-        text: text.text,
-        rest,
-        at,
-    })
+    let text = text.text;
+    Ok(Cursor { text, rest, at })
 }
 
 /// The cursor this many bytes further on.
-fn advance<'a>(text: Cursor<'a>, len: usize) -> Cursor<'a>
+pub fn advance<'a>(text: Cursor<'a>, len: usize) -> Cursor<'a>
     requires { len ≤ length text.rest.now }
     ensures rest { result.rest.now ≡ drop len text.entry.rest.now }
     ensures at { result.at ≡ after text.entry.at (take len text.entry.rest.now) }
@@ -113,11 +102,8 @@ fn advance<'a>(text: Cursor<'a>, len: usize) -> Cursor<'a>
 {
     let (passed, rest) = text.rest.split_at(len);
     let at = text.at.after(passed);
-    Cursor {
-        text: text.text,
-        rest,
-        at,
-    }
+    let text = text.text;
+    Cursor { text, rest, at }
 }
 
 fn keyword_in(keywords: &[Keyword], text: &[u8]) -> Option<Keyword>
@@ -173,7 +159,7 @@ fn digits_len(text: &[u8]) -> usize
 
 /// The token that begins with the first byte, and its length.
 #[tactic(auto, unfolding(crate::specs::reader::Scanner::kind_at))]
-fn kind_at(text: &[u8]) -> Option<(Kind<'_>, usize)>
+pub fn kind_at(text: &[u8]) -> Option<(Kind<'_>, usize)>
     requires { 0 < length text.now }
     ensures kind { option_map (λ x. (kind_view x.0, x.1)) result ≡ kind_at text.now }
     ensures length { IfSome result (λ x. x.1 ≤ length text.now) }

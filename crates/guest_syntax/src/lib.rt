@@ -6,21 +6,12 @@
 //! tree, `Spells`, which says nothing of how a text is read: which bytes are a token, that the
 //! longest token is taken, which tokens spell which tree, and every limit of `limits.rt`.
 //!
-//! What is promised, for every text:
+//! What [`parse`] promises of every text stands at its clauses: a tree is answered exactly where the
+//! text spells it, memory aside, and a refusal is so at its place. A text spells at most one tree
+//! ([`laws::one_tree`]), and each statement is in the text of its thread
+//! ([`laws::statements_are_in_their_threads`]). Reading ends, and reads no byte outside the text.
 //!
-//! - A tree that is answered is spelled by the text. So a text that breaks the grammar or a limit
-//!   has no tree.
-//! - Where the text spells a tree, that tree is answered, or memory ran out. So no good text is
-//!   refused, and a refusal for any other reason means that the text spells nothing.
-//! - A text spells at most one tree ([`laws::one_tree`]): the grammar has no two meanings.
-//! - A tree says of each statement where it begins, and that is in the text of its thread
-//!   ([`laws::statements_are_in_their_threads`]).
-//! - A text of more than [`TEXT_BYTES`] bytes is refused as too long, before it is read, and no
-//!   other text is.
-//! - What a refusal says is so at its place, the place after some number of the text's bytes: there
-//!   is a byte above 127, a byte that begins no token, a number, an opening brace, or, for a token
-//!   that the grammar does not allow, a token or the end of the text.
-//! - Reading ends, reads no byte outside the text and never overflows, also for hostile texts.
+//! [`pieces::Pieces`] gives the tokens also of a text that spells no tree.
 //!
 //! Which fault is the first, and which of the text's tokens it is at, is shown by tests.
 //!
@@ -36,6 +27,7 @@ pub mod laws;
 mod lexer;
 pub mod limits;
 mod parser;
+pub mod pieces;
 pub mod place;
 mod reading;
 mod statements;

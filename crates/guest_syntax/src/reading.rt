@@ -42,12 +42,6 @@ pub fn parse(alloc: Global, text: &[u8]) -> Result<Tree, SyntaxError>
     if text.len() > TEXT_BYTES {
         return Err(SyntaxError::TooLong(at));
     }
-    tree(
-        alloc,
-        Cursor {
-            text,
-            rest: text,
-            at,
-        },
-    )
+    let rest = text;
+    tree(alloc, Cursor { text, rest, at })
 }

@@ -1,13 +1,13 @@
 //! Which brace seems to be missing.
 
 use crate::message::{Note, Span};
-use crate::pieces::Piece;
 use crate::words::{decimal, joined, place};
+use guest_syntax::pieces::{self, Piece};
 use guest_syntax::place::Pos;
 use std::alloc::{AllocError, Global};
 
 /// Whether a piece is the first of its line.
-fn is_first(pieces: &[Piece<'_>], number: usize) -> bool {
+pub fn is_first(pieces: &[Piece<'_>], number: usize) -> bool {
     match (pieces.get(number), pieces.get(number.saturating_sub(1))) {
         (Some(here), Some(before)) => number == 0 || before.at.line < here.at.line,
         _ => false,
@@ -16,29 +16,15 @@ fn is_first(pieces: &[Piece<'_>], number: usize) -> bool {
 
 /// The column of the first piece of a line.
 fn indent(pieces: &[Piece<'_>], line: u32) -> u32 {
-    for piece in pieces {
-        if piece.at.line == line {
-            return piece.at.col;
-        }
-    }
-    0
+    let first = pieces.iter().find(|piece| piece.at.line == line);
+    first.map_or(0, |piece| piece.at.col)
 }
 
 /// The number of the piece that closes the block that this piece opens.
 pub fn closing(pieces: &[Piece<'_>], open: usize) -> Option<usize> {
-    let mut depth = 0_usize;
-    for (i, piece) in pieces.iter().enumerate() {
-        if i >= open && matches!(piece.text, b"{") {
-            depth = depth.saturating_add(1);
-        }
-        if i >= open && matches!(piece.text, b"}") {
-            if depth <= 1 {
-                return Some(i);
-            }
-            depth -= 1;
-        }
-    }
-    None
+    let first = open.checked_add(1)?;
+    let inside = pieces::closing(pieces.get(first..)?)?;
+    first.checked_add(inside)
 }
 
 /// The last line of those right after this one that lie deeper than it.

@@ -1,6 +1,6 @@
 //! How statements and declarations are written, for hints.
 
-use crate::pieces::Piece;
+use guest_syntax::pieces::Piece;
 
 /// What a place of a statement or a declaration is for.
 #[derive(Clone, Copy, Debug, PartialEq, Eq)]
@@ -172,18 +172,37 @@ fn form_of(keyword: &[u8]) -> Option<&'static Form> {
 
 /// The places after a keyword, in order; none for other words.
 pub fn slots(keyword: &[u8]) -> &'static [Slot] {
-    match form_of(keyword) {
-        Some(form) => form.slots,
-        None => &[],
-    }
+    form_of(keyword).map_or(&[], |form| form.slots)
 }
 
 /// How a statement or a declaration with this keyword is written; empty for other words.
 pub fn written(keyword: &[u8]) -> &'static str {
-    match form_of(keyword) {
-        Some(form) => form.written,
-        None => "",
+    form_of(keyword).map_or("", |form| form.written)
+}
+
+/// The keywords that begin a declaration or a thread, or those that begin a statement.
+pub fn keywords(outside: bool) -> &'static [&'static str] {
+    if outside {
+        return &["var", "mutex", "cond", "sem", "thread"];
     }
+    &[
+        "load",
+        "store",
+        "add",
+        "cas",
+        "lock",
+        "unlock",
+        "wait",
+        "signal",
+        "broadcast",
+        "acquire",
+        "release",
+        "set",
+        "assert",
+        "if",
+        "repeat",
+        "leave",
+    ]
 }
 
 /// What is wanted in a place.

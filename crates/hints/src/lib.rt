@@ -15,5 +15,6 @@ pub mod forms;
 pub mod message;
 pub mod pieces;
 pub mod refusal;
+mod slips;
 pub mod told;
 pub mod words;

@@ -58,6 +58,25 @@ pub struct Advice {
     pub notes: Vec<Note>,
 }
 
+impl Advice {
+    /// The number and the name of what is told: the second and the third word of the short form.
+    pub fn code(&self) -> (&str, &str) {
+        let mut words = self.headline.split_ascii_whitespace();
+        let _ = words.next();
+        let number = words.next().unwrap_or("");
+        let name = words.next().unwrap_or("");
+        (number, name)
+    }
+
+    /// The line and the column; past all others where it has no place.
+    pub fn place(&self) -> (u32, u32) {
+        match self.span {
+            Some(span) => (span.at.line, span.at.col),
+            None => (u32::MAX, u32::MAX),
+        }
+    }
+}
+
 /// What is left of a text from a line on; lines count from 1.
 fn from_line(text: &[u8], line: u32) -> &[u8]
     ensures { result.now ≡ from_line text.now line }
@@ -96,14 +115,14 @@ fn first_line(text: &[u8]) -> &[u8]
 }
 
 /// A line of the text, without its line feed; lines count from 1.
-fn line_of(text: &[u8], line: u32) -> &[u8]
+pub fn line_of(text: &[u8], line: u32) -> &[u8]
     ensures { result.now ≡ line_of text.now line }
 {
     first_line(from_line(text, line))
 }
 
 /// How a byte of a source line is shown: each is one column.
-fn shown(byte: u8) -> u8
+pub fn shown(byte: u8) -> u8
     ensures { result ≡ shown byte }
 {
     if byte == b'\t' || byte == b'\r' {

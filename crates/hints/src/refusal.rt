@@ -6,15 +6,17 @@ ghost use Rattle.guest_syntax.specs.Tree.{thread_view, tree_view};
 ghost use Rattle.guest_code.specs.ErrorTexts.{check_error_text};
 ghost use Rattle.hints.specs.Refusals.{syntax_place, check_place, IsAdviceOf};
 
-use crate::braces::missing_brace;
+use crate::braces::{is_first, missing_brace};
 use crate::declared::{Declared, first_declared, nearest};
 use crate::forms::{Slot, slots, statement_start, wanted, written};
 use crate::message::{Advice, Grade, Note, Span};
-use crate::pieces::{Piece, piece_at, pieces};
+use crate::pieces::{piece_at, pieces};
+use crate::slips::{add_near_keyword, assignment, equals_sign, negative_local};
 use crate::told::{Told, note};
-use crate::words::{beside, joined, place};
+use crate::words::{beside, decimal, joined, place};
 use guest_code::error::CheckError;
 use guest_syntax::SyntaxError;
+use guest_syntax::pieces::Piece;
 use guest_syntax::place::Pos;
 use guest_syntax::tree::{Thread, Tree};
 use std::alloc::{AllocError, Global};
@@ -28,6 +30,8 @@ pub struct Context<'a> {
     pub at: usize,
     /// The number of the first piece of the statement.
     pub start: usize,
+    /// The place.
+    pub place: Pos,
 }
 
 impl<'a> Context<'a> {
@@ -38,15 +42,13 @@ impl<'a> Context<'a> {
             pieces,
             at,
             start: statement_start(pieces, at),
+            place,
         }
     }
 
     /// The bytes of a piece; none past the last.
     pub fn text(&self, number: usize) -> &'a [u8] {
-        match self.pieces.get(number) {
-            Some(piece) => piece.text,
-            None => b"",
-        }
+        self.pieces.get(number).map_or(&[], |piece| piece.text)
     }
 
     /// The piece at the place.
@@ -57,6 +59,11 @@ impl<'a> Context<'a> {
     /// The piece that is this many places after it.
     pub fn following(&self, places: usize) -> &'a [u8] {
         self.text(self.at.saturating_add(places))
+    }
+
+    /// The piece that comes before it.
+    pub fn before(&self) -> &'a [u8] {
+        self.text(self.at.saturating_sub(1))
     }
 
     /// The keyword of the statement.
@@ -95,8 +102,8 @@ impl<'a> Context<'a> {
 
     /// Whether a thread begins before the place.
     pub fn has_thread(&self) -> bool {
-        self.pieces.iter().enumerate().any(|(i, piece)| i < self.at
-            && matches!(piece.text, b"thread"))
+        let mut before = self.pieces.iter().take(self.at);
+        before.any(|piece| matches!(piece.text, b"thread"))
     }
 
     /// The place and the length of the piece at the place.
@@ -149,7 +156,6 @@ fn check_place(tree: &Tree, error: CheckError) -> Option<Pos>
         | CheckError::TooMany(at)
         | CheckError::LeaveOutside(at) => Some(at),
         CheckError::CodeTooLong(thread) => thread_place(tree.threads(), thread),
-
         CheckError::NoThreads | CheckError::OutOfMemory => None,
     }
 }
@@ -251,6 +257,13 @@ fn bad_byte(alloc: Global, context: Context<'_>) -> Result<Told, AllocError> {
                 b";",
             ],
         ),
+        b":" if context.depth() == 0 => Told::new(
+            alloc,
+            &[b"a declaration has no type: all values are numbers"],
+        ),
+        b"." if context.before().iter().all(u8::is_ascii_digit) => {
+            Told::new(alloc, &[b"numbers are whole: no point is in them"])
+        }
         b"&" | b"|" => Told::with(
             alloc,
             &[b"one operator a statement, and none of these"],
@@ -273,7 +286,6 @@ fn no_such_mark(found: &[u8], next: &[u8]) -> &'static str {
         b"!" => "there is no `!`: compare with 0, as r == 0",
         b"[" | b"]" => "there are no arrays",
         b"\"" | b"'" => "there are no texts, only numbers",
-        b":" | b"." => "a declaration has no type: all values are numbers",
         _ => "no token begins with this byte",
     }
 }
@@ -307,7 +319,9 @@ fn expected_outside(alloc: Global, context: Context<'_>) -> Result<Told, AllocEr
         );
     }
     if !context.has_thread() {
-        return Told::new(alloc, &[b"a declaration or `thread` was expected"]);
+        let mut told = Told::new(alloc, &[b"a declaration or `thread` was expected"])?;
+        add_near_keyword(alloc, context.found(), true, &mut told)?;
+        return Ok(told);
     }
     match context.found() {
         b"var" | b"mutex" | b"cond" | b"sem" => Told::new(
@@ -367,26 +381,17 @@ fn no_statement(found: &[u8]) -> Option<&'static str> {
 
 /// Of a word or a mark where a statement would be.
 fn expected_statement(alloc: Global, context: Context<'_>) -> Result<Told, AllocError> {
-    let found = context.found();
-    let value = context.following(2);
-    if !matches!(context.following(1), b"=") {
-        return Told::new(alloc, &[b"a statement or `}` was expected"]);
+    if let Some(slip) = assignment(alloc, context)? {
+        let mut told = Told::new(alloc, &[b"a statement begins with its keyword"])?;
+        told.add(slip)?;
+        return Ok(told);
     }
-    Told::with(
-        alloc,
-        &[b"a statement begins with its keyword"],
-        &[
-            b"write: store ",
-            found,
-            b" ",
-            value,
-            b"; for a variable, set ",
-            found,
-            b" ",
-            value,
-            b"; for a local",
-        ],
-    )
+    let mut told = Told::new(alloc, &[b"a statement or `}` was expected"])?;
+    if matches!(context.found(), b";") {
+        told.add(note(alloc, &[b"is this `;` one too many?"])?)?;
+    }
+    add_near_keyword(alloc, context.found(), false, &mut told)?;
+    Ok(told)
 }
 
 /// Of a token inside a statement or a declaration.
@@ -442,6 +447,12 @@ fn add_hint(alloc: Global, context: Context<'_>, told: &mut Told) -> Result<(), 
     if matches!(context.slot(), Some(Slot::End | Slot::OperatorOrEnd)) && starts_line(context) {
         told.add(missing_end(alloc, context)?)?;
     }
+    if let Some(slip) = equals_sign(context) {
+        told.add(note(alloc, &[slip.as_bytes()])?)?;
+    }
+    if let Some(slip) = negative_local(alloc, context)? {
+        told.add(slip)?;
+    }
     Ok(())
 }
 
@@ -451,11 +462,6 @@ fn lacks_local(context: Context<'_>) -> bool {
         && matches!(context.keyword(), b"add" | b"cas" | b"load")
 }
 
-/// The piece before the place.
-fn before<'a>(context: Context<'a>) -> &'a [u8] {
-    context.text(context.at.saturating_sub(1))
-}
-
 fn missing_local(alloc: Global, context: Context<'_>) -> Result<Note, AllocError> {
     note(
         alloc,
@@ -463,32 +469,33 @@ fn missing_local(alloc: Global, context: Context<'_>) -> Result<Note, AllocError
             b"is the local missing? here: ",
             context.keyword(),
             b" old ",
-            before(context),
+            context.before(),
             b" ..",
         ],
     )
 }
 
 fn missing_end(alloc: Global, context: Context<'_>) -> Result<Note, AllocError> {
+    let line = match context.pieces.get(context.at.saturating_sub(1)) {
+        Some(piece) => piece.at.line,
+        None => context.place.line,
+    };
+    let line = decimal(alloc, line as u64)?;
     note(
         alloc,
         &[
             b"is a `;` missing after `",
-            before(context),
-            b"` on the line before?",
+            context.before(),
+            b"` in line ",
+            line.as_bytes(),
+            b"?",
         ],
     )
 }
 
-/// Whether the piece at the place is on a later line than the one before it.
+/// Whether the piece at the place is on a later line than the one before it, or none is there.
 fn starts_line(context: Context<'_>) -> bool {
-    match (
-        context.pieces.get(context.at),
-        context.pieces.get(context.at.saturating_sub(1)),
-    ) {
-        (Some(here), Some(before)) => before.at.line < here.at.line,
-        _ => true,
-    }
+    context.at >= context.pieces.len() || is_first(context.pieces, context.at)
 }
 
 fn told_of_check(
@@ -545,19 +552,12 @@ fn kind_wanted(slot: Option<Slot>) -> &'static str {
 }
 
 /// How the declaration of an object of a kind begins, and how it ends.
-fn declaration_start(slot: Option<Slot>) -> &'static str {
+fn declaration(slot: Option<Slot>) -> (&'static str, &'static str) {
     match slot {
-        Some(Slot::Mutex) => "mutex ",
-        Some(Slot::Condition) => "cond ",
-        Some(Slot::Semaphore) => "sem ",
-        _ => "var ",
-    }
-}
-
-fn declaration_end(slot: Option<Slot>) -> &'static str {
-    match slot {
-        Some(Slot::Semaphore) => " = 0;",
-        _ => ";",
+        Some(Slot::Mutex) => ("mutex ", ";"),
+        Some(Slot::Condition) => ("cond ", ";"),
+        Some(Slot::Semaphore) => ("sem ", " = 0;"),
+        _ => ("var ", ";"),
     }
 }
 
@@ -580,17 +580,13 @@ fn is_a(alloc: Global, found: Declared<'_>) -> Result<Vec<u8>, AllocError> {
 
 fn unknown(alloc: Global, context: Context<'_>, tree: &Tree) -> Result<Told, AllocError> {
     let kind = kind_wanted(context.slot());
+    let (start, end) = declaration(context.slot());
     let mut told = Told::new(alloc, &[b"no ", kind.as_bytes(), b" has this name"])?;
     let hint = match nearest(alloc, tree, kind, context.found())? {
         Some(near) => meant(alloc, near)?,
         None => note(
             alloc,
-            &[
-                b"declare it: ",
-                beside(declaration_start(context.slot())),
-                context.found(),
-                beside(declaration_end(context.slot())),
-            ],
+            &[b"declare it: ", beside(start), context.found(), beside(end)],
         )?,
     };
     told.add(hint)?;

@@ -2,11 +2,13 @@
 -- begins with two of them.
 use Rattle.std.proofs.Common.{◌≡◌, ◌⊎◌, inl, inr, ℕ, zero, suc, ◌+◌, ◌<◌, ◌≤◌, Bool, true, false}
 use Rattle.std.proofs.Common.{cond, not, ◌&&◌, ◌||◌, nat_eq, nat_le, nat_lt, List, [], ◌∷◌, ◌++◌}
-use Rattle.std.proofs.Common.{length, map, refl, ap, ◌∙◌, sym, subst, arith}
-use Rattle.std.specs.List.{All, Contains, filter, flat_map, list_any}
-use Rattle.std.proofs.lemmas.Bool.{cases_lt, cases_order, or_left, or_right}
+use Rattle.std.proofs.Common.{length, map, refl, ap, ◌∙◌, sym, subst, arith, IsPermutation}
+use Rattle.std.specs.List.{All, filter, flat_map, list_any}
+use Rattle.std.proofs.lemmas.Bool.{cases_lt, cases_order}
 use Rattle.std.proofs.lemmas.Bool.Decides.{nat_tests}
-use Rattle.std.proofs.lemmas.List.Folds.{flat_map-map, list_any-append}
+use Rattle.std.proofs.lemmas.List.{append-nil, map-append}
+use Rattle.std.proofs.lemmas.List.Folds.{flat_map-map}
+use Rattle.std.proofs.lemmas.List.Sorted.{IsPermutation-refl, IsPermutation-filter_both}
 use Rattle.std.proofs.lemmas.List.Elements.{All-nil, All-cons, All-append}
 use Rattle.semantics.specs.Mask.{has, one_if}
 use Rattle.semantics.specs.Machine.{Snapshot, start, is_enabled}
@@ -17,7 +19,7 @@ use Rattle.schedules.specs.Schedules.{schedules_within, exceeds_bound}
 use Rattle.semantics.specs.Ends.{enabled, is_terminal, is_empty}
 use Rattle.schedules.specs.Sleep.{reduced_schedules}
 use Rattle.semantics.specs.Waiters.{In}
-use Rattle.semantics.proofs.ListMembers.{contains_in, in_contains, in_filter, from_filter, from_map}
+use Rattle.semantics.proofs.ListMembers.{contains_in, in_contains, from_filter, from_map}
 use Rattle.semantics.proofs.ListMembers.{from_flat_map}
 use Rattle.schedules.proofs.ReducedSchedules.{in_any, from_enabled}
 use Rattle.schedules.proofs.UnfoldingUnderPrefix.{runs-push, preemptions-push, schedules_under-more}
@@ -26,13 +28,15 @@ use Rattle.schedules.proofs.UnfoldingUnderPrefix.{exceeds_bound-more, exceeds_bo
 use Rattle.schedules.proofs.SchedulesUnderPrefix.{begins_longer, in_under, in_within}
 use Rattle.items.specs.declared.mode.Mode.{Mode}
 use Rattle.items.specs.declared.mode.Mode.TheVariants.{Bounded, Reduced}
-use Rattle.items.specs.Items.{ItemView, IsItem, schedules_of, goes_beyond, covers, is_under}
-use Rattle.items.specs.Walks.{IsBelow, IsDeferred, clear_of}
+use Rattle.items.specs.Items.{ItemView, IsItem, schedules_of, everything, goes_beyond, covers}
+use Rattle.items.specs.Items.{is_under}
+use Rattle.items.specs.Walks.{IsBelow, IsDeferred}
 use Rattle.items.specs.Children.{state_of, next_steps, is_kept_step, is_past_step, kept_steps}
 use Rattle.items.specs.Children.{past_steps, passes_bound, child_of, children_of, children}
 use Rattle.items.specs.Children.{past_children}
 use Rattle.items.proofs.Covers.{at_most_one, covers-append}
 use Rattle.items.proofs.Filters.{filter_none}
+use Rattle.items.proofs.Permutations.{flat_map-permutation}
 use Rattle.items.proofs.Reduced.{children_keep, child_keeps}
 
 -- each next step is one of an enabled thread
@@ -152,39 +156,74 @@ children_schedules Reduced i h of more =
     children_keep i of more
     ∙ sym (flat_map-map (schedules_of Reduced) (child_of Reduced i) (kept_steps Reduced i))
 
+-- all that begins with an item's prefix is what begins with those of its children and of what is
+-- put off
+
+past_is : (bound : ℕ) (i : ItemView) (t : ℕ) →
+    is_past_step (Bounded bound) i t ≡ not (is_kept_step (Bounded bound) i t)
+past_is bound i t = elim (past_or_kept bound i t) [
+  | inl a ↦ a.1 ∙ ap not (sym a.0)
+  | inr b ↦ b.1 ∙ ap not (sym b.0)
+]
+
+pub children_all : (mode : Mode) (i : ItemView) → IsItem i → IsOf i.program (state_of i) →
+    is_terminal i.program (state_of i) ≡ false →
+    IsPermutation (everything mode i)
+    (flat_map (everything mode) (children mode i ++ past_children mode i))
+children_all (Bounded bound) i h of more =
+    subst (λ L. IsPermutation L (flat_map (everything mode) (children mode i
+    ++ past_children mode i))) (sym (schedules_under-more i.program i.prefix h more))
+    (subst (IsPermutation (flat_map under (next_steps i)))
+    (sym (flat_map-map (everything mode) (child_of mode i) (kept_steps mode i ++ past_steps mode i))
+    ∙ ap (flat_map (everything mode))
+    (map-append (child_of mode i) (kept_steps mode i) (past_steps mode i)))
+    (flat_map-permutation under _ _ (IsPermutation-filter_both (is_kept_step mode i)
+    (is_past_step mode i) (past_is bound i) (next_steps i))))
+  where
+    mode : Mode
+    mode = Bounded bound
+
+    under : ℕ → List (List ℕ)
+    under t = schedules_under i.program (i.prefix ++ t ∷ [])
+children_all Reduced i h of more =
+    subst (IsPermutation (everything Reduced i))
+    (children_schedules Reduced i h of more
+    ∙ ap (flat_map (everything Reduced))
+    (sym (ap (λ ts. children Reduced i ++ children_of Reduced i ts) (reduced_past i)
+    ∙ append-nil (children Reduced i))))
+    (IsPermutation-refl (everything Reduced i))
+
 -- each schedule of an item begins with its prefix
+
+begins_all : (mode : Mode) (i : ItemView) (v : List ℕ) → In (everything mode i) v →
+    begins_with i.prefix v ≡ true
+begins_all (Bounded bound) i v m = ((in_under i.program i.prefix v).1 (in_contains _ v m)).1
+begins_all Reduced i v m =
+    let r = from_map (λ w. i.prefix ++ w)
+    (reduced_schedules i.program (state_of i) (has i.mask)) v m in
+    subst (λ w. begins_with i.prefix w ≡ true) r.2 (begins_longer i.prefix r.0)
 
 pub begins_own : (mode : Mode) (i : ItemView) (v : List ℕ) → In (schedules_of mode i) v →
     begins_with i.prefix v ≡ true
 begins_own (Bounded bound) i v m =
     let c = (in_within i.program i.prefix bound v).1 (in_contains _ v m) in
-    ((in_under i.program i.prefix v).1 c.0).1
-begins_own Reduced i v m =
-    let r = from_map (λ w. i.prefix ++ w)
-    (reduced_schedules i.program (state_of i) (has i.mask)) v m in
-    subst (λ w. begins_with i.prefix w ≡ true) r.2 (begins_longer i.prefix r.0)
+    begins_all (Bounded bound) i v (contains_in (schedules_under i.program i.prefix) v c.0)
+begins_own Reduced i v m = begins_all Reduced i v m
 
--- so none of an item that goes on is clear of its children
+under_each : (f : ItemView → List (List ℕ)) →
+    ((i : ItemView) (v : List ℕ) → In (f i) v → begins_with i.prefix v ≡ true) →
+    (items : List ItemView) (v : List ℕ) → In (flat_map f items) v → is_under items v ≡ true
+under_each f own items v m =
+    let r = from_flat_map f items v m in
+    in_any (λ i. begins_with i.prefix v) items r.0 r.1 (own r.0 v r.2)
 
-pub clear_none : (items : List ItemView) (L : List (List ℕ)) →
-    ((v : List ℕ) → In L v → is_under items v ≡ true) → clear_of items L ≡ []
-clear_none items [] h = refl
-clear_none items (v ∷ L) h =
-    ap (λ b. cond (not b) (v ∷ clear_of items L) (clear_of items L)) (h v (inl refl))
-    ∙ clear_none items L (λ w m. h w (inr m))
+pub under_all : (mode : Mode) (items : List ItemView) (v : List ℕ) →
+    In (flat_map (everything mode) items) v → is_under items v ≡ true
+under_all mode = under_each (everything mode) (begins_all mode)
 
-under_own : (mode : Mode) (items : List ItemView) (v : List ℕ) →
+pub under_own : (mode : Mode) (items : List ItemView) (v : List ℕ) →
     In (flat_map (schedules_of mode) items) v → is_under items v ≡ true
-under_own mode items v m =
-    let r = from_flat_map (schedules_of mode) items v m in
-    in_any (λ i. begins_with i.prefix v) items r.0 r.1 (begins_own mode r.0 v r.2)
-
-pub children_clear : (mode : Mode) (i : ItemView) → IsItem i → IsOf i.program (state_of i) →
-    is_terminal i.program (state_of i) ≡ false →
-    clear_of (children mode i) (schedules_of mode i) ≡ []
-children_clear mode i h of more =
-    clear_none (children mode i) (schedules_of mode i) (λ v m. under_own mode (children mode i) v
-    (subst (λ L. In L v) (children_schedules mode i h of more) m))
+under_own mode = under_each (schedules_of mode) (begins_own mode)
 
 -- whether the item goes past the bound
 
@@ -368,7 +407,7 @@ children_apart mode i v =
     let f = begun_once i.prefix v 0 (length s.threads) in
     omega (arith, a, b, c, d, e, f)
 
--- what is kept stays within the bound, what is put off is just past it, and nothing is lost
+-- what is kept stays within the bound, what is put off is just past it
 
 pub children_within : (bound : ℕ) (i : ItemView) →
     All (λ r. preemptions r.program r.prefix ≤ bound) (children (Bounded bound) i)
@@ -395,44 +434,6 @@ pub children_deferred : (bound : ℕ) (i : ItemView) → preemptions i.program i
 children_deferred bound i fits =
     each_chosen (Bounded bound) i (IsDeferred bound) (is_past_step (Bounded bound) i)
     (λ t e k. child_deferred bound i t fits k)
-
-under_step : (mode : Mode) (i : ItemView) (steps : List ℕ) (t : ℕ) (v : List ℕ) → In steps t →
-    begins_with (i.prefix ++ t ∷ []) v ≡ true → is_under (children_of mode i steps) v ≡ true
-under_step mode i steps t v m b =
-    list_any-map (λ r. begins_with r.prefix v) (child_of mode i) steps
-    ∙ in_any (λ u. begins_with (i.prefix ++ u ∷ []) v) steps t m b
-
-pub children_have : (bound : ℕ) (i : ItemView) (v : List ℕ) → IsItem i →
-    is_terminal i.program (state_of i) ≡ false →
-    Contains (schedules_under i.program i.prefix) v →
-    is_under (children (Bounded bound) i ++ past_children (Bounded bound) i) v ≡ true
-children_have bound i v h more c =
-    list_any-append (λ r. begins_with r.prefix v) (children mode i) (past_children mode i)
-    ∙ here r.0 r.1 ((in_under i.program (i.prefix ++ r.0 ∷ []) v).1 (in_contains _ v r.2)).1
-    (past_or_kept bound i r.0)
-  where
-    mode : Mode
-    mode = Bounded bound
-
-    under : ℕ → List (List ℕ)
-    under t = schedules_under i.program (i.prefix ++ t ∷ [])
-
-    r : (t : ℕ) × In (next_steps i) t × In (under t) v
-    r = from_flat_map under (next_steps i) v (subst (λ L. In L v)
-        (schedules_under-more i.program i.prefix h more) (contains_in _ v c))
-
-    here : (t : ℕ) → In (next_steps i) t → begins_with (i.prefix ++ t ∷ []) v ≡ true →
-        ((is_kept_step mode i t ≡ true) × (is_past_step mode i t ≡ false))
-        ⊎ ((is_kept_step mode i t ≡ false) × (is_past_step mode i t ≡ true)) →
-        (is_under (children mode i) v || is_under (past_children mode i) v) ≡ true
-    here t m b (inl k) =
-        or_left (is_under (children mode i) v) (is_under (past_children mode i) v)
-        (under_step mode i (kept_steps mode i) t v
-        (in_filter (is_kept_step mode i) (next_steps i) t m k.0) b)
-    here t m b (inr k) =
-        or_right (is_under (children mode i) v) (is_under (past_children mode i) v)
-        (under_step mode i (past_steps mode i) t v
-        (in_filter (is_past_step mode i) (next_steps i) t m k.1) b)
 
 -- at `Reduced` each child has the item's schedules that begin with its prefix
 

@@ -1,6 +1,7 @@
 pub mod Covers
 pub mod Filters
 pub mod ListParts
+pub mod Permutations
 pub mod WalkedItems
 pub mod Listed
 pub mod Splits
@@ -8,4 +9,3 @@ pub mod Reduced
 pub mod Children
 pub mod ItemsWalked
 pub mod Turns
-pub mod WalkedFurther

@@ -99,16 +99,6 @@ child_cost mode i t n e left =
     ap (work i.program) (state_after-push i.program (start i.program) i.prefix t) in
     turns_more (work i.program (state_of (child_of mode i t))) n (omega (arith, falls, same, left))
 
--- a child costs less
-pub child_less : (mode : Mode) (i : ItemView) (t : ℕ) → is_enabled i.program (state_of i) t ≡ true →
-    cost_of (child_of mode i t) ≤ cost_of i
-child_less mode i t e = go (work i.program (state_of i)) refl
-  where
-    go : (n : ℕ) → work i.program (state_of i) ≡ n → cost_of (child_of mode i t) ≤ turns n
-    go zero none = (let falls = work-step i.program (state_of i) t e in
-        absurd (omega (arith, falls, none)))
-    go (suc n) left = let c = child_cost mode i t n e left in omega (arith, c)
-
 -- a turn that puts an item's children in its place costs two at least
 pub children_cost : (mode : Mode) (i : ItemView) → IsOf i.program (state_of i) →
     is_terminal i.program (state_of i) ≡ false → costs (children mode i) + 2 ≤ cost_of i

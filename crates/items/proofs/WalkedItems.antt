@@ -2,15 +2,19 @@
 use Rattle.std.proofs.Common.{◌≡◌, ◌↔◌, ◌⊎◌, inl, inr, ℕ, zero, suc, ◌+◌, ◌<◌, ◌≤◌, Bool, true}
 use Rattle.std.proofs.Common.{false, not, cond, ◌||◌, nat_eq, nat_le, nat_lt, List, [], ◌∷◌, ◌++◌}
 use Rattle.std.proofs.Common.{length, map, get_or, refl, ap, ◌∙◌, sym, arith, subst, length-append}
+use Rattle.std.proofs.Common.{IsPermutation}
 use Rattle.std.specs.List.{filter, flat_map, list_any, All, AllPairs, Contains}
 use Rattle.std.proofs.lemmas.Bool.{not-true, not_from_false, or_parts}
 use Rattle.std.proofs.lemmas.Bool.Decides.{nat_tests}
-use Rattle.std.proofs.lemmas.List.{get_or_append_left, get_or-append-add, get_or-map, length-map}
+use Rattle.std.proofs.lemmas.List.{append-nil, get_or_append_left, get_or-append-add, get_or-map}
+use Rattle.std.proofs.lemmas.List.{length-map}
 use Rattle.std.proofs.lemmas.List.Elements.{All-nil, All-cons, All-head, All-tail, All-weaker}
 use Rattle.std.proofs.lemmas.List.Elements.{All-contains, All-contains_itself, All-filter}
-use Rattle.std.proofs.lemmas.List.Elements.{filter_passes, Contains-append_cases}
+use Rattle.std.proofs.lemmas.List.Elements.{filter-append, filter_passes, Contains-append_cases}
 use Rattle.std.proofs.lemmas.List.Folds.{list_any_none}
 use Rattle.std.proofs.lemmas.List.Kept.{AllPairs-filter}
+use Rattle.std.proofs.lemmas.List.Sorted.{IsPermutation-refl, IsPermutation-sym}
+use Rattle.std.proofs.lemmas.List.Sorted.{Contains-permutation, length_permutation}
 use Rattle.guest_code.specs.Program.{Program}
 use Rattle.semantics.specs.Machine.{Snapshot, start}
 use Rattle.semantics.specs.Mask.{has, no_threads}
@@ -21,7 +25,8 @@ use Rattle.schedules.specs.Sleep.{reduced_schedules, is_kept, none_asleep}
 use Rattle.semantics.specs.Waiters.{In}
 use Rattle.schedules.proofs.KeptSchedules.{reduced_members, kept_complete}
 use Rattle.semantics.proofs.Masks.{empty_has}
-use Rattle.semantics.proofs.ListMembers.{in_contains, contains_in, from_map}
+use Rattle.schedules.proofs.ReducedSchedules.{any_in}
+use Rattle.semantics.proofs.ListMembers.{in_contains, contains_in, in_filter, in_map, from_map}
 use Rattle.schedules.proofs.StatedLaws.{complete}
 use Rattle.schedules.specs.Rising.{IsRising}
 use Rattle.schedules.proofs.CompleteSchedulesRise.{all_rise}
@@ -34,11 +39,13 @@ use Rattle.summary.specs.Summaries.{SummaryView, cut, greatest_count, nothing, s
 use Rattle.summary.specs.Summaries.{with_beyond}
 use Rattle.items.specs.Items.{ItemView, AreOf, IsItem, IsScheduleOf, state_of, root_of, schedules_of}
 use Rattle.items.specs.Items.{goes_beyond, item_sum, item_sums, schedule_count, covers, is_under}
-use Rattle.items.specs.Walks.{WalkView, IsWalked, IsBelow, IsCut, tried_by}
+use Rattle.items.specs.Walks.{WalkView, IsWalked, IsBelow, IsSplit, clear_of, tried_by}
 pub use Rattle.items.specs.Walks.{HasItsOf}
+use Rattle.items.proofs.Children.{begins_own, under_own}
 use Rattle.items.proofs.Covers.{at_most_one}
-use Rattle.items.proofs.Filters.{filter_all}
+use Rattle.items.proofs.Filters.{filter_all, filter_whole}
 use Rattle.items.proofs.ListParts.{all_left}
+use Rattle.items.proofs.Permutations.{filter-permutation, sum_of-permutation}
 use Rattle.summary.proofs.SumsJoin.{sum_of-append}
 
 -- the item of all schedules
@@ -77,11 +84,6 @@ item_members i bound w =
     let under = in_under i.program i.prefix w in
     let within = in_within i.program i.prefix bound w in
     (λ c. let r = within.1 c in (under.1 r.0, r.1), λ h. within.0 (under.0 h.0, h.1))
-
-in_map : (f : List ℕ → List ℕ) (L : List (List ℕ)) (v : List ℕ) → In L v → In (map f L) (f v)
-in_map f [] v h = absurd h
-in_map f (w ∷ L) v (inl e) = inl (ap f e)
-in_map f (w ∷ L) v (inr h) = inr (in_map f L v h)
 
 pub item_kept : (i : ItemView) (w : List ℕ) →
     Contains (schedules_of Reduced i) w ↔
@@ -191,7 +193,7 @@ past_beyond i bound h past = exceeds_bound-past i.program i.prefix bound h past
 
 -- sums
 
-join-beyond : (p : Program) (K L : List (List ℕ)) (a b : Bool) →
+pub join-beyond : (p : Program) (K L : List (List ℕ)) (a b : Bool) →
     with_beyond (sum_of p (K ++ L)) (a || b)
     ≡ join (with_beyond (sum_of p K) a) (with_beyond (sum_of p L) b)
 unfolding sum_of join
@@ -214,21 +216,30 @@ joined_is p mode (x ∷ xs) h =
     ∙ (λ i. join (with_beyond (sum_of (sym same i) (schedules_of mode x)) (goes_beyond mode x))
     (joined_is p mode xs rest i))
 
--- the rest lies under the item
-pub rest_below : (w : WalkView) → IsWalked w → All (IsBelow w.item) w.rest
-rest_below w h = all_left (IsBelow w.item) w.rest w.deferred h.split.below
+-- where an item's schedules are what was tried and those of the rest, its sum is their join
+pub joined_sum : (mode : Mode) (item : ItemView) (part : SummaryView)
+    (rest deferred : List ItemView) (h : IsSplit mode item part rest deferred) →
+    IsPermutation (schedules_of mode item) (h.tried ++ flat_map (schedules_of mode) rest) →
+    item_sum mode item ≡ join part (item_sums mode rest)
+joined_sum mode item part rest deferred h moved =
+    let same : AreOf item.program rest =
+    All-weaker (IsBelow item) (λ (r : ItemView). r.program ≡ item.program) (λ r b. b.program) rest
+    (all_left (IsBelow item) rest deferred h.below) in
+    (λ i. with_beyond (sum_of-permutation item.program _ _ moved i) (h.beyond i))
+    ∙ (join-beyond item.program h.tried (flat_map (schedules_of mode) rest) part.beyond
+    (list_any (goes_beyond mode) rest)
+    ∙ (λ i. join (sym h.sum i) (joined_is item.program mode rest same i)))
+
+walked_moved : (w : WalkView) (h : IsWalked w) →
+    IsPermutation (schedules_of w.mode w.item)
+    (h.split.tried ++ flat_map (schedules_of w.mode) w.rest)
+walked_moved w h =
+    subst (IsPermutation (schedules_of w.mode w.item)) h.schedules (IsPermutation-refl _)
 
 pub walked_sum : (w : WalkView) → IsWalked w →
     item_sum w.mode w.item ≡ join w.part (item_sums w.mode w.rest)
 walked_sum w h =
-    let same : All (λ (r : ItemView). r.program ≡ w.item.program) w.rest =
-    All-weaker (IsBelow w.item) (λ (r : ItemView). r.program ≡ w.item.program)
-    (λ r b. b.program) w.rest (rest_below w h) in
-    (λ i. with_beyond (sum_of w.item.program (h.schedules i)) (h.split.beyond i))
-    ∙ (join-beyond w.item.program (tried_by w) (flat_map (schedules_of w.mode) w.rest)
-    w.part.beyond
-    (list_any (goes_beyond w.mode) w.rest)
-    ∙ (λ i. join (sym h.split.sum i) (joined_is w.item.program w.mode w.rest same i)))
+    joined_sum w.mode w.item w.part w.rest w.deferred h.split (walked_moved w h)
 
 -- the schedules of the rest
 
@@ -239,16 +250,90 @@ bounded_has bound above below b =
     ∙ schedules_within-longer above.program above.prefix below.prefix bound b.prefix
 
 -- each of the rest has the item's that begin with its prefix
-pub rest_has : (mode : Mode) (item : ItemView) (rest deferred : List ItemView) →
-    All (IsBelow item) (rest ++ deferred) → IsCut mode item rest deferred →
+pub rest_has : (mode : Mode) (item : ItemView) (part : SummaryView)
+    (rest deferred : List ItemView) → IsSplit mode item part rest deferred →
     All (HasItsOf mode item) rest
-rest_has (Bounded bound) item rest deferred below parted =
+rest_has (Bounded bound) item part rest deferred h =
     All-weaker (IsBelow item) (HasItsOf (Bounded bound) item)
-    (λ r b. bounded_has bound item r b) rest (all_left (IsBelow item) rest deferred below)
-rest_has Reduced item rest deferred below parted = parted.schedules
+    (λ r b. bounded_has bound item r b) rest (all_left (IsBelow item) rest deferred h.below)
+rest_has Reduced item part rest deferred h = h.cut.schedules
 
 pub walked_has : (w : WalkView) → IsWalked w → All (HasItsOf w.mode w.item) w.rest
-walked_has w h = rest_has w.mode w.item w.rest w.deferred h.split.below h.split.cut
+walked_has w h = rest_has w.mode w.item w.part w.rest w.deferred h.split
+
+-- what was tried is what lies under none of the rest
+
+clear_none : (items : List ItemView) (L : List (List ℕ)) →
+    ((v : List ℕ) → In L v → is_under items v ≡ true) → clear_of items L ≡ []
+clear_none items [] h = refl
+clear_none items (v ∷ L) h =
+    ap (λ b. cond (not b) (v ∷ clear_of items L) (clear_of items L)) (h v (inl refl))
+    ∙ clear_none items L (λ w m. h w (inr m))
+
+in_some : (L : List (List ℕ)) (v : List ℕ) → In L v → 0 < length L
+in_some [] v m = absurd m
+in_some (w ∷ L) v m = omega arith
+
+module _ (mode : Mode) (item : ItemView) (tried : List (List ℕ)) (rest : List ItemView)
+    (has : All (HasItsOf mode item) rest)
+    (moved : IsPermutation (schedules_of mode item)
+    (tried ++ flat_map (schedules_of mode) rest)) where
+  -- of the schedules of some items, no fewer begin with the prefix of one of them than it has
+  its_own : (xs : List ItemView) (r : ItemView) → In xs r →
+      length (schedules_of mode r)
+      ≤ length (filter (begins_with r.prefix) (flat_map (schedules_of mode) xs))
+  its_own [] r m = absurd m
+  its_own (x ∷ xs) r m =
+      let both = ap length (filter-append (begins_with r.prefix) (schedules_of mode x)
+      (flat_map (schedules_of mode) xs)) in
+      let add = length-append (filter (begins_with r.prefix) (schedules_of mode x))
+      (filter (begins_with r.prefix) (flat_map (schedules_of mode) xs)) in
+      elim m [
+        | inl e ↦ (let whole = ap length (filter_whole (begins_with r.prefix) (schedules_of mode x)
+            (λ v k. subst (λ (i : ItemView). begins_with i.prefix v ≡ true) e
+            (begins_own mode x v k))) in
+            let same = ap (λ i. length (schedules_of mode i)) e in
+            omega (arith, both, add, whole, same))
+        | inr k ↦ (let more = its_own xs r k in omega (arith, both, add, more))
+      ]
+
+  -- so none of these was tried
+  untried : (v : List ℕ) (r : ItemView) → In tried v → In rest r →
+      begins_with r.prefix v ≡ true → ⊥
+  untried v r t m e =
+      let its : HasItsOf mode item r =
+      All-contains (HasItsOf mode item) rest r has (in_contains rest r m) in
+      let all = length_permutation _ _ (filter-permutation (begins_with r.prefix) _ _ moved) in
+      let both = ap length (filter-append (begins_with r.prefix) tried
+      (flat_map (schedules_of mode) rest)) in
+      let add = length-append (filter (begins_with r.prefix) tried)
+      (filter (begins_with r.prefix) (flat_map (schedules_of mode) rest)) in
+      let some = in_some (filter (begins_with r.prefix) tried) v
+      (in_filter (begins_with r.prefix) tried v t e) in
+      let own = its_own rest r m in
+      let same = ap length its in
+      omega (arith, all, both, add, some, own, same)
+
+  clear_tried : (v : List ℕ) → In tried v → not (is_under rest v) ≡ true
+  clear_tried v t = go (is_under rest v) refl
+    where
+      go : (b : Bool) → is_under rest v ≡ b → not b ≡ true
+      go true e =
+          let r = any_in (λ i. begins_with i.prefix v) rest e in absurd (untried v r.0 t r.1 r.2)
+      go false e = refl
+
+  pub clear_part : IsPermutation (clear_of rest (schedules_of mode item)) tried
+  clear_part =
+      subst (IsPermutation (clear_of rest (schedules_of mode item)))
+      (filter-append (λ v. not (is_under rest v)) tried (flat_map (schedules_of mode) rest)
+      ∙ ((λ k. sym (filter_whole (λ v. not (is_under rest v)) tried clear_tried) k
+      ++ clear_none rest (flat_map (schedules_of mode) rest) (under_own mode rest) k)
+      ∙ append-nil tried))
+      (filter-permutation (λ v. not (is_under rest v)) _ _ moved)
+
+walked_clear : (w : WalkView) (h : IsWalked w) → IsPermutation (tried_by w) h.split.tried
+walked_clear w h =
+    clear_part w.mode w.item h.split.tried w.rest (walked_has w h) (walked_moved w h)
 
 -- no schedule lies under two
 
@@ -357,8 +442,8 @@ pub walked_counts : (w : WalkView) → IsWalked w →
     length (schedules_of w.mode w.item) ≡ length (tried_by w) + schedule_count w.mode w.rest
 walked_counts w h =
     ap length h.schedules
-    ∙ (length-append (tried_by w) (flat_map (schedules_of w.mode) w.rest)
-    ∙ ap (λ n. length (tried_by w) + n) (counts_of w.mode w.rest))
+    ∙ (length-append h.split.tried (flat_map (schedules_of w.mode) w.rest)
+    ∙ (λ i. length_permutation _ _ (walked_clear w h) i + counts_of w.mode w.rest i))
 
 tried_of : (p : Program) (L : List (List ℕ)) (b : Bool) →
     (with_beyond (sum_of p L) b).tried ≡ cut (length L)
@@ -367,7 +452,8 @@ tried_of p L b = refl
 
 pub walked_count : (w : WalkView) → IsWalked w → w.part.tried ≡ cut (length (tried_by w))
 walked_count w h = ap (λ (t : SummaryView). t.tried) h.split.sum
-    ∙ tried_of w.item.program (tried_by w) w.part.beyond
+    ∙ (tried_of w.item.program h.split.tried w.part.beyond
+    ∙ ap cut (length_permutation _ _ (walked_clear w h)))
 
 pub walked_uncut : (w : WalkView) → IsWalked w → w.part.tried < greatest_count →
     length (schedules_of w.mode w.item) ≡ w.part.tried + schedule_count w.mode w.rest
@@ -394,17 +480,19 @@ pub walked_order : (w : WalkView) (v u : List ℕ) → IsWalked w →
     Contains (tried_by w) v → Contains (schedules_of w.mode w.item) u → is_under w.rest u ≡ true →
     precedes v u ≡ true
 walked_order w v u h c d e =
-    go (Contains-append_cases (tried_by w) left u (subst (λ L. Contains L u) h.schedules d))
+    go (Contains-append_cases h.split.tried left u (subst (λ L. Contains L u) h.schedules d))
   where
     left : List (List ℕ)
     left = flat_map (schedules_of w.mode) w.rest
 
-    go : Contains (tried_by w) u ⊎ Contains left u → precedes v u ≡ true
+    go : Contains h.split.tried u ⊎ Contains left u → precedes v u ≡ true
     go (inl a) =
         let none : not (is_under w.rest u) ≡ true =
         All-contains (λ z. not (is_under w.rest z) ≡ true) (tried_by w) u
-        (filter_passes (λ z. not (is_under w.rest z)) (schedules_of w.mode w.item)) a in
+        (filter_passes (λ z. not (is_under w.rest z)) (schedules_of w.mode w.item))
+        (Contains-permutation _ _ u (IsPermutation-sym _ _ (walked_clear w h)) a) in
         let f : not true ≡ true = ap not (sym e) ∙ none in
         cc
-    go (inr b) = parts_in_order (tried_by w) left v u
-        (subst InOrder h.schedules (items_in_order w.mode w.item)) c b
+    go (inr b) = parts_in_order h.split.tried left v u
+        (subst InOrder h.schedules (items_in_order w.mode w.item))
+        (Contains-permutation _ _ v (walked_clear w h) c) b

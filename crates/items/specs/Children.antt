@@ -13,11 +13,7 @@ use Rattle.items.specs.declared.mode.Mode.{Mode}
 use Rattle.items.specs.declared.mode.Mode.TheVariants.{Bounded, Reduced}
 use Rattle.items.specs.Items.{ItemView}
 pub use Rattle.items.specs.Items.{state_of}
-
--- the item's prefix stays within the bound
-abbrev pub IsWithin : Mode → ItemView → Type 0
-IsWithin (Bounded bound) i = preemptions i.program i.prefix ≤ bound
-IsWithin Reduced i = Unit {0}
+pub use Rattle.items.specs.Walks.{IsWithin}
 
 -- the threads that can take the next step
 abbrev pub next_steps : ItemView → List ℕ

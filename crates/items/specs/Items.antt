@@ -8,8 +8,8 @@ use Rattle.guest_code.specs.Program.{Program}
 use Rattle.semantics.specs.declared.mask.Mask.{Mask}
 use Rattle.semantics.specs.Mask.{no_threads, has, one_if}
 use Rattle.semantics.specs.Machine.{Snapshot, start}
-use Rattle.schedules.specs.Schedules.{state_after, runs, begins_with, schedules_within}
-use Rattle.schedules.specs.Schedules.{exceeds_bound}
+use Rattle.schedules.specs.Schedules.{state_after, runs, begins_with, schedules_under}
+use Rattle.schedules.specs.Schedules.{schedules_within, exceeds_bound}
 use Rattle.schedules.specs.Sleep.{reduced_schedules}
 use Rattle.schedules.specs.Order.{is_complete}
 use Rattle.items.specs.declared.mode.Mode.{Mode}
@@ -66,16 +66,15 @@ abbrev pub schedules_of : Mode → ItemView → List (List ℕ)
 schedules_of (Bounded bound) i = schedules_within i.program i.prefix bound
 schedules_of Reduced i = kept_schedules i
 
+-- all of these, also those past the bound
+abbrev pub everything : Mode → ItemView → List (List ℕ)
+everything (Bounded bound) i = schedules_under i.program i.prefix
+everything Reduced i = kept_schedules i
+
 -- whether one that begins with its prefix is beyond the bound; without a bound none is
 abbrev pub goes_beyond : Mode → ItemView → Bool
 goes_beyond (Bounded bound) i = exceeds_bound i.program i.prefix bound
 goes_beyond Reduced i = false
-
--- the sum of the complete schedules within a bound that begin with a prefix, and whether one is
--- beyond it
-abbrev pub prefix_sum : Program → List ℕ → ℕ → SummaryView
-prefix_sum p prefix bound =
-    with_beyond (sum_of p (schedules_within p prefix bound)) (exceeds_bound p prefix bound)
 
 -- the sum of an item's schedules
 abbrev pub item_sum : Mode → ItemView → SummaryView

@@ -1,17 +1,19 @@
 -- What is known of a walk: the part that was tried, the rest that was left, and what its bound put
 -- off.
-use Rattle.std.specs.Prelude.{◌≡◌, ◌≤◌, ◌<◌, ◌+◌, ℕ, Bool, true, false, not, ◌||◌, List, [], ◌∷◌, ◌++◌, filter}
-use Rattle.std.specs.Prelude.{map, flat_map, All, Contains}
+use Rattle.std.specs.Prelude.{◌≡◌, ◌≤◌, ◌<◌, ◌+◌, ℕ, Bool, true, false, not, ◌||◌, List, [], ◌∷◌}
+use Rattle.std.specs.Prelude.{◌++◌, filter, map, flat_map, All, Contains}
 use Rattle.std.specs.declared.alloc.Global.{Global}
 use Rattle.std.specs.declared.vec.Vec.{Vec}
 use Rattle.std.specs.List.{list_any}
+use Rattle.std.specs.List.Sorted.{IsPermutation}
 use Rattle.guest_code.specs.Program.{Program}
 use Rattle.schedules.specs.Schedules.{begins_with, preemptions, schedules_under}
 use Rattle.semantics.specs.Mask.{one_if}
 use Rattle.items.specs.declared.mode.Mode.{Mode}
 use Rattle.items.specs.declared.mode.Mode.TheVariants.{Bounded, Reduced}
 use Rattle.summary.specs.Summaries.{SummaryView, nothing, sum_of, with_beyond}
-use Rattle.items.specs.Items.{ItemView, IsItem, item_at, schedules_of, goes_beyond, covers, is_under}
+use Rattle.items.specs.Items.{ItemView, IsItem, item_at, schedules_of, everything, goes_beyond}
+use Rattle.items.specs.Items.{covers, is_under}
 
 -- what contracts see of a walk
 pub record WalkView : Type 0 where
@@ -66,12 +68,10 @@ HasAllPast bound item items =
     Contains (schedules_under item.program item.prefix) v → bound < preemptions item.program v →
     is_under items v ≡ true
 
--- the prefixes of the rest are within the bound, those that are deferred just past it, and no
--- schedule past the bound is lost
-pub record IsCutAt (bound : ℕ) (item : ItemView) (rest deferred : List ItemView) : Type 0 where
+-- the prefixes of the rest are within the bound, those that are deferred just past it
+pub record IsCutAt (bound : ℕ) (rest deferred : List ItemView) : Type 0 where
   pub within : All (λ r. preemptions r.program r.prefix ≤ bound) rest
   pub past : All (IsDeferred bound) deferred
-  pub all : HasAllPast bound item (rest ++ deferred)
 
 -- an item has those of another's schedules that begin with its prefix
 abbrev pub HasItsOf : Mode → ItemView → ItemView → Type 0
@@ -85,16 +85,27 @@ pub record IsPruned (item : ItemView) (rest deferred : List ItemView) : Type 0 w
 
 -- what each mode keeps besides
 abbrev pub IsCut : Mode → ItemView → List ItemView → List ItemView → Type 0
-IsCut (Bounded bound) = IsCutAt bound
-IsCut Reduced = IsPruned
+IsCut (Bounded bound) item = IsCutAt bound
+IsCut Reduced item = IsPruned item
 
--- an item is split: the part is the sum of its schedules under none of the rest; the rest and
--- what is deferred lie under the item, and no schedule lies under two of them, or under one of
+-- the item's prefix stays within the bound
+abbrev pub IsWithin : Mode → ItemView → Type 0
+IsWithin (Bounded bound) i = preemptions i.program i.prefix ≤ bound
+IsWithin Reduced i = Unit {0}
+
+-- an item is split: of its schedules some were tried, and the part is their sum; where the item is
+-- within the bound, all that begins with its prefix is what was tried and what begins with those of
+-- the rest and of what is deferred, so that nothing is lost and nothing is there twice. The rest
+-- and what is deferred lie under the item, and no schedule lies under two of them, or under one of
 -- them and not under the item
 pub record IsSplit (mode : Mode) (item : ItemView) (part : SummaryView)
     (rest deferred : List ItemView) : Type 0 where
-  pub sum : part
-      ≡ with_beyond (sum_of item.program (clear_of rest (schedules_of mode item))) part.beyond
+  pub tried : List (List ℕ)
+  pub own : All (Contains (schedules_of mode item)) tried
+  pub sum : part ≡ with_beyond (sum_of item.program tried) part.beyond
+  pub all : IsWithin mode item →
+      IsPermutation (everything mode item)
+      (tried ++ flat_map (everything mode) (rest ++ deferred))
   pub beyond : goes_beyond mode item ≡ (part.beyond || list_any (goes_beyond mode) rest)
   pub below : All (IsBelow item) (rest ++ deferred)
   pub apart : (v : List ℕ) → covers v (rest ++ deferred) ≤ one_if (begins_with item.prefix v)
@@ -104,7 +115,8 @@ pub record IsSplit (mode : Mode) (item : ItemView) (part : SummaryView)
 -- after another
 pub record IsWalked (w : WalkView) : Type 0 where
   pub split : IsSplit w.mode w.item w.part w.rest w.deferred
-  pub schedules : schedules_of w.mode w.item ≡ tried_by w ++ flat_map (schedules_of w.mode) w.rest
+  pub schedules :
+      schedules_of w.mode w.item ≡ split.tried ++ flat_map (schedules_of w.mode) w.rest
 
 -- the item's own prefix has more preemptions than the bound
 abbrev pub IsPastBound : Mode → ItemView → Type 0

@@ -111,20 +111,22 @@ impl Item {
         })
     }
 
-    /// Becomes the item of its program's schedules that begin with a prefix that is known to run. The
-    /// memory of its own prefix serves the new one.
+    /// Becomes the item of its program's schedules that begin with a prefix that is known to run.
+    /// The memory of its own prefix serves the new one.
     ///
     /// # Errors
     ///
-    /// `AllocError` where memory runs out. It is the item of all schedules of its program then.
+    /// `AllocError` where memory runs out; it is then as before.
     pub fn run_to(&mut self, prefix: &[u8]) -> Result<(), AllocError>
         requires { IsItem (item_at self.old.program prefix.now) }
         ensures item { OnOk result (self.new ≡ item_at self.old.program prefix.now) }
-        ensures root { OnErr result (self.new ≡ root_of self.old.program) }
+        ensures same { OnErr result (self.new ≡ self.old) }
     {
+        let more = prefix.len().saturating_sub(self.prefix.len());
+        self.prefix.reserve(more)?;
         self.mask = Mask::empty();
         self.prefix.clear();
-        self.prefix.extend_from_slice(prefix)?;
+        let _ = self.prefix.extend_from_slice(prefix);
         Ok(())
     }
 
@@ -184,8 +186,8 @@ impl Item {
     }
 }
 
-// Whether the same threads are in both.
-fn same_masks(first: Mask, second: Mask) -> bool
+/// Whether the same threads are in both.
+pub fn same_masks(first: Mask, second: Mask) -> bool
     ensures { IsTrue result ↔ (first ≡ second) }
 {
     first == second

@@ -12,7 +12,10 @@ none p k d lt = absurd (omega arith)
 
 of_one : (p : Program) (t : ℕ) → t < length p.threads → All (IsOfThread p) (kinds_of_thread t)
 of_one p t lt =
-    let lack : List Kind = kinds.MayLack t ∷ [] in
+    let elsewhere : List Kind = kinds.WaitsElsewhere t ∷ [] in
+    let blindly : List Kind = kinds.WaitNotLookedAtAgain t ∷ elsewhere in
+    let again : List Kind = kinds.LocksAgain t ∷ blindly in
+    let lack : List Kind = kinds.MayLack t ∷ again in
     let keep : List Kind = kinds.MayKeep t ∷ lack in
     let unreached : List Kind = kinds.Unreached t ∷ keep in
     let constant : List Kind = kinds.Constant t ∷ unreached in
@@ -22,7 +25,10 @@ of_one p t lt =
     (All-cons (IsOfThread p) (kinds.Constant t) unreached lt
     (All-cons (IsOfThread p) (kinds.Unreached t) keep lt
     (All-cons (IsOfThread p) (kinds.MayKeep t) lack lt
-    (All-cons (IsOfThread p) (kinds.MayLack t) [] lt (none p))))))
+    (All-cons (IsOfThread p) (kinds.MayLack t) again lt
+    (All-cons (IsOfThread p) (kinds.LocksAgain t) blindly lt
+    (All-cons (IsOfThread p) (kinds.WaitNotLookedAtAgain t) elsewhere lt
+    (All-cons (IsOfThread p) (kinds.WaitsElsewhere t) [] lt (none p)))))))))
 
 of_threads : (p : Program) (n : ℕ) → n ≤ length p.threads
     → All (IsOfThread p) (kinds_of_threads n)
@@ -32,7 +38,10 @@ of_threads p (suc n) fits = All-append (IsOfThread p) (kinds_of_threads n) (kind
 
 of_objects : (p : Program) → All (IsOfThread p) kinds_of_objects
 of_objects p =
-    let semaphore : List Kind = kinds.UnusedSemaphore ∷ [] in
+    let released : List Kind = kinds.NeverReleased ∷ [] in
+    let waited : List Kind = kinds.NeverWaitedFor ∷ released in
+    let signalled : List Kind = kinds.NeverSignalled ∷ waited in
+    let semaphore : List Kind = kinds.UnusedSemaphore ∷ signalled in
     let condition : List Kind = kinds.UnusedCondition ∷ semaphore in
     let mutex : List Kind = kinds.UnusedMutex ∷ condition in
     let loaded : List Kind = kinds.NeverLoaded ∷ mutex in
@@ -42,7 +51,10 @@ of_objects p =
     (All-cons (IsOfThread p) kinds.NeverLoaded mutex tt
     (All-cons (IsOfThread p) kinds.UnusedMutex condition tt
     (All-cons (IsOfThread p) kinds.UnusedCondition semaphore tt
-    (All-cons (IsOfThread p) kinds.UnusedSemaphore [] tt (none p))))))
+    (All-cons (IsOfThread p) kinds.UnusedSemaphore signalled tt
+    (All-cons (IsOfThread p) kinds.NeverSignalled waited tt
+    (All-cons (IsOfThread p) kinds.NeverWaitedFor released tt
+    (All-cons (IsOfThread p) kinds.NeverReleased [] tt (none p)))))))))
 
 -- each kind of a list that is that of the program
 pub of_thread : (p : Program) (ks : List Kind) (i : ℕ) (d : Kind) → ks ≡ kinds_of p

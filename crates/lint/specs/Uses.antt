@@ -1,5 +1,6 @@
 -- What an instruction does with locals and with objects.
-use Rattle.std.specs.Prelude.{ℕ, Bool, true, false, ◌||◌, nat_eq}
+use Rattle.std.specs.Prelude.{ℕ, pos, Bool, true, false, ◌||◌, ◌&&◌, not, nat_eq}
+use Rattle.std.specs.Ordering.{int_eq}
 use Rattle.guest_code.specs.declared.program.Value.{Value}
 use Rattle.guest_code.specs.declared.program.Value.TheVariants.{Local, Literal}
 use Rattle.guest_code.specs.declared.program.Expression.{Expression}
@@ -73,6 +74,29 @@ names_semaphore s (Acquire k) = nat_eq k s
 names_semaphore s (Release k) = nat_eq k s
 names_semaphore s _ = false
 
+-- it waits for a condition, with whichever mutex or with another than this one, or wakes who waits
+abbrev pub waits : ℕ → Instruction → Bool
+waits c (Wait d m) = nat_eq d c
+waits c _ = false
+
+abbrev pub waits_without : ℕ → ℕ → Instruction → Bool
+waits_without m c (Wait d n) = nat_eq d c && not (nat_eq n m)
+waits_without m c _ = false
+
+abbrev pub signals : ℕ → Instruction → Bool
+signals c (Signal d) = nat_eq d c
+signals c (Broadcast d) = nat_eq d c
+signals c _ = false
+
+-- it lowers a semaphore, or raises it
+abbrev pub acquires : ℕ → Instruction → Bool
+acquires s (Acquire k) = nat_eq k s
+acquires s _ = false
+
+abbrev pub releases : ℕ → Instruction → Bool
+releases s (Release k) = nat_eq k s
+releases s _ = false
+
 -- it makes this use of the local or the object of this number
 abbrev pub does : Use → ℕ → Instruction → Bool
 does uses.Reads n i = reads n i
@@ -83,6 +107,11 @@ does uses.Stores n i = stores n i
 does uses.OfMutex n i = names_mutex n i
 does uses.OfCondition n i = names_condition n i
 does uses.OfSemaphore n i = names_semaphore n i
+does uses.Waits n i = waits n i
+does (uses.WaitsWithout m) n i = waits_without m n i
+does uses.Signals n i = signals n i
+does uses.Acquires n i = acquires n i
+does uses.Releases n i = releases n i
 
 -- an assertion of numbers alone
 abbrev pub value_is_constant : Value → Bool
@@ -93,3 +122,8 @@ abbrev pub is_constant : Instruction → Bool
 is_constant (Assert (Single (Literal n))) = true
 is_constant (Assert (Both (Literal n) op (Literal k))) = true
 is_constant _ = false
+
+-- `assert 0;`, which says that no run is to come here
+abbrev pub forbids : Instruction → Bool
+forbids (Assert (Single (Literal n))) = int_eq n (pos 0)
+forbids _ = false

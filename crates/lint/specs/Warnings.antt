@@ -1,7 +1,8 @@
 -- What is warned of.
-use Rattle.std.specs.Prelude.{◌≡◌, ℕ, zero, suc, ◌<◌, true, false, IsTrue, List, [], ◌∷◌, ◌++◌, length, slice_index_or}
+use Rattle.std.specs.Prelude.{◌≡◌, ℕ, zero, suc, ◌<◌, Bool, true, false, IsTrue, List, [], ◌∷◌, ◌++◌, length, slice_index_or}
 use Rattle.std.specs.List.{list_any}
-use Rattle.guest_code.specs.Program.{Program, code_of, thread_at}
+use Rattle.guest_code.specs.Program.{Program, code_of, thread_at, semaphore_at}
+use Rattle.guest_code.specs.declared.limits.TheConstants.{LOCALS}
 use Rattle.guest_code.specs.declared.program.Instruction.{Instruction}
 use Rattle.guest_code.specs.declared.program.Instruction.TheVariants.{Lock, Unlock, Wait, Skip}
 use Rattle.lint.specs.declared.uses.Use.{Use}
@@ -9,8 +10,9 @@ use Rattle.lint.specs.declared.uses.Use.TheVariants as uses
 use Rattle.lint.specs.declared.warning.Kind.{Kind}
 use Rattle.lint.specs.declared.warning.Kind.TheVariants as kinds
 use Rattle.lint.specs.declared.warning.Warning.{Warning}
-use Rattle.lint.specs.Uses.{does, is_constant}
-use Rattle.lint.specs.Paths.{Comes, IsReached}
+use Rattle.lint.specs.declared.paths.Watch.TheVariants as watches
+use Rattle.lint.specs.Uses.{does, is_constant, forbids}
+use Rattle.lint.specs.Paths.{Comes, IsReached, IsPassedOver, ActsAt}
 
 -- some instruction of thread t makes this use of the local or object of this number
 abbrev pub UsesIn : Program → ℕ → Use → ℕ → Type 0
@@ -34,15 +36,47 @@ Gives (Unlock n) m = n ≡ m
 Gives (Wait c n) m = n ≡ m
 Gives i m = ⊥
 
--- Instruction k takes a mutex, some path leads to it, and after it some path leads to the end with
--- the mutex still owned.
+-- Instruction k takes a mutex, some path leads to it with the mutex not owned, and after it some path
+-- leads to the end with the mutex still owned.
 abbrev pub MayKeep : List Instruction → ℕ → Type 0
-MayKeep code k = (m : ℕ) × Locks (slice_index_or code k (Skip 0)) m × IsReached code k
-    × Comes code m (suc k) true (length code) true
+MayKeep code k = (m : ℕ) × Locks (slice_index_or code k (Skip 0)) m
+    × Comes code (watches.Owns m) 0 false k false
+    × Comes code (watches.Owns m) (suc k) true (length code) true
 
 -- Instruction k gives a mutex back, and some path leads to it with the mutex not owned.
 abbrev pub MayLack : List Instruction → ℕ → Type 0
-MayLack code k = (m : ℕ) × Gives (slice_index_or code k (Skip 0)) m × Comes code m 0 false k false
+MayLack code k = (m : ℕ) × Gives (slice_index_or code k (Skip 0)) m
+    × Comes code (watches.Owns m) 0 false k false
+
+-- Instruction k takes a mutex, paths lead to it, and after each the mutex is owned already.
+abbrev pub LocksAgain : List Instruction → ℕ → Type 0
+LocksAgain code k = (m : ℕ) × Locks (slice_index_or code k (Skip 0)) m
+    × Comes code (watches.Owns m) 0 false k true × ¬ Comes code (watches.Owns m) 0 false k false
+
+-- from after instruction k some path, on which local r isn't tested after it got a value, leads to a
+-- statement that acts, or to the end
+abbrev pub IsUnseen : List Instruction → (r k : ℕ) → Type 0
+IsUnseen code r k = (j : ℕ) × (b : Bool) × Comes code (watches.Unseen r) (suc k) false j b
+    × ActsAt code j
+
+-- instruction k waits for a condition, and no local is looked at again whatever comes
+abbrev pub is_wait : Instruction → Bool
+is_wait (Wait c m) = true
+is_wait _ = false
+
+abbrev pub WaitNotLookedAtAgain : List Instruction → ℕ → Type 0
+WaitNotLookedAtAgain code k = IsTrue (is_wait (slice_index_or code k (Skip 0)))
+    × ((r : ℕ) → r < LOCALS → IsUnseen code r k)
+
+-- Instruction k asserts numbers alone, and isn't an `assert 0;` that a jump may pass over.
+abbrev pub IsConstantAt : List Instruction → ℕ → Type 0
+IsConstantAt code k = IsTrue (is_constant (slice_index_or code k (Skip 0)))
+    × ¬ (IsTrue (forbids (slice_index_or code k (Skip 0))) × IsPassedOver code k)
+
+-- an instruction waits for a condition that is waited for with another mutex too
+abbrev pub WaitsElsewhere : Program → Instruction → Type 0
+WaitsElsewhere p (Wait c m) = UsesAnywhere p (uses.WaitsWithout m) c
+WaitsElsewhere p i = ⊥
 
 -- what is warned of is so, by its number
 abbrev pub IsSo : Program → Kind → ℕ → Type 0
@@ -54,10 +88,17 @@ IsSo p kinds.NeverLoaded x = UsesAnywhere p uses.Stores x × ¬ UsesAnywhere p u
 IsSo p kinds.UnusedMutex m = ¬ UsesAnywhere p uses.OfMutex m
 IsSo p kinds.UnusedCondition c = ¬ UsesAnywhere p uses.OfCondition c
 IsSo p kinds.UnusedSemaphore s = ¬ UsesAnywhere p uses.OfSemaphore s
-IsSo p (kinds.Constant t) k = IsTrue (is_constant (instruction_at p t k))
+IsSo p kinds.NeverSignalled c = UsesAnywhere p uses.Waits c × ¬ UsesAnywhere p uses.Signals c
+IsSo p kinds.NeverWaitedFor c = UsesAnywhere p uses.Signals c × ¬ UsesAnywhere p uses.Waits c
+IsSo p kinds.NeverReleased s = ((semaphore_at p s).count ≡ 0) × UsesAnywhere p uses.Acquires s
+    × ¬ UsesAnywhere p uses.Releases s
+IsSo p (kinds.Constant t) k = IsConstantAt (code_of p t) k
 IsSo p (kinds.Unreached t) k = ¬ IsReached (code_of p t) k
 IsSo p (kinds.MayKeep t) k = MayKeep (code_of p t) k
 IsSo p (kinds.MayLack t) k = MayLack (code_of p t) k
+IsSo p (kinds.LocksAgain t) k = LocksAgain (code_of p t) k
+IsSo p (kinds.WaitNotLookedAtAgain t) k = WaitNotLookedAtAgain (code_of p t) k
+IsSo p (kinds.WaitsElsewhere t) k = WaitsElsewhere p (instruction_at p t k)
 
 -- how many locals, objects or instructions there are to ask about
 abbrev pub count_of : Program → Kind → ℕ
@@ -69,10 +110,16 @@ count_of p kinds.NeverLoaded = length p.variables
 count_of p kinds.UnusedMutex = length p.mutexes
 count_of p kinds.UnusedCondition = length p.conditions
 count_of p kinds.UnusedSemaphore = length p.semaphores
+count_of p kinds.NeverSignalled = length p.conditions
+count_of p kinds.NeverWaitedFor = length p.conditions
+count_of p kinds.NeverReleased = length p.semaphores
 count_of p (kinds.Constant t) = length (code_of p t)
 count_of p (kinds.Unreached t) = length (code_of p t)
 count_of p (kinds.MayKeep t) = length (code_of p t)
 count_of p (kinds.MayLack t) = length (code_of p t)
+count_of p (kinds.LocksAgain t) = length (code_of p t)
+count_of p (kinds.WaitNotLookedAtAgain t) = length (code_of p t)
+count_of p (kinds.WaitsElsewhere t) = length (code_of p t)
 
 -- its thread is one of the program's
 abbrev pub IsOfThread : Program → Kind → Type 0
@@ -84,10 +131,16 @@ IsOfThread p kinds.NeverLoaded = Unit {0}
 IsOfThread p kinds.UnusedMutex = Unit {0}
 IsOfThread p kinds.UnusedCondition = Unit {0}
 IsOfThread p kinds.UnusedSemaphore = Unit {0}
+IsOfThread p kinds.NeverSignalled = Unit {0}
+IsOfThread p kinds.NeverWaitedFor = Unit {0}
+IsOfThread p kinds.NeverReleased = Unit {0}
 IsOfThread p (kinds.Constant t) = t < length p.threads
 IsOfThread p (kinds.Unreached t) = t < length p.threads
 IsOfThread p (kinds.MayKeep t) = t < length p.threads
 IsOfThread p (kinds.MayLack t) = t < length p.threads
+IsOfThread p (kinds.LocksAgain t) = t < length p.threads
+IsOfThread p (kinds.WaitNotLookedAtAgain t) = t < length p.threads
+IsOfThread p (kinds.WaitsElsewhere t) = t < length p.threads
 
 -- the warnings of a kind, of the numbers below n for which it is so, in order
 pub data Chosen (p : Program) (kind : Kind) : ℕ → List Warning → Type 0 where
@@ -106,7 +159,8 @@ pub data Listed (p : Program) : List Kind → List Warning → Type 0 where
 -- the kinds of warnings of a thread, and of a program
 abbrev pub kinds_of_thread : ℕ → List Kind
 kinds_of_thread t = kinds.NeverSet t ∷ kinds.NeverRead t ∷ kinds.Constant t ∷ kinds.Unreached t
-    ∷ kinds.MayKeep t ∷ kinds.MayLack t ∷ []
+    ∷ kinds.MayKeep t ∷ kinds.MayLack t ∷ kinds.LocksAgain t ∷ kinds.WaitNotLookedAtAgain t
+    ∷ kinds.WaitsElsewhere t ∷ []
 
 abbrev pub kinds_of_threads : ℕ → List Kind
 kinds_of_threads zero = []
@@ -114,7 +168,8 @@ kinds_of_threads (suc n) = kinds_of_threads n ++ kinds_of_thread n
 
 abbrev pub kinds_of_objects : List Kind
 kinds_of_objects = kinds.UnusedVariable ∷ kinds.NeverStored ∷ kinds.NeverLoaded
-    ∷ kinds.UnusedMutex ∷ kinds.UnusedCondition ∷ kinds.UnusedSemaphore ∷ []
+    ∷ kinds.UnusedMutex ∷ kinds.UnusedCondition ∷ kinds.UnusedSemaphore
+    ∷ kinds.NeverSignalled ∷ kinds.NeverWaitedFor ∷ kinds.NeverReleased ∷ []
 
 abbrev pub kinds_of : Program → List Kind
 kinds_of p = kinds_of_objects ++ kinds_of_threads (length p.threads)

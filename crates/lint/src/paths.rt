@@ -1,20 +1,33 @@
 //! Paths through the code of a thread, found in one pass: jumps go forwards.
 
-ghost use Rattle.std.specs.Prelude.{◌≡◌, ◌+◌, ◌<◌, ◌≤◌, ◌^◌, ℕ, Bool, IfOk, length};
+ghost use Rattle.std.specs.Prelude.{◌≡◌, ◌+◌, ◌<◌, ◌≤◌, ◌^◌, ◌↔◌, ℕ, Bool, IsTrue, IfOk, length};
 ghost use Rattle.guest_code.specs.Program.{JumpsWithin, skip_of};
-ghost use Rattle.lint.specs.Paths.{is_test, owned_after};
+ghost use Rattle.lint.specs.Paths.{is_test, owned_after, acts, unseen_after, after, IsPassedOver, ActsAt};
 ghost use Rattle.lint.specs.inner.Marks.{Marked, AddsOne, AddsNext, AddsAll, Marks};
 
+use crate::uses::{expression_reads, sets};
 use guest_code::program::Instruction;
 use std::alloc::{AllocError, Global};
+
+/// What is followed along a path.
+#[derive(Clone, Copy, Debug, PartialEq, Eq)]
+pub enum Watch {
+    /// Nothing but where it leads.
+    Nothing,
+    /// Whether the thread owns the mutex of this number.
+    Owns(usize),
+    /// Whether the local of this number got a value, as long as the thread neither looks at it nor
+    /// acts.
+    Unseen(usize),
+}
 
 /// How a thread may be at an instruction.
 #[derive(Clone, Copy, Debug, PartialEq, Eq)]
 pub struct Mark {
-    /// Some path leads to it, after which the thread owns the mutex.
-    pub owned: bool,
-    /// Some path leads to it, after which it doesn't.
-    pub free: bool,
+    /// Some path leads to it, after which what is watched is so.
+    pub so: bool,
+    /// Some path leads to it, after which it isn't.
+    pub not_so: bool,
 }
 
 /// How many of the next instructions an instruction may pass over.
@@ -34,99 +47,161 @@ fn is_test(instruction: &Instruction) -> bool
     matches!(instruction, Instruction::SkipIfZero(_, _))
 }
 
-/// Whether a thread owns a mutex after an instruction.
-fn owned_after(mutex: usize, instruction: &Instruction, owned: bool) -> bool
+/// Whether a thread owns a mutex after an instruction, if it gets past it.
+fn owned_after(mutex: usize, instruction: &Instruction, owned: bool) -> Option<bool>
     ensures { result ≡ owned_after mutex instruction.now owned }
 {
     match instruction {
-        Instruction::Lock(taken) if *taken == mutex => true,
-        Instruction::Unlock(given) if *given == mutex => false,
-        _ => owned,
+        Instruction::Lock(taken) if *taken == mutex => { if owned { None } else { Some(true) } }
+        Instruction::Unlock(given) if *given == mutex => Some(false),
+        _ => Some(owned),
+    }
+}
+
+/// Whether an instruction does something to what other threads see, whatever it finds.
+fn acts(instruction: &Instruction) -> bool
+    ensures { result ≡ acts instruction.now }
+{
+    matches!(
+        instruction,
+        Instruction::Store { .. }
+            | Instruction::Add { .. }
+            | Instruction::Lock(_)
+            | Instruction::Wait { .. }
+            | Instruction::Signal(_)
+            | Instruction::Broadcast(_)
+            | Instruction::Acquire(_)
+            | Instruction::Release(_)
+    )
+}
+
+/// Whether a local got a value after an instruction, if the thread neither looks there nor acts.
+fn unseen_after(local: usize, instruction: &Instruction, set: bool) -> Option<bool>
+    ensures { result ≡ unseen_after local instruction.now set }
+{
+    match instruction {
+        Instruction::SkipIfZero(test, _) if set && expression_reads(local, test) => None,
+        Instruction::SkipIfZero(_, _) => Some(set),
+        Instruction::Cas { .. } => None,
+        _ if acts(instruction) => None,
+        _ => Some(set || sets(local, instruction)),
+    }
+}
+
+/// What is so after an instruction; none where no path goes on.
+fn after(watch: Watch, instruction: &Instruction, so: bool) -> Option<bool>
+    ensures { result ≡ after watch instruction.now so }
+{
+    match watch {
+        Watch::Nothing => Some(so),
+        Watch::Owns(mutex) => owned_after(mutex, instruction, so),
+        Watch::Unseen(local) => unseen_after(local, instruction, so),
     }
 }
 
 /// Marks one instruction.
-fn add(marks: &mut [Mark], at: usize, owned: bool)
+fn add(marks: &mut [Mark], at: usize, so: bool)
     requires { at < length marks.old }
-    ensures { AddsOne marks.old marks.new at owned }
+    ensures { AddsOne marks.old marks.new at so }
 {
-    if owned {
-        marks[at].owned = true;
+    if so {
+        marks[at].so = true;
     } else {
-        marks[at].free = true;
+        marks[at].not_so = true;
     }
 }
 
-/// Marks those that may be next after this one.
-fn go(marks: &mut [Mark], at: usize, instruction: &Instruction, owned: bool)
+/// Marks those that may be next after this one, if some path goes on.
+fn go(marks: &mut [Mark], at: usize, instruction: &Instruction, next: Option<bool>)
     requires { at + 1 + skip_of instruction.now < length marks.old }
-    ensures { AddsNext marks.old marks.new at instruction.now owned }
+    ensures { AddsNext marks.old marks.new at instruction.now next }
 {
-    add(marks, at + 1 + skip_of(instruction), owned);
+    let Some(so) = next else {
+        return;
+    };
+    add(marks, at + 1 + skip_of(instruction), so);
     if is_test(instruction) {
-        add(marks, at + 1, owned);
+        add(marks, at + 1, so);
     }
 }
 
 /// Marks those that may be next after this one, which has its own marks.
-fn pass(marks: &mut [Mark], at: usize, instruction: &Instruction, mutex: usize)
+fn pass(marks: &mut [Mark], at: usize, instruction: &Instruction, watch: Watch)
     requires { at + 1 + skip_of instruction.now < length marks.old }
-    ensures { AddsAll marks.old marks.new at instruction.now mutex }
+    ensures { AddsAll marks.old marks.new at instruction.now watch }
 {
     let here = marks[at];
-    if here.owned {
-        go(
-            marks,
-            at,
-            instruction,
-            owned_after(mutex, instruction, true),
-        );
+    if here.so {
+        go(marks, at, instruction, after(watch, instruction, true));
     }
-    if here.free {
-        go(
-            marks,
-            at,
-            instruction,
-            owned_after(mutex, instruction, false),
-        );
+    if here.not_so {
+        go(marks, at, instruction, after(watch, instruction, false));
     }
 }
 
-/// Marks how a thread may come to each instruction, and to the end, from this one, where it owns a
-/// mutex or not.
-fn mark_paths(marks: &mut [Mark], code: &[Instruction], mutex: usize, start: usize, owned: bool)
+/// Marks how a thread may come to each instruction, and to the end, from this one, where what is
+/// watched is so or not.
+fn mark_paths(marks: &mut [Mark], code: &[Instruction], watch: Watch, start: usize, so: bool)
     requires none { (j : ℕ) (b : Bool) → ¬ Marked marks.old j b }
     requires length { length marks.old ≡ length code.now + 1 }
     requires jumps { JumpsWithin code.now }
     requires start { start ≤ length code.now }
-    ensures { Marks marks.new code.now mutex start owned }
+    ensures { Marks marks.new code.now watch start so }
 {
-    add(marks, start, owned);
+    add(marks, start, so);
     for (at, instruction) in code.iter().enumerate() {
-        pass(marks, at, instruction, mutex);
+        pass(marks, at, instruction, watch);
     }
 }
 
-/// How a thread may come to each instruction, and to the end, from this one, where it owns a mutex
-/// or not.
+/// How a thread may come to each instruction, and to the end, from this one, where what is watched is
+/// so or not.
 pub fn paths(
     alloc: Global,
     code: &[Instruction],
-    mutex: usize,
+    watch: Watch,
     start: usize,
-    owned: bool,
+    so: bool,
 ) -> Result<Vec<Mark>, AllocError>
     requires jumps { JumpsWithin code.now }
     requires start { start ≤ length code.now }
     requires short { length code.now < 2 ^ 32 }
-    ensures marks { IfOk result (λ v. Marks v.items code.now mutex start owned) }
+    ensures marks { IfOk result (λ v. Marks v.items code.now watch start so) }
     ensures length { IfOk result (λ v. length v.items ≡ length code.now + 1) }
 {
     let none = Mark {
-        owned: false,
-        free: false,
+        so: false,
+        not_so: false,
     };
     let mut marks = vec![in alloc; none; code.len() + 1]?;
-    mark_paths(&mut marks, code, mutex, start, owned);
+    mark_paths(&mut marks, code, watch, start, so);
     Ok(marks)
+}
+
+/// Whether some path leads to an instruction that acts, or to the end.
+pub fn comes_to_act(marks: &[Mark], code: &[Instruction]) -> bool
+    requires { length marks.now ≡ length code.now + 1 }
+    ensures { IsTrue result ↔ (j : ℕ) × (b : Bool) × Marked marks.now j b × ActsAt code.now j }
+{
+    for (at, instruction) in code.iter().enumerate() {
+        if acts(instruction) && (marks[at].so || marks[at].not_so) {
+            return true;
+        }
+    }
+    marks[code.len()].so || marks[code.len()].not_so
+}
+
+/// Whether some jump before an instruction may pass it over.
+pub fn is_passed_over(code: &[Instruction], at: usize) -> bool
+    requires jumps { JumpsWithin code.now }
+    requires at { at < length code.now }
+    requires short { length code.now < 2 ^ 32 }
+    ensures { IsTrue result ↔ IsPassedOver code.now at }
+{
+    for i in 0..at {
+        if at < i + 1 + skip_of(&code[i]) {
+            return true;
+        }
+    }
+    false
 }

@@ -2,7 +2,7 @@
 
 ghost use Rattle.std.specs.Prelude.{◌≡◌};
 ghost use Rattle.std.specs.List.{list_any};
-ghost use Rattle.lint.specs.Uses.{value_reads, expression_reads, reads, sets, fills, loads, stores, names_mutex, names_condition, names_semaphore, does, is_constant};
+ghost use Rattle.lint.specs.Uses.{value_reads, expression_reads, reads, sets, fills, loads, stores, names_mutex, names_condition, names_semaphore, waits, waits_without, signals, acquires, releases, does, is_constant, forbids};
 
 use guest_code::program::{Expression, Instruction, Value};
 
@@ -25,6 +25,16 @@ pub enum Use {
     OfCondition,
     /// A semaphore is named.
     OfSemaphore,
+    /// A condition is waited for.
+    Waits,
+    /// A condition is waited for with another mutex than the one of this number.
+    WaitsWithout(usize),
+    /// Who waits for a condition is woken.
+    Signals,
+    /// A semaphore is lowered.
+    Acquires,
+    /// A semaphore is raised.
+    Releases,
 }
 
 fn value_reads(local: usize, value: Value) -> bool
@@ -36,7 +46,7 @@ fn value_reads(local: usize, value: Value) -> bool
     }
 }
 
-fn expression_reads(local: usize, expression: &Expression) -> bool
+pub fn expression_reads(local: usize, expression: &Expression) -> bool
     ensures { result ≡ expression_reads local expression.now }
 {
     match expression {
@@ -65,7 +75,7 @@ fn reads(local: usize, instruction: &Instruction) -> bool
 }
 
 /// Whether it gives a local a value.
-fn sets(wanted: usize, instruction: &Instruction) -> bool
+pub fn sets(wanted: usize, instruction: &Instruction) -> bool
     ensures { result ≡ sets wanted instruction.now }
 {
     match instruction {
@@ -143,6 +153,56 @@ fn names_semaphore(wanted: usize, instruction: &Instruction) -> bool
     }
 }
 
+/// Whether it waits for a condition.
+fn waits(wanted: usize, instruction: &Instruction) -> bool
+    ensures { result ≡ waits wanted instruction.now }
+{
+    match instruction {
+        Instruction::Wait { condition, .. } => *condition == wanted,
+        _ => false,
+    }
+}
+
+/// Whether it waits for a condition with another mutex than this one.
+fn waits_without(other: usize, wanted: usize, instruction: &Instruction) -> bool
+    ensures { result ≡ waits_without other wanted instruction.now }
+{
+    match instruction {
+        Instruction::Wait { condition, mutex } => *condition == wanted && *mutex != other,
+        _ => false,
+    }
+}
+
+/// Whether it wakes who waits for a condition.
+fn signals(wanted: usize, instruction: &Instruction) -> bool
+    ensures { result ≡ signals wanted instruction.now }
+{
+    match instruction {
+        Instruction::Signal(condition) | Instruction::Broadcast(condition) => *condition == wanted,
+        _ => false,
+    }
+}
+
+/// Whether it lowers a semaphore.
+fn acquires(wanted: usize, instruction: &Instruction) -> bool
+    ensures { result ≡ acquires wanted instruction.now }
+{
+    match instruction {
+        Instruction::Acquire(semaphore) => *semaphore == wanted,
+        _ => false,
+    }
+}
+
+/// Whether it raises a semaphore.
+fn releases(wanted: usize, instruction: &Instruction) -> bool
+    ensures { result ≡ releases wanted instruction.now }
+{
+    match instruction {
+        Instruction::Release(semaphore) => *semaphore == wanted,
+        _ => false,
+    }
+}
+
 impl Use {
     /// Whether an instruction makes this use of the local or the object of this number.
     pub fn is_made(self, number: usize, instruction: &Instruction) -> bool
@@ -157,6 +217,11 @@ impl Use {
             Use::OfMutex => names_mutex(number, instruction),
             Use::OfCondition => names_condition(number, instruction),
             Use::OfSemaphore => names_semaphore(number, instruction),
+            Use::Waits => waits(number, instruction),
+            Use::WaitsWithout(mutex) => waits_without(mutex, number, instruction),
+            Use::Signals => signals(number, instruction),
+            Use::Acquires => acquires(number, instruction),
+            Use::Releases => releases(number, instruction),
         }
     }
 
@@ -176,6 +241,16 @@ pub fn is_constant(instruction: &Instruction) -> bool
     match instruction {
         Instruction::Assert(Expression::Single(Value::Literal(_))) => true,
         Instruction::Assert(Expression::Both(Value::Literal(_), _, Value::Literal(_))) => true,
+        _ => false,
+    }
+}
+
+/// Whether it is `assert 0;`, which says that no run is to come here.
+pub fn forbids(instruction: &Instruction) -> bool
+    ensures { result ≡ forbids instruction.now }
+{
+    match instruction {
+        Instruction::Assert(Expression::Single(Value::Literal(number))) => *number == 0,
         _ => false,
     }
 }

@@ -3,11 +3,11 @@
 ghost use Rattle.std.specs.Prelude.{◌≡◌, ◌<◌, ◌↔◌, IsTrue, IfOk, length, ◌^◌, ◌≤◌};
 ghost use Rattle.guest_code.specs.Program.{code_of, JumpsWithin};
 ghost use Rattle.lint.specs.Paths.{IsReached};
-ghost use Rattle.lint.specs.Warnings.{UsesIn, UsesAnywhere, IsSo, MayKeep, MayLack, IsOfThread, count_of};
+ghost use Rattle.lint.specs.Warnings.{UsesIn, UsesAnywhere, IsSo, MayKeep, MayLack, LocksAgain, IsUnseen, WaitNotLookedAtAgain, WaitsElsewhere, IsConstantAt, IsOfThread, count_of};
 
-use crate::paths::paths;
-use crate::uses::{Use, is_constant};
-use guest_code::limits::INSTRUCTIONS;
+use crate::paths::{Watch, comes_to_act, is_passed_over, paths};
+use crate::uses::{Use, forbids, is_constant};
+use guest_code::limits::{INSTRUCTIONS, LOCALS};
 use guest_code::program::{Instruction, Program};
 use std::alloc::{AllocError, Global};
 
@@ -30,7 +30,13 @@ pub enum Kind {
     UnusedCondition,
     /// No statement names a semaphore.
     UnusedSemaphore,
-    /// An assertion has no local.
+    /// A condition is waited for, and no statement signals it.
+    NeverSignalled,
+    /// A condition is signalled, and no statement waits for it.
+    NeverWaitedFor,
+    /// A semaphore starts at 0 and is acquired, and no statement releases it.
+    NeverReleased,
+    /// An assertion has no local, and isn't an `assert 0;` that may be passed over.
     Constant(u8),
     /// No path through the thread leads to an instruction.
     Unreached(u8),
@@ -38,6 +44,12 @@ pub enum Kind {
     MayKeep(u8),
     /// On some path a mutex that is given back here isn't owned.
     MayLack(u8),
+    /// On each path a mutex that is locked here is owned already.
+    LocksAgain(u8),
+    /// On some path no value is loaded and looked at between a `wait` and what is done next.
+    WaitNotLookedAtAgain(u8),
+    /// A condition that is waited for here is waited for with another mutex too.
+    WaitsElsewhere(u8),
 }
 
 /// A warning: its kind, and the number of the local, the object or the instruction.
@@ -85,8 +97,8 @@ fn is_reached(alloc: Global, code: &[Instruction], at: usize) -> Result<bool, Al
     requires at { at < length code.now }
     ensures { IfOk result (λ b. IsTrue b ↔ IsReached code.now at) }
 {
-    let marks = paths(alloc, code, 0, 0, false)?;
-    Ok(marks[at].owned || marks[at].free)
+    let marks = paths(alloc, code, Watch::Nothing, 0, false)?;
+    Ok(marks[at].so || marks[at].not_so)
 }
 
 /// Whether a mutex that is locked here may still be owned at the end.
@@ -99,11 +111,9 @@ fn may_keep(alloc: Global, code: &[Instruction], at: usize) -> Result<bool, Allo
     let Instruction::Lock(mutex) = code[at] else {
         return Ok(false);
     };
-    if !is_reached(alloc, code, at)? {
-        return Ok(false);
-    }
-    let marks = paths(alloc, code, mutex, at + 1, true)?;
-    Ok(marks[code.len()].owned)
+    let before = paths(alloc, code, Watch::Owns(mutex), 0, false)?;
+    let marks = paths(alloc, code, Watch::Owns(mutex), at + 1, true)?;
+    Ok(before[at].not_so && marks[code.len()].so)
 }
 
 /// Whether a mutex that is given back here may not be owned.
@@ -118,8 +128,82 @@ fn may_lack(alloc: Global, code: &[Instruction], at: usize) -> Result<bool, Allo
         Instruction::Wait { mutex, .. } => mutex,
         _ => return Ok(false),
     };
-    let marks = paths(alloc, code, mutex, 0, false)?;
-    Ok(marks[at].free)
+    let marks = paths(alloc, code, Watch::Owns(mutex), 0, false)?;
+    Ok(marks[at].not_so)
+}
+
+/// Whether a mutex that is locked here is owned already on each path.
+fn locks_again(alloc: Global, code: &[Instruction], at: usize) -> Result<bool, AllocError>
+    requires jumps { JumpsWithin code.now }
+    requires short { length code.now < 2 ^ 32 }
+    requires at { at < length code.now }
+    ensures { IfOk result (λ b. IsTrue b ↔ LocksAgain code.now at) }
+{
+    let Instruction::Lock(mutex) = code[at] else {
+        return Ok(false);
+    };
+    let marks = paths(alloc, code, Watch::Owns(mutex), 0, false)?;
+    Ok(marks[at].so && !marks[at].not_so)
+}
+
+/// Whether a local may not be looked at again between an instruction and what is done next.
+fn is_unseen(
+    alloc: Global,
+    code: &[Instruction],
+    local: usize,
+    at: usize,
+) -> Result<bool, AllocError>
+    requires jumps { JumpsWithin code.now }
+    requires short { length code.now < 2 ^ 32 }
+    requires at { at < length code.now }
+    ensures { IfOk result (λ b. IsTrue b ↔ IsUnseen code.now local at) }
+{
+    let marks = paths(alloc, code, Watch::Unseen(local), at + 1, false)?;
+    Ok(comes_to_act(&marks, code))
+}
+
+/// Whether no local is looked at again after a `wait`, whatever comes.
+fn is_not_looked_at_again(
+    alloc: Global,
+    code: &[Instruction],
+    at: usize,
+) -> Result<bool, AllocError>
+    requires jumps { JumpsWithin code.now }
+    requires short { length code.now < 2 ^ 32 }
+    requires at { at < length code.now }
+    ensures { IfOk result (λ b. IsTrue b ↔ WaitNotLookedAtAgain code.now at) }
+{
+    if !matches!(code[at], Instruction::Wait { .. }) {
+        return Ok(false);
+    }
+    for local in 0..LOCALS {
+        if !is_unseen(alloc, code, local, at)? {
+            return Ok(false);
+        }
+    }
+    Ok(true)
+}
+
+/// Whether an instruction waits for a condition that is waited for with another mutex too.
+fn waits_elsewhere(program: &Program, instruction: &Instruction) -> bool
+    ensures { IsTrue result ↔ WaitsElsewhere program.now instruction.now }
+{
+    match instruction {
+        Instruction::Wait { condition, mutex } => {
+            is_used(program, Use::WaitsWithout(*mutex), *condition)
+        }
+        _ => false,
+    }
+}
+
+/// Whether an instruction asserts numbers alone, and isn't an `assert 0;` that may be passed over.
+fn is_constant_at(code: &[Instruction], at: usize) -> bool
+    requires jumps { JumpsWithin code.now }
+    requires short { length code.now < 2 ^ 32 }
+    requires at { at < length code.now }
+    ensures { IsTrue result ↔ IsConstantAt code.now at }
+{
+    is_constant(&code[at]) && !(forbids(&code[at]) && is_passed_over(code, at))
 }
 
 impl Kind {
@@ -134,12 +218,17 @@ impl Kind {
                 program.variables() as usize
             }
             Kind::UnusedMutex => program.mutexes() as usize,
-            Kind::UnusedCondition => program.conditions() as usize,
-            Kind::UnusedSemaphore => program.semaphores() as usize,
+            Kind::UnusedCondition | Kind::NeverSignalled | Kind::NeverWaitedFor => {
+                program.conditions() as usize
+            }
+            Kind::UnusedSemaphore | Kind::NeverReleased => program.semaphores() as usize,
             Kind::Constant(thread)
             | Kind::Unreached(thread)
             | Kind::MayKeep(thread)
-            | Kind::MayLack(thread) => program.code(thread).len(),
+            | Kind::MayLack(thread)
+            | Kind::LocksAgain(thread)
+            | Kind::WaitNotLookedAtAgain(thread)
+            | Kind::WaitsElsewhere(thread) => program.code(thread).len(),
         }
     }
 
@@ -170,10 +259,31 @@ impl Kind {
             Kind::UnusedMutex => Ok(!is_used(program, Use::OfMutex, number)),
             Kind::UnusedCondition => Ok(!is_used(program, Use::OfCondition, number)),
             Kind::UnusedSemaphore => Ok(!is_used(program, Use::OfSemaphore, number)),
-            Kind::Constant(thread) => Ok(is_constant(&program.code(thread)[number])),
+            Kind::NeverSignalled => Ok(
+                is_used(program, Use::Waits, number) && !is_used(program, Use::Signals, number),
+            ),
+            Kind::NeverWaitedFor => Ok(
+                is_used(program, Use::Signals, number) && !is_used(program, Use::Waits, number),
+            ),
+            Kind::NeverReleased => Ok(
+                program.count(number) == 0
+                    && is_used(program, Use::Acquires, number)
+                    && !is_used(program, Use::Releases, number),
+            ),
+            Kind::Constant(thread) => Ok(is_constant_at(code_of(program, thread), number)),
             Kind::Unreached(thread) => Ok(!is_reached(alloc, code_of(program, thread), number)?),
             Kind::MayKeep(thread) => Ok(may_keep(alloc, code_of(program, thread), number)?),
             Kind::MayLack(thread) => Ok(may_lack(alloc, code_of(program, thread), number)?),
+            Kind::LocksAgain(thread) => Ok(locks_again(alloc, code_of(program, thread), number)?),
+            Kind::WaitNotLookedAtAgain(thread) => Ok(is_not_looked_at_again(
+                alloc,
+                code_of(program, thread),
+                number,
+            )?),
+            Kind::WaitsElsewhere(thread) => Ok(waits_elsewhere(
+                program,
+                &program.code(thread)[number],
+            )),
         }
     }
 }

@@ -8,13 +8,16 @@ use guest_code::program::Program;
 use std::alloc::{AllocError, Global};
 
 /// The kinds that are of no thread.
-const OF_OBJECTS: [Kind; 6] = [
+const OF_OBJECTS: [Kind; 9] = [
     Kind::UnusedVariable,
     Kind::NeverStored,
     Kind::NeverLoaded,
     Kind::UnusedMutex,
     Kind::UnusedCondition,
     Kind::UnusedSemaphore,
+    Kind::NeverSignalled,
+    Kind::NeverWaitedFor,
+    Kind::NeverReleased,
 ];
 
 /// All kinds of warnings that a program may have.
@@ -30,6 +33,9 @@ fn kinds(alloc: Global, program: &Program) -> Result<Vec<Kind>, AllocError>
             Kind::Unreached(thread),
             Kind::MayKeep(thread),
             Kind::MayLack(thread),
+            Kind::LocksAgain(thread),
+            Kind::WaitNotLookedAtAgain(thread),
+            Kind::WaitsElsewhere(thread),
         ];
         all.extend_from_slice(&kinds)?;
     }

@@ -1,5 +1,5 @@
 -- A thread is put where it is after its step, or after it was called.
-use Rattle.std.proofs.Common.{◌≡◌, ◌≢◌, ℕ, ◌<◌, Bool, true, false, not, ◌&&◌, ◌⊎◌, nat_eq, nat_lt, length, Option, Some, None, get_or, set, refl, ap, ◌∙◌, sym, subst, arith, get_or-set_same, get_or-set_other, inl, inr}
+use Rattle.std.proofs.Common.{◌≡◌, ◌≢◌, ℕ, zero, suc, ◌+◌, ◌<◌, ℤ, cond, List, [], ◌∷◌, drop, slice_get, Bool, true, false, not, ◌&&◌, ◌⊎◌, nat_eq, nat_lt, length, Option, Some, None, get_or, set, refl, ap, ◌∙◌, sym, subst, arith, get_or-set_same, get_or-set_other, inl, inr}
 use Rattle.std.proofs.lemmas.Bool.{cases_order}
 use Rattle.std.specs.Option.{is_some}
 use Rattle.guest_code.specs.declared.program.Expression.{Expression}
@@ -8,20 +8,22 @@ use Rattle.guest_code.specs.declared.program.Instruction.TheVariants.{Lock, Acqu
 use Rattle.guest_code.specs.Program.{Program}
 use Rattle.semantics.specs.declared.mask.Mask.{Mask}
 use Rattle.semantics.specs.declared.state.Thread.{Thread}
-use Rattle.semantics.specs.declared.state.Status.TheVariants.{Waiting}
+use Rattle.semantics.specs.declared.state.Status.TheVariants.{Running, Waiting}
 use Rattle.semantics.specs.declared.state.MutexAction.{MutexAction}
 use Rattle.semantics.specs.declared.state.MutexAction.TheVariants.{Lock as Locks, Unlock as Unlocks, Retake as Retakes}
 use Rattle.semantics.specs.declared.state.SemaphoreAction.TheVariants.{Acquire as Acquires}
 use Rattle.semantics.specs.declared.state.Action.{Action}
 use Rattle.semantics.specs.declared.state.Action.TheVariants.{OnMutex, OnSemaphore}
-use Rattle.semantics.specs.Machine.{Snapshot, thread_at, owner_of, can_do, is_free, missing_thread, action_of}
+use Rattle.semantics.specs.Machine.{Snapshot, thread_at, owner_of, can_do, is_free, missing_thread, action_of, action_at, value_of_expression, is_zero}
+use Rattle.semantics.specs.Turns.{turn_of, IsFree}
+use Rattle.semantics.specs.declared.local.Turn.TheVariants.{Runs, Fails, Visible}
 use Rattle.semantics.specs.Mask.{has}
 use Rattle.semantics.specs.Ends.{is_stopped, is_ended}
 use Rattle.machine.specs.declared.control.Control.{Control}
-use Rattle.machine.specs.declared.local.Landing.{Landing}
+use Rattle.semantics.specs.declared.local.Landing.{Landing}
 use Rattle.machine.specs.Refinement.{takes_mutex, takes_semaphore, is_woken, at_mutex, at_semaphore, held, next_at, HasObjects, HasThreadAt, IsControl}
 use Rattle.machine.specs.inner.LocalRuns.{IsLandingOf}
-use Rattle.machine.specs.inner.Parts.{IsIdle, IsApart, IsControlBut, LeavesOthers, IsMarked, Stands, Lands, IsTaking, IsPlain}
+use Rattle.machine.specs.inner.Parts.{IsIdle, IsApart, IsControlBut, LeavesOthers, IsMarked, Stands, Lands, IsTaking, IsPlain, IsFreeIn}
 use Rattle.machine.proofs.Lists.{set_has, set_there}
 
 and_true : (b : Bool) → (b && true) ≡ b
@@ -138,6 +140,37 @@ plain_else (Assert v) a b c d e f = absurd (d v refl)
 plain_else (SkipIfZero v n) a b c d e f = absurd (e v n refl)
 plain_else (Skip n) a b c d e f = absurd (f n refl)
 plain_else x a b c d e f = ((λ s. refl), (λ m. refl), (λ k. refl))
+
+fails_or_runs : (at : ℕ) (b : Bool) → cond b Fails (Runs (at + 1)) ≡ Visible → ⊥
+fails_or_runs at true h = cc
+fails_or_runs at false h = cc
+
+-- where a local run comes to one
+plain_there : (at : ℕ) (locals : List ℤ) (is : List Instruction)
+    → turn_of at locals is ≡ Visible → IsPlain (action_at Running (slice_get is 0)) true
+plain_there at locals [] h = absurd cc
+plain_there at locals (Lock m ∷ is) h = absurd cc
+plain_there at locals (Acquire k ∷ is) h = absurd cc
+plain_there at locals (Set r e ∷ is) h = absurd cc
+plain_there at locals (Assert e ∷ is) h = absurd (fails_or_runs at
+    (is_zero (value_of_expression locals e)) h)
+plain_there at locals (SkipIfZero e n ∷ is) h = absurd cc
+plain_there at locals (Skip n ∷ is) h = absurd cc
+plain_there at locals (i ∷ is) h = ((λ s. refl), (λ m. refl), (λ k. refl))
+
+there_first : (code : List Instruction) (k : ℕ) → slice_get (drop k code) 0 ≡ slice_get code k
+there_first [] zero = refl
+there_first [] (suc k) = refl
+there_first (i ∷ code) zero = refl
+there_first (i ∷ code) (suc k) = there_first code k
+
+pub free_there : (code : List Instruction) (at : Landing)
+    → (at.free ≡ true → IsFree code at Running) → IsFreeIn code at
+free_there code at known free =
+    let h = known free in
+    subst (λ w. IsPlain (action_at w (slice_get code at.pc)) true) (sym h.status)
+    (subst (λ i. IsPlain (action_at Running i) true) (there_first code at.pc)
+    (plain_there at.pc h.locals (drop at.pc code) h.turn))
 
 -- all together
 

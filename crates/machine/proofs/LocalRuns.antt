@@ -23,8 +23,9 @@ use Rattle.semantics.specs.declared.state.Status.TheVariants.{Running, Waiting, 
 use Rattle.semantics.specs.Machine.{Snapshot, thread_at, value_of_operand, var_after, reader_after, is_expected, one_or_zero, resumed, with_status, with_local, advance, local_run, run_from, value_of_expression, is_zero}
 use Rattle.semantics.specs.Expressions.{of_both}
 use Rattle.machine.specs.declared.control.Control.{Control}
-use Rattle.machine.specs.declared.local.Landing.{Landing}
-use Rattle.machine.specs.inner.LocalRuns.{narrow, own_thread, IsAccessBelow, IsLandingOf}
+use Rattle.semantics.specs.declared.local.Landing.{Landing}
+use Rattle.semantics.specs.Turns.{own_thread, IsAccessBelow}
+use Rattle.machine.specs.inner.LocalRuns.{narrow, IsLandingOf}
 use Rattle.machine.specs.inner.Steps.{settled, IsPerformed}
 
 narrow_value : (n : ℕ) (L : List ℤ) (a : Value) → IsValueBelow n a

@@ -22,9 +22,9 @@ use Rattle.semantics.specs.Ends.{is_stopped, is_ended}
 use Rattle.semantics.specs.Waiters.{In, Once}
 use Rattle.semantics.proofs.StepsKeepStates.{room_in_queue}
 use Rattle.machine.specs.declared.control.Control.{Control}
-use Rattle.machine.specs.declared.local.Landing.{Landing}
+use Rattle.semantics.specs.declared.local.Landing.{Landing}
 use Rattle.machine.specs.Refinement.{takes_mutex, takes_semaphore, is_woken, HasThreadAt}
-use Rattle.machine.specs.inner.LocalRuns.{own_thread, IsAccessBelow}
+use Rattle.semantics.specs.Turns.{own_thread, IsAccessBelow}
 use Rattle.machine.specs.inner.Parts.{IsControlBut}
 use Rattle.machine.specs.inner.Steps.{IsPoised, IsPerformed, IsCalling, settled}
 use Rattle.machine.proofs.Lists.{set_twice}

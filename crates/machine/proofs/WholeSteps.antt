@@ -11,9 +11,10 @@ use Rattle.semantics.specs.Mask.{has}
 use Rattle.semantics.proofs.WorkFalls.{enabled_below}
 use Rattle.semantics.proofs.StandingThreads.{enabled_stands}
 use Rattle.machine.specs.declared.control.Control.{Control}
-use Rattle.machine.specs.declared.local.Landing.{Landing}
+use Rattle.semantics.specs.declared.local.Landing.{Landing}
 use Rattle.machine.specs.Refinement.{is_woken, IsControl}
-use Rattle.machine.specs.inner.LocalRuns.{narrow, own_thread}
+use Rattle.semantics.specs.Turns.{own_thread}
+use Rattle.machine.specs.inner.LocalRuns.{narrow}
 use Rattle.machine.specs.inner.Steps.{IsPoised, IsPerformed, IsStepped, IsReadyIn, settled}
 use Rattle.machine.proofs.Lists.{read_at}
 

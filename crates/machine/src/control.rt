@@ -16,9 +16,9 @@ ghost use Rattle.machine.specs.inner.Opening.{IsOpenedTo};
 
 mod steps;
 
-use crate::local::Landing;
 use guest_code::limits::{COUNT, OBJECTS, THREADS};
 use guest_code::program::{Instruction, Program};
+use semantics::Landing;
 use semantics::mask::Mask;
 use semantics::state::Status;
 

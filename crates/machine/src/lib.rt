@@ -21,7 +21,6 @@
 #![tactic(auto)]
 
 mod control;
-mod local;
 mod machine;
 
 pub use crate::control::Control;

@@ -13,10 +13,10 @@ ghost use Rattle.machine.specs.Refinement.{Shows};
 ghost use Rattle.machine.specs.inner.Opening.{IsOpening};
 
 use crate::control::{Control, threads_below};
-use crate::local::Landing;
 use guest_code::limits::{LOCALS, THREADS, VARIABLES};
 use guest_code::program::Program;
 use schedules::independence::next_apart;
+use semantics::Landing;
 use semantics::mask::Mask;
 use semantics::state::State;
 use semantics::view::Kind;

@@ -200,20 +200,20 @@ impl Prefixes {
         Ok(())
     }
 
-    /// Moves the prefixes of another list after these.
+    /// Puts copies of the prefixes of another list after these.
     ///
     /// # Errors
     ///
-    /// `AllocError` where memory runs out; both lists are then as before.
-    pub fn append(&mut self, other: &mut Prefixes) -> Result<(), AllocError>
-        ensures all { self.new ≡ (if is_ok result then self.old ++ other.old else self.old) }
-        ensures moved { other.new ≡ (if is_ok result then [] else other.old) }
+    /// `AllocError` where memory runs out; the list is then as before.
+    pub fn append(&mut self, alloc: Global, other: &Prefixes) -> Result<(), AllocError>
+        ensures { self.new ≡ (if is_ok result then self.old ++ other.now else self.old) }
     {
         if other.count == 0 {
             return Ok(());
         }
         if self.count == 0 {
-            mem::swap(self, other);
+            let mut copy = other.try_clone(alloc)?;
+            mem::swap(self, &mut copy);
             return Ok(());
         }
         let room = other.last.capacity();
@@ -228,7 +228,6 @@ impl Prefixes {
         self.last.clear();
         let _ = self.last.extend_from_slice(other.last.as_slice());
         self.count += other.count;
-        other.count = 0;
         Ok(())
     }
 

@@ -1,9 +1,11 @@
 //! What the schedules that sleep sets leave show of a program, gone through one after the other by
 //! the plain step and by taking it back.
 
-ghost use Rattle.std.specs.Prelude.{◌<◌, length, IfOk, IfSome, OnOk, IsTrue};
+ghost use Rattle.std.specs.Prelude.{◌<◌, ◌≡◌, length, IfOk, IfSome, OnOk, IsTrue};
 ghost use Rattle.semantics.specs.Machine.{is_enabled};
-ghost use Rattle.semantics.specs.Reachable.{IsOf};
+ghost use Rattle.semantics.specs.Reachable.{IsOf, IsValidAction};
+ghost use Rattle.semantics.specs.Turns.{IsAccessBelow};
+ghost use Rattle.guest_code.specs.Program.{Program, IsValidCode};
 ghost use Rattle.probe.specs.inner.Frames.{TakesBack, IsTour};
 
 use crate::seen::{Seen, Stage};
@@ -11,8 +13,9 @@ use crate::spin::Spin;
 use guest_code::limits::LOCALS;
 use guest_code::program::{Instruction, Program};
 use schedules::independence::sleepers_after;
+use semantics::access;
 use semantics::mask::Mask;
-use semantics::state::{State, Status, Stop};
+use semantics::state::{Action, State, Status, Stop};
 use semantics::undo::Undo;
 use std::alloc::{AllocError, Global};
 
@@ -43,19 +46,33 @@ pub struct Depths {
     pub is_whole: bool,
 }
 
-/// The value of the variable that a thread's next step is on; 0 where it is on none.
-fn variable_next(program: &Program, state: &State, thread: u8) -> i64
+/// The locals after a step that does this, where the variables have these values before it.
+fn locals_after(mut locals: [i64; LOCALS], variables: &[i64], action: Action) -> [i64; LOCALS]
+    requires { (p : Program) × IsValidAction p action
+        × (length variables.now ≡ length p.variables) }
+{
+    if let Action::OnVariable(variable, action) = action {
+        let mut value = variables[variable];
+        access(&mut value, &mut locals, action);
+    }
+    locals
+}
+
+/// Whether a thread's next step is a `signal` for which two threads or more wait.
+fn signals_several(program: &Program, state: &State, thread: u8) -> bool
     requires of { IsOf program.now state.now }
     requires thread { thread < length program.now.threads }
 {
-    match program.code(thread).get(state.pc(thread)) {
-        Some(
-            Instruction::Load { variable, .. }
-            | Instruction::Add { variable, .. }
-            | Instruction::Cas { variable, .. },
-        ) => state.variables().get(*variable).copied().unwrap_or(0),
-        _ => 0,
+    let Some(Instruction::Signal(condition)) = program.code(thread).get(state.pc(thread)) else {
+        return false;
+    };
+    let mut waiting = 0_u32;
+    for other in 0..program.threads() {
+        if matches!(state.status(other), Status::Waiting(c) if c as usize == *condition) {
+            waiting = waiting.saturating_add(1);
+        }
     }
+    waiting >= 2
 }
 
 /// Whether a thread runs by itself after its step.
@@ -90,15 +107,19 @@ fn step_seen(
     requires of { IsOf program.now state.old }
     requires thread { stage.thread < length program.now.threads }
     requires enabled { IsTrue (is_enabled program.now state.old stage.thread) }
+    requires code { (p : Program) × IsValidCode p stage.code.now }
     ensures { IfOk result (λ u. TakesBack program.now u state.old state.new) }
 {
     let thread = stage.thread;
     let at = state.pc(thread);
-    let locals = *state.locals(thread);
-    let variable = variable_next(program, state, thread);
+    let action = state.next(program, thread).unwrap();
+    let locals = locals_after(*state.locals(thread), state.variables(), action);
+    if signals_several(program, state, thread) {
+        seen.see_crowd(stage, at)?;
+    }
     let undo = state.step(program, thread);
     if goes_on(state.status(thread)) {
-        seen.see_step(stage, at, locals, variable)?;
+        seen.see_step(stage, at, locals)?;
     }
     Ok(undo)
 }

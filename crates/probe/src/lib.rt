@@ -6,6 +6,5 @@
 #![tactic(auto)]
 
 pub mod deep;
-pub mod locals;
 pub mod seen;
 pub mod spin;

@@ -1,10 +1,12 @@
 //! What schedules show of a program.
 
 ghost use Rattle.std.specs.Prelude.{◌<◌};
+ghost use Rattle.guest_code.specs.Program.{Program, IsValidCode, IsValidExpression};
 
-use crate::locals::{Locals, next_local, put, sides, value_of};
 use crate::spin::Spin;
-use guest_code::program::{Instruction, Program};
+use guest_code::limits::LOCALS;
+use guest_code::program::{Expression, Instruction, Program};
+use semantics::{Turn, expression_at, next_local, operand_at};
 use std::alloc::{AllocError, Global};
 
 /// What was seen of an instruction.
@@ -18,12 +20,23 @@ pub enum Sight {
     Varied,
 }
 
-/// What was seen of the assertions of each thread, by the numbers of their instructions, and for
-/// each loop the first schedule in which it ran out of turns.
+/// What was seen of an instruction of a thread.
+#[derive(Drop)]
+pub struct Scene {
+    /// Of an assertion: its values.
+    pub sight: Sight,
+    /// Of an assertion: whether it held in some schedule.
+    pub has_held: bool,
+    /// Of a `signal`: the first schedule in which two threads or more waited for it.
+    pub crowd: Option<Vec<u8>>,
+}
+
+/// What was seen of each thread, by the numbers of its instructions, and for each loop the first
+/// schedule in which it ran out of turns.
 #[derive(Drop)]
 pub struct Seen {
     alloc: Global,
-    pub asserts: Vec<Vec<Sight>>,
+    pub scenes: Vec<Vec<Scene>>,
     pub ran_out: Vec<Option<Vec<u8>>>,
 }
 
@@ -33,6 +46,16 @@ pub fn and_now(sight: Sight, left: i64, right: i64) -> Sight {
         Sight::Unseen => Sight::Same(left, right),
         Sight::Same(a, b) if a == left && b == right => sight,
         _ => Sight::Varied,
+    }
+}
+
+/// The two values of an expression; of one that is a value alone, that value twice.
+fn sides(locals: &[i64; LOCALS], expression: &Expression) -> (i64, i64)
+    requires { IsValidExpression expression.now }
+{
+    match expression {
+        Expression::Single(a) => (operand_at(locals, *a), operand_at(locals, *a)),
+        Expression::Both(a, _, b) => (operand_at(locals, *a), operand_at(locals, *b)),
     }
 }
 
@@ -47,12 +70,25 @@ pub struct Stage<'a> {
     pub code: &'a [Instruction],
 }
 
+/// Nothing was seen of this number of instructions.
+fn unseen(alloc: Global, instructions: usize) -> Result<Vec<Scene>, AllocError> {
+    let mut scenes = Vec::new(alloc);
+    for _ in 0..instructions {
+        scenes.push(Scene {
+            sight: Sight::Unseen,
+            has_held: false,
+            crowd: None,
+        })?;
+    }
+    Ok(scenes)
+}
+
 impl Seen {
     /// Nothing was seen.
     pub fn new(alloc: Global, program: &Program, spins: usize) -> Result<Seen, AllocError> {
-        let mut asserts = Vec::new(alloc);
+        let mut scenes = Vec::new(alloc);
         for thread in 0..program.threads() {
-            asserts.push(vec![in alloc; Sight::Unseen; program.code(thread).len()]?)?;
+            scenes.push(unseen(alloc, program.code(thread).len())?)?;
         }
         let mut ran_out = Vec::new(alloc);
         for _ in 0..spins {
@@ -60,21 +96,47 @@ impl Seen {
         }
         Ok(Seen {
             alloc,
-            asserts,
+            scenes,
             ran_out,
         })
     }
 
     /// An instruction is carried out.
-    fn see(&mut self, stage: Stage<'_>, at: usize, locals: &Locals) {
+    fn see(&mut self, stage: Stage<'_>, at: usize, locals: &[i64; LOCALS])
+        requires { (p : Program) × IsValidCode p stage.code.now }
+    {
         if let Some(Instruction::Assert(test)) = stage.code.get(at) {
             let (left, right) = sides(locals, test);
-            if let Some(sights) = self.asserts.get_mut(stage.thread as usize) {
-                if let Some(sight) = sights.get_mut(at) {
-                    *sight = and_now(*sight, left, right);
-                }
+            let holds = expression_at(locals, test) != 0;
+            if let Some(scene) = self.scene(stage.thread, at) {
+                scene.sight = and_now(scene.sight, left, right);
+                scene.has_held = scene.has_held || holds;
             }
         }
+    }
+
+    /// What was seen of the instructions of a thread; nothing of one that is not there.
+    pub fn scenes_of(&self, thread: u8) -> &[Scene] {
+        match self.scenes.get(thread as usize) {
+            Some(scenes) => scenes,
+            None => &[],
+        }
+    }
+
+    /// What was seen of an instruction of a thread, if there is one.
+    fn scene(&mut self, thread: u8, at: usize) -> Option<&mut Scene> {
+        self.scenes.get_mut(thread as usize)?.get_mut(at)
+    }
+
+    /// A thread is to signal a condition that several threads wait for.
+    pub fn see_crowd(&mut self, stage: Stage<'_>, at: usize) -> Result<(), AllocError> {
+        let alloc = self.alloc;
+        if let Some(scene) = self.scene(stage.thread, at) {
+            if scene.crowd.is_none() {
+                scene.crowd = Some(Vec::from_slice(alloc, stage.path)?);
+            }
+        }
+        Ok(())
     }
 
     /// A thread goes from one instruction to another one.
@@ -96,12 +158,14 @@ impl Seen {
         &mut self,
         stage: Stage<'_>,
         start: usize,
-        mut locals: Locals,
-    ) -> Result<(), AllocError> {
+        mut locals: [i64; LOCALS],
+    ) -> Result<(), AllocError>
+        requires { (p : Program) × IsValidCode p stage.code.now }
+    {
         let mut at = start;
         for _ in 0..stage.code.len() {
             self.see(stage, at, &locals);
-            let Some(next) = next_local(&mut locals, stage.code, at) else {
+            let Turn::Runs(next) = next_local(stage.code, &mut locals, at) else {
                 return Ok(());
             };
             self.see_move(stage, at, next)?;
@@ -110,31 +174,15 @@ impl Seen {
         Ok(())
     }
 
-    /// A thread goes on after its step at an instruction, before which it had these locals and the
-    /// variable of the step, if it is on one, this value.
+    /// A thread goes on after its step at an instruction, after which it has these locals.
     pub fn see_step(
         &mut self,
         stage: Stage<'_>,
         at: usize,
-        mut locals: Locals,
-        variable: i64,
-    ) -> Result<(), AllocError> {
-        match stage.code.get(at) {
-            Some(Instruction::Load { local, .. } | Instruction::Add { local, .. }) => {
-                put(&mut locals, *local, variable);
-            }
-            Some(
-                Instruction::Cas {
-                    local,
-                    expected,
-                    ..
-                },
-            ) => {
-                let hit = value_of(&locals, *expected) == variable;
-                put(&mut locals, *local, i64::from(hit));
-            }
-            _ => {}
-        }
+        locals: [i64; LOCALS],
+    ) -> Result<(), AllocError>
+        requires { (p : Program) × IsValidCode p stage.code.now }
+    {
         self.see_move(stage, at, at.saturating_add(1))?;
         self.see_run(stage, at.saturating_add(1), locals)
     }

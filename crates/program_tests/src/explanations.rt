@@ -25,7 +25,6 @@ fn a_thread_that_locks_twice_waits_for_itself(rt: HostRuntime) -> Result<(), Fai
         program: &program,
         map: &map,
     };
-    assert_eq!(rt; told.circle(), [0].as_slice());
     assert_eq!(rt; told.reason(0), Some(Reason::Lock(0)));
     assert_eq!(rt; source.line(0, 1), 2);
     Ok(())

@@ -3,9 +3,13 @@
 #![tactic(auto)]
 
 #[cfg(test)]
+mod blocked;
+#[cfg(test)]
 mod executions;
 #[cfg(test)]
 mod explanations;
+#[cfg(test)]
+mod in_cause;
 #[cfg(test)]
 mod prefix_lists;
 #[cfg(test)]

@@ -1,4 +1,4 @@
-//! What a suite is asked for.
+//! How far the searches of one question go.
 
 ghost use Rattle.std.specs.Prelude.{◌≤◌};
 ghost use Rattle.workers.specs.declared.limits.TheConstants.{WORKERS};
@@ -9,13 +9,13 @@ ghost use Rattle.requests.specs.inner.Searches.{IsSearch-prop};
 /// The limit of a search that is given none.
 pub const LIMIT: u64 = 1_000_000;
 
-/// How far each text of a suite is searched, and by how many workers.
+/// How far each search of a text goes, where several may be made of it, and by how many workers.
 #[derive(Clone, Copy, Debug)]
 pub struct Limits {
     /// After a round in which this number of schedules was tried in all, a search is cut short.
     pub limit: u64,
-    /// The most preemptions of a schedule, where the search without a bound was cut short; at most
-    /// [`BOUND`](report::limits::BOUND).
+    /// The most preemptions of a schedule, in a search after one without a bound that was cut
+    /// short; at most [`BOUND`](report::limits::BOUND).
     pub bound: u32,
     /// At least 1, at most [`WORKERS`](workers::WORKERS).
     pub workers: u32,

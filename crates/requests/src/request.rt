@@ -12,6 +12,8 @@ pub enum Request {
     Explain(ExplainRequest),
     /// A suite.
     Suite(SuiteRequest),
+    /// To say whether a guest program is right.
+    Verify(VerifyRequest),
     /// To check guest programs and search nothing.
     Check(CheckRequest),
 }
@@ -19,21 +21,45 @@ pub enum Request {
 /// To check the guest program in each of these files, and tell what is wrong or odd.
 #[derive(Debug, Drop)]
 pub struct CheckRequest {
-    /// A folder stands for the files in it whose names end in `.guest`.
+    /// A folder stands for the files in it, and in the folders in it, whose names end in `.guest`.
     pub files: Vec<String>,
     /// Whether a warning counts.
     pub strict: bool,
     /// Up to how many schedules are gone through for the deeper warnings, if for any.
     pub depth: Option<u64>,
+    /// Whether these tell too what need not be wrong.
+    pub remarks: bool,
+    pub form: CheckForm,
+}
+
+/// What a check is told as.
+#[derive(Clone, Copy, Debug)]
+pub enum CheckForm {
+    /// In lines for people, with the source.
+    Lines,
+    /// A line each.
+    Short,
+    /// A JSON object each.
+    Json,
 }
 
 /// A suite: to search the guest program in each of these files, and print a table or JSON.
 #[derive(Debug, Drop)]
 pub struct SuiteRequest {
-    /// A folder stands for the files in it whose names end in `.guest`.
+    /// A folder stands for the files in it, and in the folders in it, whose names end in `.guest`.
     pub files: Vec<String>,
     pub limits: Limits,
     pub json: bool,
+    /// Whether it is told on standard error how far each search is.
+    pub progress: bool,
+}
+
+/// To say whether the guest program in a file is right.
+#[derive(Debug, Drop)]
+pub struct VerifyRequest {
+    /// The file, by the name that it is told with.
+    pub file: String,
+    pub limits: Limits,
 }
 
 /// To explain a schedule of the guest program in a file, or the schedule that a search finds.
@@ -50,8 +76,8 @@ pub struct ExplainRequest {
 /// What an explanation is told as.
 #[derive(Clone, Copy, Debug)]
 pub enum Form {
-    /// As text of this width, each step or those that matter.
-    Text { width: usize, all: bool },
+    /// As text of this width: each step, where there are at most so many, or those that matter.
+    Text { width: usize, steps: usize },
     /// As JSON.
     Json,
     /// As a page.

@@ -32,8 +32,8 @@ pub enum Does {
     /// In a round of 64 items it holds the first calls, as many as this, until the last one of them
     /// has begun, then likewise the next ones, and so on as long as there are as many items.
     Together(u64),
-    /// It holds who comes to a later item of the round before this item was walked, until it was, and a
-    /// little more.
+    /// It holds who comes to a later item of the round before this item was walked, until it was,
+    /// and a little more.
     After(u64),
 }
 

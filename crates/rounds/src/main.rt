@@ -1,12 +1,12 @@
 //! Searches a guest program by several workers, and prints what a gate heard of it: who was asked
-//! about which item, and when each round ended. It is here to be looked at by `tests/rounds.py`, and is
-//! no part of the product.
+//! about which item, and when each round ended. It is here to be looked at by `tests/rounds.py`,
+//! and is no part of the product.
 //!
 //! The words are a file, a bound or `unbounded`, `quick` or `whole`, the numbers of workers and of
-//! schedules a walk, the limit or 0, and what the gate does: a word and a number. Each line is a word
-//! and numbers: `go`, `stop` and `walked` with worker and item, `round` with the schedules tried so
-//! far and the items that are open then, at most 65,535, `late` where a worker was held too long. The
-//! report is last.
+//! schedules a walk, the limit or 0, and what the gate does: a word and a number. Each line is a
+//! word and numbers: `go`, `stop` and `walked` with worker and item, `round` with the schedules
+//! tried so far and the items that are open then, at most 65,535, `late` where a worker was held
+//! too long. The report is last.
 #![tactic(auto)]
 
 mod gate;

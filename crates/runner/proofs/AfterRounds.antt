@@ -1,12 +1,12 @@
 -- What a book is after a round that several workers settled into it.
-use Rattle.std.proofs.Common.{◌≡◌, ◌∙◌, ◌+◌, ◌<◌, ◌≤◌, true, ap, sym}
+use Rattle.std.proofs.Common.{◌≡◌, ◌∙◌, ◌+◌, ◌<◌, ◌≤◌, true, false, ap, sym, inl, inr}
 use Rattle.std.proofs.Common.{subst, arith}
 use Rattle.std.proofs.lemmas.Bool.Decides.{nat_tests}
 use Rattle.guest_code.specs.Program.{Program}
 use Rattle.items.specs.declared.mode.Mode.{Mode}
 use Rattle.items.specs.declared.mode.Mode.TheVariants.{Bounded, Reduced}
 use Rattle.items.specs.declared.limits.TheConstants.{BOUND}
-use Rattle.book.specs.Books.{BookView, EndsAt, Raises, thinned, bound_of}
+use Rattle.book.specs.Books.{BookView, IsAtLastBound, Raises, thinned, bound_of}
 use Rattle.report.specs.declared.options.Options.{Options}
 use Rattle.report.specs.declared.options.Search.{Search}
 use Rattle.report.specs.declared.options.Search.TheVariants.{UpTo, Unbounded}
@@ -47,12 +47,12 @@ goes_on_listing p Unbounded mode can = absurd can
 
 -- no bound of a search of which another is to come is its book's last one
 pub not_at_last : (b : BookView) (p : Program) (o : Options) (mode : Mode) → IsSearch o.search
-    → IsAt b p o mode → CanRaise p o.search mode → EndsAt b.lists (bound_of b.mode) → ⊥
-not_at_last b p o mode known of can ends =
+    → IsAt b p o mode → CanRaise p o.search mode → IsAtLastBound b → ⊥
+not_at_last b p o mode known of can (inl made) =
+    let no : true ≡ false = sym (of.lists ∙ goes_on_listing p o.search mode can) ∙ made in cc
+not_at_last b p o mode known of can (inr greatest) =
     not_the_greatest p o.search mode known can
-    (subst (λ (m : Mode). BOUND ≤ bound_of m) of.mode
-    (subst (λ l. EndsAt l (bound_of b.mode))
-    (of.lists ∙ goes_on_listing p o.search mode can) ends))
+    (subst (λ (m : Mode). BOUND ≤ bound_of m) of.mode greatest)
 
 -- the mode of a raised book
 raised_mode : (old new : BookView) (p : Program) (o : Options) (mode next : Mode)

@@ -186,7 +186,8 @@ pub fn explore_alone(
     search_alone(alloc, program, options, &Open)
 }
 
-/// The report of [`explore_alone`], with a gate that is told after each round how far the search is.
+/// The report of [`explore_alone`], with a gate that is told after each round how far the search
+/// is.
 pub(crate) fn search_alone<G: Gate>(
     alloc: Global,
     program: &Arc<Program>,

@@ -125,7 +125,8 @@ fn is_last(search: Search, mode: Mode) -> bool
     }
 }
 
-/// Begins the bound of a book to which a search has come: what its last bound puts off isn't listed.
+/// Begins the bound of a book to which a search has come: what its last bound puts off isn't
+/// listed.
 pub(crate) fn begin_bound(book: &mut Book, search: Search)
     requires mode { IsModeOf search book.old.mode }
     requires lists { book.old.lists ≡ true }

@@ -64,13 +64,13 @@ fn after_round(
 /// walks the item while it holds no lock, and settles some walks at a time in the one book that all
 /// share. They go from round to round in the threads that they have, until the round after which
 /// something has to be judged: the last of a bound, one in which the limit was reached or the gate
-/// stopped a worker, and in a quick search one in which a bad schedule was found. The report is that
-/// of [`explore_alone`], whatever the workers and the quota, but for the numbers of an incomplete one,
-/// and for what a quick search leaves out.
+/// stopped a worker, and in a quick search one in which a bad schedule was found. The report is
+/// that of [`explore_alone`], whatever the workers and the quota, but for the numbers of an
+/// incomplete one, and for what a quick search leaves out.
 ///
 /// A worker that the gate stops walks no more in its round. Where the search has no answer then, it
-/// is cut short. A single worker asks no gate, and tells it after each round how far the search is, as
-/// several do.
+/// is cut short. A single worker asks no gate, and tells it after each round how far the search is,
+/// as several do.
 ///
 /// The contract holds if the call returns. That it does is not proved: it waits for the lock of the
 /// book, for the gate, and for a round to end.

@@ -1,5 +1,5 @@
-//! Answers to a replay and to searches, over a reader and writers that fail. What is printed where none
-//! fails is in `tests/rows.txt` and `tests/commands.py`.
+//! Answers to a replay and to searches, over a reader and writers that fail. What is printed where
+//! none fails is in `tests/rows.txt` and `tests/commands.py`.
 
 mod devices;
 

@@ -1,5 +1,5 @@
-//! Tests of the search and of its answers, which call what is public: limits, gates, threads and devices,
-//! of which no clause says.
+//! Tests of the search and of its answers, which call what is public: limits, gates, threads and
+//! devices, of which no clause says.
 #![tactic(auto)]
 
 #[cfg(test)]

@@ -15,3 +15,4 @@ pub mod OperatorTable
 pub mod Accesses
 pub mod Effects
 pub mod Undoing
+pub mod Turns

@@ -34,4 +34,4 @@ pub mod undo;
 pub mod view;
 
 pub use crate::action::{action_at, owns};
-pub use crate::local::{expression_at, of_both};
+pub use crate::local::{Landing, Turn, access, expression_at, next_local, operand_at, run_local};

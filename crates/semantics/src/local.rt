@@ -1,19 +1,43 @@
-//! Expressions, and the instructions that a thread runs by itself.
+//! What a thread does by itself, over the values of its locals.
 
-ghost use Rattle.std.specs.Prelude.{◌≡◌, ◌<◌, ◌≤◌, length, IsTrue, IsFalse};
-ghost use Rattle.guest_code.specs.Program.{Program, IsValidCode, IsValidValue, IsValidExpression};
-ghost use Rattle.semantics.specs.Machine.{value_of_operand, of_both, value_of_expression, is_zero, run_from, run_past, resumed, var_after, reader_after, is_expected};
-ghost use Rattle.semantics.specs.Reachable.{IsValidAccess};
-ghost use Rattle.semantics.specs.declared.state.VariableAction.TheVariants.{Add as Adds, Cas as Swaps};
+ghost use Rattle.std.specs.Prelude.{◌≡◌, ◌<◌, ◌≤◌, ◌+◌, length, drop, All, IsTrue};
+ghost use Rattle.guest_code.specs.Program.{Program, IsValidCode, IsValueBelow, IsExpressionBelow, LocalsBelow};
+ghost use Rattle.semantics.specs.Machine.{value_of_operand, of_both, value_of_expression, is_zero, run_from, resumed, var_after, reader_after, is_expected};
+ghost use Rattle.semantics.specs.Turns.{own_thread, IsAccessBelow, IsFree, IsFurther, turn_of, locals_after, passed};
 
 use crate::state::{Status, Stop, Thread, VariableAction};
-use guest_code::limits::LOCALS;
 use guest_code::program::{Expression, Instruction, Value};
 use guest_syntax::tree::Op;
 
+/// What comes of the instruction where a thread is, if it does it by itself.
+#[derive(Clone, Copy, Debug, PartialEq, Eq)]
+pub enum Turn {
+    /// It is done, and the thread goes on at the instruction of this number; at the length of the
+    /// code it ends there.
+    Runs(usize),
+    /// It is an assertion, which fails.
+    Fails,
+    /// It is a `lock` or an `acquire`, whose step may have to wait.
+    Takes,
+    /// It is another visible statement, whose step is possible at once.
+    Visible,
+    /// There is none: the thread is at the end of its code.
+    Ends,
+}
+
+/// Where a thread is, and whether it goes on.
+#[derive(Clone, Copy, Debug)]
+pub struct Landing {
+    /// The number of the instruction; the length of the code where the thread ended.
+    pub pc: usize,
+    pub status: Status,
+    /// Its next step is known to be possible, and to take no mutex and acquire no semaphore.
+    pub free: bool,
+}
+
 /// A local's value, or the number itself.
-pub fn operand_at(locals: &[i64; LOCALS], value: Value) -> i64
-    requires { IsValidValue value }
+pub fn operand_at(locals: &[i64], value: Value) -> i64
+    requires { IsValueBelow (length locals.now) value }
     ensures { result ≡ value_of_operand locals.now value }
 {
     match value {
@@ -22,60 +46,36 @@ pub fn operand_at(locals: &[i64; LOCALS], value: Value) -> i64
     }
 }
 
-/// Adds a value to a variable, whose value is in the cell; a local becomes the old value.
-pub fn add(cell: &mut i64, thread: &mut Thread, local: usize, value: Value)
-    requires local { local < LOCALS }
-    requires value { IsValidValue value }
-    ensures cell { cell.new ≡ var_after (Adds local value) thread.old.locals cell.old }
-    ensures thread { thread.new ≡ reader_after (Adds local value) thread.old cell.old }
-{
-    let old = *cell;
-    *cell = old.wrapping_add(operand_at(&thread.locals, value));
-    thread.locals[local] = old;
-}
-
 // Whether a variable of this value has the value that is expected.
-fn is_expected(locals: &[i64; LOCALS], expected: Value, variable: i64) -> bool
-    requires { IsValidValue expected }
+fn is_expected(locals: &[i64], expected: Value, variable: i64) -> bool
+    requires { IsValueBelow (length locals.now) expected }
     ensures { result ≡ is_expected locals.now expected variable }
 {
     variable == operand_at(locals, expected)
 }
 
-/// Where a variable has the value that is expected, it becomes the new one; a local tells whether
-/// it had.
-pub fn compare_and_swap(
-    cell: &mut i64,
-    thread: &mut Thread,
-    local: usize,
-    expected: Value,
-    new: Value,
-)
-    requires local { local < LOCALS }
-    requires expected { IsValidValue expected }
-    requires new { IsValidValue new }
-    ensures cell { cell.new ≡ var_after (Swaps local expected new) thread.old.locals cell.old }
-    ensures thread { thread.new ≡ reader_after (Swaps local expected new) thread.old cell.old }
-{
-    let hit = is_expected(&thread.locals, expected, *cell);
-    if hit {
-        *cell = operand_at(&thread.locals, new);
-    }
-    thread.locals[local] = i64::from(hit);
-}
-
-/// What a thread does with a variable, whose value is in the cell.
-pub fn access(cell: &mut i64, thread: &mut Thread, action: VariableAction)
-    requires { IsValidAccess action }
-    ensures cell { cell.new ≡ var_after action thread.old.locals cell.old }
-    ensures thread { thread.new ≡ reader_after action thread.old cell.old }
+/// What a thread does with a variable, whose value is in the cell. Sums wrap.
+#[inline(always)]
+pub fn access(cell: &mut i64, locals: &mut [i64], action: VariableAction)
+    requires { IsAccessBelow (length locals.old) action }
+    ensures cell { cell.new ≡ var_after action locals.old cell.old }
+    ensures locals { (at : Landing) → own_thread at locals.new
+        ≡ reader_after action (own_thread at locals.old) cell.old }
 {
     match action {
-        VariableAction::Load(local) => thread.locals[local] = *cell,
-        VariableAction::Store(value) => *cell = operand_at(&thread.locals, value),
-        VariableAction::Add(local, value) => add(cell, thread, local, value),
+        VariableAction::Load(local) => locals[local] = *cell,
+        VariableAction::Store(value) => *cell = operand_at(locals, value),
+        VariableAction::Add(local, value) => {
+            let old = *cell;
+            *cell = old.wrapping_add(operand_at(locals, value));
+            locals[local] = old;
+        }
         VariableAction::Cas(local, expected, new) => {
-            compare_and_swap(cell, thread, local, expected, new)
+            let hit = is_expected(locals, expected, *cell);
+            if hit {
+                *cell = operand_at(locals, new);
+            }
+            locals[local] = i64::from(hit);
         }
     }
 }
@@ -98,8 +98,9 @@ pub fn of_both(op: Op, a: i64, b: i64) -> i64
 }
 
 /// The value of an expression, where the locals have these values.
-pub fn expression_at(locals: &[i64; LOCALS], expression: &Expression) -> i64
-    requires { IsValidExpression expression.now }
+#[inline(always)]
+pub fn expression_at(locals: &[i64], expression: &Expression) -> i64
+    requires { IsExpressionBelow (length locals.now) expression.now }
     ensures { result ≡ value_of_expression locals.now expression.now }
 {
     match expression {
@@ -109,62 +110,93 @@ pub fn expression_at(locals: &[i64; LOCALS], expression: &Expression) -> i64
 }
 
 // Whether an expression is 0.
-fn is_zero_at(locals: &[i64; LOCALS], expression: &Expression) -> bool
-    requires { IsValidExpression expression.now }
+fn is_zero_at(locals: &[i64], expression: &Expression) -> bool
+    requires { IsExpressionBelow (length locals.now) expression.now }
     ensures { result ≡ is_zero (value_of_expression locals.now expression.now) }
 {
     expression_at(locals, expression) == 0
 }
 
-// Passes the instruction where the thread is, and `skip` after it, or all that are left.
-fn pass(code: &[Instruction], thread: &mut Thread, skip: usize)
-    requires pc { thread.old.pc < length code.now }
-    ensures pc { thread.new.pc ≤ length code.now }
-    ensures further { thread.old.pc < thread.new.pc }
-    ensures locals { thread.new.locals ≡ thread.old.locals }
-    ensures run { run_from code.now thread.new ≡ run_past code.now thread.old skip }
+// The instruction after this one and `skip` more, or the end of the code.
+fn past(code: &[Instruction], at: usize, skip: usize) -> usize
+    requires { at < length code.now }
+    ensures { result ≡ passed at skip (drop (at + 1) code.now) }
 {
-    let next = thread.pc + 1;
-    thread.pc = next + skip.min(code.len() - next);
+    let next = at + 1;
+    next + skip.min(code.len() - next)
 }
 
-// One instruction of a local run. False where the run is over.
-fn turn(code: &[Instruction], thread: &mut Thread) -> bool
-    requires fine { (p : Program) × IsValidCode p code.now }
-    requires pc { thread.old.pc ≤ length code.now }
-    ensures pc { thread.new.pc ≤ length code.now }
-    ensures further { IsTrue result → thread.old.pc < thread.new.pc }
-    ensures same { IsTrue result → run_from code.now thread.new ≡ run_from code.now thread.old }
-    ensures over { IsFalse result → thread.new ≡ run_from code.now thread.old }
+/// Does the instruction of this number as far as a thread does it by itself, whose locals have
+/// these values, and says what comes of it.
+#[inline(always)]
+pub fn next_local(code: &[Instruction], locals: &mut [i64], at: usize) -> Turn
+    requires { All (LocalsBelow (length locals.old)) code.now }
+    ensures turn { result ≡ turn_of at locals.old (drop at code.now) }
+    ensures locals { locals.new ≡ locals_after locals.old (drop at code.now) }
+    ensures further { IsFurther at (length code.now) result }
 {
-    if thread.pc >= code.len() {
-        thread.status = Status::Ended;
-        return false;
+    if at >= code.len() {
+        return Turn::Ends;
     }
-    match &code[thread.pc] {
+    match &code[at] {
         Instruction::Set { local, value } => {
-            thread.locals[*local] = expression_at(&thread.locals, value);
-            thread.pc += 1;
-            true
+            locals[*local] = expression_at(locals, value);
+            Turn::Runs(at + 1)
         }
         Instruction::Assert(e) => {
-            if is_zero_at(&thread.locals, e) {
-                thread.status = Status::Stopped(Stop::Assert);
-                return false;
+            if is_zero_at(locals, e) {
+                return Turn::Fails;
             }
-            thread.pc += 1;
-            true
+            Turn::Runs(at + 1)
         }
         Instruction::SkipIfZero(e, n) => {
-            let skip = if is_zero_at(&thread.locals, e) { *n } else { 0 };
-            pass(code, thread, skip);
-            true
+            let skip = if is_zero_at(locals, e) { *n } else { 0 };
+            Turn::Runs(past(code, at, skip))
         }
-        Instruction::Skip(n) => {
-            pass(code, thread, *n);
-            true
+        Instruction::Skip(n) => Turn::Runs(past(code, at, *n)),
+        Instruction::Lock(_) | Instruction::Acquire(_) => Turn::Takes,
+        _ => Turn::Visible,
+    }
+}
+
+/// Runs a thread's own instructions from a place on, up to a visible statement, the end or a failed
+/// assertion. Where it comes to a visible statement it keeps its status.
+#[inline(always)]
+pub fn run_local(code: &[Instruction], locals: &mut [i64], from: usize, status: Status) -> Landing
+    requires below { All (LocalsBelow (length locals.old)) code.now }
+    requires pc { from ≤ length code.now }
+    ensures pc { result.pc ≤ length code.now }
+    ensures free { IsTrue result.free → IsFree code.now result status }
+    ensures value { own_thread result locals.new ≡ run_from code.now
+        (record { pc = from; locals = locals.old; status = status }) }
+{
+    let mut at = from;
+    loop {
+        match next_local(code, locals, at) {
+            Turn::Runs(next) => at = next,
+            Turn::Fails => {
+                return Landing {
+                    pc: at,
+                    status: Status::Stopped(Stop::Assert),
+                    free: false,
+                };
+            }
+            Turn::Takes => return Landing {
+                pc: at,
+                status,
+                free: false,
+            },
+            Turn::Visible => return Landing {
+                pc: at,
+                status,
+                free: true,
+            },
+            Turn::Ends => return Landing {
+                pc: at,
+                status: Status::Ended,
+                free: false,
+            },
         }
-        _ => false,
     }
 }
 
@@ -174,10 +206,9 @@ pub fn run_on(code: &[Instruction], thread: &mut Thread)
     requires pc { thread.old.pc ≤ length code.now }
     ensures { thread.new ≡ run_from code.now thread.old }
 {
-    let mut running = true;
-    while running {
-        running = turn(code, thread);
-    }
+    let at = run_local(code, &mut thread.locals, thread.pc, thread.status);
+    thread.pc = at.pc;
+    thread.status = at.status;
 }
 
 /// After its visible statement a thread runs on.

@@ -52,7 +52,7 @@ impl Mask {
         }
     }
 
-    /// The members of both sets.
+    /// The members of either set.
     pub fn union(self, other: Mask) -> Mask
         ensures { (u : ℕ) → has result u ≡ (has self u || has other u) }
     {

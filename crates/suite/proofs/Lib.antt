@@ -1,1 +1,2 @@
+pub mod OneOrTwo
 pub mod Worst

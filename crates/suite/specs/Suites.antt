@@ -1,74 +1,76 @@
 -- What a suite answers for the text of a file.
-use Rattle.std.specs.Prelude.{◌≡◌, ◌⊎◌, ℕ, List, Bool, true, false, Some, None}
-use Rattle.std.specs.Prelude.{Result, MatchResult, IsSome}
-use Rattle.report.specs.declared.limits.TheConstants.{QUOTA}
-use Rattle.report.specs.declared.options.Options.{Options}
-use Rattle.report.specs.declared.options.Search.{Search}
+use Rattle.std.specs.Prelude.{◌≡◌, ◌⊎◌, ℕ, List, Bool, true, false, not, ◌&&◌, nat_eq, min}
+use Rattle.std.specs.Prelude.{Option, Some, None, Result, MatchResult}
+use Rattle.items.specs.declared.limits.TheConstants.{BOUND}
+use Rattle.guest_code.specs.Program.{Program}
 use Rattle.report.specs.declared.options.Search.TheVariants.{UpTo, Unbounded}
 use Rattle.report.specs.declared.error.ExploreError.{ExploreError}
-use Rattle.report.specs.declared.report.Report.{Report}
 use Rattle.report.specs.declared.report.Verdict.{Verdict}
-use Rattle.report.specs.declared.report.Verdict.TheVariants.{Clean, Bad, Incomplete}
-use Rattle.report.specs.ReportText.{named_schedule}
-use Rattle.report.specs.Texts.{IsReportOfText, ExploreErrorMeans}
-use Rattle.suite.specs.declared.entry.Outcome.{Outcome}
-use Rattle.suite.specs.declared.entry.Outcome.TheVariants.{Searched, Refused, Unclear, Unread}
+use Rattle.report.specs.Reports.{NoBadBelow}
+use Rattle.report.specs.Texts.{IsProgramOf, ExploreErrorMeans}
 use Rattle.requests.specs.declared.limits.Limits.{Limits}
+use Rattle.verify.specs.declared.found.BadSchedule.{BadSchedule}
+use Rattle.verify.specs.declared.found.Found.{Found}
+use Rattle.verify.specs.Shown.{options_of, is_cut_short, clear_below, IsFound}
+use Rattle.suite.specs.declared.searches.Searched.{Searched}
+use Rattle.suite.specs.declared.entry.Outcome.{Outcome}
+use Rattle.suite.specs.declared.entry.Outcome.TheVariants.{Searched as Ended, Refused, Unclear, Unread}
 
--- a search as far as this that is cut short at the limit
-abbrev pub options_of : Search → ℕ → Options
-options_of s l = record { search = s; limit = Some l; quota = QUOTA; quick = false }
+-- the search without a bound says all that is to be told: it came to its end, and found no bad
+-- schedule or one without a preemption
+abbrev pub needs_none : Option BadSchedule → Bool
+needs_none None = true
+needs_none (Some b) = nat_eq b.preemptions 0
 
--- whether a search was cut short
-abbrev pub is_cut_short : Verdict → Bool
-is_cut_short (Clean all) = false
-is_cut_short (Bad preemptions schedule kind) = false
-is_cut_short (Incomplete cause finished) = true
+abbrev pub is_enough : Verdict → Option BadSchedule → Bool
+is_enough v bad = not (is_cut_short v) && needs_none bad
 
--- whether a search ended with a bad schedule
-abbrev pub is_bad : Verdict → Bool
-is_bad (Clean all) = false
-is_bad (Bad preemptions schedule kind) = true
-is_bad (Incomplete cause finished) = false
+-- how far the second search goes: to the preemptions of the schedule that the first one found, or up
+-- to the bound
+abbrev pub second_bound : ℕ → Option BadSchedule → ℕ
+second_bound bound None = bound
+second_bound bound (Some b) = min b.preemptions BOUND
 
--- the report of a search without a bound, or up to one
-abbrev pub IsUnbounded : List ℕ → Limits → Report → Type 0
-IsUnbounded text l r = IsReportOfText false text (options_of Unbounded l.limit) r
+-- of two searches the one that is told: the second, unless the first alone found a bad schedule
+abbrev pub told_of : Found → Option BadSchedule → Found → Option BadSchedule → Found
+told_of first (Some b) second None = first
+told_of first known second nearer = second
 
-abbrev pub IsBounded : List ℕ → Limits → Report → Type 0
-IsBounded text l r = IsReportOfText false text (options_of (UpTo l.bound) l.limit) r
+abbrev pub nearer : Found → Found → Found
+nearer first second = told_of first first.bad second second.bad
 
--- of two reports, the first of a search that was cut short, this one is told: the second, unless
--- the first names a schedule and the second isn't bad
-pub record IsToldOf (first second told : Report) : Type 0 where
-  pub second_told : (is_bad second.verdict ≡ true) ⊎ (named_schedule first ≡ None) → told ≡ second
-  pub first_told : is_bad second.verdict ≡ false → IsSome (named_schedule first) → told ≡ first
+-- the search without a bound is told
+pub record IsOfOne (may : Bool) (p : Program) (l : Limits) (s : Searched) : Type 0 where
+  pub first : IsFound may p (options_of Unbounded l.limit) s.found
+  pub enough : is_enough s.found.report.verdict s.found.bad ≡ true
+  pub clear : s.clear ≡ 0
 
--- the search without a bound was cut short, so another one up to the bound was made
-pub record IsOfTwo (text : List ℕ) (l : Limits) (r : Report) : Type 0 where
-  pub first : Report
-  pub unbounded : IsUnbounded text l first
-  pub cut : is_cut_short first.verdict ≡ true
-  pub second : Report
-  pub bounded : IsBounded text l second
-  pub told : IsToldOf first second r
+-- a second search was made, and one of both is told
+pub record IsOfTwo (may : Bool) (p : Program) (l : Limits) (s : Searched) : Type 0 where
+  pub first : Found
+  pub unbounded : IsFound may p (options_of Unbounded l.limit) first
+  pub more : is_enough first.report.verdict first.bad ≡ false
+  pub second : Found
+  pub bounded : IsFound may p (options_of (UpTo (second_bound l.bound first.bad)) l.limit) second
+  pub told : s.found ≡ nearer first second
+  pub clear : s.clear ≡ clear_below second.report
 
--- the search without a bound came to its end
-pub record IsOfOne (text : List ℕ) (l : Limits) (r : Report) : Type 0 where
-  pub unbounded : IsUnbounded text l r
-  pub whole : is_cut_short r.verdict ≡ false
+-- the text spells a program; this is told of its searches, and no bad schedule has fewer preemptions
+-- than it says
+pub record IsSearched (may : Bool) (text : List ℕ) (l : Limits) (s : Searched) : Type 0 where
+  pub program : Program
+  pub is_program : IsProgramOf text program
+  pub searches : IsOfOne may program l s ⊎ IsOfTwo may program l s
+  pub none_below : NoBadBelow program s.clear
 
--- the report of a text
-abbrev pub IsSuiteReport : List ℕ → Limits → Report → Type 0
-IsSuiteReport text l r = IsOfOne text l r ⊎ IsOfTwo text l r
-
--- what the search of a text answers
-abbrev pub SearchMeans : List ℕ → Limits → Result Report ExploreError → Type 0
-SearchMeans text l result = MatchResult result (IsSuiteReport text l) (ExploreErrorMeans text)
+-- what the searches of a text answer
+abbrev pub SearchMeans : Bool → List ℕ → Limits → Result Searched ExploreError → Type 0
+SearchMeans may text l result =
+    MatchResult result (IsSearched may text l) (ExploreErrorMeans text)
 
 -- what became of a file that has this text
-abbrev pub OutcomeMeans : List ℕ → Limits → Outcome → Type 0
-OutcomeMeans text l (Searched r) = IsSuiteReport text l r
-OutcomeMeans text l (Refused e) = ExploreErrorMeans text e
-OutcomeMeans text l (Unclear line) = Unit {0}
-OutcomeMeans text l (Unread cause) = ⊥
+abbrev pub OutcomeMeans : Bool → List ℕ → Limits → Outcome → Type 0
+OutcomeMeans may text l (Ended s) = IsSearched may text l s
+OutcomeMeans may text l (Refused e) = ExploreErrorMeans text e
+OutcomeMeans may text l (Unclear line) = Unit {0}
+OutcomeMeans may text l (Unread cause) = ⊥

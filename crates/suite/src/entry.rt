@@ -1,22 +1,24 @@
-//! What became of one file of a suite, and the statuses.
+//! What became of one file of a suite, and its status.
 
 ghost use Rattle.std.specs.Prelude.{◌≡◌};
 ghost use Rattle.suite.specs.Suites.{OutcomeMeans};
-ghost use Rattle.suite.specs.Statuses.{searched_status, status_of, IsWorst};
+ghost use Rattle.suite.specs.Statuses.{bad_status, fewest_status, one_unless, status_of, unfound_status};
 
-use crate::expectation::{Expectation, Expected};
-use crate::searches::search;
+use crate::expectation::{Expectation, Expected, near_expectation};
+use crate::searches::{Searched, search};
 use requests::Limits;
-use runner::{ExploreError, Report, Verdict};
-use std::alloc::Global;
+use runner::{ExploreError, Gate, Verdict};
+use semantics::view::Kind;
+use std::alloc::{Alloc, Global};
 use std::sync::Wait;
 use std::thread::Threads;
+use verify::BadSchedule;
 
 /// What became of a file.
 #[derive(Drop)]
 pub enum Outcome {
     /// Its text was searched.
-    Searched(Report),
+    Searched(Searched),
     /// Its text is refused, or memory ran out.
     Refused(ExploreError),
     /// The line of this number, counted from 1, says unclearly what is expected.
@@ -32,21 +34,19 @@ pub struct Entry {
     pub file: String,
     /// What its text expects.
     pub expected: Option<Expected>,
+    /// The number of a line that looks like an expectation and is none, if there is one.
+    pub near: Option<u64>,
     /// What became of it.
     pub outcome: Outcome,
 }
 
 impl Entry {
     /// What became of a file with this text.
-    pub fn new<R: Threads + Wait + Sync>(
-        rt: &R,
-        alloc: Global,
-        file: String,
-        text: &[u8],
-        limits: Limits,
-    ) -> Entry
+    pub fn new<G: Gate, R>(rt: &R, file: String, text: &[u8], limits: Limits, gate: &G) -> Entry
+    where
+        R: Threads + Wait + Sync + Alloc<A = Global>,
         ensures file { result.file ≡ file }
-        ensures outcome { OutcomeMeans text.now limits result.outcome }
+        ensures outcome { OutcomeMeans (G.stops gate.now) text.now limits result.outcome }
     {
         let expected = match Expectation::of(text) {
             Expectation::Silent => None,
@@ -55,57 +55,83 @@ impl Entry {
                 return Entry {
                     file,
                     expected: None,
+                    near: None,
                     outcome: Outcome::Unclear(line),
                 };
             }
         };
-        let outcome = match search(rt, alloc, text, limits) {
-            Ok(report) => Outcome::Searched(report),
+        let outcome = match search(rt, text, limits, gate) {
+            Ok(searched) => Outcome::Searched(searched),
             Err(error) => Outcome::Refused(error),
         };
         Entry {
             file,
             expected,
+            near: near_expectation(text),
             outcome,
         }
     }
 
     /// The status of its own: 0 where it is as expected, 1 where it isn't, or is bad and nothing is
-    /// expected, 2 where it is refused, 3 where its search was cut short, 4 for memory and devices.
+    /// expected, 2 where it is refused, 3 where its search was cut short before that was known, 4
+    /// for memory and devices.
     pub fn status(&self) -> u8
         ensures { result ≡ status_of self.now }
     {
         match &self.outcome {
-            Outcome::Searched(report) => searched_status(self.expected, &report.verdict),
+            Outcome::Searched(searched) => match &searched.found.bad {
+                Some(bad) => bad_status(self.expected, bad, searched.clear),
+                None => unfound_status(self.expected, &searched.found.report.verdict),
+            },
             Outcome::Refused(ExploreError::OutOfMemory) | Outcome::Unread(_) => 4,
             Outcome::Refused(_) | Outcome::Unclear(_) => 2,
         }
     }
 }
 
-// The status of a file that was searched.
-fn searched_status(expected: Option<Expected>, verdict: &Verdict) -> u8
-    ensures { result ≡ searched_status expected verdict.now }
+// The status of a file where a bad schedule was found, and none with fewer preemptions than `clear`
+// is bad.
+fn bad_status(expected: Option<Expected>, bad: &BadSchedule, clear: u64) -> u8
+    ensures { result ≡ bad_status expected bad.now clear }
 {
-    match (expected, verdict) {
-        (_, Verdict::Incomplete { .. }) => 3,
-        (Some(Expected::Bad), Verdict::Bad { .. }) => 0,
-        (Some(Expected::Bad), Verdict::Clean { .. }) => 1,
-        (_, Verdict::Bad { .. }) => 1,
-        (_, Verdict::Clean { .. }) => 0,
+    match expected {
+        Some(Expected::Bad) => 0,
+        Some(Expected::BadAt(preemptions)) => {
+            fewest_status(u64::from(preemptions), u64::from(bad.preemptions), clear)
+        }
+        Some(Expected::Failed) => one_unless(bad.kind == Kind::Failed),
+        Some(Expected::Stuck) => one_unless(bad.kind == Kind::Stuck),
+        Some(Expected::Clean) | None => 1,
     }
 }
 
-/// The status of a suite: the greatest of its files', or 0 where it has none.
-pub fn worst_status(entries: &[Entry]) -> u8
-    ensures { IsWorst entries.now result }
+// 0 where it is so, else 1.
+fn one_unless(so: bool) -> u8
+    ensures { result ≡ one_unless so }
 {
-    let mut worst = 0;
-    for entry in entries {
-        let status = entry.status();
-        if status > worst {
-            worst = status;
-        }
+    if so { 0 } else { 1 }
+}
+
+// The status where the bad schedules of fewest preemptions were expected to have this many.
+fn fewest_status(expected: u64, preemptions: u64, clear: u64) -> u8
+    ensures { result ≡ fewest_status expected preemptions clear }
+{
+    if preemptions < expected || expected < clear {
+        1
+    } else if expected == preemptions && expected == clear {
+        0
+    } else {
+        3
     }
-    worst
+}
+
+// The status of a file where no bad schedule was found.
+fn unfound_status(expected: Option<Expected>, verdict: &Verdict) -> u8
+    ensures { result ≡ unfound_status expected verdict.now }
+{
+    match (expected, verdict) {
+        (_, Verdict::Incomplete { .. }) => 3,
+        (Some(Expected::Clean) | None, _) => 0,
+        (Some(_), _) => 1,
+    }
 }

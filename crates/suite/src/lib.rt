@@ -1,18 +1,23 @@
 //! Suites: many guests searched one after the other, and what each was expected to be.
 //!
-//! - [`search`] answers the report of a text: of the search without a bound where that ends within
-//!   the limit, else of the search up to a bound.
-//! - [`Expectation::of`] reads what a text's comments expect.
-//! - An [`Entry`] is what became of one file, with its status; [`worst_status`] is that of a suite.
-//! - [`table`] and [`json_lines`] print a suite.
+//! - [`search`] makes the searches of a text: one without a bound, and where that doesn't say
+//!   enough one up to a bound. What it answers is told of the text, with a bad schedule of fewest
+//!   preemptions where one could be found within the limit.
+//! - [`Expectation::of`] reads what a text's comments expect, [`near_expectation`] which comment
+//!   may have been meant so.
+//! - An [`Entry`] is what became of one file, with its status. A [`Tally`] has the statuses of all,
+//!   and that of the suite.
+//! - [`Table`] and [`json_line`] print a file.
 #![tactic(auto)]
 
 mod entry;
 mod expectation;
 mod printing;
 mod searches;
+mod tally;
 
-pub use entry::{Entry, Outcome, worst_status};
-pub use expectation::{Expectation, Expected};
-pub use printing::{json_lines, table};
-pub use searches::search;
+pub use entry::{Entry, Outcome};
+pub use expectation::{Expectation, Expected, near_expectation};
+pub use printing::{Table, json_line};
+pub use searches::{Searched, search};
+pub use tally::Tally;

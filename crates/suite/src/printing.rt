@@ -1,11 +1,13 @@
-//! The texts of a suite: a table for people, and JSON for programs.
+//! The texts of a suite: a table for people, and JSON for programs, line by line.
 
 use crate::entry::{Entry, Outcome};
 use crate::expectation::Expected;
+use crate::searches::Searched;
 use replay::schedule_text;
-use runner::{Report, Verdict, report_text};
+use runner::{Verdict, report_text};
 use serde_json::Value;
 use std::alloc::{AllocError, Global};
+use verify::Found;
 
 // What stands above the columns.
 const HEADS: [&str; 7] = [
@@ -18,36 +20,101 @@ const HEADS: [&str; 7] = [
     "note",
 ];
 
-// What stands where there is nothing to say.
+// The widths of the columns after the first; the last one needs none.
+const VERDICT: usize = 10;
+
+const BOUND: usize = 5;
+
+const PREEMPTIONS: usize = 11;
+
+const SCHEDULE: usize = 12;
+
+const TRIED: usize = 9;
+
+// What is told where there is nothing to say.
 const NOTHING: &str = "-";
 
-/// The table of a suite, in ASCII: a head and a line for each file, with its verdict, the bound and
-/// the preemptions of the report, the schedule that it names, how many schedules were tried, and a
-/// note where the verdict isn't all that there is to say.
-///
-/// # Errors
-///
-/// `AllocError` where memory runs out.
-pub fn table(alloc: Global, entries: &[Entry]) -> Result<Vec<u8>, AllocError> {
-    let mut rows = Vec::new(alloc);
-    rows.push(cells_of(alloc, HEADS.as_slice())?)?;
-    for entry in entries {
-        rows.push(row_of(alloc, entry)?)?;
-    }
-    let mut text = Vec::new(alloc);
-    for row in &rows {
-        put_row(&mut text, row.as_slice(), rows.as_slice())?;
-    }
-    Ok(text)
+/// The columns of a table whose rows are printed one by one. A cell that is wider than its column
+/// moves those after it.
+#[derive(Clone, Copy, Debug)]
+pub struct Table {
+    alloc: Global,
+    /// The widths of the columns; the first is as wide as the longest name.
+    widths: [usize; 7],
 }
 
-// These words, each in a cell.
-fn cells_of(alloc: Global, words: &[&str]) -> Result<Vec<String>, AllocError> {
-    let mut cells = Vec::new(alloc);
-    for word in words {
-        cells.push(String::from_str(alloc, word)?)?;
+impl Table {
+    /// The columns for no file.
+    pub fn new(alloc: Global) -> Table {
+        let names = HEADS[0].len();
+        Table {
+            alloc,
+            widths: [names, VERDICT, BOUND, PREEMPTIONS, SCHEDULE, TRIED, 0],
+        }
     }
-    Ok(cells)
+
+    /// Makes the first column wide enough for a file of this name.
+    ///
+    /// # Errors
+    ///
+    /// `AllocError` where memory runs out.
+    pub fn make_room(&mut self, file: &str) -> Result<(), AllocError> {
+        let width = printable(self.alloc, file)?.len();
+        self.widths[0] = self.widths[0].max(width);
+        Ok(())
+    }
+
+    /// The line of heads.
+    ///
+    /// # Errors
+    ///
+    /// `AllocError` where memory runs out.
+    pub fn head(&self) -> Result<Vec<u8>, AllocError> {
+        let mut cells = Vec::new(self.alloc);
+        for head in HEADS {
+            cells.push(String::from_str(self.alloc, head)?)?;
+        }
+        self.line(cells.as_slice())
+    }
+
+    /// The line of a file, in ASCII: its verdict, the bound of the search, the preemptions of the
+    /// bad schedule and that schedule, how many schedules were tried, and a note where the verdict
+    /// isn't all that there is to say.
+    ///
+    /// # Errors
+    ///
+    /// `AllocError` where memory runs out.
+    pub fn row(&self, entry: &Entry) -> Result<Vec<u8>, AllocError> {
+        self.line(row_of(self.alloc, entry)?.as_slice())
+    }
+
+    // A line: its cells, each at the start of its column or two blanks after the one before, and a
+    // line feed.
+    fn line(&self, cells: &[String]) -> Result<Vec<u8>, AllocError> {
+        let mut line = Vec::new(self.alloc);
+        let mut start = 0usize;
+        for (cell, width) in cells.iter().zip(&self.widths) {
+            if !cell.is_empty() {
+                let blanks = start.saturating_sub(line.len());
+                put_blanks(&mut line, blanks)?;
+                line.extend_from_slice(cell.as_bytes())?;
+            }
+            start = line
+                .len()
+                .max(start.saturating_add(*width))
+                .saturating_add(2);
+        }
+        line.push(b'\n')?;
+        Ok(line)
+    }
+}
+
+// Puts blanks into a text.
+fn put_blanks(text: &mut Vec<u8>, count: usize) -> Result<(), AllocError> {
+    for _ in 0..count {
+        text.push(b' ')?;
+    }
+    Ok(())
 }
 
 // The cells of a file.
@@ -55,46 +122,52 @@ fn row_of(alloc: Global, entry: &Entry) -> Result<Vec<String>, AllocError> {
     let mut row = Vec::new(alloc);
     row.push(printable(alloc, entry.file.as_str())?)?;
     match &entry.outcome {
-        Outcome::Searched(report) => put_report(&mut row, alloc, report)?,
-        Outcome::Unread(_) => put_words(&mut row, alloc, &["unread", "-", "-", "-", "-"])?,
-        _ => put_words(&mut row, alloc, &["refused", "-", "-", "-", "-"])?,
+        Outcome::Searched(searched) => put_search(&mut row, alloc, searched)?,
+        Outcome::Unread(_) => put_words(&mut row, alloc, "unread")?,
+        _ => put_words(&mut row, alloc, "refused")?,
     }
     row.push(note_of(alloc, entry)?)?;
     Ok(row)
 }
 
-// Puts these words after the cells of a row.
-fn put_words(row: &mut Vec<String>, alloc: Global, words: &[&str]) -> Result<(), AllocError> {
-    for word in words {
+// Puts the cells of a file without a search after its name.
+fn put_words(row: &mut Vec<String>, alloc: Global, verdict: &str) -> Result<(), AllocError> {
+    for word in [verdict, NOTHING, NOTHING, NOTHING, NOTHING] {
         row.push(String::from_str(alloc, word)?)?;
     }
     Ok(())
 }
 
-// Puts the cells of a report after the name of its file.
-fn put_report(row: &mut Vec<String>, alloc: Global, report: &Report) -> Result<(), AllocError> {
-    let (verdict, preemptions) = match &report.verdict {
-        Verdict::Clean { .. } => ("clean", None),
-        Verdict::Bad { preemptions, .. } => ("bad", Some(*preemptions)),
-        Verdict::Incomplete { .. } => ("incomplete", None),
+// Puts the cells of a search after the name of its file.
+fn put_search(row: &mut Vec<String>, alloc: Global, searched: &Searched) -> Result<(), AllocError> {
+    let Found { report, bad } = &searched.found;
+    let verdict = match (bad, &report.verdict) {
+        (Some(_), _) => "bad",
+        (None, Verdict::Incomplete { .. }) => "incomplete",
+        (None, _) => "clean",
+    };
+    let (preemptions, schedule) = match bad {
+        Some(bad) => (
+            bad.preemptions.to_string(alloc)?,
+            text_of(
+                alloc,
+                schedule_text(alloc, bad.steps.as_slice())?.as_slice(),
+            )?,
+        ),
+        None => (
+            String::from_str(alloc, NOTHING)?,
+            String::from_str(alloc, NOTHING)?,
+        ),
     };
     row.push(String::from_str(alloc, verdict)?)?;
-    row.push(number_or_nothing(alloc, report.bound)?)?;
-    row.push(number_or_nothing(alloc, preemptions)?)?;
-    row.push(match report.schedule() {
-        Some(schedule) => text_of(alloc, schedule_text(alloc, schedule)?.as_slice())?,
+    row.push(match report.bound {
+        Some(bound) => bound.to_string(alloc)?,
         None => String::from_str(alloc, NOTHING)?,
     })?;
+    row.push(preemptions)?;
+    row.push(schedule)?;
     row.push(report.summary.tried().to_string(alloc)?)?;
     Ok(())
-}
-
-// A number's cell.
-fn number_or_nothing(alloc: Global, number: Option<u32>) -> Result<String, AllocError> {
-    match number {
-        Some(number) => number.to_string(alloc),
-        None => String::from_str(alloc, NOTHING),
-    }
 }
 
 // An ASCII text; of other bytes each is left out.
@@ -115,109 +188,94 @@ fn printable(alloc: Global, name: &str) -> Result<String, AllocError> {
     Ok(text)
 }
 
-// What a line has to say beside its verdict.
+// What there is to say of a file beside its verdict.
 fn note_of(alloc: Global, entry: &Entry) -> Result<String, AllocError> {
+    let mut note = String::new(alloc);
     match &entry.outcome {
-        Outcome::Searched(report) => report_note(alloc, entry.expected, &report.verdict),
-        Outcome::Refused(error) => format!(in alloc; "{error}"),
-        Outcome::Unclear(line) => {
-            format!(in alloc; "line {line}: one `# expect: bad` or `# expect: clean` is wanted")
-        }
-        Outcome::Unread(cause) => printable(alloc, cause.as_str()),
+        Outcome::Searched(searched) => put_search_notes(&mut note, alloc, entry, searched)?,
+        Outcome::Refused(error) => put_part(&mut note, format!(in alloc; "{error}")?)?,
+        Outcome::Unclear(line) => put_part(
+            &mut note,
+            format!(in alloc;
+                "line {line}: one `# expect:` is wanted, with bad, bad N, failed, stuck or clean"
+            )?,
+        )?,
+        Outcome::Unread(cause) => put_part(&mut note, printable(alloc, cause.as_str())?)?,
     }
+    if let Some(line) = entry.near {
+        let part = format!(in alloc; "line {line} looks like `# expect:` and isn't")?;
+        put_part(&mut note, part)?;
+    }
+    Ok(note)
 }
 
-// The note of a report.
-fn report_note(
+// Puts a part after those of a note.
+fn put_part(note: &mut String, part: String) -> Result<(), AllocError> {
+    if !note.is_empty() {
+        note.push_str("; ")?;
+    }
+    note.push_str(part.as_str())
+}
+
+// Puts the parts of a file that was searched: what is to be said of its expectation, and of how far
+// the search went.
+fn put_search_notes(
+    note: &mut String,
     alloc: Global,
-    expected: Option<Expected>,
-    verdict: &Verdict,
-) -> Result<String, AllocError> {
-    let said = match (verdict, expected) {
-        (Verdict::Clean { .. }, Some(Expected::Bad)) => "bad was expected",
-        (Verdict::Clean { all: false }, _) =>
+    entry: &Entry,
+    searched: &Searched,
+) -> Result<(), AllocError> {
+    let Found { report, bad } = &searched.found;
+    match (entry.expected, entry.status(), bad) {
+        (None | Some(Expected::Clean), 0, _) | (None, _, _) | (_, 3, None) => {}
+        (Some(_), 0, _) => put_part(note, String::from_str(alloc, "expected")?)?,
+        (Some(expected), _, _) => {
+            put_part(note, format!(in alloc; "{expected} was expected")?)?;
+        }
+    }
+    let rest = match (bad, &report.verdict) {
+        (Some(bad), _) if u64::from(bad.preemptions) > searched.clear => "fewer preemptions may do",
+        (None, Verdict::Clean { all: false }) =>
             "no proof: schedules with more preemptions are left out",
-        (Verdict::Bad { .. }, Some(Expected::Clean)) => "clean was expected",
-        (Verdict::Bad { .. }, Some(Expected::Bad)) => "expected",
-        (Verdict::Incomplete { .. }, _) => "cut short at the limit",
-        _ => "",
+        (None, Verdict::Incomplete { .. }) => "cut short at the limit",
+        _ => return Ok(()),
     };
-    String::from_str(alloc, said)
+    put_part(note, String::from_str(alloc, rest)?)
 }
 
-// Puts a row into a text: its cells, each as wide as the widest of its column, and a line feed.
-fn put_row(text: &mut Vec<u8>, row: &[String], rows: &[Vec<String>]) -> Result<(), AllocError> {
-    let mut gap = 0;
-    let mut column = 0usize;
-    for cell in row {
-        if !cell.is_empty() {
-            put_blanks(text, gap)?;
-            text.extend_from_slice(cell.as_bytes())?;
-            gap = 0;
-        }
-        let width = width_of(rows, column);
-        gap = gap.saturating_add(width.saturating_sub(cell.len()).saturating_add(2));
-        column = column.saturating_add(1);
-    }
-    text.push(b'\n')?;
-    Ok(())
-}
-
-// Puts blanks into a text.
-fn put_blanks(text: &mut Vec<u8>, count: usize) -> Result<(), AllocError> {
-    for _ in 0..count {
-        text.push(b' ')?;
-    }
-    Ok(())
-}
-
-// The width of a column.
-fn width_of(rows: &[Vec<String>], column: usize) -> usize {
-    let mut width = 0usize;
-    for row in rows {
-        if let Some(cell) = row.get(column) {
-            width = width.max(cell.len());
-        }
-    }
-    width
-}
-
-/// The suite as JSON, an object a line for each file: `file`, `expect` (`bad`, `clean` or null) and
-/// `status`, and then the members of its report, or `fault`, which says why there is none.
+/// The JSON of a file, an object and a line feed: `file`, `expect` (the words, or null), `status`
+/// and `note`, and then the members of its report, or `fault`, which says why there is none.
 ///
 /// # Errors
 ///
 /// `AllocError` where memory runs out.
-pub fn json_lines(alloc: Global, entries: &[Entry]) -> Result<Vec<u8>, AllocError> {
+pub fn json_line(alloc: Global, entry: &Entry) -> Result<Vec<u8>, AllocError> {
     let mut text = Vec::new(alloc);
-    for entry in entries {
-        put_entry(&mut text, alloc, entry)?;
-    }
-    Ok(text)
-}
-
-// Puts the line of a file into a text.
-fn put_entry(text: &mut Vec<u8>, alloc: Global, entry: &Entry) -> Result<(), AllocError> {
-    put_member(text, alloc, b"{\"file\":", entry.file.as_str())?;
+    let note = note_of(alloc, entry)?;
+    put_member(&mut text, alloc, b"{\"file\":", entry.file.as_str())?;
     match entry.expected {
-        Some(expected) => put_member(text, alloc, b",\"expect\":", expected.word())?,
+        Some(expected) => {
+            let words = format!(in alloc; "{expected}")?;
+            put_member(&mut text, alloc, b",\"expect\":", words.as_str())?;
+        }
         None => text.extend_from_slice(b",\"expect\":null")?,
     }
     text.extend_from_slice(b",\"status\":")?;
     text.extend_from_slice(entry.status().to_string(alloc)?.as_bytes())?;
+    put_member(&mut text, alloc, b",\"note\":", note.as_str())?;
     text.push(b',')?;
     match &entry.outcome {
-        Outcome::Searched(report) => {
-            let report = report_text(alloc, report)?;
+        Outcome::Searched(searched) => {
+            let report = report_text(alloc, &searched.found.report)?;
             text.extend_from_slice(after_first(report.as_slice()))?;
         }
         _ => {
-            put_member(text, alloc, b"\"fault\":", note_of(alloc, entry)?.as_str())?;
+            put_member(&mut text, alloc, b"\"fault\":", note.as_str())?;
             text.push(b'}')?;
         }
     }
     text.push(b'\n')?;
-    Ok(())
+    Ok(text)
 }
 
 // The bytes after the first.

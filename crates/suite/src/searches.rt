@@ -1,69 +1,87 @@
-//! The search of one text.
+//! The searches of one text, and what is told of them.
 
 ghost use Rattle.std.specs.Prelude.{◌≡◌};
-ghost use Rattle.suite.specs.Suites.{SearchMeans, options_of, is_cut_short, is_bad};
+ghost use Rattle.suite.specs.Suites.{SearchMeans, is_enough, second_bound, nearer};
 
 use requests::Limits;
-use runner::{ExploreError, Open, Options, QUOTA, Report, Search, Verdict, explore_text};
-use std::alloc::Global;
+use runner::{BOUND, ExploreError, Gate, Search, Verdict};
+use std::alloc::{Alloc, Global};
 use std::sync::Wait;
 use std::thread::Threads;
+use verify::{BadSchedule, Found, find, program_of};
 
-// What a search as far as this is asked for.
-fn options_of(search: Search, limit: u64) -> Options
-    ensures { result ≡ options_of search limit }
-{
-    Options {
-        search,
-        limit: Some(limit),
-        quota: QUOTA,
-        quick: false,
-    }
+/// What the searches of a text show.
+#[derive(Drop)]
+pub struct Searched {
+    /// The one that is told.
+    pub found: Found,
+    /// No bad schedule has fewer preemptions than this.
+    pub clear: u64,
 }
 
-/// The report of a text: that of the search without a bound, and where that was cut short that of
-/// the search up to the bound, unless it found no bad schedule though the first one did.
+/// What is told of a text: of the search without a bound, where that comes to its end and finds no
+/// bad schedule, or one without a preemption. Else a second search is made: up to as many
+/// preemptions as the schedule has that the first one found, so that one with fewest is told, or up
+/// to the limits' bound where it found none. The second is told, unless the first alone found a bad
+/// schedule.
 ///
 /// # Errors
 ///
 /// What is wrong with the text, or `OutOfMemory`.
-pub fn search<R: Threads + Wait + Sync>(
+#[tactic(auto, using(crate::proofs::OneOrTwo::one_search, crate::proofs::OneOrTwo::two_searches))]
+pub fn search<G: Gate, R>(
     rt: &R,
-    alloc: Global,
     text: &[u8],
     limits: Limits,
-) -> Result<Report, ExploreError>
-    ensures { SearchMeans text.now limits result }
+    gate: &G,
+) -> Result<Searched, ExploreError>
+where
+    R: Threads + Wait + Sync + Alloc<A = Global>,
+    ensures { SearchMeans (G.stops gate.now) text.now limits result }
 {
-    let Limits {
-        limit,
-        bound,
-        workers,
-    } = limits;
-    let unbounded = options_of(Search::Unbounded, limit);
-    let first = explore_text(rt, alloc, text, unbounded, workers, &Open)?;
-    if !is_cut_short(&first.verdict) {
-        return Ok(first);
+    let program = program_of(rt.alloc(), text)?;
+    let first = find(rt, &program, Search::Unbounded, limits, gate)?;
+    if is_enough(&first) {
+        return Ok(Searched {
+            found: first,
+            clear: 0,
+        });
     }
-    let bounded = options_of(Search::UpTo(bound), limit);
-    let second = explore_text(rt, alloc, text, bounded, workers, &Open)?;
-    if is_bad(&second.verdict) || first.schedule().is_none() {
-        Ok(second)
+    let bound = second_bound(limits.bound, &first.bad);
+    let second = find(rt, &program, Search::UpTo(bound), limits, gate)?;
+    let clear = second.clear_below();
+    let found = nearer(first, second);
+    Ok(Searched { found, clear })
+}
+
+// Whether the search without a bound says all that is to be told.
+fn is_enough(first: &Found) -> bool
+    ensures { result ≡ is_enough first.now.report.verdict first.now.bad }
+{
+    let needs_none = match &first.bad {
+        None => true,
+        Some(bad) => bad.preemptions == 0,
+    };
+    !matches!(&first.report.verdict, Verdict::Incomplete { .. }) && needs_none
+}
+
+// How far the second search goes.
+fn second_bound(bound: u32, bad: &Option<BadSchedule>) -> u32
+    ensures { result ≡ second_bound bound bad.now }
+{
+    match bad {
+        None => bound,
+        Some(bad) => bad.preemptions.min(BOUND),
+    }
+}
+
+// Of two searches the one that is told.
+fn nearer(first: Found, second: Found) -> Found
+    ensures { result ≡ nearer first second }
+{
+    if second.bad.is_none() && first.bad.is_some() {
+        first
     } else {
-        Ok(first)
+        second
     }
-}
-
-// Whether the search was cut short.
-fn is_cut_short(verdict: &Verdict) -> bool
-    ensures { result ≡ is_cut_short verdict.now }
-{
-    matches!(verdict, Verdict::Incomplete { .. })
-}
-
-// Whether the search found a bad schedule and came to its end.
-fn is_bad(verdict: &Verdict) -> bool
-    ensures { result ≡ is_bad verdict.now }
-{
-    matches!(verdict, Verdict::Bad { .. })
 }

@@ -1,6 +1,6 @@
 //! Summaries of schedules: how many were tried, how they ended, and the first bad one.
 
-ghost use Rattle.std.specs.Prelude.{◌≡◌, ◌+◌, ◌<◌, ◌≤◌, IfOk, IsOk, IsTrue, MatchOption, Some, None, true, false, ◌++◌, ◌⊎◌, [], length, is_ok, if◌then◌else◌, vec_len, vec_capacity};
+ghost use Rattle.std.specs.Prelude.{◌≡◌, ◌+◌, ◌<◌, ◌≤◌, IfOk, OnErr, IsOk, IsTrue, MatchOption, Some, None, true, false, ◌++◌, ◌⊎◌, [], length, is_ok, if◌then◌else◌, vec_len, vec_capacity};
 ghost use Rattle.std.specs.List.Sorted.{IsStrictlySortedBy};
 ghost use Rattle.std.specs.Option.{option_or};
 ghost use Rattle.schedules.specs.Order.{precedes, lesser};
@@ -158,14 +158,15 @@ impl Summary {
     ///
     /// # Errors
     ///
-    /// `AllocError` where memory runs out; the summary is then as before.
+    /// `AllocError` where memory runs out; both summaries are then as before.
     #[tactic(auto, unfolding(crate::specs::Summaries::join))]
     pub fn join_in_by(
         &mut self,
         hints: &mut EndHints,
         other: &mut Summary,
     ) -> Result<(), AllocError>
-        ensures { self.new ≡ (if is_ok result then join self.old other.old else self.old) }
+        ensures joined { self.new ≡ (if is_ok result then join self.old other.old else self.old) }
+        ensures other { OnErr result (other.new ≡ other.old) }
     {
         join_views(&mut self.ends, hints, &mut other.ends)?;
         take_lesser(&mut self.first_bad, other.first_bad.take());
@@ -191,8 +192,31 @@ impl Summary {
     /// # Errors
     ///
     /// `AllocError` where memory runs out; the summary is then as before.
+    #[inline(always)]
     #[tactic(auto, unfolding(crate::specs::Summaries::added))]
     pub fn add(
+        &mut self,
+        alloc: Global,
+        memory: &mut EndMemory,
+        schedule: &[u8],
+        kind: Kind,
+        values: &[i64],
+    ) -> Result<(), AllocError>
+        ensures { self.new ≡ (if is_ok result
+            then added self.old schedule.now (end_with kind values.now) else self.old) }
+    {
+        let hint = memory.hints.hint_in(self.ends.len(), kind, values);
+        if !kind.is_bad() && stands_at(self.ends.as_slice(), hint, kind, values) {
+            increase(&mut self.tried, 1);
+            return Ok(());
+        }
+        self.add_apart(alloc, memory, schedule, kind, values)
+    }
+
+    // Counts a schedule whose end may be bad or new.
+    #[inline(never)]
+    #[tactic(auto, unfolding(crate::specs::Summaries::added))]
+    fn add_apart(
         &mut self,
         alloc: Global,
         memory: &mut EndMemory,
@@ -393,17 +417,15 @@ fn find_view(
 }
 
 // Whether the view of a kind and values stands at an index.
+#[inline(always)]
 fn stands_at(ends: &[EndView], index: usize, kind: Kind, values: &[i64]) -> bool
     requires { IsStrictlySortedBy view_cmp ends.now }
     ensures { IsTrue result → (index < length ends.now)
         × (with_view (end_with kind values.now) ends.now ≡ ends.now) }
 {
-    if index >= ends.len() {
-        return false;
-    }
-    match EndView::compare_parts(kind, values, &ends[index]) {
-        Ordering::Equal => true,
-        Ordering::Less | Ordering::Greater => false,
+    match ends.get(index) {
+        Some(end) => end.kind() == kind && end.vars() == values,
+        None => false,
     }
 }
 
@@ -476,6 +498,7 @@ fn join_views(
     ensures joined { ends.new.items ≡ (if is_ok result
         then sorted_views (ends.old.items ++ views.old.items) else ends.old.items) }
     ensures left { (views.new.items ≡ []) ⊎ (views.new.items ≡ views.old.items) }
+    ensures kept { OnErr result (views.new.items ≡ views.old.items) }
 {
     if has_all(ends.as_slice(), hints, views.as_slice()) {
         return Ok(());

@@ -1,6 +1,6 @@
 //! What is told of texts: the words, and what schedules show.
 
-use advice::{advice_text, check};
+use advice::{Depth, advice_text, check};
 use std::alloc::Global;
 use std::test::*;
 
@@ -40,7 +40,11 @@ fn texts_are_told_of(rt: HostRuntime) -> Result<(), Fail> {
 fn schedules_show_a_loop_that_gives_up(rt: HostRuntime) -> Result<(), Fail> {
     let text = "var x; thread A { repeat 2 { load r x; if r { leave; } } } thread B { store x 1; }";
     let plain = check(rt.alloc(), text.as_bytes(), None)?;
-    let deep = check(rt.alloc(), text.as_bytes(), Some(100))?;
+    let depth = Depth {
+        limit: 100,
+        remarks: false,
+    };
+    let deep = check(rt.alloc(), text.as_bytes(), Some(depth))?;
     assert!(rt; !plain.is_warned());
     assert!(rt; deep.is_warned());
     Ok(())

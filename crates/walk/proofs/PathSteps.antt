@@ -1,4 +1,4 @@
--- The h from the start of a program to where a walk stands, as it opens a frame, goes back to
+-- The way from the start of a program to where a walk stands, as it opens a frame, goes back to
 -- one and takes a step.
 use Rattle.std.proofs.Common.{◌≡◌, ℕ, ℤ, zero, suc, ◌+◌, ◌-◌, ◌*◌, ◌<◌, ◌≤◌, true}
 use Rattle.std.proofs.Common.{not, ◌&&◌, nat_eq, List, [], ◌∷◌, ◌++◌, length, take, drop}

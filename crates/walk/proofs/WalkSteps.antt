@@ -21,8 +21,8 @@ use Rattle.walk.specs.declared.found.Found.{Found}
 use Rattle.items.specs.Walks.{items_at}
 use Rattle.walk.proofs.Puts.{put_same}
 use Rattle.walk.specs.inner.WalkerInvariant.{IsWalkedOn}
-use Rattle.items.proofs.Splits.{split_kept}
-use Rattle.items.proofs.WalkedFurther.{walked_further}
+use Rattle.items.proofs.Splits.{first_within, split_kept}
+use Rattle.items.proofs.Splits.{walked_further}
 use Rattle.items.proofs.ItemsWalked.{leaf_walked, node_walked}
 use Rattle.summary.proofs.PartsJoin.{join_past, join_leaf}
 use Rattle.summary.proofs.SumsJoin.{join_assoc, join_kept}
@@ -43,12 +43,6 @@ pub record IsFirst (mode : Mode) (p : Program) (c : ItemView) : Type 0 where
   pub program : c.program ≡ p
   pub within : IsWithin mode c
 
-cut_first : (mode : Mode) (i c : ItemView) (rest deferred : List ItemView)
-    → IsCut mode i (c ∷ rest) deferred → IsWithin mode c
-cut_first (Bounded bound) i c rest deferred h =
-    All-head (λ (r : ItemView). preemptions r.program r.prefix ≤ bound) c rest h.within
-cut_first Reduced i c rest deferred h = tt
-
 pub first_open : (mode : Mode) (i c : ItemView) (part : SummaryView)
     (rest deferred : List ItemView) →
     IsWalked (walk_of mode i part (c ∷ rest) deferred) → IsFirst mode i.program c
@@ -57,7 +51,7 @@ first_open mode i c part rest deferred h =
     record {
       item = below.item;
       program = below.program;
-      within = cut_first mode i c rest deferred h.split.cut;
+      within = first_within mode i c rest deferred h.split.cut;
     }
 
 -- it is complete, and tried

@@ -53,8 +53,8 @@ impl Found {
         };
     }
 
-    // Forgets what was found. End views go to this memory, all else is kept. What is put off next is
-    // to be listed or not.
+    // Forgets what was found. End views go to this memory, all else is kept. What is put off next
+    // is to be listed or not.
     pub(crate) fn clear(&mut self, ends: &mut EndMemory, lists: bool)
         ensures part { self.new.part ≡ nothing }
         ensures rest { self.new.rest.items ≡ [] }

@@ -246,8 +246,8 @@ impl Path {
         self.depth = depth + 1;
     }
 
-    // Takes the step of a schedule at this place. Every second node on the way gets a frame, but the
-    // last: so half the copies are saved, and to go back takes a step or two again.
+    // Takes the step of a schedule at this place. Every second node on the way gets a frame, but
+    // the last: so half the copies are saved, and to go back takes a step or two again.
     fn go_along(
         &mut self,
         program: &Program,

@@ -78,8 +78,8 @@ impl Walker {
         Ok(Walked::new(mode, item.try_clone(alloc)?, found))
     }
 
-    /// Walks an item as [`Walker::walk`] does, for a caller that has the item: what is found takes the
-    /// place of what another walk found, in its memory, and no item is copied.
+    /// Walks an item as [`Walker::walk`] does, for a caller that has the item: what is found takes
+    /// the place of what another walk found, in its memory, and no item is copied.
     ///
     /// # Errors
     ///
@@ -117,13 +117,14 @@ impl Walker {
         found.clear(&mut self.path.ends, lists);
     }
 
-    /// Walks an item as [`Walker::walk_into`] does, and adds what is found to what other walks found.
-    /// The schedules that those tried and the quota are fewer than the greatest count together.
+    /// Walks an item as [`Walker::walk_into`] does, and adds what is found to what other walks
+    /// found. The schedules that those tried and the quota are fewer than the greatest count
+    /// together.
     ///
     /// # Errors
     ///
-    /// `AllocError` where memory runs out. The walker can be used again then; of what was found some
-    /// may be lost.
+    /// `AllocError` where memory runs out. The walker can be used again then; of what was found
+    /// some may be lost.
     pub fn walk_on(
         &mut self,
         alloc: Global,

@@ -2,8 +2,8 @@
 //! prints how many there are and how many prefixes the bound put off. It is here to be timed by
 //! `bench/walk.py`, and is no part of the product.
 //!
-//! The words are a file, a bound or `reduced`, and `unlisted` where what the bound puts off is not to be
-//! listed, as at the last bound of a search; then none is counted.
+//! The words are a file, a bound or `reduced`, and `unlisted` where what the bound puts off is not
+//! to be listed, as at the last bound of a search; then none is counted.
 #![tactic(auto)]
 
 ghost use Rattle.std.specs.Prelude.{◌≡◌, length};
@@ -43,8 +43,8 @@ fn counts_of(found: &Found) -> Counts
     }
 }
 
-/// The counts of one walk of all schedules in a mode, which lists what it puts off or not: none where
-/// the text spells no program, or memory ran out.
+/// The counts of one walk of all schedules in a mode, which lists what it puts off or not: none
+/// where the text spells no program, or memory ran out.
 fn walk_all(alloc: Global, text: &[u8], mode: Mode, lists: bool) -> Option<Counts> {
     let tree = parse(alloc, text).ok()?;
     let program = Arc::new(alloc, lower(alloc, &tree).ok()?).ok()?;

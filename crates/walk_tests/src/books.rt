@@ -334,15 +334,18 @@ fn raised(alloc: Global, book: &mut Book) -> Result<String, AllocError> {
     }
 }
 
-/// Stops the test where a book is raised, or isn't for another reason than this one.
+/// Stops the test where a book is raised, isn't for another reason than this one, or is another
+/// then.
 fn is_not_raised(
     rt: &(impl Abort + Alloc<A = Global>),
     book: &mut Book,
     why: &str,
 ) -> Result<(), AllocError> {
+    let (before, mode) = (shown(rt.alloc(), book)?, book.mode());
     let line = raised(rt.alloc(), book)?;
     assert_eq!(rt; line.as_str(), why);
-    Ok(())
+    assert_eq!(rt; book.mode(), mode);
+    shows(rt, book, before.as_str())
 }
 
 /// Tries to raise a book of the greatest bound before and after its items are walked.

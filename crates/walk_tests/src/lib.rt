@@ -1,5 +1,5 @@
-//! Tests of summaries, walks, the book and the board, which call what is public: limits, threads and
-//! values from outside, which no clause says.
+//! Tests of summaries, walks, the book and the board, which call what is public: limits, threads
+//! and values from outside, which no clause says.
 #![tactic(auto)]
 
 #[cfg(test)]

@@ -9,15 +9,15 @@ use clap::{Arg, ArgAction, ArgMatches, Command, value_parser};
 use report::limits::{BOUND, QUOTA};
 use report::{Options, Search};
 use requests::{
-    CheckRequest, DEFAULT_BOUND, ExplainRequest, Exploration, Form, GuestRequest, LIMIT, Limits,
-    Request, SuiteRequest,
+    CheckForm, CheckRequest, DEFAULT_BOUND, ExplainRequest, Exploration, Form, GuestRequest, LIMIT,
+    Limits, Request, SuiteRequest, VerifyRequest,
 };
 use std::alloc::{Alloc, AllocError, Global};
 use std::env::Env;
 use workers::WORKERS;
 
 /// The version that `--version` shows.
-pub const VERSION: &str = "0.1.0";
+pub const VERSION: &str = "0.2.0";
 
 /// How many schedules a deep check goes through at most, where no number is asked for.
 const DEFAULT_DEPTH: u64 = 100_000;
@@ -25,8 +25,12 @@ const DEFAULT_DEPTH: u64 = 100_000;
 /// The columns of an explanation, where no number is asked for.
 const DEFAULT_WIDTH: u32 = 100;
 
+/// The steps of an explanation that folds none, where no number is asked for.
+const DEFAULT_STEPS: u32 = 40;
+
 /// What the help of each command ends with.
 pub const HELP_END: &str = "Examples:
+  ctxbound verify examples/lock_order_fixed.guest
   ctxbound explore examples/first.guest --trace
   ctxbound unbounded examples/lost_update_fixed.guest
   ctxbound replay examples/first.guest 0,1,0
@@ -76,7 +80,7 @@ fn workers_arg<'a>(alloc: Global) -> Arg<'a> {
         .long("workers")
         .value_name("W")
         .value_parser(value_parser!(u32).range(1..=i64::from(WORKERS)))
-        .help("How many threads work; the answer doesn't depend on it [default: 1]")
+        .help("How many threads work [default: 1]")
 }
 
 fn limit_arg<'a>(alloc: Global) -> Arg<'a> {
@@ -102,6 +106,13 @@ fn bound_arg<'a>(alloc: Global) -> Arg<'a> {
         .help("The most preemptions of a schedule [default: 2]")
 }
 
+fn progress_arg<'a>(alloc: Global) -> Arg<'a> {
+    Arg::new(alloc, "progress")
+        .long("progress")
+        .action(ArgAction::SetTrue)
+        .help("Tell on standard error how far the search is")
+}
+
 /// A command with what both kinds of search can be asked for.
 fn search_command<'a>(
     alloc: Global,
@@ -112,17 +123,13 @@ fn search_command<'a>(
         .long("quick")
         .action(ArgAction::SetTrue)
         .help("Once a bad schedule is found, leave out what comes after it");
-    let progress = Arg::new(alloc, "progress")
-        .long("progress")
-        .action(ArgAction::SetTrue)
-        .help("Tell on standard error how far the search is");
     Command::new(alloc, name)
         .about(about)
         .after_help(HELP_END)
         .arg(file_arg(alloc))?
         .arg(workers_arg(alloc))?
         .arg(limit_arg(alloc))?
-        .arg(progress)?
+        .arg(progress_arg(alloc))?
         .arg(quick)
 }
 
@@ -145,8 +152,19 @@ fn unbounded_command<'a>(alloc: Global) -> Result<Command<'a>, AllocError> {
     .arg(trace_arg(alloc))
 }
 
-fn explained_schedule_arg<'a>(alloc: Global) -> Arg<'a> {
-    Arg::new(alloc, "SCHEDULE").help("The schedule to explain; left out, a search finds one")
+/// The schedule to explain. Where it is given nothing is searched, so the words of a search would
+/// do nothing.
+fn explained_schedule_arg<'a>(alloc: Global) -> Result<Arg<'a>, AllocError> {
+    Ok(
+        Arg::new(alloc, "SCHEDULE")
+            .conflicts_with("workers")?
+            .conflicts_with("limit")?
+            .conflicts_with("progress")?
+            .conflicts_with("quick")?
+            .conflicts_with("bound")?
+            .conflicts_with("unbounded")?
+            .help("The schedule to explain; left out, a search finds one"),
+    )
 }
 
 fn unbounded_arg<'a>(alloc: Global) -> Result<Arg<'a>, AllocError> {
@@ -159,19 +177,36 @@ fn unbounded_arg<'a>(alloc: Global) -> Result<Arg<'a>, AllocError> {
     )
 }
 
-fn all_arg<'a>(alloc: Global) -> Arg<'a> {
-    Arg::new(alloc, "all")
-        .long("all")
-        .action(ArgAction::SetTrue)
-        .help("Show each step, and fold none")
+/// What isn't a text in columns has no place for this argument.
+fn of_columns<'a>(arg: Arg<'a>) -> Result<Arg<'a>, AllocError> {
+    arg.conflicts_with("html")?.conflicts_with("json")
 }
 
-fn width_arg<'a>(alloc: Global) -> Arg<'a> {
-    Arg::new(alloc, "width")
+fn all_arg<'a>(alloc: Global) -> Result<Arg<'a>, AllocError> {
+    let all = Arg::new(alloc, "all")
+        .long("all")
+        .action(ArgAction::SetTrue)
+        .help("Show each step, however many");
+    of_columns(all)
+}
+
+fn steps_arg<'a>(alloc: Global) -> Result<Arg<'a>, AllocError> {
+    let steps = Arg::new(alloc, "steps")
+        .long("steps")
+        .value_name("N")
+        .value_parser(value_parser!(u32).range(0..=32_768))
+        .conflicts_with("all")?
+        .help("Show each step where there are at most so many, else fold [default: 40]");
+    of_columns(steps)
+}
+
+fn width_arg<'a>(alloc: Global) -> Result<Arg<'a>, AllocError> {
+    let width = Arg::new(alloc, "width")
         .long("width")
         .value_name("N")
         .value_parser(value_parser!(u32).range(40..=1000))
-        .help("The columns of a line, at most [default: 100]")
+        .help("The columns of a line, at most [default: 100]");
+    of_columns(width)
 }
 
 fn html_arg<'a>(alloc: Global) -> Result<Arg<'a>, AllocError> {
@@ -191,15 +226,16 @@ fn bare_explain_command<'a>(alloc: Global) -> Result<Command<'a>, AllocError> {
         "explain",
         "Says why a schedule of a guest program ends as it does",
     )?
-    .arg(explained_schedule_arg(alloc))?
+    .arg(explained_schedule_arg(alloc)?)?
     .arg(bound_arg(alloc))?
     .arg(unbounded_arg(alloc)?)
 }
 
 fn explain_command<'a>(alloc: Global) -> Result<Command<'a>, AllocError> {
     bare_explain_command(alloc)?
-        .arg(all_arg(alloc))?
-        .arg(width_arg(alloc))?
+        .arg(all_arg(alloc)?)?
+        .arg(steps_arg(alloc)?)?
+        .arg(width_arg(alloc)?)?
         .arg(html_arg(alloc)?)?
         .arg(json_arg(alloc).help("Print JSON"))
 }
@@ -212,7 +248,35 @@ fn json_arg<'a>(alloc: Global) -> Arg<'a> {
 
 fn files_arg<'a>(alloc: Global) -> Arg<'a> {
     Arg::new(alloc, "FILE").required(true).num_args(1..).help(
-        "The guest programs; a folder stands for its files whose names end in `.guest`",
+        "The guest programs; a folder stands for the files in it, and in its folders, that end in `.guest`",
+    )
+}
+
+fn depth_arg<'a>(alloc: Global) -> Result<Arg<'a>, AllocError> {
+    Ok(
+        limit_arg(alloc).requires_arg("deep")?.help(
+            "With --deep: go through at most this number of schedules [default: 100000]",
+        ),
+    )
+}
+
+fn short_arg<'a>(alloc: Global) -> Result<Arg<'a>, AllocError> {
+    Ok(
+        Arg::new(alloc, "short")
+            .long("short")
+            .action(ArgAction::SetTrue)
+            .conflicts_with("json")?
+            .help("Print a line for each refusal and each warning"),
+    )
+}
+
+fn remarks_arg<'a>(alloc: Global) -> Result<Arg<'a>, AllocError> {
+    Ok(
+        Arg::new(alloc, "remarks")
+            .long("remarks")
+            .action(ArgAction::SetTrue)
+            .requires_arg("deep")?
+            .help("With --deep: tell what need not be wrong, too"),
     )
 }
 
@@ -230,10 +294,11 @@ fn check_command<'a>(alloc: Global) -> Result<Command<'a>, AllocError> {
         .after_help(HELP_END)
         .arg(files_arg(alloc))?
         .arg(strict)?
+        .arg(short_arg(alloc)?)?
+        .arg(json_arg(alloc).help("Print a JSON object for each refusal and each warning"))?
         .arg(deep)?
-        .arg(limit_arg(alloc).help(
-            "With --deep: go through at most this number of schedules [default: 100000]",
-        ))
+        .arg(remarks_arg(alloc)?)?
+        .arg(depth_arg(alloc)?)
 }
 
 fn suite_command<'a>(alloc: Global) -> Result<Command<'a>, AllocError> {
@@ -243,10 +308,26 @@ fn suite_command<'a>(alloc: Global) -> Result<Command<'a>, AllocError> {
         .arg(files_arg(alloc))?
         .arg(bound_arg(alloc))?
         .arg(workers_arg(alloc))?
-        .arg(limit_arg(alloc).help(
-            "Cut a search short once this number of schedules was tried [default: 1000000]",
-        ))?
+        .arg(each_limit_arg(alloc))?
+        .arg(progress_arg(alloc))?
         .arg(json_arg(alloc).help("Print an object a line instead of a table"))
+}
+
+fn each_limit_arg<'a>(alloc: Global) -> Arg<'a> {
+    limit_arg(alloc).help(
+        "Cut a search short once this number of schedules was tried [default: 1000000]",
+    )
+}
+
+fn verify_command<'a>(alloc: Global) -> Result<Command<'a>, AllocError> {
+    Command::new(alloc, "verify")
+        .about(
+            "Says whether a guest program is right, up to how many preemptions it is, or why not",
+        )
+        .after_help(HELP_END)
+        .arg(file_arg(alloc))?
+        .arg(workers_arg(alloc))?
+        .arg(each_limit_arg(alloc))
 }
 
 fn command<'a>(alloc: Global) -> Result<Command<'a>, AllocError> {
@@ -260,7 +341,8 @@ fn command<'a>(alloc: Global) -> Result<Command<'a>, AllocError> {
         .subcommand(replay_command(alloc)?)?
         .subcommand(explain_command(alloc)?)?
         .subcommand(check_command(alloc)?)?
-        .subcommand(suite_command(alloc)?)
+        .subcommand(suite_command(alloc)?)?
+        .subcommand(verify_command(alloc)?)
 }
 
 /// How far the search of a command goes.
@@ -310,6 +392,15 @@ fn guest_request(
     Ok(GuestRequest::Replay { schedule })
 }
 
+/// How many steps an explanation shows before it folds any.
+fn steps_of(given: &ArgMatches<'_>) -> usize {
+    if given.get_flag("all") {
+        return usize::MAX;
+    }
+    let steps: u32 = given.get_one("steps").unwrap_or(DEFAULT_STEPS);
+    steps as usize
+}
+
 /// The explanation that the words of a command ask for.
 fn explain_of(alloc: Global, given: &ArgMatches<'_>) -> Result<ExplainRequest, AllocError> {
     let form = if given.get_flag("html") {
@@ -320,7 +411,7 @@ fn explain_of(alloc: Global, given: &ArgMatches<'_>) -> Result<ExplainRequest, A
         let width: u32 = given.get_one("width").unwrap_or(DEFAULT_WIDTH);
         Form::Text {
             width: width as usize,
-            all: given.get_flag("all"),
+            steps: steps_of(given),
         }
     };
     let schedule = match given.get_str("SCHEDULE") {
@@ -349,6 +440,17 @@ fn files_named(alloc: Global, given: &ArgMatches<'_>) -> Result<Vec<String>, All
     Ok(files)
 }
 
+/// What the words of a command ask a check to be told as.
+fn check_form_of(given: &ArgMatches<'_>) -> CheckForm {
+    if given.get_flag("json") {
+        CheckForm::Json
+    } else if given.get_flag("short") {
+        CheckForm::Short
+    } else {
+        CheckForm::Lines
+    }
+}
+
 /// The check that the words of a command ask for.
 fn check_of(alloc: Global, given: &ArgMatches<'_>) -> Result<CheckRequest, AllocError> {
     let depth = if given.get_flag("deep") {
@@ -360,22 +462,38 @@ fn check_of(alloc: Global, given: &ArgMatches<'_>) -> Result<CheckRequest, Alloc
         files: files_named(alloc, given)?,
         strict: given.get_flag("strict"),
         depth,
+        remarks: given.get_flag("remarks"),
+        form: check_form_of(given),
     })
+}
+
+/// How far the words of a command ask each search to go, where this is the bound.
+fn limits_of(given: &ArgMatches<'_>, bound: u32) -> Limits {
+    // `clap` has refused other numbers of workers
+    let workers: u32 = given.get_one("workers").unwrap_or(1);
+    Limits {
+        limit: given.get_one("limit").unwrap_or(LIMIT),
+        bound: bound.min(BOUND),
+        workers: workers.clamp(1, WORKERS),
+    }
 }
 
 /// The suite that the words of a command ask for.
 fn suite_of(alloc: Global, given: &ArgMatches<'_>) -> Result<SuiteRequest, AllocError> {
-    // `clap` has refused other bounds and numbers of workers
     let bound: u32 = given.get_one("bound").unwrap_or(DEFAULT_BOUND);
-    let workers: u32 = given.get_one("workers").unwrap_or(1);
     Ok(SuiteRequest {
         files: files_named(alloc, given)?,
-        limits: Limits {
-            limit: given.get_one("limit").unwrap_or(LIMIT),
-            bound: bound.min(BOUND),
-            workers: workers.clamp(1, WORKERS),
-        },
+        limits: limits_of(given, bound),
         json: given.get_flag("json"),
+        progress: given.get_flag("progress"),
+    })
+}
+
+/// What the words of a command ask to be verified.
+fn verify_of(alloc: Global, given: &ArgMatches<'_>) -> Result<VerifyRequest, AllocError> {
+    Ok(VerifyRequest {
+        file: String::from_str(alloc, given.get_str("FILE").unwrap_or(""))?,
+        limits: limits_of(given, BOUND),
     })
 }
 
@@ -393,6 +511,9 @@ pub fn request(alloc: Global, words: &[String]) -> Result<Request, WordsFault> {
     }
     if name == "suite" {
         return Ok(Request::Suite(suite_of(alloc, given)?));
+    }
+    if name == "verify" {
+        return Ok(Request::Verify(verify_of(alloc, given)?));
     }
     if name == "explain" {
         return Ok(Request::Explain(explain_of(alloc, given)?));

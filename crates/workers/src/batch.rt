@@ -14,8 +14,8 @@ use std::sync::Arc;
 use walk::found::Found;
 use walk::walker::Walker;
 
-/// A worker's walker, the places in a round of the items that it walked and that aren't settled yet,
-/// and what all these walks found.
+/// A worker's walker, the places in a round of the items that it walked and that aren't settled
+/// yet, and what all these walks found.
 #[derive(Drop)]
 pub(crate) struct Batch {
     pub walker: Walker,
@@ -35,8 +35,8 @@ impl Batch {
         })
     }
 
-    /// Forgets the walks that it keeps. Their memory serves later walks, of which what they put off is
-    /// listed or not.
+    /// Forgets the walks that it keeps. Their memory serves later walks, of which what they put off
+    /// is listed or not.
     pub fn forget(&mut self, lists: bool)
         ensures walker { self.new.walker ≡ self.old.walker }
         ensures places { self.new.places.items ≡ [] }
@@ -74,8 +74,8 @@ impl Batch {
         Ok(())
     }
 
-    /// Walks an item of a round, by its place there, and keeps the walk. Answers whether a bad schedule
-    /// was found in the walks that it keeps.
+    /// Walks an item of a round, by its place there, and keeps the walk. Answers whether a bad
+    /// schedule was found in the walks that it keeps.
     ///
     /// # Errors
     ///

@@ -1,9 +1,11 @@
 //! Books that are known to be of one search.
 
-ghost use Rattle.std.specs.Prelude.{◌≡◌, true, Ok};
+ghost use Rattle.std.specs.Prelude.{◌≡◌, ◌-◌, ◌↔◌, true, false, Ok, OnOk, IsTrue, length, drop};
 ghost use Rattle.items.specs.Items.{AreOf};
-ghost use Rattle.book.specs.Books.{HaveFound, HaveSettled, thinned};
+ghost use Rattle.book.specs.declared.limits.TheConstants.{ROUND};
+ghost use Rattle.book.specs.Books.{HaveFound, HaveSettled, AreNotTaken, thinned};
 ghost use Rattle.workers.specs.Teams.{IsOf};
+ghost use Rattle.workers.specs.inner.Rounds.{GoesOn};
 
 use book::books::Book;
 use items::item::Item;
@@ -93,9 +95,9 @@ impl<N: SearchBrand> BrandedBook<N> {
     }
 
     /// Settles at once what walks of items of its last round found, one after another: of those at
-    /// these places of the round. Answers whether the book took it: it doesn't where one of the items
-    /// isn't open, or what the walks put off isn't listed and the book lists it. The memory of what was
-    /// found serves later walks.
+    /// these places of the round. Answers whether the book took it: it doesn't only where the items
+    /// aren't open in that order, or what the walks put off isn't listed and the book lists it. The
+    /// memory of what was found serves later walks.
     ///
     /// # Errors
     ///
@@ -111,6 +113,8 @@ impl<N: SearchBrand> BrandedBook<N> {
         requires walked { HaveFound N.program N.mode items.now places.now found.old }
         ensures taken { (f : HaveFound N.program N.mode items.now places.now found.old) →
             result ≡ Ok true → HaveSettled self.old f.walks self.new }
+        ensures not_taken { result ≡ Ok false →
+            AreNotTaken self.old items.now places.now found.old }
         ensures same { (result ≡ Ok true → ⊥) → self.new ≡ self.old }
     {
         self.book.settle_all(alloc, items, places, found)
@@ -120,7 +124,8 @@ impl<N: SearchBrand> BrandedBook<N> {
     /// are open then, and the limit is not reached. A quick book first drops what can't hold the
     /// first bad schedule any more.
     pub fn goes_on(&mut self, limit: Option<u64>) -> bool
-        ensures { self.new ≡ thinned self.old }
+        ensures book { self.new ≡ thinned self.old }
+        ensures answer { IsTrue result ↔ GoesOn limit self.new }
     {
         let _number = self.book.drop_later();
         if self.book.open_length() == 0 {
@@ -139,6 +144,8 @@ impl<N: SearchBrand> BrandedBook<N> {
     /// `AllocError` where memory runs out.
     pub fn next_round(&mut self, alloc: Global, items: &mut Vec<Item>) -> Result<(), AllocError>
         requires { AreOf N.program items.old.items }
+        ensures round { OnOk result (items.new.items
+            ≡ drop (length self.old.open_items - ROUND) self.old.open_items) }
         ensures items { AreOf N.program items.new.items }
         ensures book { self.new ≡ self.old }
     {

@@ -1,12 +1,13 @@
 //! What the workers of a search share under a lock.
 
-ghost use Rattle.std.specs.Prelude.{◌≡◌, ◌≤◌, [], IfSome};
+ghost use Rattle.std.specs.Prelude.{◌≡◌, ◌≤◌, ◌-◌, ◌||◌, ◌⊎◌, ◌↔◌, [], true, false, if◌then◌else◌, vec_len, IfSome, OnOk, OnErr, IsTrue};
 ghost use Rattle.std.specs.Option.{ForSome};
 ghost use Rattle.std.specs.Arc.{arc_value};
 ghost use Rattle.items.specs.Items.{AreOf};
+ghost use Rattle.book.specs.Books.{HaveFound, HaveSettled, AreNotTaken, thinned};
 ghost use Rattle.workers.specs.Teams.{IsOf};
 ghost use Rattle.workers.specs.declared.round.Round.{Round};
-ghost use Rattle.workers.specs.inner.Rounds.{IsRoundOf, AreKept};
+ghost use Rattle.workers.specs.inner.Rounds.{IsRoundOf, AreKept, Follows, GoesOn};
 
 use crate::batch::Batch;
 use crate::branded::{BrandedBook, SearchBrand};
@@ -94,7 +95,10 @@ impl<N: SearchBrand> Desk<N> {
 
     // The items of the round before, for their memory, if no worker has that round any more.
     fn spare_items(&mut self, alloc: Global) -> Vec<Item>
-        ensures { AreOf N.program result.items }
+        ensures items { AreOf N.program result.items }
+        ensures same { (self.new.book ≡ self.old.book) × (self.new.round ≡ self.old.round)
+            × (self.new.left ≡ self.old.left) × (self.new.limit ≡ self.old.limit)
+            × (self.new.ends ≡ self.old.ends) × (self.new.is_over ≡ self.old.is_over) }
     {
         match self.last.take() {
             Some(last) => match Arc::into_inner(last) {
@@ -106,11 +110,23 @@ impl<N: SearchBrand> Desk<N> {
     }
 
     // Begins the next round. Where nothing is open the stretch is over.
-    fn next_round(&mut self, alloc: Global) -> Result<(), AllocError> {
+    //
+    // # Errors
+    //
+    // `AllocError` where memory runs out. The round is the last one then.
+    fn next_round(&mut self, alloc: Global) -> Result<(), AllocError>
+        ensures round { OnOk result
+            (Follows self.old.book (arc_value self.old.round) (arc_value self.new.round)) }
+        ensures left { OnOk result (self.new.left ≡ vec_len (arc_value self.new.round).items) }
+        ensures over { OnOk result (IsTrue self.new.is_over ↔ self.new.left ≡ 0) }
+        ensures refused { OnErr result ((self.new.round ≡ self.old.round)
+            × (self.new.left ≡ self.old.left) × (self.new.is_over ≡ self.old.is_over)) }
+        ensures same { (self.new.book ≡ self.old.book) × (self.new.limit ≡ self.old.limit)
+            × (self.new.ends ≡ self.old.ends) }
+    {
         let mut items = self.spare_items(alloc);
         self.book.next_round(alloc, &mut items)?;
         let before = &self.round;
-        self.left = items.len();
         let round = Round {
             apart: [0; APART],
             mode: before.mode,
@@ -123,6 +139,7 @@ impl<N: SearchBrand> Desk<N> {
         };
         let round = Arc::new(alloc, round)?;
         self.last = Some(mem::replace(&mut self.round, round));
+        self.left = self.round.items.len();
         self.is_over = self.left == 0;
         Ok(())
     }
@@ -142,6 +159,14 @@ impl<N: SearchBrand> Desk<N> {
         requires round { IsRoundOf N.program N.mode round.now }
         requires walker { batch.old.walker ≡ N.program }
         requires kept { AreKept round.now batch.old }
+        ensures settled { let ks = batch.old.places.items in
+            (f : HaveFound N.program N.mode round.now.items.items ks batch.old.found) →
+            OnOk result (HaveSettled self.old.book f.walks self.new.book
+            ⊎ AreNotTaken self.old.book round.now.items.items ks batch.old.found) }
+        ensures refused { OnErr result (self.new.book ≡ self.old.book) }
+        ensures same { (self.new.round ≡ self.old.round) × (self.new.left ≡ self.old.left)
+            × (self.new.limit ≡ self.old.limit) × (self.new.ends ≡ self.old.ends)
+            × (self.new.is_over ≡ self.old.is_over) }
         ensures walker { batch.new.walker ≡ batch.old.walker }
         ensures places { batch.new.places.items ≡ [] }
         ensures kept { (r : Round) → AreKept r batch.new }
@@ -155,19 +180,36 @@ impl<N: SearchBrand> Desk<N> {
 
     /// Takes note that `done` more items of the round are settled or given up, and whether the
     /// stretch ends with the round. Answers whether all of them are.
-    pub fn note_done(&mut self, done: usize, ends: bool) -> bool {
+    pub fn note_done(&mut self, done: usize, ends: bool) -> bool
+        ensures answer { IsTrue result ↔ self.new.left ≡ 0 }
+        ensures left { self.new.left ≡ self.old.left - done }
+        ensures ends { self.new.ends ≡ self.old.ends || ends }
+        ensures same { (self.new.book ≡ self.old.book) × (self.new.round ≡ self.old.round)
+            × (self.new.limit ≡ self.old.limit) × (self.new.is_over ≡ self.old.is_over) }
+    {
         self.ends |= ends;
         self.left = self.left.saturating_sub(done);
         self.left == 0
     }
 
-    /// Ends the round, where all its items are done: another one begins, or the stretch is over. The
-    /// gate is told how far the search is where another one begins.
+    /// Ends the round, where all its items are done: another one begins, or the stretch is over.
+    /// The gate is told how far the search is where another one begins.
     ///
     /// # Errors
     ///
     /// `AllocError` where memory runs out. The stretch is over then.
-    pub fn end_round<G: Gate>(&mut self, alloc: Global, gate: &G) -> Result<(), AllocError> {
+    pub fn end_round<G: Gate>(&mut self, alloc: Global, gate: &G) -> Result<(), AllocError>
+        ensures book { self.new.book
+            ≡ (if self.old.ends then self.old.book else thinned self.old.book) }
+        ensures over { OnOk result (self.new.is_over ≡ false
+            ↔ (self.old.ends ≡ false) × GoesOn self.old.limit self.new.book) }
+        ensures round { OnOk result (self.new.is_over ≡ false →
+            Follows self.new.book (arc_value self.old.round) (arc_value self.new.round)) }
+        ensures left { OnOk result (self.new.is_over ≡ false →
+            self.new.left ≡ vec_len (arc_value self.new.round).items) }
+        ensures refused { OnErr result (self.new.is_over ≡ true) }
+        ensures limit { self.new.limit ≡ self.old.limit }
+    {
         self.is_over = true;
         if !self.ends && self.book.goes_on(self.limit) {
             gate.round_ended(Progress::of(self.book.book()));

@@ -15,8 +15,8 @@ pub enum Answer {
 }
 
 /// What the workers of a search share beside its items: each asks it before it walks an item, and
-/// tells it after. No lock is held during these calls, so a gate may keep a worker waiting. After each
-/// round it is told how far the search is.
+/// tells it after. No lock is held during these calls, so a gate may keep a worker waiting. After
+/// each round it is told how far the search is.
 ///
 /// A contract sees of a gate whether it may stop a worker, which never changes.
 pub trait Gate: Sync {
@@ -37,9 +37,9 @@ pub trait Gate: Sync {
     /// Is told that a worker has walked an item. The walk is not settled yet.
     fn walked(&self, _worker: u32, _item: u64) {}
 
-    /// Is told how far the search is after a round, when all its items are done and before another one
-    /// begins. No worker is at an item then, so none may be waited for. This is told by a single worker,
-    /// too.
+    /// Is told how far the search is after a round, when all its items are done and before another
+    /// one begins. No worker is at an item then, so none may be waited for. This is told by a
+    /// single worker, too.
     fn round_ended(&self, _progress: Progress) {}
 }
 

@@ -1,6 +1,7 @@
 //! A round of several workers.
 
-ghost use Rattle.std.specs.Prelude.{◌<◌, vec_len, IfSome};
+ghost use Rattle.std.specs.Prelude.{◌≡◌, ◌<◌, ◌≤◌, ◌+◌, ◌⊎◌, ◌↔◌, vec_len, IfSome, IfNone, IsTrue};
+ghost use Rattle.workers.specs.inner.Rounds.{rank};
 
 use crate::limits::APART;
 use board::NONE_TOLD;
@@ -27,7 +28,10 @@ pub(crate) struct Round {
 impl Round {
     /// The place of the item with a number of the board, if it is of this round.
     pub fn place_of(&self, number: u64) -> Option<usize>
-        ensures { IfSome result (λ k. k < vec_len self.now.items) }
+        ensures some { IfSome result (λ k. k < vec_len self.now.items) }
+        ensures number { IfSome result (λ k. self.now.first + k ≡ number) }
+        ensures none { IfNone result ((number < self.now.first)
+            ⊎ (self.now.first + vec_len self.now.items ≤ number)) }
     {
         let place = number.checked_sub(self.first)? as usize;
         if place < self.items.len() {
@@ -38,17 +42,23 @@ impl Round {
     }
 
     /// How many of its items come before this one, in the order of schedules.
-    pub fn rank_of(&self, item: &Item) -> u64 {
-        let before = self
-            .items
-            .iter()
-            .filter(|other| other.prefix() < item.prefix());
-        before.count() as u64
+    pub fn rank_of(&self, item: &Item) -> u64
+        ensures { result ≡ rank self.now.items.items item.now }
+    {
+        let mut before = 0;
+        for other in &self.items {
+            if other.prefix().cmp(&item.prefix()).is_lt() {
+                before += 1;
+            }
+        }
+        before
     }
 
-    /// Whether a quick search leaves an item out for now, where this is the least rank told of an item
-    /// with a bad schedule: the item comes after that one, in the order of schedules.
-    pub fn leaves_out(&self, item: &Item, least: u64) -> bool {
+    /// Whether a quick search leaves an item out for now, where this is the least rank told of an
+    /// item with a bad schedule: the item comes after that one, in the order of schedules.
+    pub fn leaves_out(&self, item: &Item, least: u64) -> bool
+        ensures { IsTrue result ↔ least < rank self.now.items.items item.now }
+    {
         least != NONE_TOLD && self.rank_of(item) > least
     }
 }

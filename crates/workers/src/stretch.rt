@@ -111,8 +111,8 @@ impl Stretch {
         })
     }
 
-    /// Walks the rounds of the stretch, and settles the walks, by all the workers: each in a thread,
-    /// which goes from round to round. Answers the team, and how the workers ended.
+    /// Walks the rounds of the stretch, and settles the walks, by all the workers: each in a
+    /// thread, which goes from round to round. Answers the team, and how the workers ended.
     pub fn walk<N: SearchBrand + Send + Sync, G: Gate, R: Threads + Wait + Sync>(
         self,
         rt: &R,

@@ -75,8 +75,8 @@ impl Team {
         Ok(Team { book, batches })
     }
 
-    /// Walks a round, and settles the walks, without a board: its items in their order, as the first
-    /// worker.
+    /// Walks a round, and settles the walks, without a board: its items in their order, as the
+    /// first worker.
     ///
     /// # Errors
     ///
@@ -111,10 +111,10 @@ impl Team {
         Ok(walk_in_order(alloc, gate, &round, &mut self.book, walker))
     }
 
-    /// Walks a stretch of rounds, at least one, and settles the walks, until what follows the last one
-    /// has to be judged. It is known of the book then that it is of the same search, and what its
-    /// type keeps. Where there is memory for no board, the stretch is a round that the first worker
-    /// walks.
+    /// Walks a stretch of rounds, at least one, and settles the walks, until what follows the last
+    /// one has to be judged. It is known of the book then that it is of the same search, and what
+    /// its type keeps. Where there is memory for no board, the stretch is a round that the first
+    /// worker walks.
     pub fn walk_rounds<G: Gate, R: Threads + Wait + Sync>(
         mut self,
         rt: &R,

@@ -1,11 +1,12 @@
 //! Workers, each in a thread of its own, who go from round to round.
 
-ghost use Rattle.std.specs.Prelude.{◌≡◌, ◌<◌, ◌≤◌, [], true, vec_len, Some, IfOk, IfErr, OnOk};
+ghost use Rattle.std.specs.Prelude.{◌≡◌, ◌<◌, ◌≤◌, ◌↔◌, ℕ, [], true, false, vec_len, Some, None, IfOk, IfErr, OnOk, IfSome, IfNone, IsTrue};
 ghost use Rattle.std.specs.List.{All, Any};
 ghost use Rattle.report.specs.declared.error.ExploreError.TheVariants as explore;
 ghost use Rattle.workers.specs.declared.limits.TheConstants.{KEPT_WALKS};
 ghost use Rattle.workers.specs.declared.worker.Ending.TheVariants.{Drawn, Stopped, OutOfMemory};
-ghost use Rattle.workers.specs.inner.Rounds.{IsRoundOf, IsOn, AreKept};
+ghost use Rattle.board.specs.Claims.{Draws, IsAnswered, marked, with_told};
+ghost use Rattle.workers.specs.inner.Rounds.{IsRoundOf, IsOn, AreKept, rank};
 
 use crate::batch::Batch;
 use crate::branded::SearchBrand;
@@ -73,6 +74,12 @@ impl Worker {
     // The next number: the one that it drew ahead, or one from the board.
     fn draw(&mut self, board: &Board) -> Option<u64>
         requires { self.old.seat.board ≡ board.now.id }
+        ensures ahead { IfSome self.old.ahead (λ k. (result ≡ Some k)
+            × (self.new.seat ≡ self.old.seat)) }
+        ensures drawn { self.old.ahead ≡ None →
+            IfSome result (λ k. Draws self.old.seat k self.new.seat) }
+        ensures all { self.old.ahead ≡ None → IfNone result (self.new.seat ≡ marked self.old.seat) }
+        ensures none { self.new.ahead ≡ None }
         ensures board { self.new.seat.board ≡ self.old.seat.board }
         ensures batch { self.new.batch ≡ self.old.batch }
     {
@@ -85,6 +92,10 @@ impl Worker {
     // Whether a quick search leaves an item out for now.
     fn leaves_out(&mut self, board: &Board, round: &Round, item: &Item) -> bool
         requires { self.old.seat.board ≡ board.now.id }
+        ensures whole { round.now.quick ≡ false → result ≡ false }
+        ensures quick { round.now.quick ≡ true → (least : ℕ)
+            × IsAnswered self.old.seat least self.new.seat
+            × (IsTrue result ↔ least < rank round.now.items.items item.now) }
         ensures board { self.new.seat.board ≡ self.old.seat.board }
         ensures batch { self.new.batch ≡ self.old.batch }
     {
@@ -98,14 +109,15 @@ impl Worker {
     // Tells the other workers that an item has a bad schedule.
     fn tells_of(&mut self, board: &Board, round: &Round, item: &Item)
         requires { self.old.seat.board ≡ board.now.id }
-        ensures board { self.new.seat.board ≡ self.old.seat.board }
-        ensures batch { self.new.batch ≡ self.old.batch }
+        ensures told { self.new ≡ record self.old {
+          seat = with_told self.old.seat (rank round.now.items.items item.now);
+        } }
     {
         board.tell(&mut self.seat, round.rank_of(item));
     }
 
-    // Works from round to round, until the stretch is over, the board has no number any more, the gate
-    // stops it or memory runs out.
+    // Works from round to round, until the stretch is over, the board has no number any more, the
+    // gate stops it or memory runs out.
     fn work<N: SearchBrand, G: Gate, R: Wait>(&mut self, rt: &R, shared: &Shared<N, G>) -> Ending
         requires { IsOn shared.now.board.id N.program self.old }
         ensures on { IsOn shared.now.board.id N.program self.new }
@@ -171,8 +183,8 @@ impl Worker {
         self.settle_at(shared, round, desk, ends)
     }
 
-    // Settles the walks that it keeps of a round where the desk is free now, and does nothing where it
-    // isn't.
+    // Settles the walks that it keeps of a round where the desk is free now, and does nothing where
+    // it isn't.
     //
     // # Errors
     //
@@ -228,8 +240,8 @@ impl Worker {
     }
 
     // Settles its walks where the last one, of this item, found a bad schedule in a quick search,
-    // and tells the other workers of the item: that is of this round alone, so the stretch ends with it.
-    // Else it settles them where it keeps as many as it may, or some and the desk is free.
+    // and tells the other workers of the item: that is of this round alone, so the stretch ends
+    // with it. Else it settles them where it keeps as many as it may, or some and the desk is free.
     //
     // # Errors
     //
@@ -307,8 +319,8 @@ impl Worker {
     }
 }
 
-/// Lets all workers work, each in a thread of its own. Those for which no thread can be made work one
-/// after another.
+/// Lets all workers work, each in a thread of its own. Those for which no thread can be made work
+/// one after another.
 pub(crate) fn work_all<N: SearchBrand + Send + Sync, G: Gate, R: Threads + Wait + Sync>(
     rt: &R,
     shared: &Shared<N, G>,

@@ -1,11 +1,10 @@
 -- A schedule that is carried out step by step.
-use Rattle.std.specs.Prelude.{◌≡◌, ℕ, ◌<◌, List, length, take, nat_eq, Option, Some, None, All, slice_index_or, if◌then◌else◌}
+use Rattle.std.specs.Prelude.{◌≡◌, ℕ, ◌<◌, List, length, take, nat_eq, Option, Some, None, slice_index_or, if◌then◌else◌}
 use Rattle.guest_code.specs.Program.{Program}
 use Rattle.semantics.specs.Machine.{Snapshot, owner_of}
 use Rattle.schedules.specs.Execution.{IsExecutionOf, Reaches}
 use Rattle.explain.specs.declared.explanation.Holder.{Holder}
 use Rattle.explain.specs.declared.explanation.Carried.{Carried}
-use Rattle.explain.specs.Lost.{IsWithin}
 use Rattle.explain.specs.Explains.{TellsSteps, TellsHolders, StopsAt}
 
 -- the owner since a step or since before
@@ -30,6 +29,5 @@ pub record IsCarriedOut (p : Program) (w : List ℕ) (carried : Carried) : Type 
   pub of : IsExecutionOf p carried.execution
   pub reached : Reaches p (take (length carried.steps.items) w) carried.execution
   pub steps : TellsSteps p w (length carried.steps.items) carried.steps.items
-  pub within : All (λ told. IsWithin told.line) carried.steps.items
   pub holders : TellsHolders p w (length carried.steps.items) carried.holders.items
   pub stops : StopsAt p w (length carried.steps.items) carried.refused

@@ -1,10 +1,11 @@
--- A local run, after one of its instructions.
-use Rattle.std.specs.Prelude.{ℕ, ℤ, List, [], Option, Some, None}
+-- A local run, one instruction after the other.
+use Rattle.std.specs.Prelude.{ℕ, ℤ, pos, List, [], ◌∷◌, slice_index_or}
 use Rattle.guest_code.specs.declared.program.Instruction.{Instruction}
+use Rattle.guest_code.specs.declared.program.Instruction.TheVariants.{Set}
 use Rattle.explain.specs.declared.settings.Setting.{Setting}
-use Rattle.explain.specs.Settings.{settings_in}
 
--- what is set from here on, where `skip` instructions are jumped over first, or the run is over
-abbrev pub settings_after : Option ℕ → List Instruction → ℕ → List ℤ → List Setting
-settings_after (Some skip) rest at locals = settings_in rest at skip locals
-settings_after None rest at locals = []
+-- what the instruction of this number has set, where the locals have these values after it
+abbrev pub set_at : ℕ → Instruction → List ℤ → List Setting
+set_at at (Set r e) locals =
+    record { instruction = at; local = r; value = slice_index_or locals r (pos 0) } ∷ []
+set_at at _ locals = []

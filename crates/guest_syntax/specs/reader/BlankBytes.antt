@@ -1,8 +1,13 @@
 -- Spaces and comments, byte by byte.
 use Rattle.std.specs.Prelude.{ℕ, Bool, true, false, not, ◌==◌, nat_le, if◌then◌else◌}
-use Rattle.guest_syntax.specs.declared.lexer.Step.{Step}
-use Rattle.guest_syntax.specs.declared.lexer.Step.TheVariants.{Passed, Stops, NotAscii}
 use Rattle.guest_syntax.specs.Tokens.{is_space}
+
+-- what a byte is to spaces and comments: one of them, after which a comment goes on or not, none of
+-- them, or above 127
+pub data Step : Type 0 where
+  Passed : Bool → Step
+  Stops : Step
+  NotAscii : Step
 
 abbrev pub gap_step : Bool → ℕ → Step
 gap_step comment b =

@@ -1,15 +1,16 @@
 -- What marks of instructions say.
-use Rattle.std.specs.Prelude.{◌≡◌, ℕ, ◌⊎◌, Bool, true, false, IsTrue, List, slice_index_or}
+use Rattle.std.specs.Prelude.{◌≡◌, ℕ, ◌⊎◌, Bool, true, false, IsTrue, List, slice_index_or, Option, Some}
 use Rattle.guest_code.specs.declared.program.Instruction.{Instruction}
 use Rattle.lint.specs.declared.paths.Mark.{Mark}
-use Rattle.lint.specs.Paths.{Goes, Comes, owned_after}
+use Rattle.lint.specs.declared.paths.Watch.{Watch}
+use Rattle.lint.specs.Paths.{Goes, Comes, after}
 
 abbrev pub no_mark : Mark
-no_mark = record { owned = false; free = false }
+no_mark = record { so = false; not_so = false }
 
 abbrev pub mark_of : Mark → Bool → Bool
-mark_of x true = x.owned
-mark_of x false = x.free
+mark_of x true = x.so
+mark_of x false = x.not_so
 
 -- the mark of instruction j for this way
 abbrev pub Marked : List Mark → ℕ → Bool → Type 0
@@ -23,18 +24,19 @@ pub record Grows (old new : List Mark) (More : ℕ → Bool → Type 0) : Type 0
 
 -- one mark
 abbrev pub AddsOne : List Mark → List Mark → ℕ → Bool → Type 0
-AddsOne old new at owned = Grows old new (λ j b. (j ≡ at) × (b ≡ owned))
+AddsOne old new at so = Grows old new (λ j b. (j ≡ at) × (b ≡ so))
 
--- those that may be next after instruction `at`
-abbrev pub AddsNext : List Mark → List Mark → ℕ → Instruction → Bool → Type 0
-AddsNext old new at i owned = Grows old new (λ j b. Goes i at j × (b ≡ owned))
+-- those that may be next after instruction `at`, if some path goes on
+abbrev pub AddsNext : List Mark → List Mark → ℕ → Instruction → Option Bool → Type 0
+AddsNext old new at i next = Grows old new (λ j b. Goes i at j × (next ≡ Some b))
 
 -- those that may be next after it in some way that it has
-abbrev pub AddsAll : List Mark → List Mark → ℕ → Instruction → ℕ → Type 0
-AddsAll old new at i m = Grows old new
-    (λ j b. (c : Bool) × Marked old at c × Goes i at j × (b ≡ owned_after m i c))
+abbrev pub AddsAll : List Mark → List Mark → ℕ → Instruction → Watch → Type 0
+AddsAll old new at i w = Grows old new
+    (λ j b. (c : Bool) × Marked old at c × Goes i at j × (after w i c ≡ Some b))
 
 -- the marks are the ways in which some path leads there
-pub record Marks (ms : List Mark) (code : List Instruction) (m k : ℕ) (b : Bool) : Type 0 where
-  pub sound : (j : ℕ) (c : Bool) → Marked ms j c → Comes code m k b j c
-  pub complete : (j : ℕ) (c : Bool) → Comes code m k b j c → Marked ms j c
+pub record Marks (ms : List Mark) (code : List Instruction) (w : Watch) (k : ℕ) (b : Bool)
+    : Type 0 where
+  pub sound : (j : ℕ) (c : Bool) → Marked ms j c → Comes code w k b j c
+  pub complete : (j : ℕ) (c : Bool) → Comes code w k b j c → Marked ms j c

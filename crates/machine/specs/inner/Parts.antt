@@ -12,7 +12,7 @@ use Rattle.semantics.specs.Machine.{Snapshot, thread_at, can_do, action_at}
 use Rattle.semantics.specs.Mask.{has, no_threads}
 use Rattle.semantics.specs.Ends.{is_stopped, is_ended}
 use Rattle.machine.specs.declared.control.Control.{Control}
-use Rattle.machine.specs.declared.local.Landing.{Landing}
+use Rattle.semantics.specs.declared.local.Landing.{Landing}
 use Rattle.machine.specs.Refinement.{is_woken, takes_mutex, takes_semaphore, at_mutex, at_semaphore, held, HasObjects, HasThreadAt}
 
 -- thread t is at no mutex and no semaphore

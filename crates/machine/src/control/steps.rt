@@ -11,16 +11,15 @@ ghost use Rattle.semantics.specs.Machine.{Snapshot, thread_at, action_of, is_ena
 ghost use Rattle.semantics.specs.Reachable.{IsOf};
 ghost use Rattle.machine.specs.Refinement.{IsControl, IsState};
 ghost use Rattle.machine.specs.declared.control.Control.{Control};
-ghost use Rattle.machine.specs.inner.LocalRuns.{IsAccessBelow};
+ghost use Rattle.semantics.specs.Turns.{IsAccessBelow};
 ghost use Rattle.machine.specs.inner.Steps.{IsPoised, IsPerformed, IsStepped, IsReadyIn};
 
 use crate::control::Control;
-use crate::local::{Landing, access, run_own};
 use guest_code::limits::{COUNT, THREADS};
 use guest_code::program::{Instruction, Program};
 use semantics::state::VariableAction::{Add as Adds, Cas as Swaps, Load as Loads, Store as Stores};
 use semantics::state::{Action, Status, Stop, VariableAction};
-use semantics::{action_at, owns};
+use semantics::{Landing, access, action_at, owns, run_local};
 
 // What a thread does with a variable. It runs on then.
 #[inline(always)]
@@ -199,7 +198,7 @@ impl Control {
     {
         match status {
             Status::Running => {
-                let at = run_own(code, own, pc + 1);
+                let at = run_local(code, own, pc + 1, Status::Running);
                 self.arrive(code, thread, at);
             }
             _ => self.arrive(

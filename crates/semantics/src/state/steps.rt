@@ -70,7 +70,7 @@ impl State {
         ensures { self.new ≡ performed program.now self.old thread (OnVariable x action) }
     {
         let runner = &mut self.threads[thread as usize];
-        access(&mut self.variables[x], runner, action);
+        access(&mut self.variables[x], &mut runner.locals, action);
         resume(program.code(thread), runner);
     }
 

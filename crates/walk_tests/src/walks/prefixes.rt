@@ -54,8 +54,8 @@ fn finds_after(
     Ok(())
 }
 
-/// Compares what the walk of the schedules after a prefix finds within a bound, with the prefixes that
-/// the bound puts off.
+/// Compares what the walk of the schedules after a prefix finds within a bound, with the prefixes
+/// that the bound puts off.
 fn puts_off(
     rt: &(impl Abort + Alloc<A = Global>),
     prefix: &[u8],
@@ -74,8 +74,8 @@ fn walks_after_one_step(rt: HostRuntime) -> Result<(), Fail> {
     finds_after(&rt, &[0], 2, "3 0 0 false None Done [1] Done [2]")
 }
 
-/// A prefix, a bound, and what the walk of the schedules after the prefix finds within the bound, with
-/// what the bound puts off.
+/// A prefix, a bound, and what the walk of the schedules after the prefix finds within the bound,
+/// with what the bound puts off.
 struct Row {
     prefix: &'static [u8],
     bound: u32,
@@ -156,7 +156,8 @@ fn is_awake(alloc: Global, item: &Item) -> Result<bool, Fail> {
     Ok(item.is_same(&awake))
 }
 
-/// How many items the first schedule leaves where sleep sets prune, and whether one of them is awake.
+/// How many items the first schedule leaves where sleep sets prune, and whether one of them is
+/// awake.
 fn left_awake(alloc: Global) -> Result<(usize, bool), Fail> {
     let root = root_of(alloc, READERS)?;
     let (_, found) = walk(alloc, &root, Mode::Reduced, 1)?.into_parts();

@@ -1,10 +1,13 @@
 -- What is known of the rounds of several workers.
-use Rattle.std.specs.Prelude.{◌≡◌, ◌≤◌, ◌<◌, ◌*◌, ◌^◌, All, vec_len}
+use Rattle.std.specs.Prelude.{◌≡◌, ◌≤◌, ◌<◌, ◌+◌, ◌-◌, ◌*◌, ◌^◌, ◌%◌, ℕ, Option, List, [], All, count_by, drop, length, vec_len}
 use Rattle.guest_code.specs.Program.{Program}
 use Rattle.board.specs.Board.{BoardId}
-use Rattle.items.specs.Items.{AreOf}
+use Rattle.schedules.specs.Order.{precedes}
+use Rattle.items.specs.Items.{ItemView, AreOf}
 use Rattle.items.specs.declared.mode.Mode.{Mode}
-use Rattle.book.specs.Books.{HaveFound}
+use Rattle.book.specs.declared.limits.TheConstants.{ROUND}
+use Rattle.book.specs.Books.{BookView, HaveFound}
+use Rattle.report.specs.Reports.{IsReached}
 use Rattle.workers.specs.declared.limits.TheConstants.{WORKERS}
 use Rattle.workers.specs.declared.batch.Batch.{Batch}
 use Rattle.workers.specs.declared.round.Round.{Round}
@@ -16,6 +19,25 @@ pub record IsRoundOf (p : Program) (m : Mode) (r : Round) : Type 0 where
   pub mode : r.mode ≡ m
   pub items : AreOf p r.items.items
   pub quota : 1 ≤ r.quota
+
+-- how many of these items come before this one, in the order of schedules
+abbrev pub rank : List ItemView → ItemView → ℕ
+rank items i = count_by (λ j. precedes j.prefix i.prefix) items
+
+-- a search with this limit goes on from a book to another round, whatever the last one found: items
+-- are open, and the limit is not reached
+abbrev pub GoesOn : Option ℕ → BookView → Type 0
+GoesOn limit b = (b.open_items ≡ [] → ⊥) × (IsReached limit b.finished → ⊥)
+
+-- the round of a book's last open items, which follows another one of the stretch
+pub record Follows (b : BookView) (last round : Round) : Type 0 where
+  pub items : round.items.items ≡ drop (length b.open_items - ROUND) b.open_items
+  pub mode : round.mode ≡ last.mode
+  pub quick : round.quick ≡ last.quick
+  pub lists : round.lists ≡ last.lists
+  pub quota : round.quota ≡ last.quota
+  pub turn : round.turn ≡ (last.turn + 1) % 2 ^ 64
+  pub first : round.first ≡ (last.first + vec_len last.items) % 2 ^ 64
 
 -- the worker's seat is of this board, and its walker of this program
 pub record IsOn (board : BoardId) (p : Program) (w : Worker) : Type 0 where

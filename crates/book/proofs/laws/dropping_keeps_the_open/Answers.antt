@@ -16,8 +16,7 @@ returns-clause-below c = λ b t.
 pub returns-clause-schedules : goal.returns-clause-schedules
 returns-clause-schedules c = λ b t.
     all_right (HasItsOf b.mode (root_of b.program)) t.gone b.open_items
-    (rest_has b.mode (root_of b.program) (t.gone ++ b.open_items) b.deferred
-    t.split.below t.split.cut)
+    (rest_has b.mode (root_of b.program) b.finished (t.gone ++ b.open_items) b.deferred t.split)
 
 pub returns-clause-apart : goal.returns-clause-apart
 returns-clause-apart c = λ b v i j d t l k e.

@@ -10,4 +10,4 @@ returns-clause-below c = λ b h.
 
 pub returns-clause-schedules : goal.returns-clause-schedules
 returns-clause-schedules c = λ b h.
-    rest_has b.mode (root_of b.program) b.open_items b.deferred h.below h.cut
+    rest_has b.mode (root_of b.program) b.finished b.open_items b.deferred h

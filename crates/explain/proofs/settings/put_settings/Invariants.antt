@@ -1,8 +1,11 @@
-use Rattle.std.proofs.Common.{◌≡◌, ◌++◌, drop}
+use Rattle.std.proofs.Common.{◌≡◌, ◌++◌, ◌-◌, drop, length}
 use Rattle.explain.specs.Settings.{settings_in}
 use Rattle.explain.proofs.settings.put_settings.Given as goal
 
-abbrev pub invariant-loop-at : goal.invariant-loop-at
-invariant-loop-at l =
-    l.settings.items ++ settings_in (drop l.at l.code) l.at l.skip l.locals
+abbrev pub invariant-loop-next : goal.invariant-loop-next
+invariant-loop-next l =
+    l.settings.items ++ settings_in (drop l.at l.code) l.at 0 l.locals
     ≡ l.fn.settings.items ++ settings_in (drop l.fn.from l.code) l.fn.from 0 l.fn.locals
+
+abbrev pub decreases-loop-next : goal.decreases-loop-next
+decreases-loop-next l = length l.code - l.at

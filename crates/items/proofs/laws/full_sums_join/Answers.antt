@@ -6,5 +6,5 @@ use Rattle.items.proofs.laws.full_sums_join.Goals as goal
 
 pub returns : goal.returns
 returns c = λ w bound h e fits.
-    split_full bound w.item w.part w.rest w.deferred fits
-    (subst (λ (m : Mode). IsSplit m w.item w.part w.rest w.deferred) e h.split)
+    split_full bound w.item w.part w.rest w.deferred
+    (subst (λ (m : Mode). IsSplit m w.item w.part w.rest w.deferred) e h.split) fits

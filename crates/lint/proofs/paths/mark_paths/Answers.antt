@@ -5,8 +5,8 @@ use Rattle.lint.proofs.PathMarks.{passed_none, passed_step, passed_all, jump_fit
 use Rattle.lint.proofs.paths.mark_paths.Goals as goal
 
 pub loop-at-init : goal.loop-at-init
-loop-at-init c = passed_none c.args.marks.now c.add.new.marks c.args.code.now c.args.mutex
-    c.args.start c.args.owned c.requires.none c.add.ensures
+loop-at-init c = passed_none c.args.marks.now c.add.new.marks c.args.code.now c.args.watch
+    c.args.start c.args.so c.requires.none c.add.ensures
 
 pub pass-requires : goal.pass-requires
 pass-requires c =
@@ -16,10 +16,10 @@ pass-requires c =
     omega (arith, c.requires.length, c.add.auto.marks, c.loop-at.auto.marks)
 
 pub loop-at-preserved : goal.loop-at-preserved
-loop-at-preserved c = passed_step c.loop-at.marks c.pass.new.marks c.args.code.now c.args.mutex
-    c.args.start c.args.owned c.loop-at.at (Load 0 0) c.loop-at-test.true c.pass.ensures
+loop-at-preserved c = passed_step c.loop-at.marks c.pass.new.marks c.args.code.now c.args.watch
+    c.args.start c.args.so c.loop-at.at (Load 0 0) c.loop-at-test.true c.pass.ensures
     c.loop-at.invariant
 
 pub returns : goal.returns
-returns c = passed_all c.loop-at.marks c.args.code.now c.args.mutex c.args.start c.args.owned
+returns c = passed_all c.loop-at.marks c.args.code.now c.args.watch c.args.start c.args.so
     c.loop-at.at c.loop-at-test.false c.loop-at.auto.at-end c.loop-at.invariant

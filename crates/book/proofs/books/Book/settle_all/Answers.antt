@@ -1,6 +1,6 @@
-use Rattle.std.proofs.Common.{rules, ◌≡◌, ◌∙◌, false, not, ◌&&◌, refl, ap, sym, subst, IfSome}
+use Rattle.std.proofs.Common.{rules, ◌≡◌, ◌∙◌, false, not, ◌&&◌, refl, ap, sym, subst, IfSome, IfNone, inl, inr}
 use Rattle.items.specs.Items.{AreOf}
-use Rattle.book.specs.Books.{BookView, Keeps, AreWithin, AreOpenAt, HaveSettled, taken_in, remove_each}
+use Rattle.book.specs.Books.{BookView, Keeps, AreWithin, AreOpenAt, StandInOrder, HaveSettled, taken_in, remove_each}
 use Rattle.book.proofs.BookFields.{book_of}
 use Rattle.book.proofs.Lists.{open_within}
 use Rattle.book.proofs.OpenItems.{open_run, unpacked_own}
@@ -69,7 +69,17 @@ pub returns-clause-taken : goal.returns-clause-taken
 returns-clause-taken c = λ f is_taken.
     let before = (goal.at.returns-clause-taken c).After-as_slice in
     subst (HaveSettled c.args.self.now f.walks)
-    (ap (taken before) (sym (moved before)) ∙ sym c.in_ok-take_over.ensures)
+    (ap (taken before) (sym (moved before)) ∙ sym c.in_ok-take_over.ensures.book)
     (settled_together c.args.items.now c.args.places.now _ c.args.found.now c.args.self.now
     c.requires.program (subst Keeps c.self.view_is c.self.invariant.0) (there before)
     (lists before) f).0
+
+pub returns-then-not-found-clause-not_taken : goal.returns-then-not-found-clause-not_taken
+returns-then-not-found-clause-not_taken c = λ e. inl (search rules)
+
+pub returns-in_default-clause-not_taken : goal.returns-in_default-clause-not_taken
+returns-in_default-clause-not_taken c = λ e. inr
+    (subst (λ (z : BookView). StandInOrder z.open_items c.args.items.now c.args.places.now → ⊥)
+    c.self.view_is
+    (subst (λ o. IfNone o (StandInOrder (book_of c.self.inside).open_items c.args.items.now
+    c.args.places.now → ⊥)) c.in_default.is c.in_ok-stand.ensures.none))

@@ -83,7 +83,7 @@ returns-clause-ok c =
     let out = round_out unpacked.open_items b.open_items _ _ c.saturating_sub-first.ensures
     (c.length-end.ensures p) c.unpack_from.ensures.same in
     on_settled c.take_over.result c.take_over.new.self _ _
-    (HasWalkedRound c.args.self.now c.args.quota c.take_over.new.self) c.take_over.ensures
+    (HasWalkedRound c.args.self.now c.args.quota c.take_over.new.self) c.take_over.ensures.book
     (λ is. round_settled c.args.self.now unpacked c.take_over.new.self _ _ c.loop-place.place
     c.args.quota c.loop-place.found
     ((λ j. record b { open_items = c.unpack_from.ensures.same j }) ∙ c.self.view_is)

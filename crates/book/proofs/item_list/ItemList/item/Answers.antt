@@ -4,7 +4,7 @@ use Rattle.std.specs.List.{All}
 use Rattle.items.specs.Items.{IsItem, item_at}
 use Rattle.prefix_list.specs.PrefixLists.{last_of}
 use Rattle.items.specs.Walks.{items_at}
-use Rattle.book.specs.ItemLists.{ListView, all_of}
+use Rattle.book.specs.ItemLists.{ListView, list_view, all_of}
 use Rattle.book.proofs.PackedItems.{first_run, got-last, got-packed, if_ok}
 use Rattle.book.proofs.item_list.ItemList.item.Goals as goal
 
@@ -29,7 +29,7 @@ returns c =
     ∙ (c.truncate.ensures ∙ ap (take (c.args.place + 1)) c.in_ok-prefixes.ensures) in
     let low : c.args.place < length i.packed =
     omega (arith, c.if-packed-place.false, c.length-packed.ensures.length) in
-    let l : ListView = record { packed = i.packed; unpacked = i.unpacked.items } in
+    let l : ListView = list_view i.packed i.unpacked in
     if_ok c.last_item.result (λ x. x ≡ item_at p (last_of c.in_ok-reading.reading)) _
     (λ x e. ap (λ m. slice_get (all_of p m) c.args.place) (sym c.self.view_is)
     ∙ (got-packed p l c.args.place (last_of (take (c.args.place + 1) i.packed)) low

@@ -1,9 +1,10 @@
-use Rattle.std.proofs.Common.{subst, IfOk, IfSome, List}
+use Rattle.std.proofs.Common.{subst, IfOk, IfNone, IfSome, List, sym, ◌∙◌, refl}
 use Rattle.std.specs.Arc.{arc_value}
 use Rattle.items.specs.Items.{ItemView}
 use Rattle.book.specs.ItemLists.{all_of}
-use Rattle.book.specs.Books.{AreOpenAt}
+use Rattle.book.specs.Books.{AreOpenAt, StandInOrder}
 use Rattle.book.proofs.PackedItems.{still_own}
+use Rattle.book.proofs.TakenOver.{none_there, unpacked_only}
 use Rattle.book.proofs.item_list.ItemList.places_of.Goals as goal
 
 pub returns-in-Some-clause-there : goal.returns-in-Some-clause-there
@@ -13,8 +14,8 @@ returns-in-Some-clause-there c =
     AreOpenAt (all_of p c.args.self.now) c.args.items.now c.args.places.now v.items))
     c.in-Some.is (c.in_ok-found.ensures.there p)
 
-pub unpacked_places_of-requires-2-clause-program : goal.unpacked_places_of-requires-2-clause-program
-unpacked_places_of-requires-2-clause-program c =
+pub places_from-requires-2-clause-program : goal.places_from-requires-2-clause-program
+places_from-requires-2-clause-program c =
     let p = arc_value c.args.program.now in (
       p,
       still_own p c.args.self.now c.unpack_from.new.self c.unpack_from.ensures.same
@@ -24,7 +25,38 @@ unpacked_places_of-requires-2-clause-program c =
 
 pub returns-clause-there : goal.returns-clause-there
 returns-clause-there c =
-    subst (λ (all : List ItemView). IfOk c.unpacked_places_of-2.result (λ o. IfSome o (λ v.
+    subst (λ (all : List ItemView). IfOk c.places_from-3.result (λ o. IfSome o (λ v.
     AreOpenAt all c.args.items.now c.args.places.now v.items)))
-    c.unpack_from.ensures.same
-    (c.unpacked_places_of-2.ensures.there (arc_value c.args.program.now))
+    (c.unpack_from-2.ensures.same ∙ c.unpack_from.ensures.same)
+    (c.places_from-3.ensures.there (arc_value c.args.program.now))
+
+pub places_from-requires-3-clause-program : goal.places_from-requires-3-clause-program
+places_from-requires-3-clause-program c =
+    let p = arc_value c.args.program.now in (
+      p,
+      still_own p c.args.self.now c.unpack_from-2.new.self
+          (c.unpack_from-2.ensures.same ∙ c.unpack_from.ensures.same) c.requires.unpacked,
+      c.requires.program,
+    )
+
+pub returns-in-Some-2-clause-there : goal.returns-in-Some-2-clause-there
+returns-in-Some-2-clause-there c =
+    let p = arc_value c.args.program.now in
+    subst (λ o. IfSome o (λ v.
+    AreOpenAt (all_of p c.args.self.now) c.args.items.now c.args.places.now v.items))
+    c.in-Some-2.is
+    (subst (λ (all : List ItemView). IfSome c.in_ok-found-2.field-0 (λ v.
+    AreOpenAt all c.args.items.now c.args.places.now v.items)) c.unpack_from.ensures.same
+    (c.in_ok-found-2.ensures.there p))
+
+-- nothing is packed any more
+pub returns-clause-none : goal.returns-clause-none
+returns-clause-none c =
+    let p = arc_value c.args.program.now in
+    let list = c.unpack_from-2.new.self in
+    let none = none_there list.packed 0 c.in_ok-unpack_from-2.ensures.unpacked refl in
+    subst (λ (all : List ItemView). IfOk c.places_from-3.result (λ o. IfNone o
+    (StandInOrder all c.args.items.now c.args.places.now → ⊥)))
+    (sym (unpacked_only p list none)
+    ∙ (c.unpack_from-2.ensures.same ∙ c.unpack_from.ensures.same))
+    (c.places_from-3.ensures.none refl)

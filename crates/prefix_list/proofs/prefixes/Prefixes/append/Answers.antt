@@ -6,26 +6,25 @@ use Rattle.prefix_list.proofs.PackedPrefixes.{if_ok, packed_few, listed_none, st
 use Rattle.prefix_list.proofs.ListFields.{counted_few, stack_of, with_room, cut_short}
 use Rattle.prefix_list.proofs.prefixes.Prefixes.append.Goals as goal
 
-pub returns-then-other-eq0-clause-moved : goal.returns-then-other-eq0-clause-moved
-returns-then-other-eq0-clause-moved c = let i =
-    c.other.inside in rw (← c.other.view_is)
-    (listed_none i.count (drop i.front i.bytes.items) i.last.items c.if-other-eq0.true)
-
-pub returns-then-other-eq0-clause-all : goal.returns-then-other-eq0-clause-all
-returns-then-other-eq0-clause-all c = rw (returns-then-other-eq0-clause-moved c)
+pub returns-then-other-eq0 : goal.returns-then-other-eq0
+returns-then-other-eq0 c =
+    let i = c.other.inside in
+    rw (
+      ← c.other.view_is,
+      listed_none i.count (drop i.front i.bytes.items) i.last.items c.if-other-eq0.true,
+    )
     (sym (append-nil c.args.self.now))
 
-pub returns-then-self-eq0-clause-moved : goal.returns-then-self-eq0-clause-moved
-returns-then-self-eq0-clause-moved c = let i =
-    c.self.inside in rw (c.swap.ensures.y_after, ← c.self.view_is)
-    (listed_none i.count (drop i.front i.bytes.items) i.last.items c.if-self-eq0.true)
+pub returns-then-self-eq0 : goal.returns-then-self-eq0
+returns-then-self-eq0 c =
+    let i = c.self.inside in
+    c.swap.ensures.x_after
+    ∙ c.in_ok-copy.ensures
+    ∙ ap (λ ps. ps ++ c.args.other.now)
+    (sym (sym c.self.view_is
+    ∙ listed_none i.count (drop i.front i.bytes.items) i.last.items c.if-self-eq0.true))
 
-pub returns-then-self-eq0-clause-all : goal.returns-then-self-eq0-clause-all
-returns-then-self-eq0-clause-all c =
-    let e = returns-then-self-eq0-clause-moved c in
-    rw (← c.swap.ensures.y_after, e, c.swap.ensures.x_after) refl
-
-grown_at : (c : goal.After-other-1) → Holds (c.self.inside.count + c.other.inside.count)
+grown_at : (c : goal.After-self-1) → Holds (c.self.inside.count + c.other.inside.count)
     c.self.inside.front c.extend_from_slice.new.self.items c.extend_from_slice-2.new.self.items
     (vec_capacity c.extend_from_slice-2.new.self)
     (listed c.self.inside.count (drop c.self.inside.front c.self.inside.bytes.items)
@@ -142,12 +141,8 @@ overflow_add-self c =
 pub invariant_of-self-2 : goal.invariant_of-self-2
 invariant_of-self-2 c = ((grown_at c).within, (grown_at c).packed)
 
-pub returns-clause-all : goal.returns-clause-all
-returns-clause-all c = (grown_at c).view ∙ (rw (← c.self.view_is, ← c.other.view_is) refl)
-
-pub returns-clause-moved : goal.returns-clause-moved
-returns-clause-moved c = let j = c.other.inside in
-    listed_none 0 (drop j.front j.bytes.items) j.last.items refl
+pub returns : goal.returns
+returns c = (grown_at c).view ∙ (rw (← c.self.view_is, ← c.other.view_is) refl)
 
 pub invariant_of-self-in_err-put_way : goal.invariant_of-self-in_err-put_way
 invariant_of-self-in_err-put_way c =

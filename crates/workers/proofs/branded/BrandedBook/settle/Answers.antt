@@ -1,5 +1,5 @@
 use Rattle.std.proofs.Common.{sym, subst}
-use Rattle.book.specs.Books.{HaveSettled}
+use Rattle.book.specs.Books.{HaveSettled, AreNotTaken}
 use Rattle.workers.specs.Teams.{IsOf}
 use Rattle.workers.proofs.Kept.{found_in, settled_of, either_way}
 use Rattle.workers.proofs.branded.BrandedBook.settle.Goals as goal
@@ -27,3 +27,8 @@ returns-clause-taken g c = λ f taken.
     (c.settle_all.ensures.taken
     (found_in g.N.SearchBrand.program b.program g.N.SearchBrand.mode b.mode c.args.items.now c.args.places.now
     c.args.found.now of.program of.mode f) taken)
+
+pub returns-clause-not_taken : goal.returns-clause-not_taken
+returns-clause-not_taken g c = λ e.
+    subst (λ z. AreNotTaken z c.args.items.now c.args.places.now c.args.found.now) c.self.view_is
+    (c.settle_all.ensures.not_taken e)

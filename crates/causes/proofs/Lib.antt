@@ -1,0 +1,7 @@
+mod Back
+mod Following
+mod Marks
+mod Places
+mod Rows
+mod Runs
+mod Valid

@@ -1,0 +1,56 @@
+use Rattle.std.proofs.Common.{◌≡◌, ◌∙◌, [], ◌<◌, ◌+◌, ◌-◌, sym, subst, refl, arith, take, drop, length}
+use Rattle.std.proofs.lemmas.List.{length-set}
+use Rattle.causes.specs.Causes.{marked, marks_in, no_event}
+use Rattle.causes.specs.Needs.{AreMarks}
+use Rattle.causes.specs.inner.Wanting.{IsWanted}
+use Rattle.causes.proofs.Back.{wanted_back, marks_back, used_here}
+use Rattle.causes.proofs.Marks.{marks_are_the_cause}
+use Rattle.causes.proofs.Places.{first_event, rest_marked}
+use Rattle.causes.proofs.Valid.{uses_few}
+use Rattle.causes.proofs.causes.marks_of.Goals as goal
+
+pub take-requires-clause-used : goal.take-requires-clause-used
+take-requires-clause-used c =
+    let p = c.args.program.now in
+    let es = c.args.events.now in
+    let k = c.events.at - 1 in
+    let l : k < length es = omega arith in
+    let on : c.events.at ≡ k + 1 = omega arith in
+    let v = c.requires k first_event l in
+    used_here p es k first_event c.events.wanted c.keeps_limits.ensures l v
+    (subst (λ n. IsWanted (take n es) (rest_marked p es n) c.events.wanted) on
+    c.events.invariant.wanted) _ refl (uses_few p _ c.keeps_limits.ensures v.statement)
+
+pub events-preserved : goal.events-preserved
+events-preserved c =
+    let p = c.args.program.now in
+    let es = c.args.events.now in
+    let k = c.events.at - 1 in
+    let l : k < length es = omega arith in
+    let on : c.events.at ≡ k + 1 = omega arith in
+    let v = c.requires k first_event l in
+    let w = subst (λ n. IsWanted (take n es) (rest_marked p es n) c.events.wanted) on
+    c.events.invariant.wanted in
+    record {
+      inside = omega arith;
+      wanted = wanted_back p es k first_event c.events.wanted c.keeps_limits.ensures l v w
+          c.needs-needed.result c.take.new.self c.needs-needed.ensures c.in_ok-take.ensures;
+      marks = marks_back p es k first_event c.events.wanted c.keeps_limits.ensures l v w
+          c.needs-needed.result c.events.marks.items c.needs-needed.ensures
+          c.events.invariant.all
+          (subst (λ n. drop n c.events.marks.items ≡ marks_in (rest_marked p es n)) on
+          c.events.invariant.marks);
+      all = length-set c.events.marks.items k c.needs-needed.result ∙ c.events.invariant.all;
+    }
+
+pub returns : goal.returns
+returns c =
+    let p = c.args.program.now in
+    let es = c.args.events.now in
+    let end : c.events.at ≡ 0 = omega arith in
+    let all : c.events.marks.items ≡ marks_in (marked p [] es) =
+    subst (λ n. drop n c.events.marks.items ≡ marks_in (rest_marked p es n)) end
+    c.events.invariant.marks in
+    subst (λ ms. AreMarks p es ms) (sym all) (marks_are_the_cause p es (λ i l.
+    let a = (c.requires i no_event l).thread in let b = c.keeps_limits.ensures.threads in
+    omega (arith, a, b)))

@@ -1,0 +1,16 @@
+use Rattle.std.proofs.Common.{◌≡◌, ◌≤◌, length, take, drop}
+use Rattle.causes.specs.Causes.{marks_in}
+use Rattle.causes.specs.inner.Wanting.{IsWanted}
+use Rattle.causes.proofs.Places.{rest_marked}
+use Rattle.causes.proofs.causes.marks_of.Given as goal
+
+abbrev pub invariant-events : goal.invariant-events
+invariant-events l = record {
+  inside : l.at ≤ length l.events;
+  wanted : IsWanted (take l.at l.events) (rest_marked l.program l.events l.at) l.wanted;
+  marks : drop l.at l.marks.items ≡ marks_in (rest_marked l.program l.events l.at);
+  all : length l.marks.items ≡ length l.events;
+}
+
+abbrev pub decreases-events : goal.decreases-events
+decreases-events l = l.at

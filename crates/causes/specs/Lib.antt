@@ -1,0 +1,9 @@
+pub mod Events
+pub mod Course
+pub mod Asked
+pub mod Tests
+pub mod Causes
+pub mod Needs
+pub mod Origins
+pub mod Told
+pub mod inner

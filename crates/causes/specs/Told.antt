@@ -1,0 +1,20 @@
+-- What is told of the cause of how a run ended.
+use Rattle.std.specs.Prelude.{◌≡◌, length, MatchOption}
+use Rattle.guest_code.specs.Program.{Program}
+use Rattle.explain.specs.declared.explanation.Explanation.{Explanation}
+use Rattle.causes.specs.declared.causes.Causes.{Causes}
+use Rattle.causes.specs.Course.{course}
+use Rattle.causes.specs.Causes.{AreStepMarks, NoneOf}
+use Rattle.causes.specs.Needs.{AreMarks}
+use Rattle.causes.specs.Origins.{IsFailure, stops}
+
+-- of a run that is explained so: what happened, what of it is in the cause, in which steps, and
+-- where the run failed
+pub record Tells (p : Program) (run : Explanation) (told : Causes) : Type 0 where
+  pub events : told.events.items ≡ course p run
+  pub marks : AreMarks p told.events.items told.marks.items
+  pub steps : AreStepMarks told.events.items told.marks.items (length told.events.items)
+      (length run.steps.items) told.steps.items
+  pub failure : MatchOption told.failure
+      (NoneOf told.events.items stops 0 (length told.events.items))
+      (IsFailure run.steps.items told.events.items)

@@ -1,0 +1,5 @@
+-- What the proofs put between the code and the definitions. Only contracts of private functions
+-- cite it, so nobody has to believe it.
+pub mod Wanting
+pub mod Running
+pub mod Keeping

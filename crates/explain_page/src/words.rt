@@ -1,0 +1,62 @@
+//! The words of the JSON.
+
+use explain::{Reason, Standing};
+use replay::Act;
+use semantics::state::{Status, Stop};
+use semantics::view::Kind;
+
+/// How a schedule ends.
+pub fn kind_word(kind: Kind) -> &'static str {
+    match kind {
+        Kind::Done => "done",
+        Kind::Failed => "failed",
+        Kind::Stuck => "stuck",
+    }
+}
+
+/// Why a thread stopped.
+pub fn stop_word(stop: Stop) -> &'static str {
+    match stop {
+        Stop::Assert => "assert",
+        Stop::NotHeld => "not-held",
+        Stop::SemFull => "sem-full",
+    }
+}
+
+/// Where a thread is at the end.
+pub fn status_word(standing: &Standing) -> &'static str {
+    match standing.status {
+        Status::Ended => "ended",
+        Status::Stopped(_) => "stopped",
+        _ if standing.reason.is_some() => "blocked",
+        _ => "enabled",
+    }
+}
+
+/// What a blocked thread is to do.
+pub fn reason_word(reason: Reason) -> &'static str {
+    match reason {
+        Reason::Lock(_) => "lock",
+        Reason::Retake(_) => "retake",
+        Reason::Acquire(_) => "acquire",
+        Reason::Signal(_) => "signal",
+    }
+}
+
+/// What a step did.
+pub fn act_word(act: Act) -> &'static str {
+    match act {
+        Act::Load { .. } => "load",
+        Act::Store { .. } => "store",
+        Act::Add { .. } => "add",
+        Act::Cas { .. } => "cas",
+        Act::Lock(_) => "lock",
+        Act::Unlock(_) => "unlock",
+        Act::Wait { .. } => "wait",
+        Act::Retake(_) => "retake",
+        Act::Signal(_) => "signal",
+        Act::Broadcast(_) => "broadcast",
+        Act::Acquire(_) => "acquire",
+        Act::Release(_) => "release",
+    }
+}

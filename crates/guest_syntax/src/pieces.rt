@@ -1,0 +1,129 @@
+//! A text cut into tokens, whether or not it spells a tree.
+
+ghost use Rattle.std.specs.Prelude.{◌≡◌, ◌+◌, ◌^◌, ◌≤◌, ◌<◌, ◌⊎◌, length, take, drop, IfSome, None, ℕ};
+ghost use Rattle.guest_syntax.specs.Place.{start};
+ghost use Rattle.guest_syntax.specs.Tokens.{blank};
+ghost use Rattle.guest_syntax.specs.Pieces.{IsGapBefore, IsWhole, IsStray, open_after, ClosesAt};
+
+use crate::cursor::Cursor;
+use crate::lexer::{advance, blank_after, kind_at};
+use crate::limits::TEXT_BYTES;
+use crate::place::Pos;
+
+/// A token, or a byte that begins none.
+#[derive(Clone, Copy, Debug)]
+pub struct Piece<'a> {
+    /// Its bytes.
+    pub text: &'a [u8],
+    /// The place of the first.
+    pub at: Pos,
+}
+
+/// What is left of a text. It goes on where no token begins: pieces are tokens, each the longest
+/// that begins where it is, and single bytes with which none begins.
+#[derive(Drop)]
+pub struct Pieces<'a> {
+    left: Cursor<'a>,
+}
+
+impl<'a> Pieces<'a> {
+    /// The pieces of a text; of one of more than [`TEXT_BYTES`](crate::TEXT_BYTES) bytes, those of
+    /// as many.
+    #[tactic(auto, using(std::proofs::lemmas::List::take_min))]
+    pub fn new(text: &'a [u8]) -> Pieces<'a>
+        ensures rest { result.left.rest.now ≡ take TEXT_BYTES text.now }
+        ensures at { result.left.at ≡ start }
+    {
+        let text = &text[..TEXT_BYTES.min(text.len())];
+        let (rest, at) = (text, Pos { line: 1, col: 1 });
+        let left = Cursor { text, rest, at };
+        Pieces { left }
+    }
+}
+
+/// How many bytes of blanks and comments come first.
+fn gap_len(text: &[u8]) -> usize
+    ensures within { result ≤ length text.now }
+    ensures gap { IsGapBefore (take result text.now) (drop result text.now) }
+{
+    let mut comment = false;
+    for (i, byte) in text.iter().enumerate() {
+        match blank_after(comment, *byte) {
+            Some(goes_on) => comment = goes_on,
+            None => return i,
+        }
+    }
+    text.len()
+}
+
+/// How many bytes the token has that begins here; 1 where none does.
+fn piece_len(text: &[u8]) -> usize
+    requires { 0 < length text.now }
+    ensures some { 0 < result }
+    ensures within { result ≤ length text.now }
+    ensures is { IsWhole (take result text.now) (drop result text.now)
+        ⊎ IsStray (take result text.now) (drop result text.now) }
+{
+    match kind_at(text) {
+        Some((_, len)) => len,
+        None => 1,
+    }
+}
+
+impl<'a> Iterator for Pieces<'a> {
+    ghost use Rattle.std.specs.Prelude.{length};
+    ghost use Rattle.std.specs.Iterator.{at_most};
+    ghost use Rattle.guest_syntax.specs.Pieces.{GivesPiece};
+
+    type Item = Piece<'a>;
+
+    ghost next_gives = { GivesPiece };
+
+    ghost remaining = { λ s. at_most (length s.left.rest.now) };
+
+    fn next(&mut self) -> Option<Piece<'a>> {
+        let start = advance(self.left, gap_len(self.left.rest));
+        self.left = start;
+        if start.rest.is_empty() {
+            return None;
+        }
+        let len = piece_len(start.rest);
+        self.left = advance(start, len);
+        Some(Piece {
+            text: &start.rest[..len],
+            at: start.at,
+        })
+    }
+}
+
+/// How many blocks are open after a piece, where this many were before it; none where it closes one
+/// that isn't open.
+fn open_after(piece: &Piece<'_>, depth: usize) -> Option<usize>
+    requires { depth + 1 < 2 ^ 64 }
+    ensures is { result ≡ open_after piece.now depth }
+    ensures deeper { IfSome result (λ d. d ≤ depth + 1) }
+{
+    if piece.text == b"{".as_slice() {
+        Some(depth + 1)
+    } else if piece.text == b"}".as_slice() {
+        depth.checked_sub(1)
+    } else {
+        Some(depth)
+    }
+}
+
+/// How many of these pieces come before the `}` that closes the block that they are in; none where
+/// nothing closes it.
+pub fn closing(pieces: &[Piece<'_>]) -> Option<usize>
+    ensures found { IfSome result (ClosesAt pieces.now) }
+    ensures none { result ≡ None → (n : ℕ) → ClosesAt pieces.now n → ⊥ }
+{
+    let mut depth = 0;
+    for (i, piece) in pieces.iter().enumerate() {
+        match open_after(piece, depth) {
+            Some(deeper) => depth = deeper,
+            None => return Some(i),
+        }
+    }
+    None
+}

@@ -1,0 +1,170 @@
+//! Which steps are in the cause of how a run ended: worked out by hand for each guest, by going back
+//! from its end.
+
+use causes::Causes;
+use explain::Explanation;
+use guest_code::lowering::lower;
+use guest_syntax::parse;
+use std::alloc::Global;
+use std::test::*;
+
+/// A guest, a schedule, and the steps in the cause of how it ends.
+struct Worked<'a> {
+    text: &'a [u8],
+    schedule: &'a [u8],
+    steps: &'a [usize],
+}
+
+// A write between two uses of the variable by another thread, which overwrites it.
+const LOST: Worked<'static> = Worked {
+    text: b"var x; var y; thread A { load r x; store x r; load q x; assert q == 1; } thread B {
+store y 1; store x 1; }",
+    schedule: &[0, 1, 1, 0, 0],
+    steps: &[0, 2, 3, 4],
+};
+
+// The owner of a mutex ends, having passed the unlock by.
+const KEPT: Worked<'static> = Worked {
+    text: b"var x; var y; mutex m; thread A { store y 1; lock m; load c x; if c { unlock m; } }
+thread B { lock m; }",
+    schedule: &[0, 0, 0],
+    steps: &[1, 2],
+};
+
+// A semaphore whose release is passed by.
+const TAKEN: Worked<'static> = Worked {
+    text: b"var x; var y; sem s = 1; thread A { acquire s; load c x; if c { release s; } } thread
+B { store y 1; acquire s; }",
+    schedule: &[0, 0, 1],
+    steps: &[0, 1],
+};
+
+// An unlock of a mutex that another thread owns; what comes after it doesn't count.
+const NOT_HELD: Worked<'static> = Worked {
+    text: b"var x; mutex m; thread A { unlock m; } thread B { lock m; store x 1; unlock m; }",
+    schedule: &[1, 1, 0, 1],
+    steps: &[0, 2],
+};
+
+// The edit of the mode after it was read.
+const THERAC: Worked<'static> = Worked {
+    text: b"var mode = 1; var turntable; var edited; var current; thread Keyboard { store
+turntable 1; store mode 1; store mode 2; store turntable 2; store edited 1; } thread
+Treat { load m mode; if m == 1 { store current 100; } else { store current 1; } load e
+edited; if e { load m mode; if m == 1 { store current 100; } else { store current 1; }
+} load t turntable; load c current; if t == 2 { assert c == 1; } }",
+    schedule: &[1, 1, 1, 0, 0, 0, 0, 0, 1, 1],
+    steps: &[0, 1, 2, 6, 8, 9],
+};
+
+// A reader that waits for a writer, which waits for that reader.
+const RWLOCK: Worked<'static> = Worked {
+    text: b"mutex g; cond changed; var readers; var pending; var writing; thread Reader { lock g;
+repeat 3 { load p pending; if p == 0 { leave; } wait changed g; } assert p == 0; add
+old readers 1; unlock g; lock g; repeat 3 { load p pending; if p == 0 { leave; } wait
+changed g; } assert p == 0; add old readers 1; unlock g; lock g; add old readers -1;
+broadcast changed; unlock g; lock g; add old readers -1; broadcast changed; unlock g;
+} thread Writer { lock g; store pending 1; repeat 5 { load n readers; if n == 0 {
+leave; } wait changed g; } assert n == 0; unlock g; lock g; store pending 0; broadcast
+changed; unlock g; }",
+    schedule: &[0, 0, 0, 0, 1, 1, 1, 1, 0, 0, 0],
+    steps: &[2, 5, 6, 7, 9, 10],
+};
+
+// A reader that is overlooked by one grace period and taken for a new one by the next.
+const RCU: Worked<'static> = Worked {
+    text: b"var gp = 1; var reader; var current = 1; var freed; thread Reader { load g gp; store
+reader g; load p current; load f freed; assert f < p; store reader 0; } thread Updater
+{ store current 2; store gp 3; repeat 2 { load r reader; set quiet r == 0; if r == 3 {
+set quiet 1; } if quiet { leave; } } if quiet { store freed 1; store current 3; store
+gp 1; repeat 2 { load r reader; set quiet r == 0; if r == 1 { set quiet 1; } if quiet
+{ leave; } } if quiet { store freed 2; } } }",
+    schedule: &[0, 1, 1, 1, 0, 0, 1, 1, 1, 1, 1, 0],
+    steps: &[0, 1, 3, 4, 5, 9, 10, 11],
+};
+
+// A page that is thrown away between a write fault and the next one.
+const COW: Worked<'static> = Worked {
+    text: b"var pte; var written; thread Write { set want_write 1; repeat 5 { load p pte; set
+found 0; if p != 0 { if want_write == 0 { set found 1; } } if found { leave; } if
+want_write { cas copied pte 0 2; if copied == 0 { cas reused pte 2 2; if reused { set
+want_write 0; } } } else { cas mapped pte 0 1; } } if found { store written p; assert
+p == 2; } } thread Madvise { store pte 0; }",
+    schedule: &[0, 0, 0, 0, 0, 1, 0, 0, 0, 0],
+    steps: &[0, 1, 2, 3, 4, 5, 6, 7, 8, 9],
+};
+
+// The steps in the cause.
+fn steps_in_cause(alloc: Global, worked: &Worked) -> Result<Vec<usize>, Fail> {
+    let Ok(tree) = parse(alloc, worked.text) else {
+        return Err(Fail::new("the text spells no tree"));
+    };
+    let Ok(program) = lower(alloc, &tree) else {
+        return Err(Fail::new("the tree has a fault"));
+    };
+    let told = Explanation::new(alloc, &program, worked.schedule)?;
+    let causes = Causes::of(alloc, &program, &told)?;
+    let mut steps = Vec::new(alloc);
+    for (at, mark) in causes.steps().iter().enumerate() {
+        if *mark {
+            steps.push(at)?;
+        }
+    }
+    Ok(steps)
+}
+
+#[test]
+fn a_lost_write_is_in_the_cause(rt: HostRuntime) -> Result<(), Fail> {
+    let steps = steps_in_cause(rt.alloc(), &LOST)?;
+    assert_eq!(rt; steps.as_slice(), LOST.steps);
+    Ok(())
+}
+
+#[test]
+fn a_mutex_that_is_kept_is_in_the_cause(rt: HostRuntime) -> Result<(), Fail> {
+    let steps = steps_in_cause(rt.alloc(), &KEPT)?;
+    assert_eq!(rt; steps.as_slice(), KEPT.steps);
+    Ok(())
+}
+
+#[test]
+fn a_release_that_is_passed_by_is_in_the_cause(rt: HostRuntime) -> Result<(), Fail> {
+    let steps = steps_in_cause(rt.alloc(), &TAKEN)?;
+    assert_eq!(rt; steps.as_slice(), TAKEN.steps);
+    Ok(())
+}
+
+#[test]
+fn what_is_on_a_mutex_that_is_not_held_is_in_the_cause(rt: HostRuntime) -> Result<(), Fail> {
+    let steps = steps_in_cause(rt.alloc(), &NOT_HELD)?;
+    assert_eq!(rt; steps.as_slice(), NOT_HELD.steps);
+    Ok(())
+}
+
+#[test]
+fn the_table_set_before_the_edit_is_in_the_cause(rt: HostRuntime) -> Result<(), Fail> {
+    let steps = steps_in_cause(rt.alloc(), &THERAC)?;
+    assert_eq!(rt; steps.as_slice(), THERAC.steps);
+    Ok(())
+}
+
+#[test]
+fn both_waits_of_a_read_lock_are_in_the_cause(rt: HostRuntime) -> Result<(), Fail> {
+    let steps = steps_in_cause(rt.alloc(), &RWLOCK)?;
+    assert_eq!(rt; steps.as_slice(), RWLOCK.steps);
+    Ok(())
+}
+
+#[test]
+fn the_reader_that_was_overlooked_is_in_the_cause(rt: HostRuntime) -> Result<(), Fail> {
+    let steps = steps_in_cause(rt.alloc(), &RCU)?;
+    assert_eq!(rt; steps.as_slice(), RCU.steps);
+    Ok(())
+}
+
+#[test]
+fn every_step_of_a_dirty_page_is_in_the_cause(rt: HostRuntime) -> Result<(), Fail> {
+    let steps = steps_in_cause(rt.alloc(), &COW)?;
+    assert_eq!(rt; steps.as_slice(), COW.steps);
+    Ok(())
+}

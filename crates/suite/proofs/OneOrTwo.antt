@@ -1,0 +1,40 @@
+-- What one search, or two, show of a text.
+use Rattle.std.proofs.Common.{◌≡◌, ℕ, List, Bool, true, false, refl, arith, inl, inr}
+use Rattle.guest_code.specs.Program.{Program}
+use Rattle.report.specs.declared.options.Search.TheVariants.{UpTo, Unbounded}
+use Rattle.report.specs.Texts.{IsProgramOf}
+use Rattle.requests.specs.declared.limits.Limits.{Limits}
+use Rattle.verify.specs.declared.found.Found.{Found}
+use Rattle.verify.specs.Shown.{options_of, clear_below, IsFound}
+use Rattle.suite.specs.Suites.{is_enough, second_bound, nearer, IsSearched}
+
+pub one_search : (may : Bool) (text : List ℕ) (p : Program) (l : Limits) (f : Found)
+    → IsProgramOf text p → IsFound may p (options_of Unbounded l.limit) f
+    → is_enough f.report.verdict f.bad ≡ true
+    → IsSearched may text l (record { found = f; clear = 0 })
+one_search may text p l f of is enough = record {
+  program = p;
+  is_program = of;
+  searches = inl (record { first = is; enough = enough; clear = refl });
+  none_below = λ w bad. omega arith;
+}
+
+pub two_searches : (may : Bool) (text : List ℕ) (p : Program) (l : Limits) (f g : Found)
+    → IsProgramOf text p → IsFound may p (options_of Unbounded l.limit) f
+    → is_enough f.report.verdict f.bad ≡ false
+    → IsFound may p (options_of (UpTo (second_bound l.bound f.bad)) l.limit) g
+    → IsSearched may text l (record { found = nearer f g; clear = clear_below g.report })
+two_searches may text p l f g of is more bounded = record {
+  program = p;
+  is_program = of;
+  searches = inr (record {
+    first = f;
+    unbounded = is;
+    more = more;
+    second = g;
+    bounded = bounded;
+    told = refl;
+    clear = refl;
+  });
+  none_below = bounded.clear;
+}

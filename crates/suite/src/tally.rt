@@ -1,0 +1,82 @@
+//! The statuses of the files of a suite, and that of the suite.
+
+ghost use Rattle.std.specs.Prelude.{◌≡◌, ◌++◌, ◌∷◌, [], IfOk};
+ghost use Rattle.suite.specs.Statuses.{IsWorst};
+
+use std::alloc::{AllocError, Global};
+use std::fmt;
+
+/// The statuses of the files that are done.
+#[derive(Debug, Drop)]
+pub struct Tally {
+    statuses: Vec<u8>,
+}
+
+impl Tally {
+    /// That of no file.
+    pub fn new(alloc: Global) -> Tally
+        ensures { result.statuses.items ≡ [] }
+    {
+        Tally {
+            statuses: Vec::new(alloc),
+        }
+    }
+
+    /// One file more is done, with this status.
+    ///
+    /// # Errors
+    ///
+    /// `AllocError` where memory runs out.
+    pub fn push(&mut self, status: u8) -> Result<(), AllocError>
+        ensures { IfOk result (λ _.
+            self.new.statuses.items ≡ self.old.statuses.items ++ status ∷ []) }
+    {
+        self.statuses.push(status)?;
+        Ok(())
+    }
+
+    /// The status of a suite: the greatest of its files', or 0 where it has none.
+    #[tactic(auto, using(crate::proofs::Worst::worst_stays, crate::proofs::Worst::worst_grows))]
+    pub fn worst(&self) -> u8
+        ensures { IsWorst self.now.statuses.items result }
+    {
+        let mut worst = 0;
+        for status in &self.statuses {
+            if *status > worst {
+                worst = *status;
+            }
+        }
+        worst
+    }
+
+    // How many files have a status.
+    fn count(&self, status: u8) -> usize {
+        self.statuses.iter().filter(|each| **each == status).count()
+    }
+}
+
+/// How many files there are, and how many of them are how.
+impl fmt::Display for Tally {
+    fn fmt<W: fmt::Write>(&self, f: &mut fmt::Formatter<W>) -> fmt::Result {
+        let files = self.statuses.len();
+        write!(f, "{files} {}", if files == 1 { "file" } else { "files" })?;
+        let mut begun = false;
+        for (status, words) in WORDS {
+            let count = self.count(status);
+            if count > 0 {
+                write!(f, "{}{count} {words}", if begun { ", " } else { ": " })?;
+                begun = true;
+            }
+        }
+        Ok(())
+    }
+}
+
+// What a status says of a file.
+const WORDS: [(u8, &str); 5] = [
+    (0, "as expected"),
+    (1, "not as expected"),
+    (3, "cut short"),
+    (2, "refused"),
+    (4, "not read"),
+];

@@ -1,0 +1,169 @@
+//! Text in lines of a width: rows of columns, and words that go on in further lines where they don't
+//! fit; where the lines of a text come from that a preprocessor wrote.
+#![tactic(auto)]
+
+pub mod laws;
+mod marks;
+
+pub use crate::marks::{Marks, Origin};
+use std::alloc::{AllocError, Global};
+use std::fmt;
+
+/// A text, no line of which is wider than this many columns.
+#[derive(Drop)]
+pub struct Page {
+    text: String,
+    width: usize,
+}
+
+impl Page {
+    /// A text without a line.
+    pub fn new(alloc: Global, width: usize) -> Page {
+        Page {
+            text: String::new(alloc),
+            width,
+        }
+    }
+
+    /// The bytes of the text.
+    pub fn into_bytes(self) -> Vec<u8> {
+        self.text.into_bytes()
+    }
+
+    /// Adds an empty line.
+    pub fn put_blank(&mut self) -> Result<(), AllocError> {
+        self.text.push('\n')
+    }
+
+    /// Adds a line as it is, however wide.
+    pub fn put_whole(&mut self, line: &str) -> Result<(), AllocError> {
+        self.text.push_str(line)?;
+        self.text.push('\n')
+    }
+
+    /// Adds a line. What doesn't fit goes into further lines, from the indent on.
+    pub fn put_line(&mut self, words: &str, indent: usize) -> Result<(), AllocError> {
+        self.put_columns("", words, 0, indent)
+    }
+
+    /// Adds a line from a column on. What doesn't fit goes into further lines, from another one on.
+    pub fn put_indented(
+        &mut self,
+        words: &str,
+        start: usize,
+        indent: usize,
+    ) -> Result<(), AllocError> {
+        self.put_columns("", words, start, indent)
+    }
+
+    /// Adds a line of two columns: the second begins at a place, or one space after the first where
+    /// that is longer. What doesn't fit goes into further lines, from the indent on.
+    pub fn put_columns(
+        &mut self,
+        first: &str,
+        second: &str,
+        start: usize,
+        indent: usize,
+    ) -> Result<(), AllocError> {
+        self.text.push_str(first)?;
+        let mut column = width_of(first);
+        if !second.is_empty() {
+            let gap = start.saturating_sub(column).max(usize::from(column > 0));
+            self.put_spaces(gap)?;
+            column = column.saturating_add(gap);
+            self.put_words(second, column, indent)?;
+        }
+        self.text.push('\n')
+    }
+
+    // Adds words after this many columns.
+    fn put_words(&mut self, words: &str, from: usize, indent: usize) -> Result<(), AllocError> {
+        let mut column = from;
+        let mut gap = 0;
+        let mut is_first = true;
+        for word in words.split(' ') {
+            if !word.is_empty() {
+                let end = column.saturating_add(gap).saturating_add(width_of(word));
+                if !is_first && end > self.width {
+                    self.put_break(indent)?;
+                    column = indent;
+                } else {
+                    self.put_spaces(gap)?;
+                    column = column.saturating_add(gap);
+                }
+                column = self.put_word(word, column, indent)?;
+                is_first = false;
+                gap = 0;
+            }
+            gap = usize::saturating_add(gap, 1);
+        }
+        Ok(())
+    }
+
+    // Adds a word, in further lines where it is longer than one. The answer is the column after it.
+    fn put_word(&mut self, word: &str, from: usize, indent: usize) -> Result<usize, AllocError> {
+        let mut column = from;
+        for letter in word.chars() {
+            if column >= self.width {
+                self.put_break(indent)?;
+                column = indent;
+            }
+            self.text.push(letter)?;
+            column = column.saturating_add(1);
+        }
+        Ok(column)
+    }
+
+    // Begins a line at the indent.
+    fn put_break(&mut self, indent: usize) -> Result<(), AllocError> {
+        self.text.push('\n')?;
+        self.put_spaces(indent)
+    }
+
+    // Adds spaces.
+    fn put_spaces(&mut self, spaces: usize) -> Result<(), AllocError> {
+        put_times(&mut self.text, ' ', spaces)
+    }
+}
+
+/// How many columns a text has.
+pub fn width_of(text: &str) -> usize {
+    text.chars().count()
+}
+
+/// Adds a letter, this often.
+pub fn put_times(text: &mut String, letter: char, times: usize) -> Result<(), AllocError> {
+    for _ in 0..times {
+        text.push(letter)?;
+    }
+    Ok(())
+}
+
+/// Adds spaces up to a column, one at least where the row isn't empty.
+pub fn pad_to(row: &mut String, column: usize) -> Result<(), AllocError> {
+    let least = usize::from(!row.is_empty());
+    let spaces = column.saturating_sub(width_of(row.as_str())).max(least);
+    put_times(row, ' ', spaces)
+}
+
+/// Adds a word, cut off with two dots where it needs more columns than these.
+pub fn put_cut(row: &mut String, word: &str, columns: usize) -> Result<(), AllocError> {
+    if width_of(word) <= columns {
+        return row.push_str(word);
+    }
+    for letter in word.chars().take(columns.saturating_sub(2)) {
+        row.push(letter)?;
+    }
+    row.push_str("..")
+}
+
+/// A number of things: `1 step`, `2 steps`.
+#[derive(Clone, Copy)]
+pub struct Count<'a>(pub usize, pub &'a str);
+
+impl fmt::Display for Count<'_> {
+    fn fmt<W: fmt::Write>(&self, f: &mut fmt::Formatter<W>) -> fmt::Result {
+        let ending = if self.0 == 1 { "" } else { "s" };
+        write!(f, "{} {}{ending}", self.0, self.1)
+    }
+}

@@ -1,0 +1,48 @@
+-- What is answered to the question whether a program is right.
+use Rattle.std.specs.Prelude.{◌≡◌, ◌⊎◌, ℕ, ◌+◌, ◌<◌, min, List, true, nat_le, Option, Some, None}
+use Rattle.guest_code.specs.Program.{Program}
+use Rattle.report.specs.declared.options.Search.TheVariants.{UpTo, Unbounded}
+use Rattle.report.specs.Reports.{NoBadBelow}
+use Rattle.report.specs.Texts.{IsProgramOf}
+use Rattle.requests.specs.declared.limits.Limits.{Limits}
+use Rattle.verify.specs.declared.answer.Answer.{Answer}
+use Rattle.verify.specs.declared.answer.Answer.TheVariants.{Right, Bad, Undecided}
+use Rattle.verify.specs.declared.found.BadSchedule.{BadSchedule}
+use Rattle.verify.specs.Shown.{options_of, IsRight, IsBadOf, WasCut}
+
+-- a bad schedule, if one is known
+abbrev pub IsKnownBad : Program → Option BadSchedule → Type 0
+IsKnownBad p None = Unit {0}
+IsKnownBad p (Some b) = IsBadOf p b
+
+-- the bounds below this one are gone through: up to the last, or to the preemptions of a bad
+-- schedule that is known
+abbrev pub stop_of : Option BadSchedule → ℕ → ℕ
+stop_of None bound = bound + 1
+stop_of (Some b) bound = min b.preemptions (bound + 1)
+
+-- the answer where no bad schedule has fewer preemptions than `clear`: the nearer bad one, or the one
+-- that was known before
+abbrev pub answer_of : Option BadSchedule → Option BadSchedule → ℕ → Answer
+answer_of (Some b) known clear = Bad b (nat_le b.preemptions clear)
+answer_of None (Some b) clear = Bad b (nat_le b.preemptions clear)
+answer_of None None clear = Undecided clear
+
+-- the search without a bound was cut short, and so was the one up to this bound, unless it is past
+-- the last
+pub record IsOpen (p : Program) (l : Limits) (below : ℕ) : Type 0 where
+  pub unbounded : WasCut p (options_of Unbounded l.limit)
+  pub bounded : (l.bound < below) ⊎ WasCut p (options_of (UpTo below) l.limit)
+
+-- what an answer says: no schedule is bad; this one is, and where it is so told none with fewer
+-- preemptions; or none with fewer than this is, and the searches that would say more were cut short
+abbrev pub AnswerMeans : Program → Limits → Answer → Type 0
+AnswerMeans p l Right = IsRight p
+AnswerMeans p l (Bad b is_fewest) = IsBadOf p b × (is_fewest ≡ true → NoBadBelow p b.preemptions)
+AnswerMeans p l (Undecided below) = NoBadBelow p below × IsOpen p l below
+
+-- the text spells a program, and the answer is of it
+pub record IsAnswerOfText (text : List ℕ) (l : Limits) (a : Answer) : Type 0 where
+  pub program : Program
+  pub is_program : IsProgramOf text program
+  pub means : AnswerMeans program l a

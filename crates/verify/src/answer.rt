@@ -1,0 +1,177 @@
+//! Whether a program is right.
+
+ghost use Rattle.std.specs.Prelude.{◌≡◌, ◌≤◌, None, IfOk, IfErr};
+ghost use Rattle.std.specs.Arc.{arc_value};
+ghost use Rattle.items.specs.declared.limits.TheConstants.{BOUND};
+ghost use Rattle.report.specs.declared.error.ExploreError.TheVariants.{OutOfMemory};
+ghost use Rattle.report.specs.declared.options.Search.TheVariants.{Unbounded};
+ghost use Rattle.verify.specs.Shown.{options_of, WasCut};
+ghost use Rattle.verify.specs.Answers.{AnswerMeans, IsKnownBad, answer_of, stop_of};
+
+use crate::found::{BadSchedule, Found, find};
+use guest_code::program::Program;
+use requests::Limits;
+use runner::{ExploreError, Open, Search, Verdict};
+use std::alloc::{Alloc, Global};
+use std::fmt;
+use std::io::Write;
+use std::sync::{Arc, Wait};
+use std::thread::Threads;
+
+/// Whether a program is right.
+#[derive(Drop)]
+pub enum Answer {
+    /// No complete schedule fails or gets stuck.
+    Right,
+    /// This one does.
+    Bad {
+        bad: BadSchedule,
+        /// Whether it is known that no bad schedule has fewer preemptions.
+        is_fewest: bool,
+    },
+    /// None with fewer preemptions than this does. Whether another one does isn't known: the
+    /// searches were cut short, or went as far as they were to go.
+    Undecided {
+        below: u32,
+    },
+}
+
+/// A number of preemptions, in words.
+#[derive(Clone, Copy, Debug)]
+pub struct Preemptions(pub u32);
+
+impl fmt::Display for Preemptions {
+    fn fmt<W: fmt::Write>(&self, f: &mut fmt::Formatter<W>) -> fmt::Result {
+        match self.0 {
+            0 => write!(f, "no preemption"),
+            1 => write!(f, "1 preemption"),
+            count => write!(f, "{count} preemptions"),
+        }
+    }
+}
+
+// The line of a search: how far it was to go, and what it found.
+#[derive(Clone, Copy)]
+struct Line<'a> {
+    search: Search,
+    found: &'a Found,
+}
+
+impl fmt::Display for Line<'_> {
+    fn fmt<W: fmt::Write>(&self, f: &mut fmt::Formatter<W>) -> fmt::Result {
+        let Found { report, bad } = self.found;
+        let tried = report.summary.tried();
+        match self.search {
+            Search::UpTo(0) => write!(f, "{}: ", Preemptions(0))?,
+            Search::UpTo(bound) => write!(f, "at most {}: ", Preemptions(bound))?,
+            Search::Unbounded => write!(f, "all schedules: ")?,
+        }
+        match (&report.verdict, bad) {
+            (Verdict::Clean { .. }, _) => write!(f, "none is bad ({tried} tried)"),
+            (Verdict::Bad { preemptions, .. }, _) => {
+                let count = Preemptions(*preemptions);
+                write!(f, "one with {count} is bad ({tried} tried)")
+            }
+            (Verdict::Incomplete { .. }, Some(_)) => {
+                write!(f, "cut short, and one of the {tried} tried is bad")
+            }
+            (Verdict::Incomplete { .. }, None) => {
+                write!(f, "cut short, and none of the {tried} tried is bad")
+            }
+        }
+    }
+}
+
+// How many bounds are gone through, from 0 on: where a bad schedule is known, those below its
+// preemptions.
+fn stop_of(known: &Option<BadSchedule>, bound: u32) -> u32
+    requires { bound ≤ BOUND }
+    ensures { result ≡ stop_of known.now bound }
+{
+    match known {
+        Some(bad) => bad.preemptions.min(bound + 1),
+        None => bound + 1,
+    }
+}
+
+// The answer where no bad schedule has fewer preemptions than `clear`: the nearer bad one, or the
+// one that was known before.
+fn answer_of(nearer: Option<BadSchedule>, known: Option<BadSchedule>, clear: u32) -> Answer
+    ensures { result ≡ answer_of nearer known clear }
+{
+    match (nearer, known) {
+        (Some(bad), _) | (None, Some(bad)) => Answer::Bad {
+            is_fewest: bad.preemptions <= clear,
+            bad,
+        },
+        (None, None) => Answer::Undecided { below: clear },
+    }
+}
+
+// A line on a search that ended. What can't be written here can't be written at the end, which is
+// told then.
+fn tell<W: Write>(out: &mut W, search: Search, found: &Found) {
+    let _ = writeln!(out, "{}", Line { search, found });
+    let _ = out.flush();
+}
+
+// The answer of searches up to 0, 1, 2 .. preemptions, where the search without a bound left open
+// whether the program is right, and named this bad schedule or none.
+#[tactic(auto, using(crate::proofs::Answers::stop_low, crate::proofs::Answers::stopped_at, crate::proofs::Answers::gone_through))]
+fn answer_by_bounds<R, W: Write>(
+    rt: &R,
+    program: &Arc<Program>,
+    limits: Limits,
+    known: Option<BadSchedule>,
+    out: &mut W,
+) -> Result<Answer, ExploreError>
+where
+    R: Threads + Wait + Sync + Alloc<A = Global>,
+    requires known { IsKnownBad (arc_value program.now) known }
+    requires cut { known ≡ None → WasCut (arc_value program.now)
+        (options_of Unbounded limits.limit) }
+    ensures answer { IfOk result (AnswerMeans (arc_value program.now) limits) }
+    ensures error { IfErr result (λ e. e ≡ OutOfMemory) }
+{
+    let stop = stop_of(&known, limits.bound);
+    for bound in 0..stop {
+        let search = Search::UpTo(bound);
+        let found = find(rt, program, search, limits, &Open)?;
+        tell(out, search, &found);
+        if found.is_right() {
+            return Ok(Answer::Right);
+        }
+        if !found.is_clean() {
+            return Ok(answer_of(found.bad, known, bound));
+        }
+    }
+    Ok(answer_of(None, known, stop))
+}
+
+/// Whether a program is right: by a search without a bound, and where that was cut short or found a
+/// bad schedule, which may not be one of fewest preemptions, by searches up to 0, 1, 2 .. and at
+/// last the limits' bound. Each search is cut short at the limit. On `out` there is a line on each
+/// as it ends.
+///
+/// # Errors
+///
+/// `OutOfMemory` where memory runs out.
+#[tactic(auto, using(crate::proofs::Answers::named_known, crate::proofs::Answers::was_cut))]
+pub fn verify<R, W: Write>(
+    rt: &R,
+    program: &Arc<Program>,
+    limits: Limits,
+    out: &mut W,
+) -> Result<Answer, ExploreError>
+where
+    R: Threads + Wait + Sync + Alloc<A = Global>,
+    ensures answer { IfOk result (AnswerMeans (arc_value program.now) limits) }
+    ensures error { IfErr result (λ e. e ≡ OutOfMemory) }
+{
+    let found = find(rt, program, Search::Unbounded, limits, &Open)?;
+    tell(out, Search::Unbounded, &found);
+    if found.is_clean() {
+        return Ok(Answer::Right);
+    }
+    answer_by_bounds(rt, program, limits, found.bad, out)
+}

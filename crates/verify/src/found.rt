@@ -1,0 +1,182 @@
+//! One search, and what it shows.
+
+ghost use Rattle.std.specs.Prelude.{◌≡◌, ◌+◌, ℕ, List, Some, IfOk, IfErr};
+ghost use Rattle.std.specs.Arc.{arc_value};
+ghost use Rattle.report.specs.declared.error.ExploreError.TheVariants.{OutOfMemory};
+ghost use Rattle.report.specs.Promises.{IsSearch};
+ghost use Rattle.report.specs.Reports.{IsBadSchedule};
+ghost use Rattle.report.specs.ReportText.{named_schedule};
+ghost use Rattle.replay.specs.Run.{IsRunOf};
+ghost use Rattle.verify.specs.Shown.{options_of, clear_below, is_right, is_clean, IsBadOf, IsNamedBad, IsFound};
+
+use guest_code::laws::programs_are_well_formed;
+use guest_code::program::Program;
+use replay::laws::one_place_is_the_first_bad;
+use replay::{ReplayError, Run, replay};
+use requests::Limits;
+use runner::{ExploreError, Gate, Options, QUOTA, Report, Search, Verdict, explore};
+use semantics::view::Kind;
+use std::alloc::{Alloc, Global};
+use std::sync::{Arc, Wait};
+use std::thread::Threads;
+
+/// A complete schedule that fails or gets stuck.
+#[derive(Debug, Drop)]
+pub struct BadSchedule {
+    /// The threads that take its steps, by their numbers.
+    pub steps: Vec<u8>,
+    /// Its preempting switches.
+    pub preemptions: u32,
+    /// How it ends: failed or stuck.
+    pub kind: Kind,
+}
+
+/// What a search shows.
+#[derive(Drop)]
+pub struct Found {
+    /// Its report.
+    pub report: Report,
+    /// The bad schedule that the report names, if it names one.
+    pub bad: Option<BadSchedule>,
+}
+
+impl Found {
+    /// No bad schedule has fewer preemptions than this; 0 where the search had no bound.
+    pub fn clear_below(&self) -> u64
+        ensures { result ≡ clear_below self.now.report }
+    {
+        match (self.report.bound, &self.report.verdict) {
+            (Some(bound), Verdict::Clean { .. }) => past(bound),
+            (Some(_), Verdict::Bad { preemptions, .. }) => u64::from(*preemptions),
+            (
+                Some(_),
+                Verdict::Incomplete {
+                    finished: Some(finished),
+                    ..
+                },
+            ) => past(*finished),
+            (_, _) => 0,
+        }
+    }
+
+    /// Whether it shows of all schedules that none is bad.
+    pub fn is_right(&self) -> bool
+        ensures { result ≡ is_right self.now.report.verdict }
+    {
+        match &self.report.verdict {
+            Verdict::Clean { all } => *all,
+            _ => false,
+        }
+    }
+
+    /// Whether no schedule is bad as far as the search was to go.
+    pub fn is_clean(&self) -> bool
+        ensures { result ≡ is_clean self.now.report.verdict }
+    {
+        matches!(&self.report.verdict, Verdict::Clean { .. })
+    }
+}
+
+// One more than a bound.
+fn past(bound: u32) -> u64
+    ensures { result ≡ bound + 1 }
+{
+    u64::from(bound) + 1
+}
+
+// What a search as far as this is asked for.
+fn options_of(search: Search, limit: u64) -> Options
+    ensures { result ≡ options_of search limit }
+{
+    Options {
+        search,
+        limit: Some(limit),
+        quota: QUOTA,
+        quick: false,
+    }
+}
+
+// The run of a bad schedule.
+fn run_of(alloc: Global, program: &Program, steps: &[u8]) -> Result<Run, ExploreError>
+    requires { IsBadSchedule program.now steps.now }
+    ensures run { IfOk result (IsRunOf program.now steps.now) }
+    ensures error { IfErr result (λ e. e ≡ OutOfMemory) }
+{
+    one_place_is_the_first_bad();
+    match replay(alloc, program, steps) {
+        Ok(run) => Ok(run),
+        Err(ReplayError::OutOfMemory) => Err(ExploreError::OutOfMemory),
+        Err(ReplayError::NoSuchThread(_)) => unreachable!(),
+        Err(ReplayError::NotEnabled(_)) => unreachable!(),
+    }
+}
+
+// How a run ends that is one of a complete schedule.
+fn kind_of(run: &Run) -> Kind
+    requires { run.now.kind ≡ None → ⊥ }
+    ensures { run.now.kind ≡ Some result }
+{
+    match run.kind() {
+        Some(kind) => kind,
+        None => unreachable!(),
+    }
+}
+
+// A bad schedule with what its replay shows.
+fn bad_of(alloc: Global, program: &Program, steps: &[u8]) -> Result<BadSchedule, ExploreError>
+    requires { IsBadSchedule program.now steps.now }
+    ensures bad { IfOk result (λ b. (b.steps.items ≡ steps.now) × IsBadOf program.now b) }
+    ensures error { IfErr result (λ e. e ≡ OutOfMemory) }
+{
+    programs_are_well_formed(program);
+    let run = run_of(alloc, program, steps)?;
+    Ok(BadSchedule {
+        steps: steps.to_vec(alloc)?,
+        preemptions: run.preemptions() as u32,
+        kind: kind_of(&run),
+    })
+}
+
+// The bad schedule that a report names, if it names one.
+fn named_bad(
+    alloc: Global,
+    program: &Program,
+    report: &Report,
+) -> Result<Option<BadSchedule>, ExploreError>
+    requires { (w : List ℕ) → named_schedule report.now ≡ Some w → IsBadSchedule program.now w }
+    ensures bad { IfOk result (IsNamedBad program.now (named_schedule report.now)) }
+    ensures error { IfErr result (λ e. e ≡ OutOfMemory) }
+{
+    match report.schedule() {
+        Some(steps) => Ok(Some(bad_of(alloc, program, steps)?)),
+        None => Ok(None),
+    }
+}
+
+/// Searches a program as far as this, by as many workers as the limits say, until as many schedules
+/// were tried as they say.
+///
+/// # Errors
+///
+/// `OutOfMemory` where memory runs out.
+#[tactic(auto, using(crate::proofs::Shows::named_is_bad, crate::proofs::Shows::found_is))]
+pub fn find<G: Gate, R>(
+    rt: &R,
+    program: &Arc<Program>,
+    search: Search,
+    limits: Limits,
+    gate: &G,
+) -> Result<Found, ExploreError>
+where
+    R: Threads + Wait + Sync + Alloc<A = Global>,
+    requires { IsSearch search }
+    ensures found { IfOk result (IsFound (G.stops gate.now) (arc_value program.now)
+        (options_of search limits.limit)) }
+    ensures error { IfErr result (λ e. e ≡ OutOfMemory) }
+{
+    let alloc = rt.alloc();
+    let options = options_of(search, limits.limit);
+    let report = explore(rt, alloc, program, options, limits.workers, gate)?;
+    let bad = named_bad(alloc, program, &report)?;
+    Ok(Found { report, bad })
+}

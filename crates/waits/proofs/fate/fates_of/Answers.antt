@@ -1,0 +1,27 @@
+use Rattle.std.proofs.Common.{◌≡◌, ◌∙◌, List, length, sym, subst, ap}
+use Rattle.waits.proofs.Pushed.{written_back}
+use Rattle.waits.specs.declared.fate.Fate.{Fate}
+use Rattle.waits.specs.Fates.{Fates}
+use Rattle.waits.specs.inner.Taking.{AreFates}
+use Rattle.waits.proofs.TakenSteps.{fates_from}
+use Rattle.waits.proofs.fate.fates_of.Goals as goal
+
+pub returns : goal.returns
+returns c =
+    let p = c.args.program.now in
+    let told = c.args.told.now in
+    let t = c.args.thread in
+    let code = c.code.result.now in
+    let from = c.place_of.result in
+    let steps = c.steps.result.now in
+    let old = c.in_ok-fates.fates.items in
+    let new = c.put_steps.new.fates in
+    let before : AreFates code from steps t 0 old = c.in_ok-fates.ensures steps t in
+    let begun = let P : List Fate → Type 0 = λ l. AreFates code from steps t 0 l in
+    subst P (sym c.deref_mut.ensures.value) before in
+    let are = c.put_steps.ensures code from begun in
+    let long : length new ≡ length old = are.all ∙ sym before.all in
+    let whole = ap length (sym c.deref_mut.ensures.value) ∙ c.deref_mut.ensures.len in
+    subst (Fates p told t) (sym (written_back c.in_ok-fates.fates.len old new long whole))
+    (fates_from p told t code from steps new c.code.ensures.code c.place_of.ensures
+    c.steps.ensures are)

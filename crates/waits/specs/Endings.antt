@@ -1,0 +1,95 @@
+-- Which statements could end the wait of a blocked thread.
+use Rattle.std.specs.Prelude.{ℕ, zero, suc, ◌<◌, Bool, false, ◌&&◌, ◌||◌, not, nat_eq, nat_lt, List, [], ◌++◌, length, filter, map, Option, Some, None, slice_get, slice_index_or, IsTrue}
+use Rattle.std.specs.Option.{option_map}
+use Rattle.guest_code.specs.declared.program.Instruction.{Instruction}
+use Rattle.guest_code.specs.declared.program.Instruction.TheVariants.{Unlock, Wait, Signal as Signals, Broadcast, Release, Skip}
+use Rattle.guest_code.specs.Program.{Program, code_of}
+use Rattle.semantics.specs.Machine.{owns}
+use Rattle.semantics.specs.Work.{up_from}
+use Rattle.explain.specs.declared.explanation.Explanation.{Explanation}
+use Rattle.explain.specs.declared.explanation.Holder.{Holder}
+use Rattle.explain.specs.declared.standing.Reason.{Reason}
+use Rattle.explain.specs.declared.standing.Reason.TheVariants.{Lock, Retake, Acquire, Signal}
+use Rattle.explain.specs.Blocked.{mutex_of, reason_of}
+use Rattle.waits.specs.declared.ending.Blocked.{Blocked}
+use Rattle.waits.specs.declared.ending.Statement.{Statement}
+use Rattle.waits.specs.declared.fate.Fate.{Fate}
+use Rattle.waits.specs.declared.fate.Fate.TheVariants.{Ahead, PassedBy}
+use Rattle.waits.specs.Fates.{place_of, HasFate}
+
+-- the owner of a mutex at the end, if it has one
+abbrev pub owner_told : Explanation → Option ℕ → Option ℕ
+owner_told told None = None
+owner_told told (Some m) = option_map (λ (h : Holder). h.thread)
+    (slice_index_or told.holders.items m None)
+
+-- thread t, where it waits for this reason, if for any
+abbrev pub blocked_by : Explanation → ℕ → Option Reason → Option Blocked
+blocked_by told t None = None
+blocked_by told t (Some reason) = Some (record {
+  thread = t;
+  reason = reason;
+  instruction = place_of told t;
+  owner = owner_told told (mutex_of reason);
+})
+
+-- thread t, where it is blocked
+abbrev pub blocked_of : Explanation → ℕ → Option Blocked
+blocked_of told t = blocked_by told t (reason_of (slice_get told.standings.items t))
+
+-- an instruction gives mutex m back
+abbrev pub gives_back : ℕ → Instruction → Bool
+gives_back m (Unlock n) = nat_eq n m
+gives_back m (Wait c n) = nat_eq n m
+gives_back m _ = false
+
+-- it wakes threads that wait for condition c
+abbrev pub calls : ℕ → Instruction → Bool
+calls c (Signals d) = nat_eq d c
+calls c (Broadcast d) = nat_eq d c
+calls c _ = false
+
+-- it raises the count of semaphore k
+abbrev pub releases : ℕ → Instruction → Bool
+releases k (Release j) = nat_eq j k
+releases k _ = false
+
+-- instruction i of thread u is another thread's than the blocked one's, or lies before its wait
+abbrev pub is_before : Blocked → ℕ → ℕ → Bool
+is_before b u i = not (nat_eq u b.thread) || nat_lt i b.instruction
+
+-- this instruction, number i of thread u, could end the wait for this reason: the owner of the
+-- mutex gives it back by it, or it wakes threads of the condition, or raises the semaphore's count
+abbrev pub could_end_by : Reason → Blocked → ℕ → ℕ → Instruction → Bool
+could_end_by (Lock m) b u i ins = owns u b.owner && gives_back m ins
+could_end_by (Retake m) b u i ins = owns u b.owner && gives_back m ins
+could_end_by (Signal c) b u i ins = is_before b u i && calls c ins
+could_end_by (Acquire k) b u i ins = is_before b u i && releases k ins
+
+abbrev pub could_end : Blocked → ℕ → ℕ → Instruction → Bool
+could_end b u i ins = could_end_by b.reason b u i ins
+
+-- the numbers of the instructions of thread u, whose code is this, that could end the wait
+abbrev pub enders : Blocked → ℕ → List Instruction → List ℕ
+enders b u code =
+    filter (λ i. could_end b u i (slice_index_or code i (Skip 0))) (up_from 0 (length code))
+
+-- the statements of thread u, whose code is this, that could end the wait, rising, each with what
+-- came of it
+abbrev pub statements_in : Blocked → ℕ → List Instruction → List Fate → List Statement
+statements_in b u code fates =
+    map (λ i. record { thread = u; instruction = i; fate = slice_index_or fates i PassedBy })
+    (enders b u code)
+
+-- those of the first n threads, where these fates are those of each thread's instructions
+abbrev pub statements_to : Program → List (List Fate) → Blocked → ℕ → List Statement
+statements_to p fates b zero = []
+statements_to p fates b (suc n) = statements_to p fates b n
+    ++ statements_in b n (code_of p n) (slice_index_or fates n [])
+
+-- thread u has a statement ahead that could end the wait
+pub record HasAhead (p : Program) (told : Explanation) (b : Blocked) (u : ℕ) : Type 0 where
+  pub at : ℕ
+  pub within : at < length (code_of p u)
+  pub could : IsTrue (could_end b u at (slice_index_or (code_of p u) at (Skip 0)))
+  pub ahead : HasFate p told u at Ahead

@@ -1,0 +1,5 @@
+pub mod Fates
+pub mod Endings
+pub mod Graph
+pub mod Waiting
+pub mod inner

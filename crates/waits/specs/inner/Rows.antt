@@ -1,0 +1,40 @@
+-- Lists and sets, for each thread.
+use Rattle.std.specs.Prelude.{◌≡◌, ℕ, ◌<◌, ◌⊎◌, ◌&&◌, ◌||◌, List, [], length, map, Some, IsTrue, slice_index_or}
+use Rattle.std.proofs.Common.{Vec, Global}
+use Rattle.guest_code.specs.declared.program.Instruction.{Instruction}
+use Rattle.guest_code.specs.declared.program.Instruction.TheVariants.{Skip}
+use Rattle.guest_code.specs.Program.{Program, code_of}
+use Rattle.semantics.specs.declared.mask.Mask.{Mask}
+use Rattle.semantics.specs.Mask.{has}
+use Rattle.waits.specs.declared.ending.Blocked.{Blocked}
+use Rattle.waits.specs.declared.fate.Fate.{Fate}
+use Rattle.waits.specs.declared.fate.Fate.TheVariants.{Ahead, PassedBy}
+use Rattle.waits.specs.Endings.{could_end}
+use Rattle.waits.specs.Graph.{row}
+
+-- the lists themselves
+abbrev pub lists : List (Vec Fate Global) → List (List Fate)
+lists all = map (λ v. v.items) all
+
+-- there is a list for each thread, with a fate for each of its instructions
+pub record Fits (p : Program) (fates : List (List Fate)) : Type 0 where
+  pub threads : length fates ≡ length p.threads
+  pub codes : (t : ℕ) → t < length p.threads →
+      length (slice_index_or fates t []) ≡ length (code_of p t)
+
+-- a code, of thread u, has a statement that could end the wait and by these fates is ahead
+pub record FindsAhead (code : List Instruction) (fates : List Fate) (b : Blocked) (u : ℕ) :
+    Type 0 where
+  pub at : ℕ
+  pub within : at < length code
+  pub could : IsTrue (could_end b u at (slice_index_or code at (Skip 0)))
+  pub ahead : slice_index_or fates at PassedBy ≡ Ahead
+
+-- by these fates the blocked thread waits for thread u, whose code this is
+abbrev pub FindsEdge : List Instruction → List Fate → Blocked → ℕ → Type 0
+FindsEdge code fates b u = (b.owner ≡ Some u) ⊎ FindsAhead code fates b u
+
+-- what leads to thread k leads on to where k leads
+abbrev pub Passes : List Mask → List Mask → ℕ → Type 0
+Passes old new k = (t u : ℕ) →
+    has (row new t) u ≡ (has (row old t) u || (has (row old t) k && has (row old k) u))

@@ -1,0 +1,177 @@
+//! Blocked threads, and the statements that could end their waits.
+
+ghost use Rattle.std.specs.Prelude.{◌≡◌, ◌↔◌, ◌++◌, IsTrue, IfOk, OnOk, length};
+ghost use Rattle.explain.specs.Blocked.{mutex_of};
+ghost use Rattle.waits.specs.Endings.{blocked_of, owner_told, could_end, is_before, gives_back, calls, releases, statements_in, statements_to};
+ghost use Rattle.waits.specs.inner.Rows.{lists, Fits, FindsAhead, FindsEdge};
+
+use crate::fate::{Fate, place_of};
+use explain::{Explanation, Reason};
+use guest_code::program::{Instruction, Program};
+use semantics::owns;
+use std::alloc::{AllocError, Global};
+
+/// A statement that could end a wait, and what came of it.
+#[derive(Clone, Copy, Debug, PartialEq, Eq)]
+pub struct Statement {
+    /// The thread whose code it is in.
+    pub thread: u8,
+    /// The number of its instruction.
+    pub instruction: usize,
+    /// What came of it.
+    pub fate: Fate,
+}
+
+/// A thread that is blocked at the end.
+#[derive(Clone, Copy, Debug)]
+pub struct Blocked {
+    /// The thread.
+    pub thread: u8,
+    /// What it waits for.
+    pub reason: Reason,
+    /// The number of the instruction at which it waits.
+    pub instruction: usize,
+    /// The owner of the mutex that it waits for, if it waits for one.
+    pub owner: Option<u8>,
+}
+
+impl Blocked {
+    /// The thread of this number, where it is blocked.
+    pub fn of(told: &Explanation, thread: u8) -> Option<Blocked>
+        ensures { result ≡ blocked_of told.now thread }
+    {
+        let reason = told.reason(thread)?;
+        Some(Blocked {
+            thread,
+            reason,
+            instruction: place_of(told, thread),
+            owner: owner_of(told, reason),
+        })
+    }
+
+    /// Whether an instruction of a thread could end the wait: it gives back, signals or releases
+    /// what is waited for. A mutex is given back by its owner alone; of the waiting thread's own
+    /// code only what lies before the wait tells something of a condition or a semaphore.
+    pub fn could_end(self, other: u8, at: usize, instruction: &Instruction) -> bool
+        ensures { result ≡ could_end self other at instruction.now }
+    {
+        match self.reason {
+            Reason::Lock(m) | Reason::Retake(m) => {
+                owns(other, self.owner) && gives_back(m, instruction)
+            }
+            Reason::Signal(c) => self.is_before(other, at) && calls(c, instruction),
+            Reason::Acquire(k) => self.is_before(other, at) && releases(k, instruction),
+        }
+    }
+
+    // Whether instruction `at` of a thread is another thread's, or lies before the wait.
+    fn is_before(self, other: u8, at: usize) -> bool
+        ensures { result ≡ is_before self other at }
+    {
+        other != self.thread || at < self.instruction
+    }
+}
+
+// Who owns the mutex that a thread waits for by this reason.
+fn owner_of(told: &Explanation, reason: Reason) -> Option<u8>
+    ensures { result ≡ owner_told told.now (mutex_of reason) }
+{
+    let holder = told.holder(reason.mutex()?)?;
+    Some(holder.thread)
+}
+
+// Whether an instruction gives a mutex back.
+fn gives_back(wanted: usize, instruction: &Instruction) -> bool
+    ensures { result ≡ gives_back wanted instruction.now }
+{
+    match instruction {
+        Instruction::Unlock(mutex) => *mutex == wanted,
+        Instruction::Wait { mutex, .. } => *mutex == wanted,
+        _ => false,
+    }
+}
+
+// Whether it wakes threads that wait for a condition.
+fn calls(wanted: usize, instruction: &Instruction) -> bool
+    ensures { result ≡ calls wanted instruction.now }
+{
+    match instruction {
+        Instruction::Signal(condition) | Instruction::Broadcast(condition) => *condition == wanted,
+        _ => false,
+    }
+}
+
+// Whether it raises the count of a semaphore.
+fn releases(wanted: usize, instruction: &Instruction) -> bool
+    ensures { result ≡ releases wanted instruction.now }
+{
+    match instruction {
+        Instruction::Release(semaphore) => *semaphore == wanted,
+        _ => false,
+    }
+}
+
+// Puts down the statements of a thread that could end the wait.
+fn put_statements(
+    list: &mut Vec<Statement>,
+    code: &[Instruction],
+    fates: &[Fate],
+    blocked: Blocked,
+    other: u8,
+) -> Result<(), AllocError>
+    requires { length fates.now ≡ length code.now }
+    ensures { OnOk result (list.new.items
+        ≡ list.old.items ++ statements_in blocked other code.now fates.now) }
+{
+    for (at, instruction) in code.iter().enumerate() {
+        if blocked.could_end(other, at, instruction) {
+            list.push(Statement {
+                thread: other,
+                instruction: at,
+                fate: fates[at],
+            })?;
+        }
+    }
+    Ok(())
+}
+
+/// Each statement that could end the wait of a thread, by thread and instruction.
+pub fn statements_of(
+    alloc: Global,
+    program: &Program,
+    fates: &[Vec<Fate>],
+    blocked: Blocked,
+) -> Result<Vec<Statement>, AllocError>
+    requires { Fits program.now (lists fates.now) }
+    ensures { IfOk result (λ v. v.items
+        ≡ statements_to program.now (lists fates.now) blocked (length program.now.threads)) }
+{
+    let mut list = Vec::new(alloc);
+    for u in 0..program.threads() {
+        let code = program.code(u);
+        put_statements(&mut list, code, fates[u as usize].as_slice(), blocked, u)?;
+    }
+    Ok(list)
+}
+
+// Whether a thread has a statement ahead that could end the wait.
+fn has_ahead(code: &[Instruction], fates: &[Fate], blocked: Blocked, other: u8) -> bool
+    requires { length fates.now ≡ length code.now }
+    ensures { IsTrue result ↔ FindsAhead code.now fates.now blocked other }
+{
+    for (at, instruction) in code.iter().enumerate() {
+        if blocked.could_end(other, at, instruction) && fates[at].is_ahead() {
+            return true;
+        }
+    }
+    false
+}
+
+/// Whether a blocked thread waits for another one: the owner of its mutex, or one that has a
+/// statement ahead which could end the wait.
+pub fn waits_for(code: &[Instruction], fates: &[Fate], blocked: Blocked, other: u8) -> bool
+    requires { length fates.now ≡ length code.now }
+    ensures { IsTrue result ↔ FindsEdge code.now fates.now blocked other }
+{
+    owns(other, blocked.owner) || has_ahead(code, fates, blocked, other)
+}

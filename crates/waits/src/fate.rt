@@ -1,0 +1,134 @@
+//! What came of the instructions of a thread: carried out, still ahead of it, or passed by.
+
+ghost use Rattle.std.specs.Prelude.{◌≡◌, ◌≤◌, ◌<◌, ◌^◌, ◌↔◌, ℕ, List, IsTrue, length, IfOk};
+ghost use Rattle.guest_code.specs.declared.program.Instruction.{Instruction};
+ghost use Rattle.guest_code.specs.Program.{JumpsWithin, code_of};
+ghost use Rattle.explain.specs.declared.step.Step.{Step};
+ghost use Rattle.waits.specs.Fates.{Fates, place_of};
+ghost use Rattle.waits.specs.Waiting.{AllFates};
+ghost use Rattle.waits.specs.inner.Rows.{lists, Fits};
+ghost use Rattle.waits.specs.inner.Taking.{AreFates, fate_by, taken_by, with_taken};
+
+use explain::{Explanation, Step};
+use guest_code::program::{Instruction, Program};
+use lint::paths::{Mark, Watch, paths};
+use std::alloc::{AllocError, Global};
+
+/// What came of an instruction of a thread.
+#[derive(Clone, Copy, Debug, PartialEq, Eq)]
+pub enum Fate {
+    /// It was carried out, in the step at this place.
+    Taken(usize),
+    /// It wasn't carried out, and some path leads from where its thread stands to it.
+    Ahead,
+    /// It wasn't carried out, and no path leads to it any more.
+    PassedBy,
+}
+
+impl Fate {
+    /// Whether it is ahead.
+    pub fn is_ahead(self) -> bool
+        ensures { IsTrue result ↔ (self ≡ Fate.Ahead) }
+    {
+        matches!(self, Fate::Ahead)
+    }
+
+    // Whether a way leads to an instruction, by its mark.
+    fn of(mark: Mark) -> Fate
+        ensures { result ≡ fate_by mark }
+    {
+        if mark.so || mark.not_so {
+            Fate::Ahead
+        } else {
+            Fate::PassedBy
+        }
+    }
+
+    // What came of an instruction that is carried out in the step at a place.
+    fn taken(self, place: usize) -> Fate
+        ensures { result ≡ taken_by self place }
+    {
+        match self {
+            Fate::Taken(_) => self,
+            Fate::Ahead | Fate::PassedBy => Fate::Taken(place),
+        }
+    }
+}
+
+/// The number of the instruction at which a thread stands at the end.
+pub fn place_of(told: &Explanation, thread: u8) -> usize
+    ensures { result ≡ place_of told.now thread }
+{
+    match told.standing(thread) {
+        Some(standing) => standing.instruction,
+        None => 0,
+    }
+}
+
+// Which instructions of a code are ahead of a thread that stands at one of them, or at the end.
+fn ahead_from(alloc: Global, code: &[Instruction], place: usize) -> Result<Vec<Fate>, AllocError>
+    requires jumps { JumpsWithin code.now }
+    requires short { length code.now < 2 ^ 32 }
+    ensures { IfOk result (λ v. (steps : List Step) (t : ℕ) → AreFates code.now place steps t 0 v.items) }
+{
+    let marks = paths(alloc, code, Watch::Nothing, place.min(code.len()), false)?;
+    let mut fates = Vec::new(alloc);
+    for at in 0..code.len() {
+        fates.push(Fate::of(marks[at]))?;
+    }
+    Ok(fates)
+}
+
+// Puts down that an instruction was carried out in the step at a place.
+fn put_taken(fates: &mut [Fate], instruction: usize, place: usize)
+    ensures { fates.new ≡ with_taken fates.old instruction place }
+{
+    if instruction < fates.len() {
+        fates[instruction] = fates[instruction].taken(place);
+    }
+}
+
+// Puts down which instructions a thread has carried out.
+fn put_steps(fates: &mut [Fate], steps: &[Step], thread: u8)
+    ensures { (code : List Instruction) (from : ℕ) →
+        AreFates code from steps.now thread 0 fates.old →
+        AreFates code from steps.now thread (length steps.now) fates.new }
+{
+    for (place, step) in steps.iter().enumerate() {
+        if step.line.thread == thread {
+            put_taken(fates, step.instruction, place);
+        }
+    }
+}
+
+// What came of each instruction of a thread.
+fn fates_of(
+    alloc: Global,
+    program: &Program,
+    told: &Explanation,
+    thread: u8,
+) -> Result<Vec<Fate>, AllocError>
+    requires { thread < length program.now.threads }
+    ensures { IfOk result (λ v. Fates program.now told.now thread v.items) }
+{
+    program.keeps_limits();
+    let mut fates = ahead_from(alloc, program.code(thread), place_of(told, thread))?;
+    put_steps(&mut fates, told.steps(), thread);
+    Ok(fates)
+}
+
+/// What came of each instruction of each thread.
+pub fn all_fates(
+    alloc: Global,
+    program: &Program,
+    told: &Explanation,
+) -> Result<Vec<Vec<Fate>>, AllocError>
+    ensures fates { IfOk result (λ v. AllFates program.now told.now (lists v.items)) }
+    ensures fits { IfOk result (λ v. Fits program.now (lists v.items)) }
+{
+    let mut all = Vec::new(alloc);
+    for t in 0..program.threads() {
+        all.push(fates_of(alloc, program, told, t)?)?;
+    }
+    Ok(all)
+}

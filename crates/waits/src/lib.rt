@@ -1,0 +1,18 @@
+//! Who could end the wait of each thread that is blocked where a schedule ends, and why it won't.
+//!
+//! A thread that waits for a mutex waits for its owner; one that waits for a condition or a
+//! semaphore waits for each thread that may still come to a `signal`, a `broadcast` or a `release`
+//! of it. [`Waits::new`] answers, for each blocked thread, every such statement and what came of it,
+//! the threads that it waits for, and all circles: sets of threads each of which waits, through one
+//! after the other, for each of them. All is read from an [`Explanation`](explain::Explanation)
+//! and the code of the program. `specs/` has the definitions, by relations and whole lists.
+#![tactic(auto)]
+
+mod ending;
+mod fate;
+mod graph;
+mod wait;
+
+pub use crate::ending::Statement;
+pub use crate::fate::Fate;
+pub use crate::wait::{Wait, Waits};

@@ -1,0 +1,180 @@
+//! The waits of all threads that are blocked at the end of a schedule.
+
+ghost use Rattle.std.specs.Prelude.{◌≡◌, ◌<◌, ◌↔◌, ℕ, [], length, IsTrue, IfOk, IfSome, IfNone, All, Contains, ◌≢◌, slice_index_or};
+ghost use Rattle.guest_code.specs.Program.{code_of};
+ghost use Rattle.semantics.specs.Mask.{has, no_threads};
+ghost use Rattle.waits.specs.Graph.{WaitsFor, IsIn};
+ghost use Rattle.waits.specs.Waiting.{AllFates, IsLastStep, TellsWaits, circles_in, is_first_of};
+ghost use Rattle.waits.specs.inner.Rows.{lists, Fits, FindsEdge};
+
+use crate::ending::{Blocked, Statement, statements_of, waits_for};
+use crate::fate::{Fate, all_fates};
+use crate::graph::{Rows, circle_of, closed};
+use explain::{Explanation, Reason, Step};
+use guest_code::limits::THREADS;
+use guest_code::program::Program;
+use semantics::mask::Mask;
+use std::alloc::{AllocError, Global};
+
+/// A thread that is blocked at the end, and who could end its wait.
+#[derive(Debug, Drop)]
+pub struct Wait {
+    /// The thread.
+    pub thread: u8,
+    /// What it waits for.
+    pub reason: Reason,
+    /// The place of its last step, after which it came to this wait: of a `wait` its first step.
+    /// `None` where it took none.
+    pub since: Option<usize>,
+    /// Each statement that could end the wait, by thread and instruction: of a mutex those of its
+    /// owner that give it back; of a condition or a semaphore each `signal`, `broadcast` or
+    /// `release` of it, of the thread's own code those before the wait.
+    pub statements: Vec<Statement>,
+    /// The threads that it waits for: the owner of its mutex, or each thread that has such a
+    /// statement ahead.
+    pub on: Mask,
+    /// The threads of its circle: those for which it waits through one thread after the other, and
+    /// that wait so for it. Empty where it is in none.
+    pub circle: Mask,
+}
+
+impl Wait {
+    /// Whether it is in no circle: it waits, and nobody waits for it in turn.
+    pub fn is_innocent(&self) -> bool
+        ensures { IsTrue result ↔ (self.now.circle ≡ no_threads) }
+    {
+        self.circle == Mask::empty()
+    }
+}
+
+/// All that wait at the end of a schedule, and their circles.
+#[derive(Debug, Drop)]
+pub struct Waits {
+    waits: Vec<Wait>,
+    circles: Vec<Mask>,
+}
+
+impl Waits {
+    /// The waits of the threads that are blocked at the end of what ran, in a run that failed too.
+    ///
+    /// # Errors
+    ///
+    /// `AllocError` where memory runs out.
+    pub fn new(alloc: Global, program: &Program, told: &Explanation) -> Result<Waits, AllocError>
+        ensures { IfOk result (TellsWaits program.now told.now) }
+    {
+        let fates = all_fates(alloc, program, told)?;
+        let edges = edges_of(program, told, fates.as_slice());
+        let leads = closed(edges);
+        let mut waits = Vec::new(alloc);
+        for t in 0..program.threads() {
+            if let Some(blocked) = Blocked::of(told, t) {
+                waits.push(Wait {
+                    thread: t,
+                    reason: blocked.reason,
+                    since: last_step(told.steps(), t),
+                    statements: statements_of(alloc, program, fates.as_slice(), blocked)?,
+                    on: edges[t as usize],
+                    circle: circle_of(&leads, t),
+                })?;
+            }
+        }
+        let circles = circles_of(alloc, waits.as_slice())?;
+        Ok(Waits { waits, circles })
+    }
+
+    /// The wait of each thread that is blocked, by thread.
+    pub fn all(&self) -> &[Wait]
+        ensures { result.now ≡ self.now.waits.items }
+    {
+        self.waits.as_slice()
+    }
+
+    /// The wait of a thread; `None` where it isn't blocked.
+    pub fn of(&self, thread: u8) -> Option<&Wait>
+        ensures thread { IfSome result (λ wait. wait.now.thread ≡ thread) }
+        ensures one { IfSome result (λ wait. Contains self.now.waits.items wait.now) }
+        ensures none { IfNone result (All (λ wait. wait.thread ≢ thread) self.now.waits.items) }
+    {
+        for wait in &self.waits {
+            if wait.thread == thread {
+                return Some(wait);
+            }
+        }
+        None
+    }
+
+    /// The circles, by their first threads. No thread is in two.
+    pub fn circles(&self) -> &[Mask]
+        ensures { result.now ≡ self.now.circles.items }
+    {
+        self.circles.as_slice()
+    }
+}
+
+// The place of a thread's last step.
+fn last_step(steps: &[Step], thread: u8) -> Option<usize>
+    ensures { IsLastStep steps.now thread (length steps.now) result }
+{
+    let mut last = None;
+    for (place, step) in steps.iter().enumerate() {
+        if step.line.thread == thread {
+            last = Some(place);
+        }
+    }
+    last
+}
+
+// The threads that a blocked thread waits for.
+fn waited_for(program: &Program, fates: &[Vec<Fate>], blocked: Blocked) -> Mask
+    requires { Fits program.now (lists fates.now) }
+    ensures { (u : ℕ) → IsTrue (has result u) ↔ ((u < length program.now.threads)
+        × FindsEdge (code_of program.now u) (slice_index_or (lists fates.now) u []) blocked u) }
+{
+    let mut on = Mask::empty();
+    for u in 0..program.threads() {
+        let theirs = fates[u as usize].as_slice();
+        on = on.with(u, waits_for(program.code(u), theirs, blocked, u));
+    }
+    on
+}
+
+// The threads that each thread waits for.
+fn edges_of(program: &Program, told: &Explanation, fates: &[Vec<Fate>]) -> Rows
+    requires fates { AllFates program.now told.now (lists fates.now) }
+    requires fits { Fits program.now (lists fates.now) }
+    ensures { (t u : ℕ) → IsIn result t u ↔ WaitsFor program.now told.now t u }
+{
+    let mut edges = [Mask::empty(); THREADS];
+    for t in 0..program.threads() {
+        if let Some(blocked) = Blocked::of(told, t) {
+            edges[t as usize] = waited_for(program, fates, blocked);
+        }
+    }
+    edges
+}
+
+// Whether a thread is the first of a set.
+fn is_first_of(set: Mask, thread: u8) -> bool
+    ensures { result ≡ is_first_of set thread }
+{
+    for u in 0..thread {
+        if set.has(u) {
+            return false;
+        }
+    }
+    set.has(thread)
+}
+
+// The circles of those that are the first of theirs.
+fn circles_of(alloc: Global, waits: &[Wait]) -> Result<Vec<Mask>, AllocError>
+    ensures { IfOk result (λ v. v.items ≡ circles_in waits.now) }
+{
+    let mut circles = Vec::new(alloc);
+    for wait in waits {
+        if is_first_of(wait.circle, wait.thread) {
+            circles.push(wait.circle)?;
+        }
+    }
+    Ok(circles)
+}
