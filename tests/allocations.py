@@ -4,15 +4,15 @@ turn, alone, with all later ones, or with all of its size.
 
 BINARY is the program. With ample memory each run must end with its own status and say something.
 With a request refused, its answer must be the same, or `ctxbound: memory` with status 4 and nothing
-on standard output; a suite may also say it of one of its files, if all else that it says is the same, and
-`verify` after the lines of some searches. WALKER is the program of the benchmark, which walks all schedules of a guest:
-with ample memory it must count them and end with status 0, and with a request refused do the same,
-or say nothing and end with status 1 or 2. AGAIN is the program of the crate `again`, which makes each
-call of the libraries again that was refused: it must say the same, or nothing with status 2. A run that
-doesn't end in time fails its sweep. The sweep of a run ends at the first number that is past its last
-request; since runs of several threads have more requests or fewer, it ends only after some such numbers
-in a row. Several workers must make a thread for all but one of them, once for all rounds of a bound. The
-last line is `N passed, M failed`.
+on standard output; a suite may also say it of one of its files, if all else that it says is the same, or
+after the rows of some files, and `verify` after the lines of some searches. WALKER is the program of the
+benchmark, which walks all schedules of a guest: with ample memory it must count them and end with status 0,
+and with a request refused do the same, or say nothing and end with status 1 or 2. AGAIN is the program of
+the crate `again`, which makes each call of the libraries again that was refused: it must say the same, or
+nothing with status 2. A run that doesn't end in time fails its sweep. The sweep of a run ends at the first
+number that is past its last request; since runs of several threads have more requests or fewer, it ends
+only after some such numbers in a row. Several workers must make a thread for all but one of them, once for
+all rounds of a bound. The last line is `N passed, M failed`.
 """
 import json
 import os
@@ -136,7 +136,8 @@ def says_memory(answer, _=None):
 
 
 def says_memory_after_lines(answer, ample):
-    return ample[0].startswith(answer[0]) and says_memory((b"",) + answer[1:])
+    lines = ample[0].splitlines(keepends=True)
+    return says_memory((b"",) + answer[1:]) and answer[0].splitlines(keepends=True) == lines[:answer[0].count(b"\n")]
 
 
 def says_nothing(answer, _):
@@ -163,9 +164,9 @@ def is_out_of_memory(entry):
 
 
 def says_memory_of_a_file(answer, ample):
-    """Whether a suite says that memory ran out, or says it of the folder, or of one file and of the others what it
-    says with ample memory. The totals of a table count what wasn't read."""
-    if says_memory(answer):
+    """Whether a suite says that memory ran out, perhaps after some rows, or says it of the folder, or of one file and
+    of the others what it says with ample memory. The totals of a table count what wasn't read."""
+    if says_memory_after_lines(answer, ample):
         return True
     told, wanted = dict(entries_of(answer[0])), dict(entries_of(ample[0]))
     changed = [name for name in wanted if told.get(name) != wanted[name]]
