@@ -16,7 +16,7 @@ define HELP
                   the same with a guest of yours; with SCHEDULE it only replays that
                     half a minute to a minute, 2 GB
   make quick      all that needs no proof: the tests, the commands that the documents show,
-                  the table of wrong bodies; in a copy whose path has a space; and what `make shown`
+                  the list of wrong bodies; in a copy whose path has a space; and what `make shown`
                   tries, where build/ctxbound is of these sources
                     four to five minutes on four processors, up to 12 GB
   make check C=crate

@@ -1,42 +1,50 @@
 #!/usr/bin/env python3
-"""Compares the wrong bodies that docs/PROOFS.md lists with what is there.
+"""Compares what is said of wrong bodies, and what docs/PROOFS.md names, with what is there.
 
-Usage: tests/edits.py
+Usage: tests/edits.py [--list]
 
-The section "Wrong bodies" has a heading `### CRATE` for each crate with files in must-fail/, and
-under it a table with a row for each edit, by the name of its file. The tables under the headings
-"By a clause, and by a test" and "By a test alone" name in their last column a crate and tests of it, a
-script of tests/ and methods or tables of it, or tests/rows.txt. Those under "Mistakes that are easy to
-make" and "What may be said wrongly" name there edits, as `CRATE/EDIT`, and tests. This fails where an edit
-has no row or a row no edit, where an edit can't be applied, and where a named test or edit isn't there, or
-a row names none. So it does where the document links to a file of a crate that isn't there, or names after
-a file of lemmas one that the file hasn't.
+Each edit in a crate's must-fail/ has a line `# says: ` on what it does, and a line `# by: ` on the clause that
+refuses it. tests/wrong_bodies.txt has the wrong bodies that tests refuse, and the mistakes that are easy to make.
+This fails where an edit has no such line or can't be applied; where a row names nothing, or a test, an edit, a
+function or a clause that isn't there; and where the document links to a file of a crate that isn't there, or names
+after a file of lemmas one that the file hasn't. With --list it prints them all as tables.
 """
+import functools
 import re
 import sys
 from pathlib import Path
 
 ROOT = Path(__file__).resolve().parent.parent
-SECTION = re.compile(r"^## Wrong bodies\n(.*?)(?=^## |\Z)", re.M | re.S)
-BY_TESTS = ("By a clause, and by a test", "By a test alone")
-MISTAKES = ("Mistakes that are easy to make", "What may be said wrongly")
+BOTH = "By a clause, and by a test"
+ALONE = "By a test alone"
 ROWS = "tests/rows.txt"
 # A link to a file of a crate, and the lemmas that are named after it.
 LINK = re.compile(r"\]\(\.\./(crates/[^)]+)\)((?:,? ?`\w+`)*)")
+# What a crate declares: its functions, types and traits, and its named clauses.
+DECLARED = re.compile(r"\b(?:fn|struct|enum|trait|ensures|ghost)\s+(\w+)")
 
 
-def tables():
-    """Each heading of the section with the rows of its tables: the cells of a row, as they stand."""
-    found = SECTION.search((ROOT / "docs/PROOFS.md").read_text(encoding="utf-8"))
-    if not found:
-        raise SystemExit("docs/PROOFS.md has no section `## Wrong bodies`")
-    rows, heading = {}, ""
-    for line in found[1].split("\n"):
-        if line.startswith("### "):
-            heading = line[4:].strip("` ")
-        elif line.startswith("|"):
-            rows.setdefault(heading, []).append(line.strip("|").split("|"))
-    return {heading: lines[2:] for heading, lines in rows.items()}
+def edits():
+    """Each edit by its crate and its name, as `CRATE/EDIT`."""
+    return {"%s/%s" % (edit.parent.parent.name, edit.stem): edit
+            for edit in sorted(ROOT.glob("crates/*/must-fail/*.edit"))}
+
+
+def remark(edit, label):
+    """What an edit's line `# LABEL: ` says, or nothing."""
+    found = re.search(r"^# %s: (\S.*)$" % label, edit.read_text(encoding="utf-8"), re.M)
+    return found[1] if found else ""
+
+
+def rows():
+    """The rows of tests/wrong_bodies.txt by their kind: what is done, the clause that refuses it, what else does."""
+    found, kind = {}, None
+    for line in (ROOT / "tests/wrong_bodies.txt").read_text(encoding="utf-8").split("\n"):
+        if line.startswith("== "):
+            kind = found.setdefault(line[3:], [])
+        elif line and not line.startswith("#"):
+            kind.append((line.split(" | ") + ["", ""])[:3])
+    return found
 
 
 def words(cell):
@@ -44,7 +52,20 @@ def words(cell):
     return re.findall(r"`([^`]+)`", cell)
 
 
-def fault_of(edit):
+@functools.lru_cache(maxsize=None)
+def declared(crate):
+    """The names that the sources of a crate declare."""
+    return {name for file in ROOT.glob("crates/%s/src/**/*.rt" % crate)
+            for name in DECLARED.findall(file.read_text(encoding="utf-8"))}
+
+
+def unknown(crate, cell):
+    """What a cell names between backquotes that the crate doesn't declare."""
+    names = declared(crate)
+    return [word for word in words(cell) if not all(part in names for part in re.findall(r"\w+", word))]
+
+
+def applied(edit):
     """Why an edit can't be applied to its crate, or None."""
     texts, path, old, pairs = {}, None, None, 0
     for line in edit.read_text(encoding="utf-8").split("\n"):
@@ -67,19 +88,15 @@ def fault_of(edit):
     return None if pairs else "it changes nothing"
 
 
-def edit_faults(rows):
-    """What is wrong with the edits and their rows."""
-    listed = ["%s/%s" % (crate, name) for crate in rows for row in rows[crate] for name in words(row[0])]
-    edits = {"%s/%s" % (edit.parent.parent.name, edit.stem): edit
-             for edit in ROOT.glob("crates/*/must-fail/*.edit")}
-    for name in sorted({name for name in listed if listed.count(name) > 1}):
-        yield name + ": has two rows in docs/PROOFS.md"
-    for name in sorted(set(listed) - set(edits)):
-        yield name + ": docs/PROOFS.md has a row, but there is no such edit"
-    for name in sorted(set(edits) - set(listed)):
-        yield name + ": there is such an edit, but docs/PROOFS.md has no row"
-    for name, edit in sorted(edits.items()):
-        fault = fault_of(edit)
+def edit_faults():
+    """What is wrong with the edits and with what they say."""
+    for name, edit in edits().items():
+        for label in ("says", "by"):
+            if not remark(edit, label):
+                yield "%s: it has no line `# %s: `" % (name, label)
+        for word in unknown(name.split("/")[0], remark(edit, "by")):
+            yield "%s: it names `%s`, which its crate hasn't" % (name, word)
+        fault = applied(edit)
         if fault:
             yield name + ": " + fault
 
@@ -95,40 +112,29 @@ def has_test(place, name):
 
 
 def named(cell):
-    """What a cell names: pairs of a place and a test, or of a crate and an edit; of tests/rows.txt, the file alone."""
-    place = None
-    for word in words(cell):
-        if word == ROWS:
-            yield ROWS, None
-        elif word.startswith("tests/") or (ROOT / "crates" / word).is_dir():
-            place = word
-        elif "/" in word:
-            yield tuple(word.split("/", 1))
-        else:
-            yield place, word
+    """What a row names: pairs of a place and a test of it, or of nothing and an edit or the worked rows."""
+    for part in filter(None, cell.split("; ")):
+        place, parted, names = part.partition(": ")
+        for name in names.split(", ") if parted else [part]:
+            yield place if parted else "", name
 
 
-def mistake_faults(rows):
-    """Which of the edits and tests aren't there that refuse the mistakes, and which mistakes nothing refuses."""
-    for row in rows:
-        found = list(named(row[-1]))
-        for place, name in found:
-            edit = ROOT / "crates" / str(place) / "must-fail" / ("%s.edit" % name)
-            if name and not edit.is_file() and not has_test(str(place), name):
-                yield "%s: docs/PROOFS.md names `%s`, which is neither an edit nor a test" % (place, name)
-        if not found:
-            yield "%s: a row that names nothing" % row[0].strip()
-
-
-def test_faults(rows):
-    """Which of the named tests aren't there."""
-    for row in rows:
-        place, *names = words(row[-1]) or [""]
-        for name in names:
-            if not has_test(place, name):
-                yield "%s: docs/PROOFS.md names the test `%s`, which isn't there" % (place, name)
-        if not names and place != ROWS:
-            yield "%s: a row that names no test" % row[0].strip()
+def row_faults(found):
+    """Which rows name nothing, or what isn't there; tests alone may be named where a test is said to refuse it."""
+    known = edits()
+    for kind, lines in found.items():
+        for what, clause, by in lines:
+            if not list(named(by)):
+                yield "%s: a row that names nothing" % what
+            for place, name in named(by):
+                is_edit = name in known and kind not in (BOTH, ALONE)
+                if not (has_test(place, name) if place else name == ROWS or is_edit):
+                    yield "%s: it names `%s`, which isn't there" % (what, ": ".join(filter(None, (place, name))))
+            if kind == BOTH and not clause or kind == ALONE and clause:
+                yield "%s: its clause is missing, or isn't wanted" % what
+            crate, _, cell = clause.partition(": ")
+            for word in unknown(crate, cell) or ([] if words(cell) or not clause else [clause]):
+                yield "%s: it names `%s`, which %s hasn't" % (what, word, crate)
 
 
 def link_faults(text):
@@ -144,18 +150,33 @@ def link_faults(text):
                     yield "docs/PROOFS.md names `%s` of %s, which hasn't it" % (name, found[1])
 
 
+def listed(found):
+    """All as tables: the edits by crate, and then each kind of row."""
+    crate = None
+    for name, edit in edits().items():
+        if name.split("/")[0] != crate:
+            crate = name.split("/")[0]
+            yield "\n## %s\n\n| Edit | What it does | Refused by |\n|---|---|---|" % crate
+        yield "| %s | %s | %s |" % (edit.stem, remark(edit, "says"), remark(edit, "by"))
+    for kind, lines in found.items():
+        yield "\n## %s\n\n| What is done | Refused by the clause | And by |\n|---|---|---|" % kind
+        yield from ("| %s | %s | %s |" % tuple(line) for line in lines)
+
+
 def main():
-    rows = tables()
-    by_tests = [row for heading in BY_TESTS for row in rows.pop(heading, [])]
-    mistakes = [row for heading in MISTAKES for row in rows.pop(heading, [])]
+    found = rows()
+    if sys.argv[1:] == ["--list"]:
+        print("\n".join(listed(found)).strip())
+        return 0
+    by_tests = sum(len(found.get(kind, [])) for kind in (BOTH, ALONE))
+    mistakes = sum(map(len, found.values())) - by_tests
     text = (ROOT / "docs/PROOFS.md").read_text(encoding="utf-8")
-    faults = [*edit_faults(rows), *test_faults(by_tests), *mistake_faults(mistakes), *link_faults(text)]
+    faults = [*edit_faults(), *row_faults(found), *link_faults(text)]
     for fault in faults:
         print(fault)
-    print("%d edits, %d wrong bodies that a test refuses and %d mistakes are as docs/PROOFS.md lists them"
-          % (sum(map(len, rows.values())), len(by_tests), len(mistakes)) if not faults
-          else "docs/PROOFS.md and the edits differ")
-    return 1 if faults or not rows or not mistakes else 0
+    print("%d edits, %d wrong bodies that a test refuses and %d mistakes say what they do and what refuses them"
+          % (len(edits()), by_tests, mistakes) if not faults else "not all that is said of wrong bodies is so")
+    return 1 if faults or not edits() or not by_tests or not mistakes else 0
 
 
 if __name__ == "__main__":

@@ -112,7 +112,7 @@ def main():
     # So that the part that runs is ended, too.
     signal.signal(signal.SIGTERM, lambda number, _: sys.exit(128 + number))
     gate = Gate()
-    gate.part("the table of wrong bodies", [sys.executable, "tests/edits.py"])
+    gate.part("the list of wrong bodies", [sys.executable, "tests/edits.py"])
     print(gate.part("proofs, wrong bodies and tests", ["rt", "ci"]), flush=True)
     (ROOT / "build").mkdir(exist_ok=True)
     shutil.copyfile(ROOT / "crates/ctxbound/out/ctxbound", ROOT / PROGRAM)
