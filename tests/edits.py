@@ -6,8 +6,9 @@ Usage: tests/edits.py [--list]
 Each edit in a crate's must-fail/ has a line `# says: ` on what it does, and a line `# by: ` on the clause that
 refuses it. tests/wrong_bodies.txt has the wrong bodies that tests refuse, and the mistakes that are easy to make.
 This fails where an edit has no such line or can't be applied; where a row names nothing, or a test, an edit, a
-function or a clause that isn't there; and where the document links to a file of a crate that isn't there, or names
-after a file of lemmas one that the file hasn't. With --list it prints them all as tables.
+function or a clause that isn't there; and where a table of the document links to a file of a crate that isn't there,
+or names a lemma that its file hasn't, or a definition, a function or a clause that the crates of its heading and its
+row haven't. With --list it prints all wrong bodies as tables.
 """
 import functools
 import re
@@ -19,7 +20,9 @@ BOTH = "By a clause, and by a test"
 ALONE = "By a test alone"
 ROWS = "tests/rows.txt"
 # A link to a file of a crate, and the lemmas that are named after it.
-LINK = re.compile(r"\]\(\.\./(crates/[^)]+)\)((?:,? ?`\w+`)*)")
+LINK = re.compile(r"\]\(\.\./(crates/[^)]+)\)((?:,? ?`[\w-]+`)*)")
+# What a file of definitions or lemmas begins a line with: those, and the fields of records.
+DEFINED = re.compile(r"^ *(?:pub )?(?:abbrev |record |data )?(?:pub )?([\w-]+)", re.M)
 # What a crate declares: its functions, types and traits, and its named clauses.
 DECLARED = re.compile(r"\b(?:fn|struct|enum|trait|ensures|ghost)\s+(\w+)")
 
@@ -137,6 +140,18 @@ def row_faults(found):
                 yield "%s: it names `%s`, which %s hasn't" % (what, word, crate)
 
 
+@functools.lru_cache(maxsize=None)
+def defined(file):
+    """What a file of definitions or lemmas has."""
+    return set(DEFINED.findall(file.read_text(encoding="utf-8"))) if file.is_file() else set()
+
+
+@functools.lru_cache(maxsize=None)
+def has(crate):
+    """All that a crate declares or defines."""
+    return declared(crate).union(*map(defined, ROOT.glob("crates/%s/specs/**/*.antt" % crate)))
+
+
 def link_faults(text):
     """Which of the files that are linked to, and of the lemmas that are named after one, aren't there."""
     for found in LINK.finditer(text):
@@ -144,10 +159,35 @@ def link_faults(text):
         if not file.exists():
             yield "docs/PROOFS.md links to %s, which isn't there" % found[1]
         elif file.suffix == ".antt":
-            lemmas = file.read_text(encoding="utf-8")
-            for name in words(found[2]):
-                if not re.search(r"^ *(?:pub )?(?:abbrev |record |data )?(?:pub )?%s\b" % name, lemmas, re.M):
-                    yield "docs/PROOFS.md names `%s` of %s, which hasn't it" % (name, found[1])
+            for name in set(words(found[2])) - defined(file):
+                yield "docs/PROOFS.md names `%s` of %s, which hasn't it" % (name, found[1])
+
+
+def is_there(word, crates):
+    """Whether one of the crates has this `Type::function`, `File.Definition` or file of definitions."""
+    file, _, name = word.rpartition(".")
+    if file:
+        files = [ROOT / "crates" / crate / "specs" / (word if name == "antt" else file + ".antt") for crate in crates]
+        return any(it.is_file() and (name == "antt" or name in defined(it)) for it in files)
+    names = set().union(*map(has, crates))
+    return all(part in names for part in re.findall(r"\w+", word))
+
+
+def table_faults(text):
+    """Which of the definitions, functions and clauses in the tables aren't there."""
+    every = {folder.name for folder in ROOT.glob("crates/*")}
+    owners = set()
+    for line in text.split("\n"):
+        if line.startswith("## "):
+            owners = every & set(words(line))
+        elif line.startswith("|"):
+            # The first cell of four is the promise, and the last names clauses of any crate.
+            cells = re.sub(r"the kit's `\w+`", "", LINK.sub("", line)).strip("|").split("|")
+            crates = owners | every & set(words(" ".join(cells))) if owners else every
+            for at, cell in enumerate(cells[1:] if len(cells) == 4 else cells):
+                for word in words(cell):
+                    if word not in every and not is_there(word, crates if at < 2 else every):
+                        yield "docs/PROOFS.md names `%s`, which isn't there: %s" % (word, line[:60])
 
 
 def listed(found):
@@ -171,11 +211,11 @@ def main():
     by_tests = sum(len(found.get(kind, [])) for kind in (BOTH, ALONE))
     mistakes = sum(map(len, found.values())) - by_tests
     text = (ROOT / "docs/PROOFS.md").read_text(encoding="utf-8")
-    faults = [*edit_faults(), *row_faults(found), *link_faults(text)]
+    faults = [*edit_faults(), *row_faults(found), *link_faults(text), *table_faults(text)]
     for fault in faults:
         print(fault)
-    print("%d edits, %d wrong bodies that a test refuses and %d mistakes say what they do and what refuses them"
-          % (len(edits()), by_tests, mistakes) if not faults else "not all that is said of wrong bodies is so")
+    print("%d edits, %d wrong bodies that a test refuses and %d mistakes: all that they and docs/PROOFS.md name is there"
+          % (len(edits()), by_tests, mistakes) if not faults else "not all that is named is there")
     return 1 if faults or not edits() or not by_tests or not mistakes else 0
 
 
