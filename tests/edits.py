@@ -8,7 +8,8 @@ refuses it. tests/wrong_bodies.txt has the wrong bodies that tests refuse, and t
 This fails where an edit has no such line or can't be applied; where a row names nothing, or a test, an edit, a
 function or a clause that isn't there; and where a table of the document links to a file of a crate that isn't there,
 or names a lemma that its file hasn't, or a definition, a function or a clause that the crates of its heading and its
-row haven't. With --list it prints all wrong bodies as tables.
+row haven't; and where docs/ARCHITECTURE.md leaves a file of definitions out. With --list it prints all wrong bodies
+as tables.
 """
 import functools
 import re
@@ -190,6 +191,16 @@ def table_faults(text):
                         yield "docs/PROOFS.md names `%s`, which isn't there: %s" % (word, line[:60])
 
 
+def unlisted():
+    """Which files of definitions docs/ARCHITECTURE.md leaves out, which says that it lists them all."""
+    text = (ROOT / "docs/ARCHITECTURE.md").read_text(encoding="utf-8")
+    rows = {words(line)[0]: words(line)[1:] for line in text.split("\n") if line.startswith("| `")}
+    for file in ROOT.glob("crates/*/specs/[A-Z]*.antt"):
+        crate = file.parent.parent.name
+        if file.stem != "Lib" and file.stem not in rows.get(crate, []):
+            yield "%s of %s: docs/ARCHITECTURE.md doesn't list these definitions" % (file.stem, crate)
+
+
 def listed(found):
     """All as tables: the edits by crate, and then each kind of row."""
     crate = None
@@ -211,10 +222,11 @@ def main():
     by_tests = sum(len(found.get(kind, [])) for kind in (BOTH, ALONE))
     mistakes = sum(map(len, found.values())) - by_tests
     text = (ROOT / "docs/PROOFS.md").read_text(encoding="utf-8")
-    faults = [*edit_faults(), *row_faults(found), *link_faults(text), *table_faults(text)]
+    faults = [*edit_faults(), *row_faults(found), *link_faults(text), *table_faults(text),
+              *unlisted()]
     for fault in faults:
         print(fault)
-    print("%d edits, %d wrong bodies that a test refuses and %d mistakes: all that they and docs/PROOFS.md name is there"
+    print("%d edits, %d wrong bodies that a test refuses and %d mistakes: all that they and the documents name is there"
           % (len(edits()), by_tests, mistakes) if not faults else "not all that is named is there")
     return 1 if faults or not edits() or not by_tests or not mistakes else 0
 
