@@ -8,6 +8,8 @@
 //! - An [`Answer`] is all that is written, and the status. [`serve`] reads a text, answers and
 //!   writes; [`ended`] is the status that the program ends with then; [`serve_file`] does all that
 //!   with a file.
+//! - [`read_file`], [`write_out`], [`write_named`] and [`report_device`] are for commands that name the device
+//!   that failed.
 //! - [`Teller`] is the gate of the searches: where it is asked to, it tells how far they are.
 #![tactic(auto)]
 
@@ -21,4 +23,6 @@ pub use answer::{
 };
 pub use fault::Fault;
 pub use progress::Teller;
-pub use serving::{ended, is_standard_input, serve, serve_file};
+pub use serving::{
+    ended, is_standard_input, read_file, report_device, serve, serve_file, write_named, write_out,
+};

@@ -7,9 +7,9 @@ ghost use Rattle.advice.specs.Told.{checked_lines};
 ghost use Rattle.requests.specs.declared.request.CheckForm.TheVariants.{Lines};
 
 use crate::diagnostics::{json_text, short_text};
-use crate::files::{files_of, read_file, report_device, write_named};
+use crate::files::files_of;
 use advice::{Checked, Depth, advice_text, check};
-use answering::Printed;
+use answering::{Printed, read_file, report_device, write_named};
 use requests::{CheckForm, CheckRequest};
 use std::alloc::{Alloc, AllocError, Global};
 use std::fs::Files;

@@ -11,7 +11,7 @@ use Rattle.answering.specs.declared.fault.Fault.{Fault}
 use Rattle.answering.specs.declared.fault.Fault.TheVariants.{File, Syntax, Check, Schedule}
 use Rattle.answering.specs.declared.fault.Fault.TheVariants.{Replay, Memory}
 use Rattle.answering.specs.Answer.{TextFaultMeans, of_syntax}
-use Rattle.ctxbound.specs.Explained.{IsFaultOf, ExplainFaultMeans}
+use Rattle.explained.specs.Explained.{IsFaultOf, ExplainFaultMeans}
 
 -- a fault of the text is one whatever schedule was asked for
 pub text_fault : (text : List ℕ) (schedule : Option (String Global)) (fault : Fault)

@@ -17,9 +17,9 @@ use Rattle.answering.specs.declared.answer.Printed.{Printed}
 use Rattle.answering.specs.declared.fault.Fault.{Fault}
 use Rattle.answering.specs.declared.fault.Fault.TheVariants.{Schedule, Replay, Memory}
 use Rattle.answering.specs.Answer.{TextFaultMeans, FaultMeans}
-use Rattle.ctxbound.specs.declared.explained.Explained.{Explained}
-use Rattle.ctxbound.specs.declared.explained.Explained.TheVariants.{Asked, Found}
-use Rattle.ctxbound.specs.Status.{told_status}
+use Rattle.explained.specs.declared.explained.Explained.{Explained}
+use Rattle.explained.specs.declared.explained.Explained.TheVariants.{Asked, Found}
+use Rattle.explained.specs.Status.{told_status}
 
 -- the schedule that this text spells is explained
 pub record IsAsked (p : Program) (text : List ℕ) (told : Explanation) : Type 0 where

@@ -1,25 +1,23 @@
-//! What the program answers where it is asked to explain.
+//! What is explained, and how that is told.
 
 ghost use Rattle.std.specs.Prelude.{◌≡◌, IfOk, IfErr};
 ghost use Rattle.std.specs.Arc.{arc_value};
 ghost use Rattle.report.specs.ReportText.{named_schedule};
 ghost use Rattle.answering.specs.declared.fault.Fault.TheVariants.{Memory};
-ghost use Rattle.ctxbound.specs.Status.{explained_status, told_status};
-ghost use Rattle.ctxbound.specs.Explained.{ExplainMeans, IsExplained, IsAsked, IsFound, IsNamed};
-ghost use Rattle.ctxbound.specs.Explained.{IsFaultOf, IsScheduleFault};
+ghost use Rattle.explained.specs.Status.{explained_status, told_status};
+ghost use Rattle.explained.specs.Explained.{ExplainMeans, IsExplained, IsAsked, IsFound, IsNamed};
+ghost use Rattle.explained.specs.Explained.{IsFaultOf, IsScheduleFault};
 
 use answering::{Fault, Printed, Teller, replay_status, verdict_status};
 use explain::{Explanation, Source};
-use explain_page::{explanation_html, explanation_json, nothing_html, nothing_json};
-use explain_text::{Shape, explanation_text, why_text};
+use explain_text::{Shape, explanation_text};
 use guest_code::lowering::lower;
 use guest_code::program::Program;
 use guest_code::source_map::SourceMap;
 use guest_syntax::parse;
 use replay::schedule_from;
-use requests::{ExplainRequest, Exploration, Form};
-use runner::{Report, Verdict, explore, report_value};
-use serde_json::Value;
+use requests::{ExplainRequest, Exploration};
+use runner::{Report, Verdict, explore};
 use std::alloc::{AllocError, Global};
 use std::io::Eprint;
 use std::sync::{Arc, Wait};
@@ -28,11 +26,74 @@ use std::thread::Threads;
 /// The status where a schedule can't be carried out to its end.
 const REFUSED: u8 = 2;
 
-// The columns of the words on a page, which wraps them where they are too wide for it.
-const PAGE_WIDTH: usize = 100;
-
 // What a search up to a bound leaves open.
 const NO_PROOF: &str = "That is no proof: others have more. Try --unbounded, or a higher --bound.";
+
+/// What tells an explanation, or that there is none.
+pub trait Tell {
+    /// The bytes of an explanation of a schedule of the source's program, and of the report of the
+    /// search that names it, if one does.
+    ///
+    /// # Errors
+    ///
+    /// `AllocError` where memory runs out.
+    fn explanation(
+        &self,
+        alloc: Global,
+        explanation: &Explanation,
+        source: &Source<'_>,
+        search: Option<&Report>,
+    ) -> Result<Vec<u8>, AllocError>;
+
+    /// The bytes where a search of the program in this file found no bad schedule. The sentence is
+    /// what its report says to a person.
+    ///
+    /// # Errors
+    ///
+    /// `AllocError` where memory runs out.
+    fn nothing(
+        &self,
+        alloc: Global,
+        file: &str,
+        report: &Report,
+        sentence: &str,
+    ) -> Result<Vec<u8>, AllocError>;
+}
+
+/// Tells it as text, in lines of this width: each step, where there are at most so many, or those
+/// that matter.
+#[derive(Clone, Copy, Debug)]
+pub struct Lines {
+    pub width: usize,
+    pub steps: usize,
+}
+
+impl Tell for Lines {
+    fn explanation(
+        &self,
+        alloc: Global,
+        explanation: &Explanation,
+        source: &Source<'_>,
+        search: Option<&Report>,
+    ) -> Result<Vec<u8>, AllocError> {
+        let shape = Shape {
+            width: self.width,
+            steps: self.steps,
+            is_least: is_least(search),
+        };
+        explanation_text(alloc, explanation, source, shape)
+    }
+
+    fn nothing(
+        &self,
+        alloc: Global,
+        _file: &str,
+        _report: &Report,
+        sentence: &str,
+    ) -> Result<Vec<u8>, AllocError> {
+        Ok(Vec::from_slice(alloc, sentence.as_bytes())?)
+    }
+}
 
 /// The explanation of the schedule that is asked for, in the program that `text` spells, as far as
 /// it runs; or of the bad schedule that a search finds.
@@ -41,11 +102,12 @@ const NO_PROOF: &str = "That is no proof: others have more. Try --unbounded, or 
 ///
 /// What is wrong first: with the text, with the program that it spells, or with the schedule's
 /// text; `Memory` where memory runs out.
-pub fn explain_text<R: Threads + Wait + Sync + Eprint>(
+pub fn explain_text<R: Threads + Wait + Sync + Eprint, T: Tell>(
     rt: &R,
     alloc: Global,
     text: &[u8],
     request: &ExplainRequest,
+    teller: &T,
 ) -> Result<Printed, Fault>
     ensures { ExplainMeans text.now request.now result }
 {
@@ -60,7 +122,7 @@ pub fn explain_text<R: Threads + Wait + Sync + Eprint>(
         map: &map,
     };
     Ok(Printed {
-        output: explained.told(alloc, &source, request)?,
+        output: explained.told(alloc, &source, request.file.as_str(), teller)?,
         status: explained.status(),
     })
 }
@@ -98,20 +160,24 @@ impl Explained {
     }
 
     // Its bytes, of a schedule of the source's program.
-    fn told(
+    fn told<T: Tell>(
         &self,
         alloc: Global,
         source: &Source<'_>,
-        request: &ExplainRequest,
+        file: &str,
+        teller: &T,
     ) -> Result<Vec<u8>, AllocError> {
         match self {
             Explained::Asked(explanation) => {
-                told_as(alloc, explanation, source, request.form, None)
+                teller.explanation(alloc, explanation, source, None)
             }
             Explained::Found(report, Some(explanation)) => {
-                told_as(alloc, explanation, source, request.form, Some(report))
+                teller.explanation(alloc, explanation, source, Some(report))
             }
-            Explained::Found(report, None) => nothing_found(alloc, request, report),
+            Explained::Found(report, None) => {
+                let sentence = sentence_of(alloc, file, report)?;
+                teller.nothing(alloc, file, report, sentence.as_str())
+            }
         }
     }
 
@@ -179,67 +245,12 @@ fn explained_status(explanation: &Explanation) -> u8
     }
 }
 
-// Whether a search showed that no schedule with fewer preemptions than the one that it names is
-// bad.
-fn is_least(search: Option<&Report>) -> bool {
+/// Whether a search showed that no schedule with fewer preemptions than the one that it names is
+/// bad.
+pub fn is_least(search: Option<&Report>) -> bool {
     match search {
         Some(report) => matches!(&report.verdict, Verdict::Bad { .. }) && report.bound.is_some(),
         None => false,
-    }
-}
-
-// The bytes of an explanation, which is that of a schedule of the source's program.
-fn told_as(
-    alloc: Global,
-    explanation: &Explanation,
-    source: &Source<'_>,
-    form: Form,
-    search: Option<&Report>,
-) -> Result<Vec<u8>, AllocError> {
-    match form {
-        Form::Text { width, steps } => {
-            let shape = Shape {
-                width,
-                steps,
-                is_least: is_least(search),
-            };
-            explanation_text(alloc, explanation, source, shape)
-        }
-        Form::Json => explanation_json(alloc, explanation, source, ends_of(alloc, search)?),
-        Form::Html => {
-            let shape = Shape {
-                width: PAGE_WIDTH,
-                steps: 0,
-                is_least: is_least(search),
-            };
-            let why = why_text(alloc, explanation, source, shape)?;
-            let why = String::from_utf8_lossy(alloc, why.as_slice())?;
-            let ends = ends_of(alloc, search)?;
-            explanation_html(alloc, explanation, source, ends, why.as_str())
-        }
-    }
-}
-
-// The report of a search as JSON, if there was one.
-fn ends_of(alloc: Global, search: Option<&Report>) -> Result<Option<Value>, AllocError> {
-    match search {
-        Some(report) => Ok(Some(report_value(alloc, report)?)),
-        None => Ok(None),
-    }
-}
-
-// What is printed where a search found no bad schedule: a sentence, or JSON with the report.
-fn nothing_found(
-    alloc: Global,
-    request: &ExplainRequest,
-    report: &Report,
-) -> Result<Vec<u8>, AllocError> {
-    let file = request.file.as_str();
-    let sentence = sentence_of(alloc, file, report)?;
-    match request.form {
-        Form::Text { .. } => Ok(Vec::from_slice(alloc, sentence.as_bytes())?),
-        Form::Json => nothing_json(alloc, file, report_value(alloc, report)?),
-        Form::Html => nothing_html(alloc, file, sentence.as_str()),
     }
 }
 

@@ -5,7 +5,7 @@ ghost use Rattle.report.specs.Promises.{IsSearch};
 ghost use Rattle.workers.specs.declared.limits.TheConstants.{WORKERS};
 ghost use Rattle.requests.specs.inner.Searches.{IsSearch-prop};
 
-use report::Options;
+use report::{Options, Search};
 
 /// The bound of a search that asks for none.
 pub const DEFAULT_BOUND: u32 = 2;
@@ -33,4 +33,15 @@ pub struct Exploration {
     ghost quota: { 1 ≤ options.quota },
     ghost some_worker: { 1 ≤ workers },
     ghost few_workers: { workers ≤ WORKERS },
+}
+
+impl Exploration {
+    /// The search that is made where no more is asked for.
+    pub fn usual() -> Exploration {
+        Exploration {
+            options: Options::new(Search::UpTo(DEFAULT_BOUND)),
+            workers: 1,
+            progress: false,
+        }
+    }
 }

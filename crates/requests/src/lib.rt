@@ -12,5 +12,6 @@ mod request;
 pub use exploration::{DEFAULT_BOUND, Exploration, GuestRequest};
 pub use limits::{LIMIT, Limits};
 pub use request::{
-    CheckForm, CheckRequest, ExplainRequest, Form, Request, SuiteRequest, VerifyRequest,
+    CheckForm, CheckRequest, ExplainRequest, Form, Request, STEPS, SuiteRequest, VerifyRequest,
+    WIDTH,
 };

@@ -8,8 +8,8 @@ use crate::limits::Limits;
 pub enum Request {
     /// Something of the guest program in this file.
     One { file: String, request: GuestRequest },
-    /// To explain a schedule.
-    Explain(ExplainRequest),
+    /// To explain a schedule, and tell that in this form.
+    Explain { request: ExplainRequest, form: Form },
     /// A suite.
     Suite(SuiteRequest),
     /// To say whether a guest program is right.
@@ -70,8 +70,13 @@ pub struct ExplainRequest {
     /// The schedule, in schedule text. Where there is none, a search finds one.
     pub schedule: Option<String>,
     pub search: Exploration,
-    pub form: Form,
 }
+
+/// The columns of an explanation, where no number is asked for.
+pub const WIDTH: u32 = 100;
+
+/// The steps of an explanation that folds none, where no number is asked for.
+pub const STEPS: u32 = 40;
 
 /// What an explanation is told as.
 #[derive(Clone, Copy, Debug)]

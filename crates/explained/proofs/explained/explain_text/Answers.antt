@@ -2,8 +2,8 @@ use Rattle.std.proofs.lemmas.Result.{err_from_is_err_and}
 use Rattle.std.specs.Arc.{arc_value}
 use Rattle.guest_syntax.specs.Tree.{tree_view}
 use Rattle.answering.specs.declared.fault.Fault.TheVariants.{Memory}
-use Rattle.ctxbound.proofs.ExplainFaults.{text_fault, syntax_fault, schedule_fault}
-use Rattle.ctxbound.proofs.explained.explain_text.Goals as goal
+use Rattle.explained.proofs.ExplainFaults.{text_fault, syntax_fault, schedule_fault}
+use Rattle.explained.proofs.explained.explain_text.Goals as goal
 
 pub returns-in_err-tree : goal.returns-in_err-tree
 returns-in_err-tree g c =
