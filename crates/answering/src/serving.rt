@@ -6,9 +6,9 @@ ghost use Rattle.answering.specs.Status.{fault_status};
 ghost use Rattle.answering.specs.Serve.{IsPartRead, IsServed, IsWritten};
 
 use crate::answer::Answer;
+use crate::exploration::GuestRequest;
 use crate::fault::Fault;
 use guest_syntax::TEXT_BYTES;
-use requests::GuestRequest;
 use std::alloc::{Alloc, Global};
 use std::fs::Files;
 use std::io::{Eprint, ErrorKind, Input, Read, Write};

@@ -1,8 +1,7 @@
 //! The command `suite`.
 
 use crate::files::files_of;
-use answering::{Teller, read_file, report_device, write_out};
-use requests::SuiteRequest;
+use answering::{SuiteRequest, Teller, read_file, report_device, write_out};
 use runner::ExploreError;
 use std::alloc::{Alloc, Global};
 use std::fs::Files;

@@ -4,11 +4,10 @@ ghost use Rattle.std.specs.Prelude.{◌≡◌};
 ghost use Rattle.ctxbound.specs.Status.{verified_status};
 
 use advice::{Advice, Checked, Depth, check};
-use answering::{Fault, read_file, report_device, write_named};
+use answering::{Fault, VerifyRequest, read_file, report_device, write_named};
 use guest_syntax::pieces::Piece;
 use hints::pieces::pieces;
 use replay::schedule_text;
-use requests::VerifyRequest;
 use semantics::view::Kind;
 use std::alloc::{Alloc, Global};
 use std::fs::Files;

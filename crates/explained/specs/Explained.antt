@@ -12,7 +12,7 @@ use Rattle.report.specs.declared.report.Report.{Report}
 use Rattle.report.specs.Promises.{IsReport}
 use Rattle.report.specs.ReportText.{named_schedule}
 use Rattle.report.specs.Texts.{IsProgramOf}
-use Rattle.requests.specs.declared.request.ExplainRequest.{ExplainRequest}
+use Rattle.answering.specs.declared.request.ExplainRequest.{ExplainRequest}
 use Rattle.answering.specs.declared.answer.Printed.{Printed}
 use Rattle.answering.specs.declared.fault.Fault.{Fault}
 use Rattle.answering.specs.declared.fault.Fault.TheVariants.{Schedule, Replay, Memory}

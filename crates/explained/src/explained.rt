@@ -8,7 +8,9 @@ ghost use Rattle.explained.specs.Status.{explained_status, told_status};
 ghost use Rattle.explained.specs.Explained.{ExplainMeans, IsExplained, IsAsked, IsFound, IsNamed};
 ghost use Rattle.explained.specs.Explained.{IsFaultOf, IsScheduleFault};
 
-use answering::{Fault, Printed, Teller, replay_status, verdict_status};
+use answering::{
+    ExplainRequest, Exploration, Fault, Printed, Teller, replay_status, verdict_status,
+};
 use explain::{Explanation, Source};
 use explain_text::{Shape, explanation_text};
 use guest_code::lowering::lower;
@@ -16,7 +18,6 @@ use guest_code::program::Program;
 use guest_code::source_map::SourceMap;
 use guest_syntax::parse;
 use replay::schedule_from;
-use requests::{ExplainRequest, Exploration};
 use runner::{Report, Verdict, explore};
 use std::alloc::{AllocError, Global};
 use std::io::Eprint;

@@ -1,8 +1,7 @@
 //! An explanation of the guest program in a file.
 
 use crate::explained::{Tell, explain_text};
-use answering::{read_file, report_device, write_named};
-use requests::ExplainRequest;
+use answering::{ExplainRequest, read_file, report_device, write_named};
 use std::alloc::{Alloc, Global};
 use std::fs::Files;
 use std::io::{Eprint, Input, Write};

@@ -3,9 +3,8 @@
 //! these need: `make run` and `make try` compile it sooner than the whole program.
 #![tactic(auto)]
 
-use answering::serve_file;
+use answering::{ExplainRequest, Exploration, GuestRequest, STEPS, WIDTH, serve_file};
 use explained::{Lines, serve_explain};
-use requests::{ExplainRequest, Exploration, GuestRequest, STEPS, WIDTH};
 use std::io::Write;
 use std::process::ExitCode;
 

@@ -4,7 +4,7 @@ ghost use Rattle.std.specs.Prelude.{◌≤◌, IfSome};
 ghost use Rattle.report.specs.Promises.{IsSearch};
 
 use crate::gate::Does;
-use requests::Exploration;
+use answering::Exploration;
 use runner::{BOUND, Options, Search, WORKERS};
 
 /// What the words ask for.

@@ -5,13 +5,13 @@ ghost use Rattle.report.specs.declared.options.Search.TheVariants.{Unbounded};
 ghost use Rattle.report.specs.Promises.{IsSearch};
 
 use crate::fault::WordsFault;
-use clap::{Arg, ArgAction, ArgMatches, Command, value_parser};
-use report::limits::{BOUND, QUOTA};
-use report::{Options, Search};
-use requests::{
+use answering::{
     CheckForm, CheckRequest, DEFAULT_BOUND, ExplainRequest, Exploration, Form, GuestRequest, LIMIT,
     Limits, Request, STEPS, SuiteRequest, VerifyRequest, WIDTH,
 };
+use clap::{Arg, ArgAction, ArgMatches, Command, value_parser};
+use report::limits::{BOUND, QUOTA};
+use report::{Options, Search};
 use std::alloc::{Alloc, AllocError, Global};
 use std::env::Env;
 use workers::WORKERS;

@@ -4,7 +4,7 @@ ghost use Rattle.std.specs.Prelude.{◌≤◌};
 ghost use Rattle.workers.specs.declared.limits.TheConstants.{WORKERS};
 ghost use Rattle.report.specs.declared.options.Search.TheVariants.{UpTo};
 ghost use Rattle.report.specs.Promises.{IsSearch};
-ghost use Rattle.requests.specs.inner.Searches.{IsSearch-prop};
+ghost use Rattle.answering.specs.inner.Searches.{IsSearch-prop};
 
 /// The limit of a search that is given none.
 pub const LIMIT: u64 = 1_000_000;

@@ -3,7 +3,7 @@
 ghost use Rattle.std.specs.Prelude.{◌≤◌};
 ghost use Rattle.report.specs.Promises.{IsSearch};
 ghost use Rattle.workers.specs.declared.limits.TheConstants.{WORKERS};
-ghost use Rattle.requests.specs.inner.Searches.{IsSearch-prop};
+ghost use Rattle.answering.specs.inner.Searches.{IsSearch-prop};
 
 use report::{Options, Search};
 
