@@ -6,7 +6,7 @@ ghost use Rattle.semantics.specs.Machine.{is_enabled};
 ghost use Rattle.semantics.specs.Reachable.{IsOf, IsValidAction};
 ghost use Rattle.semantics.specs.Turns.{IsAccessBelow};
 ghost use Rattle.guest_code.specs.Program.{Program, IsValidCode};
-ghost use Rattle.probe.specs.inner.Frames.{TakesBack, IsTour};
+ghost use Rattle.lint.specs.inner.Frames.{TakesBack, IsTour};
 
 use crate::seen::{Seen, Stage};
 use crate::spin::Spin;

@@ -5,8 +5,8 @@ use Rattle.semantics.specs.declared.undo.Undo.{Undo}
 use Rattle.semantics.specs.Machine.{Snapshot}
 use Rattle.semantics.specs.Reachable.{IsOf}
 use Rattle.semantics.specs.Undoing.{undone, IsRecordOf}
-use Rattle.probe.specs.declared.deep.Frame.{Frame}
-use Rattle.probe.specs.declared.deep.Tour.{Tour}
+use Rattle.lint.specs.declared.deep.Frame.{Frame}
+use Rattle.lint.specs.declared.deep.Tour.{Tour}
 
 -- by this record a state goes back to the one before it
 pub record TakesBack (p : Program) (u : Undo) (old new : Snapshot) : Type 0 where
