@@ -186,7 +186,7 @@ shown:
 	python3 tests/simulator.py "$(PROGRAM)"
 	python3 tests/page.py "$(PROGRAM)"
 	python3 tests/around.py "$(PROGRAM)"
-	@test ! -x crates/rounds/out/rounds || python3 tests/rounds.py "$(PROGRAM)" crates/rounds/out/rounds
+	@test ! -x crates/tools/out/tools || python3 tests/rounds.py "$(PROGRAM)" crates/tools/out/tools
 	"$(PROGRAM)" suite examples
 
 # Small programs made at random, other ones each time.
@@ -196,7 +196,7 @@ fuzz:
 
 bench:
 	@mkdir -p build
-	@cd crates/walk_bench && rt run -- data/race.guest 1 > ../../build/log 2>&1 || { cat ../../build/log; exit 1; }
+	@cd crates/tools && rt run -- walk data/race.guest 1 > ../../build/log 2>&1 || { cat ../../build/log; exit 1; }
 	@python3 bench/walk.py
 	@test ! -x build/ctxbound || python3 bench/workers.py build/ctxbound
 	@test ! -x build/ctxbound || python3 bench/beside.py build/ctxbound

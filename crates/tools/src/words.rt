@@ -1,4 +1,4 @@
-//! What the program is asked for.
+//! The search that `rounds` is asked for.
 
 ghost use Rattle.std.specs.Prelude.{◌≤◌, IfSome};
 ghost use Rattle.report.specs.Promises.{IsSearch};
@@ -6,6 +6,7 @@ ghost use Rattle.report.specs.Promises.{IsSearch};
 use crate::gate::Does;
 use answering::Exploration;
 use runner::{BOUND, Options, Search, WORKERS};
+use std::alloc::Global;
 
 /// What the words ask for.
 #[derive(Debug, Drop)]
@@ -76,12 +77,10 @@ fn does(words: &[String]) -> Option<Does> {
     }
 }
 
-/// What the words of the program ask for, if they ask for anything.
-pub fn request_of(rt: &HostRuntime) -> Option<Request> {
-    let words: Vec<String> = std::env::args(rt).ok()?.collect(rt.alloc()).ok()?;
-    let words = words.as_slice();
+/// What the words ask for, if they ask for anything.
+pub fn request_of(alloc: Global, words: &[String]) -> Option<Request> {
     Some(Request {
-        file: words.get(1)?.as_str().to_string(rt.alloc()).ok()?,
+        file: words.get(1)?.as_str().to_string(alloc).ok()?,
         search: exploration_of(words)?,
         does: does(words)?,
     })

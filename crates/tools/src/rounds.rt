@@ -1,16 +1,11 @@
 //! Searches a guest program by several workers, and prints what a gate heard of it: who was asked
-//! about which item, and when each round ended. It is here to be looked at by `tests/rounds.py`,
-//! and is no part of the product.
+//! about which item, and when each round ended. It is here to be looked at by `tests/rounds.py`.
 //!
-//! The words are a file, a bound or `unbounded`, `quick` or `whole`, the numbers of workers and of
-//! schedules a walk, the limit or 0, and what the gate does: a word and a number. Each line is a
-//! word and numbers: `go`, `stop` and `walked` with worker and item, `round` with the schedules
-//! tried so far and the items that are open then, at most 65,535, `late` where a worker was held
-//! too long. The report is last.
-#![tactic(auto)]
-
-mod gate;
-mod words;
+//! The words are `rounds`, a file, a bound or `unbounded`, `quick` or `whole`, the numbers of
+//! workers and of schedules a walk, the limit or 0, and what the gate does: a word and a number.
+//! Each line is a word and numbers: `go`, `stop` and `walked` with worker and item, `round` with the
+//! schedules tried so far and the items that are open then, at most 65,535, `late` where a worker
+//! was held too long. The report is last.
 
 use crate::gate::Listening;
 use crate::words::{Request, request_of};
@@ -53,18 +48,17 @@ fn print(rt: &HostRuntime, gate: &Listening, report: &[u8]) -> io::Result<()> {
     println!(rt; "{report}")
 }
 
-fn main(rt: HostRuntime) -> ExitCode {
-    let Some(request) = request_of(&rt) else {
-        return ExitCode::from(2);
-    };
+/// Does what the words ask for, if they ask for anything.
+pub fn done(rt: &HostRuntime, words: &[String]) -> Option<ExitCode> {
+    let request = request_of(rt.alloc(), words)?;
     let Some(gate) = Listening::new(rt.alloc(), request.does) else {
-        return ExitCode::FAILURE;
+        return Some(ExitCode::FAILURE);
     };
-    let Some(report) = searched(&rt, &request, &gate) else {
-        return ExitCode::FAILURE;
+    let Some(report) = searched(rt, &request, &gate) else {
+        return Some(ExitCode::FAILURE);
     };
-    match print(&rt, &gate, report.as_slice()) {
-        Ok(()) => ExitCode::SUCCESS,
-        Err(_) => ExitCode::FAILURE,
+    match print(rt, &gate, report.as_slice()) {
+        Ok(()) => Some(ExitCode::SUCCESS),
+        Err(_) => Some(ExitCode::FAILURE),
     }
 }

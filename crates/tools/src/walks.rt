@@ -1,10 +1,9 @@
 //! Walks the schedules of a guest program within a bound, or those that sleep sets leave, and
 //! prints how many there are and how many prefixes the bound put off. It is here to be timed by
-//! `bench/walk.py`, and is no part of the product.
+//! `bench/walk.py`.
 //!
-//! The words are a file, a bound or `reduced`, and `unlisted` where what the bound puts off is not
-//! to be listed, as at the last bound of a search; then none is counted.
-#![tactic(auto)]
+//! The words are `walk`, a file, a bound or `reduced`, and `unlisted` where what the bound puts off
+//! is not to be listed, as at the last bound of a search; then none is counted.
 
 ghost use Rattle.std.specs.Prelude.{◌≡◌, length};
 
@@ -67,8 +66,7 @@ fn mode_of(word: &str) -> Option<Mode> {
 }
 
 /// What the words ask for: the text of the file, the mode, and whether what is put off is listed.
-fn asked(rt: &HostRuntime) -> Option<(Vec<u8>, Mode, bool)> {
-    let words: Vec<String> = std::env::args(rt).ok()?.collect(rt.alloc()).ok()?;
+fn asked(rt: &HostRuntime, words: &[String]) -> Option<(Vec<u8>, Mode, bool)> {
     let text = fs::read(rt, words.get(1)?.as_str()).ok()?;
     let mode = mode_of(words.get(2)?.as_str())?;
     let Some(word) = words.get(3) else {
@@ -80,10 +78,9 @@ fn asked(rt: &HostRuntime) -> Option<(Vec<u8>, Mode, bool)> {
     Some((text, mode, false))
 }
 
-fn main(rt: HostRuntime) -> ExitCode {
-    let Some((text, mode, lists)) = asked(&rt) else {
-        return ExitCode::from(2);
-    };
+/// Does what the words ask for, if they ask for anything.
+pub fn done(rt: &HostRuntime, words: &[String]) -> Option<ExitCode> {
+    let (text, mode, lists) = asked(rt, words)?;
     let Some(
         Counts {
             tried,
@@ -93,10 +90,10 @@ fn main(rt: HostRuntime) -> ExitCode {
         },
     ) = walk_all(rt.alloc(), text.as_slice(), mode, lists)
     else {
-        return ExitCode::FAILURE;
+        return Some(ExitCode::FAILURE);
     };
     match println!(rt; "tried {tried} failed {failed} stuck {stuck} deferred {deferred}") {
-        Ok(()) => ExitCode::SUCCESS,
-        Err(_) => ExitCode::FAILURE,
+        Ok(()) => Some(ExitCode::SUCCESS),
+        Err(_) => Some(ExitCode::FAILURE),
     }
 }

@@ -1,15 +1,11 @@
 //! Makes each call of the libraries that takes memory, and makes it again where it was refused. So
 //! in a run in which one request for memory is refused it prints what it prints with ample memory:
 //! the call is refused as it should be, leaves what it was lent as before, and succeeds then. It is
-//! here for `tests/allocations.py`, and is no part of the product.
+//! here for `tests/allocations.py`.
 //!
-//! The words are a file and a complete schedule. It ends with status 1 where a call fails twice, or
-//! where a refused one changed something; with 2 where memory for the words, the file or the
-//! program is refused.
-#![tactic(auto)]
-
-mod books;
-mod runs;
+//! The words are `again`, a file and a complete schedule. It ends with status 1 where a call fails
+//! twice, or where a refused one changed something; with 2 where memory for the words, the file or
+//! the program is refused.
 
 use crate::books::{BookFacts, searched};
 use crate::runs::{RunFacts, carried_out};
@@ -42,14 +38,6 @@ fn schedule_of(alloc: Global, text: &[u8]) -> Option<Vec<u8>> {
     }
 }
 
-/// The words: a file and a schedule.
-fn asked(rt: &HostRuntime) -> Option<(Vec<u8>, String)> {
-    let words: Vec<String> = std::env::args(rt).ok()?.collect(rt.alloc()).ok()?;
-    let text = fs::read(rt, words.get(1)?.as_str()).ok()?;
-    let schedule = words.get(2)?.as_str().to_string(rt.alloc()).ok()?;
-    Some((text, schedule))
-}
-
 /// Prints what all the calls answered.
 fn print(rt: &HostRuntime, run: RunFacts, book: BookFacts) -> io::Result<()> {
     let RunFacts {
@@ -75,27 +63,32 @@ fn print(rt: &HostRuntime, run: RunFacts, book: BookFacts) -> io::Result<()> {
     println!(rt; "copied {copied} next {next} seats {seats}")
 }
 
-fn main(rt: HostRuntime) -> ExitCode {
-    let Some((text, schedule)) = asked(&rt) else {
-        return ExitCode::from(2);
-    };
+/// What all the calls answer on a program and a schedule of it, if none fails twice.
+fn answered(
+    alloc: Global,
+    program: &Arc<Program>,
+    schedule: &str,
+) -> Option<(RunFacts, BookFacts)> {
+    let schedule = schedule_of(alloc, schedule.as_bytes())?;
+    let run = carried_out(alloc, program, schedule.as_slice())?;
+    let book = searched(alloc, program, schedule.as_slice())?;
+    Some((run, book))
+}
+
+/// Does what the words ask for, if they ask for anything and there is memory for the file and the
+/// program.
+pub fn done(rt: &HostRuntime, words: &[String]) -> Option<ExitCode> {
+    let text = fs::read(rt, words.get(1)?.as_str()).ok()?;
+    let schedule = words.get(2)?.as_str();
     let Some(program) = program_of(rt.alloc(), text.as_slice()) else {
-        return ExitCode::FAILURE;
+        return Some(ExitCode::FAILURE);
     };
-    let Ok(program) = Arc::new(rt.alloc(), program) else {
-        return ExitCode::from(2);
+    let program = Arc::new(rt.alloc(), program).ok()?;
+    let Some((run, book)) = answered(rt.alloc(), &program, schedule) else {
+        return Some(ExitCode::FAILURE);
     };
-    let Some(schedule) = schedule_of(rt.alloc(), schedule.as_bytes()) else {
-        return ExitCode::FAILURE;
-    };
-    let Some(run) = carried_out(rt.alloc(), &program, schedule.as_slice()) else {
-        return ExitCode::FAILURE;
-    };
-    let Some(book) = searched(rt.alloc(), &program, schedule.as_slice()) else {
-        return ExitCode::FAILURE;
-    };
-    match print(&rt, run, book) {
-        Ok(()) => ExitCode::SUCCESS,
-        Err(_) => ExitCode::FAILURE,
+    match print(rt, run, book) {
+        Ok(()) => Some(ExitCode::SUCCESS),
+        Err(_) => Some(ExitCode::FAILURE),
     }
 }
