@@ -27,7 +27,7 @@ pub use answer::{
     Answer, Printed, explore_and_trace, explore_text, replay_status, replay_text, verdict_status,
 };
 pub use exploration::{DEFAULT_BOUND, Exploration, GuestRequest};
-pub use fault::Fault;
+pub use fault::{Fault, REFUSED};
 pub use limits::{LIMIT, Limits};
 pub use progress::Teller;
 pub use request::{

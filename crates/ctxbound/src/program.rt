@@ -4,7 +4,7 @@ use crate::checks::{is_refused, serve_check};
 use crate::forms::{Html, Json};
 use crate::suites::serve_suite;
 use crate::verified::serve_verify;
-use answering::{ExplainRequest, Form, Request, serve_file};
+use answering::{ExplainRequest, Form, REFUSED, Request, serve_file};
 use explained::{Lines, serve_explain};
 use std::alloc::{Alloc, Global};
 use std::fs::Files;
@@ -12,9 +12,6 @@ use std::io::{Eprint, Input, Write};
 use std::sync::Wait;
 use std::thread::Threads;
 use words::request;
-
-/// The status where what the user gave is refused.
-const REFUSED: u8 = 2;
 
 /// Does what the command words ask for: the answer goes to `out`, the lines of faults to `err`.
 /// Where these are seen by a person, they are told which command says more. Answers the status that

@@ -9,7 +9,7 @@ ghost use Rattle.explained.specs.Explained.{ExplainMeans, IsExplained, IsAsked, 
 ghost use Rattle.explained.specs.Explained.{IsFaultOf, IsScheduleFault};
 
 use answering::{
-    ExplainRequest, Exploration, Fault, Printed, Teller, replay_status, verdict_status,
+    ExplainRequest, Exploration, Fault, Printed, REFUSED, Teller, replay_status, verdict_status,
 };
 use explain::{Explanation, Source};
 use explain_text::{Shape, explanation_text};
@@ -23,9 +23,6 @@ use std::alloc::{AllocError, Global};
 use std::io::Eprint;
 use std::sync::{Arc, Wait};
 use std::thread::Threads;
-
-/// The status where a schedule can't be carried out to its end.
-const REFUSED: u8 = 2;
 
 // What a search up to a bound leaves open.
 const NO_PROOF: &str = "That is no proof: others have more. Try --unbounded, or a higher --bound.";

@@ -3,16 +3,13 @@
 //! these need: `make run` and `make try` compile it sooner than the whole program.
 #![tactic(auto)]
 
-use answering::{ExplainRequest, Exploration, GuestRequest, STEPS, WIDTH, serve_file};
+use answering::{ExplainRequest, Exploration, GuestRequest, REFUSED, STEPS, WIDTH, serve_file};
 use explained::{Lines, serve_explain};
 use std::io::Write;
 use std::process::ExitCode;
 
 const USAGE: &str = "usage: first explain FILE [SCHEDULE], first explore FILE --trace, or first \
                      replay FILE SCHEDULE";
-
-/// The status where the words ask for nothing.
-const REFUSED: u8 = 2;
 
 /// What the words ask for.
 #[derive(Drop)]
@@ -22,7 +19,7 @@ enum Asked {
 }
 
 /// What the words ask for, if for anything.
-fn asked(rt: &HostRuntime) -> Option<Asked> {
+fn read_words(rt: &HostRuntime) -> Option<Asked> {
     let words: Vec<String> = std::env::args(rt).ok()?.collect(rt.alloc()).ok()?;
     let file = words.get(2)?.as_str().to_string(rt.alloc()).ok()?;
     let last = match words.get(3) {
@@ -52,7 +49,7 @@ fn asked(rt: &HostRuntime) -> Option<Asked> {
 fn main(rt: HostRuntime) -> ExitCode {
     let mut out = rt.stdout();
     let mut err = rt.stderr();
-    let status = match asked(&rt) {
+    let status = match read_words(&rt) {
         Some(Asked::One { file, request }) => {
             serve_file(&rt, file.as_str(), &request, &mut out, &mut err)
         }
