@@ -99,7 +99,7 @@ try:
 	@test -r "$$GUEST" || { echo "$$GUEST can't be read" >&2; exit 2; }
 	@$(COMPILING)
 	@guest=$$(realpath -- "$$GUEST"); name=$$GUEST; \
-	case "$$name" in /* | *..* | *[!A-Za-z0-9_./-]*) name=program.guest;; esac; \
+	case "$$name" in /* | *..* | program* | std* | *[!A-Za-z0-9_./-]*) name=program.guest;; esac; \
 	set -- "$$COMMAND" "$$name" $${SCHEDULE:+"$$SCHEDULE"}; \
 	test "$$COMMAND" != explore || set -- "$$@" --trace; $(TRY)
 
