@@ -1,80 +1,72 @@
 //! The forms of an explanation that aren't text in columns.
 
-use explain::{Explanation, Source};
+use explain::Source;
 use explain_page::{explanation_html, explanation_json, nothing_html, nothing_json};
 use explain_text::{Shape, why_text};
-use explained::{Tell, is_least};
-use runner::{Report, report_value};
-use serde_json::Value;
+use explained::{Explained, Tell, is_least, sentence_of};
+use runner::report_value;
 use std::alloc::{AllocError, Global};
+
+/// Tells what is explained as JSON.
+#[derive(Clone, Copy, Debug)]
+pub struct Json;
+
+/// Tells what is explained as a page.
+#[derive(Clone, Copy, Debug)]
+pub struct Html;
 
 /// The columns of the words on a page, which wraps them where they are too wide for it.
 const PAGE_WIDTH: usize = 100;
 
-/// Tells an explanation as JSON.
-#[derive(Clone, Copy, Debug)]
-pub struct Json;
-
 impl Tell for Json {
-    fn explanation(
+    fn tell(
         &self,
         alloc: Global,
-        explanation: &Explanation,
+        explained: &Explained,
         source: &Source<'_>,
-        search: Option<&Report>,
-    ) -> Result<Vec<u8>, AllocError> {
-        explanation_json(alloc, explanation, source, ends_of(alloc, search)?)
-    }
-
-    fn nothing(
-        &self,
-        alloc: Global,
         file: &str,
-        report: &Report,
-        _sentence: &str,
     ) -> Result<Vec<u8>, AllocError> {
-        nothing_json(alloc, file, report_value(alloc, report)?)
+        match explained {
+            Explained::Asked(explanation) => explanation_json(alloc, explanation, source, None),
+            Explained::Found(report, Some(explanation)) => {
+                let ends = report_value(alloc, report)?;
+                explanation_json(alloc, explanation, source, Some(ends))
+            }
+            Explained::Found(report, None) => {
+                nothing_json(alloc, file, report_value(alloc, report)?)
+            }
+        }
     }
 }
 
-/// Tells an explanation as a page.
-#[derive(Clone, Copy, Debug)]
-pub struct Html;
-
 impl Tell for Html {
-    fn explanation(
+    fn tell(
         &self,
         alloc: Global,
-        explanation: &Explanation,
+        explained: &Explained,
         source: &Source<'_>,
-        search: Option<&Report>,
+        file: &str,
     ) -> Result<Vec<u8>, AllocError> {
+        let (explanation, is_least, ends) = match explained {
+            Explained::Asked(explanation) => (explanation, false, None),
+            Explained::Found(report, Some(explanation)) => {
+                (
+                    explanation,
+                    is_least(report),
+                    Some(report_value(alloc, report)?),
+                )
+            }
+            Explained::Found(report, None) => {
+                return nothing_html(alloc, file, sentence_of(alloc, file, report)?.as_str());
+            }
+        };
         let shape = Shape {
             width: PAGE_WIDTH,
             steps: 0,
-            is_least: is_least(search),
+            is_least,
         };
         let why = why_text(alloc, explanation, source, shape)?;
         let why = String::from_utf8_lossy(alloc, why.as_slice())?;
-        let ends = ends_of(alloc, search)?;
         explanation_html(alloc, explanation, source, ends, why.as_str())
-    }
-
-    fn nothing(
-        &self,
-        alloc: Global,
-        file: &str,
-        _report: &Report,
-        sentence: &str,
-    ) -> Result<Vec<u8>, AllocError> {
-        nothing_html(alloc, file, sentence)
-    }
-}
-
-// The report of a search as JSON, if there was one.
-fn ends_of(alloc: Global, search: Option<&Report>) -> Result<Option<Value>, AllocError> {
-    match search {
-        Some(report) => Ok(Some(report_value(alloc, report)?)),
-        None => Ok(None),
     }
 }

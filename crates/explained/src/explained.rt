@@ -27,34 +27,19 @@ use std::thread::Threads;
 // What a search up to a bound leaves open.
 const NO_PROOF: &str = "That is no proof: others have more. Try --unbounded, or a higher --bound.";
 
-/// What tells an explanation, or that there is none.
+/// What tells what is explained.
 pub trait Tell {
-    /// The bytes of an explanation of a schedule of the source's program, and of the report of the
-    /// search that names it, if one does.
+    /// The bytes of what is explained of the program in this file, which is the source's.
     ///
     /// # Errors
     ///
     /// `AllocError` where memory runs out.
-    fn explanation(
+    fn tell(
         &self,
         alloc: Global,
-        explanation: &Explanation,
+        explained: &Explained,
         source: &Source<'_>,
-        search: Option<&Report>,
-    ) -> Result<Vec<u8>, AllocError>;
-
-    /// The bytes where a search of the program in this file found no bad schedule. The sentence is
-    /// what its report says to a person.
-    ///
-    /// # Errors
-    ///
-    /// `AllocError` where memory runs out.
-    fn nothing(
-        &self,
-        alloc: Global,
         file: &str,
-        report: &Report,
-        sentence: &str,
     ) -> Result<Vec<u8>, AllocError>;
 }
 
@@ -66,30 +51,34 @@ pub struct Lines {
     pub steps: usize,
 }
 
-impl Tell for Lines {
-    fn explanation(
-        &self,
-        alloc: Global,
-        explanation: &Explanation,
-        source: &Source<'_>,
-        search: Option<&Report>,
-    ) -> Result<Vec<u8>, AllocError> {
-        let shape = Shape {
+impl Lines {
+    // The shape of an explanation, of the least bad schedule or not.
+    fn shape(&self, is_least: bool) -> Shape {
+        Shape {
             width: self.width,
             steps: self.steps,
-            is_least: is_least(search),
-        };
-        explanation_text(alloc, explanation, source, shape)
+            is_least,
+        }
     }
+}
 
-    fn nothing(
+impl Tell for Lines {
+    fn tell(
         &self,
         alloc: Global,
-        _file: &str,
-        _report: &Report,
-        sentence: &str,
+        explained: &Explained,
+        source: &Source<'_>,
+        file: &str,
     ) -> Result<Vec<u8>, AllocError> {
-        Ok(Vec::from_slice(alloc, sentence.as_bytes())?)
+        match explained {
+            Explained::Asked(explanation) => {
+                explanation_text(alloc, explanation, source, self.shape(false))
+            }
+            Explained::Found(report, Some(explanation)) => {
+                explanation_text(alloc, explanation, source, self.shape(is_least(report)))
+            }
+            Explained::Found(report, None) => Ok(sentence_of(alloc, file, report)?.into_bytes()),
+        }
     }
 }
 
@@ -120,7 +109,7 @@ pub fn explain_text<R: Threads + Wait + Sync + Eprint, T: Tell>(
         map: &map,
     };
     Ok(Printed {
-        output: explained.told(alloc, &source, request.file.as_str(), teller)?,
+        output: teller.tell(alloc, &explained, &source, request.file.as_str())?,
         status: explained.status(),
     })
 }
@@ -153,28 +142,6 @@ impl Explained {
             None => {
                 let (report, explanation) = found(rt, alloc, program, request.search)?;
                 Ok(Explained::Found(report, explanation))
-            }
-        }
-    }
-
-    // Its bytes, of a schedule of the source's program.
-    fn told<T: Tell>(
-        &self,
-        alloc: Global,
-        source: &Source<'_>,
-        file: &str,
-        teller: &T,
-    ) -> Result<Vec<u8>, AllocError> {
-        match self {
-            Explained::Asked(explanation) => {
-                teller.explanation(alloc, explanation, source, None)
-            }
-            Explained::Found(report, Some(explanation)) => {
-                teller.explanation(alloc, explanation, source, Some(report))
-            }
-            Explained::Found(report, None) => {
-                let sentence = sentence_of(alloc, file, report)?;
-                teller.nothing(alloc, file, report, sentence.as_str())
             }
         }
     }
@@ -245,15 +212,16 @@ fn explained_status(explanation: &Explanation) -> u8
 
 /// Whether a search showed that no schedule with fewer preemptions than the one that it names is
 /// bad.
-pub fn is_least(search: Option<&Report>) -> bool {
-    match search {
-        Some(report) => matches!(&report.verdict, Verdict::Bad { .. }) && report.bound.is_some(),
-        None => false,
-    }
+pub fn is_least(search: &Report) -> bool {
+    matches!(&search.verdict, Verdict::Bad { .. }) && search.bound.is_some()
 }
 
-// What is said of a search that found no bad schedule.
-fn sentence_of(alloc: Global, file: &str, report: &Report) -> Result<String, AllocError> {
+/// What is said of a search of the program in this file that found no bad schedule.
+///
+/// # Errors
+///
+/// `AllocError` where memory runs out.
+pub fn sentence_of(alloc: Global, file: &str, report: &Report) -> Result<String, AllocError> {
     let tried = report.summary.tried();
     match (&report.verdict, report.bound) {
         (Verdict::Clean { all: false }, Some(bound)) => {
