@@ -13,7 +13,9 @@ use guest_code::lowering::lower;
 use guest_code::program::Program;
 use guest_syntax::parse;
 use replay::schedule_from;
-use std::alloc::Global;
+use std::alloc::{Alloc, Global};
+use std::fs::Files;
+use std::io::Print;
 use std::process::ExitCode;
 use std::sync::Arc;
 use std::{fs, io};
@@ -39,7 +41,7 @@ fn schedule_of(alloc: Global, text: &[u8]) -> Option<Vec<u8>> {
 }
 
 /// Prints what all the calls answered.
-fn print(rt: &HostRuntime, run: RunFacts, book: BookFacts) -> io::Result<()> {
+fn print<H: Print>(rt: &H, run: RunFacts, book: BookFacts) -> io::Result<()> {
     let RunFacts {
         variables,
         viewed,
@@ -77,7 +79,7 @@ fn answered(
 
 /// Does what the words ask for, if they ask for anything and there is memory for the file and the
 /// program.
-pub fn done(rt: &HostRuntime, words: &[String]) -> Option<ExitCode> {
+pub fn done<H: Files + Print + Alloc<A = Global>>(rt: &H, words: &[String]) -> Option<ExitCode> {
     let text = fs::read(rt, words.get(1)?.as_str()).ok()?;
     let schedule = words.get(2)?.as_str();
     let Some(program) = program_of(rt.alloc(), text.as_slice()) else {

@@ -13,7 +13,12 @@ mod runs;
 mod walks;
 mod words;
 
+use std::alloc::{Alloc, Global};
+use std::fs::Files;
+use std::io::Print;
 use std::process::ExitCode;
+use std::sync::Wait;
+use std::thread::Threads;
 
 /// The status where the words ask for nothing, or memory for them is refused.
 const REFUSED: u8 = 2;
@@ -24,19 +29,22 @@ fn words_of(rt: &HostRuntime) -> Option<Vec<String>> {
 }
 
 /// Does what the words ask for, if they ask for anything.
-fn done(rt: &HostRuntime) -> Option<ExitCode> {
-    let words = words_of(rt)?;
-    match words.get(0)?.as_str() {
-        "rounds" => rounds::done(rt, words.as_slice()),
-        "again" => again::done(rt, words.as_slice()),
-        "walk" => walks::done(rt, words.as_slice()),
+fn done<H>(rt: &H, words: &[String]) -> Option<ExitCode>
+where
+    H: Threads + Wait + Sync + Files + Print + Alloc<A = Global>,
+{
+    match words.first()?.as_str() {
+        "rounds" => rounds::done(rt, words),
+        "again" => again::done(rt, words),
+        "walk" => walks::done(rt, words),
         _ => None,
     }
 }
 
 fn main(rt: HostRuntime) -> ExitCode {
-    match done(&rt) {
-        Some(status) => status,
-        None => ExitCode::from(REFUSED),
-    }
+    let done = match words_of(&rt) {
+        Some(words) => done(&rt, words.as_slice()),
+        None => None,
+    };
+    done.unwrap_or(ExitCode::from(REFUSED))
 }

@@ -12,6 +12,7 @@ use crate::words::{Request, request_of};
 use runner::{explore_text, report_text};
 use std::alloc::{Alloc, Global};
 use std::fs::Files;
+use std::io::Print;
 use std::process::ExitCode;
 use std::sync::Wait;
 use std::thread::Threads;
@@ -38,7 +39,7 @@ fn searched(
 }
 
 /// Prints what a gate heard, and a report.
-fn print(rt: &HostRuntime, gate: &Listening, report: &[u8]) -> io::Result<()> {
+fn print<H: Print>(rt: &H, gate: &Listening, report: &[u8]) -> io::Result<()> {
     for place in 0..gate.heard() {
         println!(rt; "{}", gate.line(place))?;
     }
@@ -49,7 +50,10 @@ fn print(rt: &HostRuntime, gate: &Listening, report: &[u8]) -> io::Result<()> {
 }
 
 /// Does what the words ask for, if they ask for anything.
-pub fn done(rt: &HostRuntime, words: &[String]) -> Option<ExitCode> {
+pub fn done<H>(rt: &H, words: &[String]) -> Option<ExitCode>
+where
+    H: Threads + Wait + Sync + Files + Print + Alloc<A = Global>,
+{
     let request = request_of(rt.alloc(), words)?;
     let Some(gate) = Listening::new(rt.alloc(), request.does) else {
         return Some(ExitCode::FAILURE);

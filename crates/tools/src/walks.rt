@@ -11,8 +11,10 @@ use guest_code::lowering::lower;
 use guest_syntax::parse;
 use items::item::Item;
 use items::mode::Mode;
-use std::alloc::Global;
+use std::alloc::{Alloc, Global};
 use std::fs;
+use std::fs::Files;
+use std::io::Print;
 use std::process::ExitCode;
 use std::sync::Arc;
 use walk::found::Found;
@@ -66,7 +68,7 @@ fn mode_of(word: &str) -> Option<Mode> {
 }
 
 /// What the words ask for: the text of the file, the mode, and whether what is put off is listed.
-fn asked(rt: &HostRuntime, words: &[String]) -> Option<(Vec<u8>, Mode, bool)> {
+fn asked<H: Files + Alloc<A = Global>>(rt: &H, words: &[String]) -> Option<(Vec<u8>, Mode, bool)> {
     let text = fs::read(rt, words.get(1)?.as_str()).ok()?;
     let mode = mode_of(words.get(2)?.as_str())?;
     let Some(word) = words.get(3) else {
@@ -79,7 +81,7 @@ fn asked(rt: &HostRuntime, words: &[String]) -> Option<(Vec<u8>, Mode, bool)> {
 }
 
 /// Does what the words ask for, if they ask for anything.
-pub fn done(rt: &HostRuntime, words: &[String]) -> Option<ExitCode> {
+pub fn done<H: Files + Print + Alloc<A = Global>>(rt: &H, words: &[String]) -> Option<ExitCode> {
     let (text, mode, lists) = asked(rt, words)?;
     let Some(
         Counts {
