@@ -108,8 +108,9 @@ pub fn explain_text<R: Threads + Wait + Sync + Eprint, T: Tell>(
         program: &program,
         map: &map,
     };
+    let told = teller.tell(alloc, &explained, &source, request.file.as_str())?;
     Ok(Printed {
-        output: teller.tell(alloc, &explained, &source, request.file.as_str())?,
+        output: told,
         status: explained.status(),
     })
 }
