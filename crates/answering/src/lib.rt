@@ -2,16 +2,17 @@
 //! writes them and ends.
 //!
 //! - A [`GuestRequest`] is asked of one guest program: a replay, or a search, an [`Exploration`],
-//!   with the trace of what it finds or without. [`Limits`] say how far each search goes of a guest
-//!   of a suite, or of one that is to be right. A [`Request`] is all that command words can ask for.
+//!   with the trace of what it finds or without. [`Limits`] say how far each search goes of a
+//!   guest of a suite, or of one that is to be right. A [`Request`] is all that command words can
+//!   ask for.
 //! - [`replay_text`], [`explore_text`] and [`explore_and_trace`] answer it for the bytes of texts.
 //!   Their contracts speak of nothing else.
 //! - [`Fault`] is why there is no answer, the line that tells so, and its status.
 //! - An [`Answer`] is all that is written, and the status. [`serve`] reads a text, answers and
 //!   writes; [`ended`] is the status that the program ends with then; [`serve_file`] does all that
 //!   with a file.
-//! - [`read_file`], [`write_out`], [`write_named`] and [`report_device`] are for commands that name the device
-//!   that failed.
+//! - [`read_file`], [`write_out`], [`write_named`] and [`report_device`] are for commands that name
+//!   the device that failed.
 //! - [`Teller`] is the gate of the searches: where it is asked to, it tells how far they are.
 #![tactic(auto)]
 

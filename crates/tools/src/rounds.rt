@@ -3,9 +3,9 @@
 //!
 //! The words are `rounds`, a file, a bound or `unbounded`, `quick` or `whole`, the numbers of
 //! workers and of schedules a walk, the limit or 0, and what the gate does: a word and a number.
-//! Each line is a word and numbers: `go`, `stop` and `walked` with worker and item, `round` with the
-//! schedules tried so far and the items that are open then, at most 65,535, `late` where a worker
-//! was held too long. The report is last.
+//! Each line is a word and numbers: `go`, `stop` and `walked` with worker and item, `round` with
+//! the schedules tried so far and the items that are open then, at most 65,535, `late` where a
+//! worker was held too long. The report is last.
 
 use crate::gate::Listening;
 use crate::words::{Request, request_of};
