@@ -5,16 +5,17 @@ PREFIX ?= /usr/local
 PROGRAM ?= build/ctxbound
 MINUTES ?= 10
 GUEST ?=
+COMMAND ?= explain
 SCHEDULE ?=
-EXAMPLE = examples/lock_order.guest
-export GUEST SCHEDULE
+export GUEST COMMAND SCHEDULE
 
 define HELP
-  make run        searches an example for a deadlock and shows how it comes about; nothing is proved
-                    half a minute to a minute, 2 GB of memory
-  make try GUEST=file [SCHEDULE=0,1,0]
-                  the same with a guest of yours; with SCHEDULE it only replays that
-                    half a minute to a minute, 2 GB
+  make run        finds a deadlock in an example and explains how it comes about; nothing is proved
+                    a minute, 2 GB of memory
+  make try GUEST=file [COMMAND=explain] [SCHEDULE=0,1,0]
+                  the same with a guest of yours; with SCHEDULE it explains that one. COMMAND=replay prints
+                  the trace of SCHEDULE, COMMAND=explore the report of a search and the trace
+                    a minute, 2 GB
   make quick      all that needs no proof: the tests, the commands that the documents show,
                   the list of wrong bodies; in a copy whose path has a space; and what `make shown`
                   tries, where build/ctxbound is of these sources
@@ -46,19 +47,16 @@ help:
 	@echo "$$HELP"
 
 # `rt try` runs a program without proofs, on a copy of the guest: `first`, which answers these words
-# as `ctxbound` does and compiles in half the time. Standard error, kept in build/log, has what the
-# program writes there and then, from `checked: ` on, what `rt try` says of itself. The status is the
+# as `ctxbound` does and compiles sooner. Standard error, kept in build/log, has what the program
+# writes there and then, from `checked: ` on, what `rt try` says of itself. The status is the
 # program's own, which is 1 where a schedule is bad.
-TRY = mkdir -p build && cd crates/first && rt try --data program.guest="$$guest" \
-		-- $$words 2> ../../build/log; status=$$?; \
+TRY = mkdir -p build && cd crates/first && rt try --data "$$name=$$guest" -- "$$@" 2> ../../build/log; \
+	status=$$?; \
 	grep -q '^run=ended ' ../../build/log || { cat ../../build/log >&2; exit 2; }; \
 	sed '/^checked: /,$$d' ../../build/log; \
 	test $$status -eq 0 || echo "[status $$status]"
 
-# One run: the report, and then the trace of the schedule that it names, if any.
-SEARCH = words="explore program.guest --trace"; $(TRY)
-
-COMPILING = echo "Compiling without proofs, which takes half a minute to a minute .."
+COMPILING = echo "Compiling without proofs, which takes about a minute .."
 
 NEEDS_PROGRAM = test -x "$(PROGRAM)" || \
 	{ echo "$(PROGRAM) isn't there: run \`make build\` first" >&2; exit 2; }
@@ -88,15 +86,22 @@ PAGES = docs/LANGUAGE.md docs/FORMATS.md docs/GALLERY.md docs/COOKBOOK.md docs/S
 
 run:
 	@$(COMPILING)
-	@guest=$$PWD/$(EXAMPLE); $(SEARCH)
+	@name=examples/lock_order.guest; guest=$$PWD/$$name; set -- explain "$$name"; $(TRY)
 	@echo "(Not proved yet: \`make build\` proves and builds the program.)"
 
+# `explore` takes no schedule, and `replay` needs one. The copy has the guest's own name, where that
+# is one that `rt try` takes.
 try:
-	@test -n "$$GUEST" || { echo 'Usage: make try GUEST=file [SCHEDULE=0,1,0]' >&2; exit 2; }
+	@case "$$COMMAND$${SCHEDULE:+ SCHEDULE}" in \
+		explain | 'explain SCHEDULE' | explore | 'replay SCHEDULE') test -n "$$GUEST";; *) false;; esac || \
+		{ echo 'Usage: make try GUEST=file [COMMAND=explain] [SCHEDULE=0,1,0],' \
+			'GUEST=file COMMAND=explore, or GUEST=file COMMAND=replay SCHEDULE=0,1,0' >&2; exit 2; }
 	@test -r "$$GUEST" || { echo "$$GUEST can't be read" >&2; exit 2; }
 	@$(COMPILING)
-	@guest=$$(realpath -- "$$GUEST"); if test -z "$$SCHEDULE"; then $(SEARCH); \
-	else words="replay program.guest $$SCHEDULE"; $(TRY); fi
+	@guest=$$(realpath -- "$$GUEST"); name=$$GUEST; \
+	case "$$name" in /* | *..* | program* | std* | *[!A-Za-z0-9_./-]*) name=program.guest;; esac; \
+	set -- "$$COMMAND" "$$name" $${SCHEDULE:+"$$SCHEDULE"}; \
+	test "$$COMMAND" != explore || set -- "$$@" --trace; $(TRY)
 
 # The crates with tests; those of up to four are run side by side.
 TESTED = $(sort $(shell grep -rl --include=*.rt '^\#\[test\]' crates | cut -d/ -f2))
@@ -181,7 +186,7 @@ shown:
 	python3 tests/simulator.py "$(PROGRAM)"
 	python3 tests/page.py "$(PROGRAM)"
 	python3 tests/around.py "$(PROGRAM)"
-	@test ! -x crates/rounds/out/rounds || python3 tests/rounds.py "$(PROGRAM)" crates/rounds/out/rounds
+	@test ! -x crates/tools/out/tools || python3 tests/rounds.py "$(PROGRAM)" crates/tools/out/tools
 	"$(PROGRAM)" suite examples
 
 # Small programs made at random, other ones each time.
@@ -191,7 +196,7 @@ fuzz:
 
 bench:
 	@mkdir -p build
-	@cd crates/walk_bench && rt run -- data/race.guest 1 > ../../build/log 2>&1 || { cat ../../build/log; exit 1; }
+	@cd crates/tools && rt run -- walk data/race.guest 1 > ../../build/log 2>&1 || { cat ../../build/log; exit 1; }
 	@python3 bench/walk.py
 	@test ! -x build/ctxbound || python3 bench/workers.py build/ctxbound
 	@test ! -x build/ctxbound || python3 bench/beside.py build/ctxbound

@@ -1,7 +1,7 @@
 #!/usr/bin/env python3
 """bench/walk.py [OTHER [GUEST MODE ..]]: how fast a walk tries the schedules of a guest.
 
-It runs the built `walk_bench` on a guest in a mode, a bound or `reduced`, and prints what the walk
+It runs `walk` of the built `tools` on a guest in a mode, a bound or `reduced`, and prints what the walk
 tried, the least user time of five runs, schedules a second, how many prefixes the bound put off, and
 how many bytes of memory the run held for each of them, where they are a million or more. OTHER is
 another explorer to measure beside it, a program that takes `explore GUEST --bound BOUND` or
@@ -15,7 +15,7 @@ import tempfile
 import time
 
 TOP = os.path.dirname(os.path.dirname(os.path.abspath(__file__)))
-BINARY = os.path.join(TOP, "crates", "walk_bench", "out", "walk_bench")
+BINARY = os.path.join(TOP, "crates", "tools", "out", "tools")
 GUEST = os.path.join(TOP, "bench", "four_by_five.guest")
 RUNS = 5
 # From so many prefixes on, nearly all memory is theirs.
@@ -61,7 +61,7 @@ def other_words(other, guest, mode):
 
 
 def line(guest, mode, other):
-    out, seconds, memory = least([BINARY, guest, mode])
+    out, seconds, memory = least([BINARY, "walk", guest, mode])
     counts = out.split()
     tried, deferred = int(counts[1]), int(counts[7])
     each = "%.2f" % (memory / deferred) if deferred >= MANY else "-"
@@ -69,7 +69,7 @@ def line(guest, mode, other):
     text = "%-18s %8s %11d %9.3f %13.0f %11d %9s" % (
         name, mode, tried, seconds, tried / max(seconds, 1e-6), deferred, each)
     if other:
-        unlisted = least([BINARY, guest, mode, "unlisted"])[1]
+        unlisted = least([BINARY, "walk", guest, mode, "unlisted"])[1]
         beside = least(other_words(other, guest, mode))[1]
         text += " %9.3f %9.3f %6.2f" % (unlisted, beside, unlisted / max(beside, 1e-6))
     return text

@@ -1,15 +1,14 @@
 #!/usr/bin/env python3
-"""allocations.py BINARY WALKER AGAIN: each request of a run for memory, a thread or an open file fails in
+"""allocations.py BINARY TOOLS: each request of a run for memory, a thread or an open file fails in
 turn, alone, with all later ones, or with all of its size.
 
 BINARY is the program. With ample memory each run must end with its own status and say something.
 With a request refused, its answer must be the same, or `ctxbound: memory` with status 4 and nothing
 on standard output; a suite may also say it of one of its files, if all else that it says is the same, or
-after the rows of some files, and `verify` after the lines of some searches. WALKER is the program of the
-benchmark, which walks all schedules of a guest: with ample memory it must count them and end with status 0,
-and with a request refused do the same, or say nothing and end with status 1 or 2. AGAIN is the program of
-the crate `again`, which makes each call of the libraries again that was refused: it must say the same, or
-nothing with status 2. A run that doesn't end in time fails its sweep. The sweep of a run ends at the first
+after the rows of some files, and `verify` after the lines of some searches. TOOLS is the program of the crate
+`tools`. Its `walk` walks all schedules of a guest: with ample memory it must count them and end with status 0,
+and with a request refused do the same, or say nothing and end with status 1 or 2. Its `again` makes each call
+of the libraries again that was refused: it must say the same, or nothing with status 2. A run that doesn't end in time fails its sweep. The sweep of a run ends at the first
 number that is past its last request; since runs of several threads have more requests or fewer, it ends
 only after some such numbers in a row. Several workers must make a thread for all but one of them, once for
 all rounds of a bound. The last line is `N passed, M failed`.
@@ -108,6 +107,8 @@ SIZES = range(8, 4097, 8)
 # A guest and a mode: the walk ends with status 0.
 WALKS = [("race", "1"), ("locks", "1"), ("waits", "0"), ("two", "1"),
          ("two", "reduced"), ("locks", "reduced")]
+# The words of a tool about `race`, and what it says. B's load comes before, between or after A's stores.
+SAID = [("walk", "1", "tried 3 failed 1 stuck 0 deferred 0\n")]
 # A guest and a schedule of it.
 AGAIN = [("updates", "0,1,0,1"), ("locks", "0,1"), ("waits", "1,1,1,0,0"), ("late", "1,0,0"), ("five", "0,1,2,3,4"),
          ("long", "0x50,1,2")]
@@ -221,6 +222,12 @@ def suite_of(folder, names):
     return suite
 
 
+def says(binary, words, said):
+    """No refusals, and what is wrong with what a run says with ample memory, or None."""
+    answer, _ = run(binary, words)
+    return 0, None if answer == (said.encode(), b"", 0) else "%s: %r" % (" ".join(words), answer)
+
+
 def threads(binary, words, library, workers):
     """No refusals, and what is wrong with the number of threads that so many workers make in a search of
     some rounds of one bound, or None: a thread for each of them but one, once."""
@@ -230,7 +237,7 @@ def threads(binary, words, library, workers):
     return 0, "%d workers: %d threads, status %r" % (workers, made, answer[2]) if wrong else None
 
 
-def main(binary, walker, again):
+def main(binary, tools):
     passed = failed = refusals = 0
     with tempfile.TemporaryDirectory() as folder:
         library = os.path.join(folder, "fail_alloc.so")
@@ -240,7 +247,7 @@ def main(binary, walker, again):
         for name, text in PROGRAMS.items():
             with open(os.path.join(folder, name), "w") as file:
                 file.write(text)
-        program, walk = os.path.abspath(binary), os.path.abspath(walker)
+        program, tools = os.path.abspath(binary), os.path.abspath(tools)
         trials = [(threads, program, [command, os.path.join(folder, "six")] + words.split(), library, workers)
                   for command, words in THREADED for workers in (1, 2, 4, 16)]
         trials += [(sweep, program, [command, os.path.join(folder, name)] + words.split(), library, status,
@@ -252,9 +259,10 @@ def main(binary, walker, again):
                     says_memory_after_lines) for command, name, words, status in QUESTIONS]
         trials += [(sizes, program, [command, os.path.join(folder, name)] + words.split(), library, status)
                    for command, name, words, status in OF_SIZE]
-        trials += [(sweep, walk, [os.path.join(folder, name), mode], library, 0, says_nothing)
+        trials += [(says, tools, [tool, os.path.join(folder, "race"), word], said) for tool, word, said in SAID]
+        trials += [(sweep, tools, ["walk", os.path.join(folder, name), mode], library, 0, says_nothing)
                    for name, mode in WALKS]
-        trials += [(sweep, os.path.abspath(again), [os.path.join(folder, name), schedule], library, 0,
+        trials += [(sweep, tools, ["again", os.path.join(folder, name), schedule], library, 0,
                     says_nothing_of_words) for name, schedule in AGAIN]
         for trial, *arguments in trials:
             count, wrong = trial(*arguments)

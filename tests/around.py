@@ -52,6 +52,16 @@ def tokens(line):
         if kind != "blank":
             yield found.start(), found.end(), kind
 
+# What stands in the place of `rt`: `rt try --data NAME=FILE -- WORDS` runs the program on a copy of the file.
+STAND_IN = """#!/bin/sh
+name=${3%%=*}; there=$(mktemp -d) && mkdir -p "$there/$(dirname "$name")" && cp "${3#*=}" "$there/$name" || exit 9
+shift 4
+(cd "$there" && ctxbound "$@"); status=$?
+rm -r "$there"
+printf 'checked: ended status=%s\\nrun=ended status=%s\\n' $status $status >&2
+exit $status
+"""
+
 
 class Checker:
     def __init__(self, binary):
@@ -306,10 +316,38 @@ class Checker:
                 self.run(["vim", "-n", "-i", "NONE", "-es", "-u", script])
                 self.check("Vim's indents: " + path.name, copy.read_text() == path.read_text())
 
-    # ---- installation and archive
+    # ---- the first runs, installation and archive
 
-    def make(self, *words):
-        return self.run(["make", "-C", ROOT, "PROGRAM=" + self.binary, *words])
+    def make(self, *words, **more):
+        return self.run(["make", "-C", ROOT, "PROGRAM=" + self.binary, *words], **more)
+
+    def first_runs(self):
+        """`make run` and `make try` ask for what they should of a copy of any guest. In place of `rt try`, which
+        compiles `first`, the program runs."""
+        if not self.has("make", "the first runs"):
+            return
+        example = ROOT / "examples" / "first.guest"
+        with tempfile.TemporaryDirectory() as folder:
+            (Path(folder) / "rt").write_text(STAND_IN)
+            (Path(folder) / "rt").chmod(0o755)
+            (Path(folder) / "ctxbound").symlink_to(self.binary)
+            shutil.copy(example, Path(folder) / "my guest")
+            environment = dict(self.environment, PATH=folder + ":" + os.environ["PATH"])
+            for words, asked in (
+                    (["run"], ["explain", "examples/lock_order.guest"]),
+                    (["try", "GUEST=examples/first.guest"], ["explain", "examples/first.guest"]),
+                    (["try", "GUEST=examples/first.guest", "SCHEDULE=0,1"], ["explain", "examples/first.guest", "0,1"]),
+                    (["try", "GUEST=%s/my guest" % folder, "COMMAND=explore"], ["explore", example, "--trace"]),
+                    (["try", "GUEST=%s/my guest" % folder, "COMMAND=replay", "SCHEDULE=0x2,1"],
+                     ["replay", example, "0x2,1"])):
+                done, wanted = self.make(*words, env=environment), self.run([self.binary, *asked], cwd=ROOT)
+                told = wanted.stdout + wanted.stderr + b"[status %d]\n" % wanted.returncode * (wanted.returncode > 0)
+                self.check("make " + " ".join(words), wanted.stdout and told in done.stdout, done.stdout.decode())
+            for words in ([], ["GUEST=%s" % example, "COMMAND=replay"], ["GUEST=%s" % example, "COMMAND=verify"],
+                          ["GUEST=%s" % example, "COMMAND=explore", "SCHEDULE=0"], ["GUEST=gone"]):
+                done = self.make("try", *words, env=environment)
+                self.check("make try %s is refused" % " ".join(words), done.returncode != 0 and not done.stdout
+                           .count(b"Compiling"), done.stdout.decode())
 
     def installation(self):
         if not self.has("make", "the installation"):
@@ -455,6 +493,7 @@ def main():
     checker.problem_matcher()
     checker.snippets()
     checker.vim_edits()
+    checker.first_runs()
     checker.installation()
     checker.ci(checker.archive())
     for part in checker.left_out:

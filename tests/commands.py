@@ -616,14 +616,17 @@ class Checker:
             self.compare(words, (done.stderr.decode(), done.returncode), (line, 4))
 
     def first(self, first):
-        """The two commands of `first` print what they print here; it refuses all other words."""
+        """The three commands of `first` print what they print here; it refuses all other words."""
         run = Checker(first, self.folder).run
         for words in (*(["explore", name, "--trace"] for name in FILES if name.endswith(".guest")),
+                      *(["explain", name] for name in FILES if name.endswith(".guest")),
+                      *(["explain", "race.guest", text] for text in ("0,1,0", "-", "0", "0,", "7", "0x3")),
+                      ["explain", "refused.guest", "0"], ["explain", "gone.guest"], ["explain", "folder"],
                       *(["replay", "race.guest", text] for text in ("0,1,0", "0x2,1", "-", "0", "0,", "7", "0x3")),
                       ["replay", "refused.guest", "0"], ["replay", "gone.guest", "0"], ["explore", "folder", "--trace"]):
             self.compare(words, run(words), self.run(words))
-        usage = "usage: first explore FILE --trace, or: first replay FILE SCHEDULE\n"
-        for words in ([], ["explore", "race.guest"], ["replay", "race.guest"], ["unbounded", "race.guest", "--trace"],
+        usage = "usage: first explain FILE [SCHEDULE], first explore FILE --trace, or first replay FILE SCHEDULE\n"
+        for words in ([], ["explain"], ["explain", "race.guest", "0", "--html"], ["explore", "race.guest"], ["replay", "race.guest"], ["unbounded", "race.guest", "--trace"],
                       ["explore", "race.guest", "--quick"], ["explore", "race.guest", "--trace", "--quick"]):
             self.compare(["first"] + words, run(words), ("", usage, 2))
 

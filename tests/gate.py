@@ -21,10 +21,8 @@ from pathlib import Path
 ROOT = Path(__file__).resolve().parent.parent
 CLOSING = re.compile(r"(\d+) passed, (\d+) failed$")
 PROGRAM = "build/ctxbound"
-BENCHMARK = "crates/walk_bench/out/walk_bench"
-LISTENER = "crates/rounds/out/rounds"
+TOOLS = "crates/tools/out/tools"
 FIRST = "crates/first/out/first"
-AGAIN = "crates/again/out/again"
 LEFT_OUT = re.compile(r"\w+ \S+: proved$")
 # What is tried of the built program after the commands that the documents show.
 TRIED = {
@@ -35,7 +33,7 @@ TRIED = {
     "pages": [sys.executable, "tests/page.py", PROGRAM],
     "the examples as a suite": [PROGRAM, "suite", "examples"],
     "programs made at random": [sys.executable, "tests/reference.py", PROGRAM],
-    "what workers do": [sys.executable, "tests/rounds.py", PROGRAM, LISTENER],
+    "what workers do": [sys.executable, "tests/rounds.py", PROGRAM, TOOLS],
     "what stands around the program": [sys.executable, "tests/around.py", PROGRAM],
 }
 PROVED = re.compile(r"rt: (\w+) proved$")
@@ -122,7 +120,7 @@ def main():
         closing = gate.part(name, words)
         if closing:
             print(closing, flush=True)
-    closing = gate.part("refused memory", [sys.executable, "tests/allocations.py", PROGRAM, BENCHMARK, AGAIN])
+    closing = gate.part("refused memory", [sys.executable, "tests/allocations.py", PROGRAM, TOOLS])
     for line in gate.times():
         gate.say(line)
     gate.say(gate.whole())

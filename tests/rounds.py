@@ -1,7 +1,7 @@
 #!/usr/bin/env python3
-"""tests/rounds.py PROGRAM LISTENER: what workers do in each round, and what the answer may depend on.
+"""tests/rounds.py PROGRAM TOOLS: what workers do in each round, and what the answer may depend on.
 
-PROGRAM is `ctxbound`. LISTENER is the program of the crate `rounds`, which searches a guest by a gate that writes
+PROGRAM is `ctxbound`. TOOLS is the program of the crate `tools`, which searches a guest by a gate that writes
 down who is asked about which item, and when a round ends. Expected numbers are counted by hand: n threads
 of one step each have n! complete schedules, all without a preemption; where a walk tries one schedule,
 there are as many walks as schedules. The last line is `N passed, M failed`.
@@ -120,8 +120,8 @@ WORKED = [
 
 
 class Trial:
-    def __init__(self, program, listener, folder):
-        self.program, self.listener, self.folder = program, listener, folder
+    def __init__(self, program, tools, folder):
+        self.program, self.tools, self.folder = program, tools, folder
         self.passed, self.failed, self.made = 0, 0, 0
 
     def check(self, holds, *what):
@@ -147,7 +147,7 @@ class Trial:
 
     def heard(self, guest, search, workers, quota=1, limit=0, quick=False, does=("open", 0), size=0):
         """The rounds that the gate heard of, and the report; none where memory is refused."""
-        words = [self.listener, os.path.join(self.folder, guest), str(search), "quick" if quick else "whole",
+        words = [self.tools, "rounds", os.path.join(self.folder, guest), str(search), "quick" if quick else "whole",
                  str(workers), str(quota), str(limit), does[0], str(does[1])]
         out, err, status = self.run(words, size)
         if status:
@@ -431,14 +431,14 @@ def words(trial):
         trial.check(trial.search("padded", "explore") == report, "a text of", length, "bytes")
 
 
-def main(program, listener):
+def main(program, tools):
     with tempfile.TemporaryDirectory() as folder:
         for name, text in GUESTS.items():
             with open(os.path.join(folder, name), "w", encoding="ascii") as file:
                 file.write(text)
         subprocess.run([os.environ.get("CC", "cc"), "-shared", "-fPIC", "-O1", "-o", folder + "/fail_alloc.so",
                         os.path.join(HERE, "fail_alloc.c"), "-ldl"], check=True)
-        trial = Trial(os.path.abspath(program), os.path.abspath(listener), folder)
+        trial = Trial(os.path.abspath(program), os.path.abspath(tools), folder)
         for part in (full_rounds, side_by_side, every_size, stops, without_board, hints, limits, bounds, worked,
                      words, examples):
             part(trial)

@@ -7,9 +7,9 @@ use hints::message::{Advice, Grade, Span};
 use hints::pieces::piece_at;
 use hints::told::{Told, note};
 use hints::words::signed;
+use lint::deep::explore;
+use lint::seen::{Seen, Sight, and_now};
 use lint::uses::forbids;
-use probe::deep::explore;
-use probe::seen::{Seen, Sight, and_now};
 use replay::schedule_text;
 use std::alloc::{AllocError, Global};
 

@@ -4,7 +4,7 @@
 //!   exactly where it spells no tree or its tree has a fault, and the short form and the place are
 //!   those of the refusal.
 //! - The warnings are those of `lint`; here they get their places and their words. With a depth, what
-//!   `probe` saw is told too.
+//!   that saw in schedules is told too.
 //! - [`advice_text`] answers the lines that `hints` defines: carets lie under the bytes that are meant.
 //!
 //! Which words an advice has, and all that schedules show, is shown by tests.

@@ -8,7 +8,7 @@ use guest_syntax::pieces::Piece;
 use guest_syntax::place::Pos;
 use hints::braces::closing;
 use hints::pieces::piece_at;
-use probe::spin::Spin;
+use lint::spin::Spin;
 use std::alloc::{AllocError, Global};
 
 /// Where a `repeat` is among the pieces of a text: its keyword, and the braces of its block.

@@ -3,7 +3,7 @@ use Rattle.std.proofs.Common.{◌≡◌, ◌∙◌, ap, subst, ℕ, ◌+◌, Lis
 use Rattle.std.proofs.Common.{Option, Some, None, IfSome, option_map}
 use Rattle.std.specs.Io.KnownBytes.{Appends}
 use Rattle.guest_syntax.specs.declared.limits.TheConstants.{TEXT_BYTES}
-use Rattle.requests.specs.declared.exploration.GuestRequest.{GuestRequest}
+use Rattle.answering.specs.declared.exploration.GuestRequest.{GuestRequest}
 use Rattle.answering.specs.Answer.{AnswerView, IsAnswerOf}
 use Rattle.answering.specs.Serve.{IsPartRead, IsServed}
 

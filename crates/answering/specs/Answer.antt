@@ -29,8 +29,8 @@ use Rattle.report.specs.declared.report.Report.{Report}
 use Rattle.report.specs.ReportText.{report_text, named_schedule}
 use Rattle.report.specs.Texts.{IsProgramOf, IsFaultOf, IsReportOfText}
 use Rattle.answering.specs.declared.answer.Printed.{Printed}
-use Rattle.requests.specs.declared.exploration.GuestRequest.{GuestRequest}
-use Rattle.requests.specs.declared.exploration.GuestRequest.TheVariants as requests
+use Rattle.answering.specs.declared.exploration.GuestRequest.{GuestRequest}
+use Rattle.answering.specs.declared.exploration.GuestRequest.TheVariants as request
 use Rattle.answering.specs.declared.fault.Fault.{Fault}
 use Rattle.answering.specs.declared.fault.Fault.TheVariants.{File, Syntax, Check, Schedule}
 use Rattle.answering.specs.declared.fault.Fault.TheVariants.{Replay, Memory}
@@ -183,9 +183,9 @@ answer_of (Err fault) = record {
 
 -- what is answered to a request for this text
 abbrev pub Means : GuestRequest → List ℕ → Result Printed Fault → Type 0
-Means (requests.Replay schedule) text result = ReplayMeans text (string_bytes schedule) result
-Means (requests.Explore exploration) text result = ExplorationMeans text exploration.options result
-Means (requests.Trace exploration) text result = TracedMeans text exploration.options result
+Means (request.Replay schedule) text result = ReplayMeans text (string_bytes schedule) result
+Means (request.Explore exploration) text result = ExplorationMeans text exploration.options result
+Means (request.Trace exploration) text result = TracedMeans text exploration.options result
 
 -- the answer to a request for this text: what was done, or what is wrong
 pub record IsAnswerOf (request : GuestRequest) (text : List ℕ) (a : AnswerView) : Type 0 where

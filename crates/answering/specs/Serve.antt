@@ -2,7 +2,7 @@
 use Rattle.std.specs.Prelude.{◌≡◌, ℕ, ◌+◌, List, Option, Result, OnOk, take}
 use Rattle.std.specs.Io.KnownBytes.{Appends}
 use Rattle.guest_syntax.specs.declared.limits.TheConstants.{TEXT_BYTES}
-use Rattle.requests.specs.declared.exploration.GuestRequest.{GuestRequest}
+use Rattle.answering.specs.declared.exploration.GuestRequest.{GuestRequest}
 use Rattle.answering.specs.Answer.{AnswerView, IsAnswerOf}
 
 -- what is read of a file: at most one byte more than a program may have

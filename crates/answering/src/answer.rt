@@ -7,12 +7,12 @@ ghost use Rattle.answering.specs.Answer.{ReplayMeans, ExplorationMeans, TracedMe
 ghost use Rattle.answering.specs.Status.{replay_status, verdict_status};
 ghost use Rattle.answering.specs.Serve.{IsWritten};
 
+use crate::exploration::{Exploration, GuestRequest};
 use crate::fault::Fault;
 use crate::progress::Teller;
 use guest_code::lowering::lower;
 use guest_syntax::parse;
 use replay::{replay, schedule_from, schedule_text, trace_text};
-use requests::{Exploration, GuestRequest};
 use runner::{Report, Verdict, report_text};
 use semantics::view::Kind;
 use std::alloc::Global;

@@ -13,6 +13,9 @@ use std::alloc::{AllocError, AllocFailed};
 use std::io::{ErrorKind, Write};
 use std::{fmt, io};
 
+/// The status where what the user gave is refused.
+pub const REFUSED: u8 = 2;
+
 /// A fault, in the order in which they are looked for.
 #[derive(Debug, Drop)]
 pub enum Fault {
@@ -37,7 +40,7 @@ impl Fault {
     {
         match self {
             Fault::File | Fault::Memory => 4,
-            Fault::Syntax(_) | Fault::Check(_) | Fault::Schedule(_) | Fault::Replay(_) => 2,
+            Fault::Syntax(_) | Fault::Check(_) | Fault::Schedule(_) | Fault::Replay(_) => REFUSED,
         }
     }
 

@@ -6,37 +6,38 @@ ghost use Rattle.answering.specs.Status.{fault_status};
 ghost use Rattle.answering.specs.Serve.{IsPartRead, IsServed, IsWritten};
 
 use crate::answer::Answer;
+use crate::exploration::GuestRequest;
 use crate::fault::Fault;
 use guest_syntax::TEXT_BYTES;
-use requests::GuestRequest;
 use std::alloc::{Alloc, Global};
-use std::fs;
 use std::fs::Files;
-use std::io::{Eprint, Input, Read, Write};
+use std::io::{Eprint, ErrorKind, Input, Read, Write};
 use std::sync::Wait;
 use std::thread::Threads;
+use std::{fs, io};
 
 /// The text of a guest program, or one byte more than a program may have where it is too long.
-fn read_text<R: Read>(alloc: Global, input: &mut R) -> Result<Vec<u8>, Fault>
+fn read_text<R: Read>(alloc: Global, input: &mut R) -> io::Result<Vec<u8>>
     ensures text { IfOk result (λ text. IfSome (R.remaining input.old) (IsPartRead text.items)) }
-    ensures fault { IfErr result IsOfDevice }
 {
     let mut text = Vec::new(alloc);
     input.take(TEXT_BYTES as u64 + 1).read_to_end(&mut text)?;
     Ok(text)
 }
 
-/// Writes the output. Where there is none, the device isn't touched.
-fn write_out<W: Write>(out: &mut W, output: &[u8]) -> Result<(), Fault>
+/// Writes the output, so that it is seen at once. Where there is none, the device isn't touched.
+///
+/// # Errors
+///
+/// What the device answers.
+pub fn write_out<W: Write>(out: &mut W, output: &[u8]) -> io::Result<()>
     ensures written { IsWritten result (W.contents out.old) (W.contents out.new) output.now }
-    ensures fault { IfErr result IsOfDevice }
 {
     if output.is_empty() {
         return Ok(());
     }
     out.write_all(output)?;
-    out.flush()?;
-    Ok(())
+    out.flush()
 }
 
 /// Does what is asked with the guest program that `input` gives: the answer goes to `out`, the line
@@ -103,4 +104,38 @@ where
         }
     };
     ended(served, err)
+}
+
+/// The text of the guest program in a file or on standard input, or one byte more than a program
+/// may have where it is too long.
+///
+/// # Errors
+///
+/// What the device answers.
+pub fn read_file<H>(rt: &H, file: &str) -> io::Result<Vec<u8>>
+where
+    H: Files + Input + Alloc<A = Global>,
+{
+    if is_standard_input(file) {
+        return read_text(rt.alloc(), &mut rt.reader());
+    }
+    let mut input = fs::open(rt, file)?;
+    read_text(rt.alloc(), &mut input)
+}
+
+/// Writes that a device failed, its name and the cause, and answers the status.
+pub fn report_device<E: Write>(err: &mut E, name: &str, error: &io::Error) -> u8 {
+    if error.kind() == ErrorKind::OutOfMemory {
+        return Fault::Memory.report(err);
+    }
+    let _ = writeln!(err, "ctxbound: {name}: {error}");
+    Fault::File.status()
+}
+
+/// Writes all output, and answers the status, which is that of a failing stream where it fails.
+pub fn write_named<W: Write, E: Write>(out: &mut W, err: &mut E, output: &[u8], status: u8) -> u8 {
+    match write_out(out, output) {
+        Ok(()) => status,
+        Err(error) => report_device(err, "standard output", &error),
+    }
 }

@@ -1,7 +1,7 @@
 -- What is told of a text that is checked.
 use Rattle.std.specs.Prelude.{◌≡◌, ℕ, List, Bool}
-use Rattle.requests.specs.declared.request.CheckForm.{CheckForm}
-use Rattle.requests.specs.declared.request.CheckForm.TheVariants.{Lines}
+use Rattle.answering.specs.declared.request.CheckForm.{CheckForm}
+use Rattle.answering.specs.declared.request.CheckForm.TheVariants.{Lines}
 use Rattle.advice.specs.declared.Checked.{Checked}
 use Rattle.advice.specs.Told.{Tells, checked_lines}
 use Rattle.answering.specs.declared.answer.Printed.{Printed}

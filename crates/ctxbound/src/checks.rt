@@ -4,13 +4,12 @@ ghost use Rattle.std.specs.Prelude.{◌≡◌, IfOk};
 ghost use Rattle.ctxbound.specs.Status.{checked_status};
 ghost use Rattle.ctxbound.specs.Checks.{IsCheckOf};
 ghost use Rattle.advice.specs.Told.{checked_lines};
-ghost use Rattle.requests.specs.declared.request.CheckForm.TheVariants.{Lines};
+ghost use Rattle.answering.specs.declared.request.CheckForm.TheVariants.{Lines};
 
 use crate::diagnostics::{json_text, short_text};
-use crate::files::{files_of, read_file, report_device, write_named};
+use crate::files::files_of;
 use advice::{Checked, Depth, advice_text, check};
-use answering::Printed;
-use requests::{CheckForm, CheckRequest};
+use answering::{CheckForm, CheckRequest, Printed, read_file, report_device, write_named};
 use std::alloc::{Alloc, AllocError, Global};
 use std::fs::Files;
 use std::io::{Input, Write};

@@ -1,14 +1,15 @@
 //! The program `ctxbound`: what the command words ask for, done on a guest program.
 //!
 //! The crate `words` reads the words, `program` does what they ask for, and `main` joins both to
-//! the system. What is answered to a replay or a search is in the crate `answering`. The other
-//! commands are in `explained`, `checks`, `suites` and `verified`.
+//! the system. What is answered to a replay or a search is in the crate `answering`, and what an
+//! explanation answers in `explained`; `forms` has its other forms. The other commands are in
+//! `checks`, `suites` and `verified`.
 #![tactic(auto)]
 
 mod checks;
 mod diagnostics;
-mod explained;
 mod files;
+mod forms;
 mod program;
 mod suites;
 mod verified;

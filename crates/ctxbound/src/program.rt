@@ -1,21 +1,17 @@
 //! The whole program, but for where its words come from and where its answer goes.
 
 use crate::checks::{is_refused, serve_check};
-use crate::explained::explain_text;
-use crate::files::{read_file, report_device, write_named};
+use crate::forms::{Html, Json};
 use crate::suites::serve_suite;
 use crate::verified::serve_verify;
-use answering::serve_file;
-use requests::{ExplainRequest, Request};
+use answering::{ExplainRequest, Form, REFUSED, Request, serve_file};
+use explained::{Lines, serve_explain};
 use std::alloc::{Alloc, Global};
 use std::fs::Files;
 use std::io::{Eprint, Input, Write};
 use std::sync::Wait;
 use std::thread::Threads;
 use words::request;
-
-/// The status where what the user gave is refused.
-const REFUSED: u8 = 2;
 
 /// Does what the command words ask for: the answer goes to `out`, the lines of faults to `err`.
 /// Where these are seen by a person, they are told which command says more. Answers the status that
@@ -36,8 +32,8 @@ where
             tell_check(rt, file.as_str(), is_seen && status == REFUSED, err);
             status
         }
-        Ok(Request::Explain(request)) => {
-            let status = serve_explain(rt, &request, out, err);
+        Ok(Request::Explain { request, form }) => {
+            let status = explain_as(rt, &request, form, out, err);
             tell_check(rt, request.file.as_str(), is_seen && status == REFUSED, err);
             status
         }
@@ -59,22 +55,22 @@ where
     }
 }
 
-/// Explains a schedule of the guest program in a file. A device that fails is named with the cause.
-fn serve_explain<H, W: Write, E: Write>(
+/// Explains a schedule of the guest program in a file, in this form.
+fn explain_as<H, W: Write, E: Write>(
     rt: &H,
     request: &ExplainRequest,
+    form: Form,
     out: &mut W,
     err: &mut E,
 ) -> u8
 where
     H: Threads + Wait + Sync + Eprint + Files + Input + Alloc<A = Global>,
 {
-    let text = match read_file(rt, request.file.as_str()) {
-        Ok(text) => text,
-        Err(error) => return report_device(err, request.file.as_str(), &error),
-    };
-    match explain_text(rt, rt.alloc(), text.as_slice(), request) {
-        Ok(printed) => write_named(out, err, printed.output.as_slice(), printed.status),
-        Err(fault) => fault.report(err),
+    match form {
+        Form::Text { width, steps } => {
+            serve_explain(rt, request, &Lines { width, steps }, out, err)
+        }
+        Form::Json => serve_explain(rt, request, &Json, out, err),
+        Form::Html => serve_explain(rt, request, &Html, out, err),
     }
 }

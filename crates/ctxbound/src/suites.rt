@@ -1,8 +1,7 @@
 //! The command `suite`.
 
-use crate::files::{files_of, read_file, report_device};
-use answering::Teller;
-use requests::SuiteRequest;
+use crate::files::files_of;
+use answering::{SuiteRequest, Teller, read_file, report_device, write_out};
 use runner::ExploreError;
 use std::alloc::{Alloc, Global};
 use std::fs::Files;
@@ -49,7 +48,7 @@ where
     let named = all_named(rt, request)?;
     let table = table_for(rt.alloc(), named.as_slice())?;
     if !request.json {
-        write_now(out, table.head()?.as_slice())?;
+        write_out(out, table.head()?.as_slice())?;
     }
     let mut tally = Tally::new(rt.alloc());
     for each in &named {
@@ -60,19 +59,13 @@ where
         } else {
             table.row(&entry)?
         };
-        write_now(out, line.as_slice())?;
+        write_out(out, line.as_slice())?;
     }
     if !request.json {
         writeln!(out, "{tally}")?;
         out.flush()?;
     }
     Ok(tally)
-}
-
-// Writes a line, so that it is seen at once.
-fn write_now<W: Write>(out: &mut W, line: &[u8]) -> io::Result<()> {
-    out.write_all(line)?;
-    out.flush()
 }
 
 // The files that the names of a suite stand for, in the order of the names.

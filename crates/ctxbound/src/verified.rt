@@ -3,13 +3,11 @@
 ghost use Rattle.std.specs.Prelude.{◌≡◌};
 ghost use Rattle.ctxbound.specs.Status.{verified_status};
 
-use crate::files::{read_file, report_device, write_named};
 use advice::{Advice, Checked, Depth, check};
-use answering::Fault;
+use answering::{Fault, VerifyRequest, read_file, report_device, write_named};
 use guest_syntax::pieces::Piece;
 use hints::pieces::pieces;
 use replay::schedule_text;
-use requests::VerifyRequest;
 use semantics::view::Kind;
 use std::alloc::{Alloc, Global};
 use std::fs::Files;

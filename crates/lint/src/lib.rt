@@ -1,12 +1,20 @@
-//! What is odd about a program, defined over its flat code.
+//! What is odd about a program.
 //!
-//! [`warnings::all_warnings`] answers the warnings that are so by `IsSo` of `specs/Warnings.antt`, and no
-//! others. What a path through the code of a thread is, is said in `specs/Paths.antt`; all paths are
-//! looked at in one pass, since jumps go forwards. Places and words are put in by a crate above. What is
-//! in `specs/inner` only the proofs need.
+//! [`warnings::all_warnings`] answers the warnings that are so by `IsSo` of `specs/Warnings.antt`,
+//! which is defined over the flat code, and no others. What a path through the code of a thread is,
+//! is said in `specs/Paths.antt`; all paths are looked at in one pass, since jumps go forwards.
+//!
+//! [`deep::explore`] goes through the schedules that sleep sets leave by the plain step and by
+//! taking it back, up to a number of ends, and keeps what it saw of each assertion and of each loop.
+//! It shares no code with the search.
+//!
+//! Places and words are put in by a crate above. What is in `specs/inner` only the proofs need.
 #![tactic(auto)]
 
+pub mod deep;
 pub mod paths;
+pub mod seen;
+pub mod spin;
 pub mod uses;
 pub mod warning;
 pub mod warnings;

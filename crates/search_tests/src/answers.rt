@@ -7,8 +7,7 @@ ghost use Rattle.std.specs.Prelude.{◌≤◌};
 ghost use Rattle.report.specs.Promises.{IsSearch};
 
 use crate::answers::devices::{FailingReader, FailingWriter};
-use answering::{Fault, ended, serve};
-use requests::{Exploration, GuestRequest};
+use answering::{Exploration, Fault, GuestRequest, ended, serve};
 use runner::{Options, Search};
 use std::alloc::{Alloc, Global};
 use std::io::Eprint;

@@ -3,7 +3,7 @@ use Rattle.std.proofs.Common.{◌≡◌, ℕ, List, Bool, true, false, refl, ari
 use Rattle.guest_code.specs.Program.{Program}
 use Rattle.report.specs.declared.options.Search.TheVariants.{UpTo, Unbounded}
 use Rattle.report.specs.Texts.{IsProgramOf}
-use Rattle.requests.specs.declared.limits.Limits.{Limits}
+use Rattle.answering.specs.declared.limits.Limits.{Limits}
 use Rattle.verify.specs.declared.found.Found.{Found}
 use Rattle.verify.specs.Shown.{options_of, clear_below, IsFound}
 use Rattle.suite.specs.Suites.{is_enough, second_bound, nearer, IsSearched}

@@ -8,7 +8,7 @@ use Rattle.report.specs.declared.error.ExploreError.{ExploreError}
 use Rattle.report.specs.declared.report.Verdict.{Verdict}
 use Rattle.report.specs.Reports.{NoBadBelow}
 use Rattle.report.specs.Texts.{IsProgramOf, ExploreErrorMeans}
-use Rattle.requests.specs.declared.limits.Limits.{Limits}
+use Rattle.answering.specs.declared.limits.Limits.{Limits}
 use Rattle.verify.specs.declared.found.BadSchedule.{BadSchedule}
 use Rattle.verify.specs.declared.found.Found.{Found}
 use Rattle.verify.specs.Shown.{options_of, is_cut_short, clear_below, IsFound}

@@ -6,7 +6,7 @@ ghost use Rattle.suite.specs.Statuses.{bad_status, fewest_status, one_unless, st
 
 use crate::expectation::{Expectation, Expected, near_expectation};
 use crate::searches::{Searched, search};
-use requests::Limits;
+use answering::Limits;
 use runner::{ExploreError, Gate, Verdict};
 use semantics::view::Kind;
 use std::alloc::{Alloc, Global};

@@ -3,7 +3,7 @@
 ghost use Rattle.std.specs.Prelude.{◌≡◌};
 ghost use Rattle.suite.specs.Suites.{SearchMeans, is_enough, second_bound, nearer};
 
-use requests::Limits;
+use answering::Limits;
 use runner::{BOUND, ExploreError, Gate, Search, Verdict};
 use std::alloc::{Alloc, Global};
 use std::sync::Wait;

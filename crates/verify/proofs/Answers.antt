@@ -4,7 +4,7 @@ use Rattle.std.proofs.Common.{inl, inr, refl, sym, subst, arith}
 use Rattle.std.proofs.lemmas.Bool.{leb-true}
 use Rattle.guest_code.specs.Program.{Program}
 use Rattle.schedules.specs.Schedules.{preemptions}
-use Rattle.requests.specs.declared.limits.Limits.{Limits}
+use Rattle.answering.specs.declared.limits.Limits.{Limits}
 use Rattle.report.specs.declared.options.Options.{Options}
 use Rattle.report.specs.declared.options.Search.TheVariants.{UpTo, Unbounded}
 use Rattle.report.specs.declared.report.Verdict.{Verdict}

@@ -4,7 +4,7 @@ use Rattle.guest_code.specs.Program.{Program}
 use Rattle.report.specs.declared.options.Search.TheVariants.{UpTo, Unbounded}
 use Rattle.report.specs.Reports.{NoBadBelow}
 use Rattle.report.specs.Texts.{IsProgramOf}
-use Rattle.requests.specs.declared.limits.Limits.{Limits}
+use Rattle.answering.specs.declared.limits.Limits.{Limits}
 use Rattle.verify.specs.declared.answer.Answer.{Answer}
 use Rattle.verify.specs.declared.answer.Answer.TheVariants.{Right, Bad, Undecided}
 use Rattle.verify.specs.declared.found.BadSchedule.{BadSchedule}

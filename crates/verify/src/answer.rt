@@ -9,8 +9,8 @@ ghost use Rattle.verify.specs.Shown.{options_of, WasCut};
 ghost use Rattle.verify.specs.Answers.{AnswerMeans, IsKnownBad, answer_of, stop_of};
 
 use crate::found::{BadSchedule, Found, find};
+use answering::Limits;
 use guest_code::program::Program;
-use requests::Limits;
 use runner::{ExploreError, Open, Search, Verdict};
 use std::alloc::{Alloc, Global};
 use std::fmt;

@@ -9,11 +9,11 @@ ghost use Rattle.report.specs.ReportText.{named_schedule};
 ghost use Rattle.replay.specs.Run.{IsRunOf};
 ghost use Rattle.verify.specs.Shown.{options_of, clear_below, is_right, is_clean, IsBadOf, IsNamedBad, IsFound};
 
+use answering::Limits;
 use guest_code::laws::programs_are_well_formed;
 use guest_code::program::Program;
 use replay::laws::one_place_is_the_first_bad;
 use replay::{ReplayError, Run, replay};
-use requests::Limits;
 use runner::{ExploreError, Gate, Options, QUOTA, Report, Search, Verdict, explore};
 use semantics::view::Kind;
 use std::alloc::{Alloc, Global};

@@ -6,10 +6,10 @@ ghost use Rattle.report.specs.Texts.{IsProgramOf, ExploreErrorMeans};
 ghost use Rattle.verify.specs.Answers.{IsAnswerOfText};
 
 use crate::answer::{Answer, verify};
+use answering::Limits;
 use guest_code::lowering::lower;
 use guest_code::program::Program;
 use guest_syntax::parse;
-use requests::Limits;
 use runner::ExploreError;
 use std::alloc::{Alloc, Global};
 use std::io::Write;

@@ -5,13 +5,13 @@ ghost use Rattle.report.specs.declared.options.Search.TheVariants.{Unbounded};
 ghost use Rattle.report.specs.Promises.{IsSearch};
 
 use crate::fault::WordsFault;
+use answering::{
+    CheckForm, CheckRequest, DEFAULT_BOUND, ExplainRequest, Exploration, Form, GuestRequest, LIMIT,
+    Limits, Request, STEPS, SuiteRequest, VerifyRequest, WIDTH,
+};
 use clap::{Arg, ArgAction, ArgMatches, Command, value_parser};
 use report::limits::{BOUND, QUOTA};
 use report::{Options, Search};
-use requests::{
-    CheckForm, CheckRequest, DEFAULT_BOUND, ExplainRequest, Exploration, Form, GuestRequest, LIMIT,
-    Limits, Request, SuiteRequest, VerifyRequest,
-};
 use std::alloc::{Alloc, AllocError, Global};
 use std::env::Env;
 use workers::WORKERS;
@@ -21,12 +21,6 @@ pub const VERSION: &str = "0.2.0";
 
 /// How many schedules a deep check goes through at most, where no number is asked for.
 const DEFAULT_DEPTH: u64 = 100_000;
-
-/// The columns of an explanation, where no number is asked for.
-const DEFAULT_WIDTH: u32 = 100;
-
-/// The steps of an explanation that folds none, where no number is asked for.
-const DEFAULT_STEPS: u32 = 40;
 
 /// What the help of each command ends with.
 pub const HELP_END: &str = "Examples:
@@ -397,23 +391,27 @@ fn steps_of(given: &ArgMatches<'_>) -> usize {
     if given.get_flag("all") {
         return usize::MAX;
     }
-    let steps: u32 = given.get_one("steps").unwrap_or(DEFAULT_STEPS);
+    let steps: u32 = given.get_one("steps").unwrap_or(STEPS);
     steps as usize
+}
+
+/// The form in which the words of a command ask for an explanation.
+fn form_of(given: &ArgMatches<'_>) -> Form {
+    if given.get_flag("html") {
+        return Form::Html;
+    }
+    if given.get_flag("json") {
+        return Form::Json;
+    }
+    let width: u32 = given.get_one("width").unwrap_or(WIDTH);
+    Form::Text {
+        width: width as usize,
+        steps: steps_of(given),
+    }
 }
 
 /// The explanation that the words of a command ask for.
 fn explain_of(alloc: Global, given: &ArgMatches<'_>) -> Result<ExplainRequest, AllocError> {
-    let form = if given.get_flag("html") {
-        Form::Html
-    } else if given.get_flag("json") {
-        Form::Json
-    } else {
-        let width: u32 = given.get_one("width").unwrap_or(DEFAULT_WIDTH);
-        Form::Text {
-            width: width as usize,
-            steps: steps_of(given),
-        }
-    };
     let schedule = match given.get_str("SCHEDULE") {
         Some(schedule) => Some(String::from_str(alloc, schedule)?),
         None => None,
@@ -427,7 +425,6 @@ fn explain_of(alloc: Global, given: &ArgMatches<'_>) -> Result<ExplainRequest, A
         file: String::from_str(alloc, given.get_str("FILE").unwrap_or(""))?,
         schedule,
         search: exploration_of(command, given),
-        form,
     })
 }
 
@@ -516,7 +513,10 @@ pub fn request(alloc: Global, words: &[String]) -> Result<Request, WordsFault> {
         return Ok(Request::Verify(verify_of(alloc, given)?));
     }
     if name == "explain" {
-        return Ok(Request::Explain(explain_of(alloc, given)?));
+        return Ok(Request::Explain {
+            request: explain_of(alloc, given)?,
+            form: form_of(given),
+        });
     }
     let file = String::from_str(alloc, given.get_str("FILE").unwrap_or(""))?;
     let request = guest_request(alloc, name, given)?;

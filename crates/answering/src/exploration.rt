@@ -1,0 +1,47 @@
+//! What can be asked of one guest program.
+
+ghost use Rattle.std.specs.Prelude.{◌≤◌};
+ghost use Rattle.report.specs.Promises.{IsSearch};
+ghost use Rattle.workers.specs.declared.limits.TheConstants.{WORKERS};
+ghost use Rattle.answering.specs.inner.Searches.{IsSearch-prop};
+
+use report::{Options, Search};
+
+/// The bound of a search that asks for none.
+pub const DEFAULT_BOUND: u32 = 2;
+
+/// What is asked of a guest program.
+#[derive(Debug, Drop)]
+pub enum GuestRequest {
+    /// To replay one schedule, in schedule text, and print its trace.
+    Replay { schedule: String },
+    /// To search for a bad schedule, and print the report.
+    Explore(Exploration),
+    /// To search, and print the report and the trace of the schedule that it names, if any.
+    Trace(Exploration),
+}
+
+/// A search, and by how many workers. Its report doesn't depend on them, unless it is incomplete.
+#[derive(Clone, Copy, Debug)]
+pub struct Exploration {
+    pub options: Options,
+    /// At least 1, at most [`WORKERS`](workers::WORKERS).
+    pub workers: u32,
+    /// Whether it is told on standard error how far the search is.
+    pub progress: bool,
+    ghost search: { IsSearch options.search } by { IsSearch-prop options.search },
+    ghost quota: { 1 ≤ options.quota },
+    ghost some_worker: { 1 ≤ workers },
+    ghost few_workers: { workers ≤ WORKERS },
+}
+
+impl Exploration {
+    /// The search that is made where no more is asked for.
+    pub fn usual() -> Exploration {
+        Exploration {
+            options: Options::new(Search::UpTo(DEFAULT_BOUND)),
+            workers: 1,
+            progress: false,
+        }
+    }
+}

@@ -1,0 +1,90 @@
+//! What command words can ask for.
+
+use crate::exploration::{Exploration, GuestRequest};
+use crate::limits::Limits;
+
+/// What the command words ask for.
+#[derive(Debug, Drop)]
+pub enum Request {
+    /// Something of the guest program in this file.
+    One { file: String, request: GuestRequest },
+    /// To explain a schedule, and tell that in this form.
+    Explain { request: ExplainRequest, form: Form },
+    /// A suite.
+    Suite(SuiteRequest),
+    /// To say whether a guest program is right.
+    Verify(VerifyRequest),
+    /// To check guest programs and search nothing.
+    Check(CheckRequest),
+}
+
+/// To check the guest program in each of these files, and tell what is wrong or odd.
+#[derive(Debug, Drop)]
+pub struct CheckRequest {
+    /// A folder stands for the files in it, and in the folders in it, whose names end in `.guest`.
+    pub files: Vec<String>,
+    /// Whether a warning counts.
+    pub strict: bool,
+    /// Up to how many schedules are gone through for the deeper warnings, if for any.
+    pub depth: Option<u64>,
+    /// Whether these tell too what need not be wrong.
+    pub remarks: bool,
+    pub form: CheckForm,
+}
+
+/// What a check is told as.
+#[derive(Clone, Copy, Debug)]
+pub enum CheckForm {
+    /// In lines for people, with the source.
+    Lines,
+    /// A line each.
+    Short,
+    /// A JSON object each.
+    Json,
+}
+
+/// A suite: to search the guest program in each of these files, and print a table or JSON.
+#[derive(Debug, Drop)]
+pub struct SuiteRequest {
+    /// A folder stands for the files in it, and in the folders in it, whose names end in `.guest`.
+    pub files: Vec<String>,
+    pub limits: Limits,
+    pub json: bool,
+    /// Whether it is told on standard error how far each search is.
+    pub progress: bool,
+}
+
+/// To say whether the guest program in a file is right.
+#[derive(Debug, Drop)]
+pub struct VerifyRequest {
+    /// The file, by the name that it is told with.
+    pub file: String,
+    pub limits: Limits,
+}
+
+/// To explain a schedule of the guest program in a file, or the schedule that a search finds.
+#[derive(Debug, Drop)]
+pub struct ExplainRequest {
+    /// The file, by the name that it is told with.
+    pub file: String,
+    /// The schedule, in schedule text. Where there is none, a search finds one.
+    pub schedule: Option<String>,
+    pub search: Exploration,
+}
+
+/// The columns of an explanation, where no number is asked for.
+pub const WIDTH: u32 = 100;
+
+/// The steps of an explanation that folds none, where no number is asked for.
+pub const STEPS: u32 = 40;
+
+/// What an explanation is told as.
+#[derive(Clone, Copy, Debug)]
+pub enum Form {
+    /// As text of this width: each step, where there are at most so many, or those that matter.
+    Text { width: usize, steps: usize },
+    /// As JSON.
+    Json,
+    /// As a page.
+    Html,
+}

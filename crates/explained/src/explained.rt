@@ -1,0 +1,243 @@
+//! What is explained, and how that is told.
+
+ghost use Rattle.std.specs.Prelude.{◌≡◌, IfOk, IfErr};
+ghost use Rattle.std.specs.Arc.{arc_value};
+ghost use Rattle.report.specs.ReportText.{named_schedule};
+ghost use Rattle.answering.specs.declared.fault.Fault.TheVariants.{Memory};
+ghost use Rattle.explained.specs.Status.{explained_status, told_status};
+ghost use Rattle.explained.specs.Explained.{ExplainMeans, IsExplained, IsAsked, IsFound, IsNamed};
+ghost use Rattle.explained.specs.Explained.{IsFaultOf, IsScheduleFault};
+
+use answering::{
+    ExplainRequest, Exploration, Fault, Printed, REFUSED, Teller, replay_status, verdict_status,
+};
+use explain::{Explanation, Source};
+use explain_text::{Shape, explanation_text};
+use guest_code::lowering::lower;
+use guest_code::program::Program;
+use guest_code::source_map::SourceMap;
+use guest_syntax::parse;
+use replay::schedule_from;
+use runner::{Report, Verdict, explore};
+use std::alloc::{AllocError, Global};
+use std::io::Eprint;
+use std::sync::{Arc, Wait};
+use std::thread::Threads;
+
+// What a search up to a bound leaves open.
+const NO_PROOF: &str = "That is no proof: others have more. Try --unbounded, or a higher --bound.";
+
+/// What tells what is explained.
+pub trait Tell {
+    /// The bytes of what is explained of the program in this file, which is the source's.
+    ///
+    /// # Errors
+    ///
+    /// `AllocError` where memory runs out.
+    fn tell(
+        &self,
+        alloc: Global,
+        explained: &Explained,
+        source: &Source<'_>,
+        file: &str,
+    ) -> Result<Vec<u8>, AllocError>;
+}
+
+/// Tells it as text, in lines of this width: each step, where there are at most so many, or those
+/// that matter.
+#[derive(Clone, Copy, Debug)]
+pub struct Lines {
+    pub width: usize,
+    pub steps: usize,
+}
+
+impl Lines {
+    // The shape of an explanation, of the least bad schedule or not.
+    fn shape(&self, is_least: bool) -> Shape {
+        Shape {
+            width: self.width,
+            steps: self.steps,
+            is_least,
+        }
+    }
+}
+
+impl Tell for Lines {
+    fn tell(
+        &self,
+        alloc: Global,
+        explained: &Explained,
+        source: &Source<'_>,
+        file: &str,
+    ) -> Result<Vec<u8>, AllocError> {
+        match explained {
+            Explained::Asked(explanation) => {
+                explanation_text(alloc, explanation, source, self.shape(false))
+            }
+            Explained::Found(report, Some(explanation)) => {
+                explanation_text(alloc, explanation, source, self.shape(is_least(report)))
+            }
+            Explained::Found(report, None) => Ok(sentence_of(alloc, file, report)?.into_bytes()),
+        }
+    }
+}
+
+/// The explanation of the schedule that is asked for, in the program that `text` spells, as far as
+/// it runs; or of the bad schedule that a search finds.
+///
+/// # Errors
+///
+/// What is wrong first: with the text, with the program that it spells, or with the schedule's
+/// text; `Memory` where memory runs out.
+pub fn explain_text<R: Threads + Wait + Sync + Eprint, T: Tell>(
+    rt: &R,
+    alloc: Global,
+    text: &[u8],
+    request: &ExplainRequest,
+    teller: &T,
+) -> Result<Printed, Fault>
+    ensures { ExplainMeans text.now request.now result }
+{
+    let tree = parse(alloc, text)?;
+    let program = Arc::new(alloc, lower(alloc, &tree)?)?;
+    let map = SourceMap::new(alloc, &tree)?;
+    let explained = Explained::new(rt, alloc, &program, request)?;
+    let source = Source {
+        file: request.file.as_bytes(),
+        text,
+        program: &program,
+        map: &map,
+    };
+    let told = teller.tell(alloc, &explained, &source, request.file.as_str())?;
+    Ok(Printed {
+        output: told,
+        status: explained.status(),
+    })
+}
+
+/// What is explained.
+#[derive(Drop)]
+pub enum Explained {
+    /// The schedule that was asked for.
+    Asked(Explanation),
+    /// What a search found: its report, and the schedule that this names, if it names one.
+    Found(Report, Option<Explanation>),
+}
+
+impl Explained {
+    // What a request asks for, of a program.
+    fn new<R: Threads + Wait + Sync + Eprint>(
+        rt: &R,
+        alloc: Global,
+        program: &Arc<Program>,
+        request: &ExplainRequest,
+    ) -> Result<Explained, Fault>
+        ensures explained { IfOk result (IsExplained (arc_value program.now) request.now) }
+        ensures fault { IfErr result (IsFaultOf request.now.schedule) }
+    {
+        match &request.schedule {
+            Some(schedule) => {
+                let explanation = asked(alloc, program, schedule.as_bytes())?;
+                Ok(Explained::Asked(explanation))
+            }
+            None => {
+                let (report, explanation) = found(rt, alloc, program, request.search)?;
+                Ok(Explained::Found(report, explanation))
+            }
+        }
+    }
+
+    // The status after it: that of an explanation, or of the search where it found nothing to
+    // explain.
+    fn status(&self) -> u8
+        ensures { result ≡ told_status self.now }
+    {
+        match self {
+            Explained::Asked(explanation) | Explained::Found(_, Some(explanation)) => {
+                explained_status(explanation)
+            }
+            Explained::Found(report, None) => verdict_status(&report.verdict),
+        }
+    }
+}
+
+// The explanation of the schedule that this text spells.
+fn asked(alloc: Global, program: &Program, schedule: &[u8]) -> Result<Explanation, Fault>
+    ensures asked { IfOk result (IsAsked program.now schedule.now) }
+    ensures fault { IfErr result (IsScheduleFault schedule.now) }
+{
+    let steps = schedule_from(alloc, schedule)?;
+    Ok(Explanation::new(alloc, program, steps.as_slice())?)
+}
+
+// The report of a search, and the explanation of the schedule that it names, if it names one.
+fn found<R: Threads + Wait + Sync + Eprint>(
+    rt: &R,
+    alloc: Global,
+    program: &Arc<Program>,
+    search: Exploration,
+) -> Result<(Report, Option<Explanation>), Fault>
+    ensures found { IfOk result (λ it. IsFound (arc_value program.now) search.options it.0 it.1) }
+    ensures fault { IfErr result (λ fault. fault ≡ Memory) }
+{
+    let gate = Teller::new(rt, search.progress);
+    let report = explore(rt, alloc, program, search.options, search.workers, &gate)?;
+    let explanation = named(alloc, program, &report)?;
+    Ok((report, explanation))
+}
+
+// The explanation of the schedule that a report names, if it names one.
+fn named(
+    alloc: Global,
+    program: &Program,
+    report: &Report,
+) -> Result<Option<Explanation>, AllocError>
+    ensures { IfOk result (IsNamed program.now (named_schedule report.now)) }
+{
+    match report.schedule() {
+        Some(steps) => Ok(Some(Explanation::new(alloc, program, steps)?)),
+        None => Ok(None),
+    }
+}
+
+// The status after an explanation: that of a replay, or that of a refusal where the schedule
+// doesn't run to its end.
+fn explained_status(explanation: &Explanation) -> u8
+    ensures { result ≡ explained_status explanation.now.refused explanation.now.kind }
+{
+    match explanation.refused() {
+        Some(_) => REFUSED,
+        None => replay_status(explanation.kind()),
+    }
+}
+
+/// Whether a search showed that no schedule with fewer preemptions than the one that it names is
+/// bad.
+pub fn is_least(search: &Report) -> bool {
+    matches!(&search.verdict, Verdict::Bad { .. }) && search.bound.is_some()
+}
+
+/// What is said of a search of the program in this file that found no bad schedule.
+///
+/// # Errors
+///
+/// `AllocError` where memory runs out.
+pub fn sentence_of(alloc: Global, file: &str, report: &Report) -> Result<String, AllocError> {
+    let tried = report.summary.tried();
+    match (&report.verdict, report.bound) {
+        (Verdict::Clean { all: false }, Some(bound)) => {
+            let preemptions = if bound == 1 {
+                "preemption"
+            } else {
+                "preemptions"
+            };
+            format!(in alloc;
+                "{file}: no schedule with at most {bound} {preemptions} is bad ({tried} tried).\n{NO_PROOF}\n"
+            )
+        }
+        (Verdict::Incomplete { .. }, _) => format!(in alloc;
+            "{file}: the search was cut short; no schedule that it tried is bad ({tried} tried).\n"
+        ),
+        _ => format!(in alloc; "{file}: no schedule is bad ({tried} tried).\n"),
+    }
+}

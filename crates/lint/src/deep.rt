@@ -1,0 +1,233 @@
+//! What the schedules that sleep sets leave show of a program, gone through one after the other by
+//! the plain step and by taking it back.
+
+ghost use Rattle.std.specs.Prelude.{◌<◌, ◌≡◌, length, IfOk, IfSome, OnOk, IsTrue};
+ghost use Rattle.semantics.specs.Machine.{is_enabled};
+ghost use Rattle.semantics.specs.Reachable.{IsOf, IsValidAction};
+ghost use Rattle.semantics.specs.Turns.{IsAccessBelow};
+ghost use Rattle.guest_code.specs.Program.{Program, IsValidCode};
+ghost use Rattle.lint.specs.inner.Frames.{TakesBack, IsTour};
+
+use crate::seen::{Seen, Stage};
+use crate::spin::Spin;
+use guest_code::limits::LOCALS;
+use guest_code::program::{Instruction, Program};
+use schedules::independence::sleepers_after;
+use semantics::access;
+use semantics::mask::Mask;
+use semantics::state::{Action, State, Status, Stop};
+use semantics::undo::Undo;
+use std::alloc::{AllocError, Global};
+
+/// A step that was taken: who slept before it, the thread that is looked at next there, and how to
+/// take it back.
+#[derive(Drop)]
+pub struct Frame {
+    asleep: Mask,
+    next: u8,
+    undo: Undo,
+}
+
+/// Where the going through is: at a state, to which steps have led, with who sleeps there and the
+/// thread that is looked at next.
+#[derive(Drop)]
+pub struct Tour {
+    state: State,
+    frames: Vec<Frame>,
+    path: Vec<u8>,
+    asleep: Mask,
+    next: u8,
+}
+
+/// What was seen, and whether all schedules that sleep sets leave were gone through.
+#[derive(Drop)]
+pub struct Depths {
+    pub seen: Seen,
+    pub is_whole: bool,
+}
+
+/// The locals after a step that does this, where the variables have these values before it.
+fn locals_after(mut locals: [i64; LOCALS], variables: &[i64], action: Action) -> [i64; LOCALS]
+    requires { (p : Program) × IsValidAction p action
+        × (length variables.now ≡ length p.variables) }
+{
+    if let Action::OnVariable(variable, action) = action {
+        let mut value = variables[variable];
+        access(&mut value, &mut locals, action);
+    }
+    locals
+}
+
+/// Whether a thread's next step is a `signal` for which two threads or more wait.
+fn signals_several(program: &Program, state: &State, thread: u8) -> bool
+    requires of { IsOf program.now state.now }
+    requires thread { thread < length program.now.threads }
+{
+    let Some(Instruction::Signal(condition)) = program.code(thread).get(state.pc(thread)) else {
+        return false;
+    };
+    let mut waiting = 0_u32;
+    for other in 0..program.threads() {
+        if matches!(state.status(other), Status::Waiting(c) if c as usize == *condition) {
+            waiting = waiting.saturating_add(1);
+        }
+    }
+    waiting >= 2
+}
+
+/// Whether a thread runs by itself after its step.
+fn goes_on(status: Status) -> bool {
+    match status {
+        Status::Running | Status::Woken | Status::Ended | Status::Stopped(Stop::Assert) => true,
+        Status::Waiting(_) | Status::Stopped(Stop::NotHeld | Stop::SemFull) => false,
+    }
+}
+
+/// The first thread from this one on that can take a step and doesn't sleep.
+fn next_thread(program: &Program, state: &State, asleep: Mask, from: u8) -> Option<u8>
+    requires { IsOf program.now state.now }
+    ensures there { IfSome result (λ t. t < length program.now.threads) }
+    ensures enabled { IfSome result (λ t. IsTrue (is_enabled program.now state.now t)) }
+{
+    for thread in from..program.threads() {
+        if !asleep.has(thread) && state.is_enabled(program, thread) {
+            return Some(thread);
+        }
+    }
+    None
+}
+
+/// Takes a step of an enabled thread, and sees what it carries out.
+fn step_seen(
+    program: &Program,
+    state: &mut State,
+    seen: &mut Seen,
+    stage: Stage<'_>,
+) -> Result<Undo, AllocError>
+    requires of { IsOf program.now state.old }
+    requires thread { stage.thread < length program.now.threads }
+    requires enabled { IsTrue (is_enabled program.now state.old stage.thread) }
+    requires code { (p : Program) × IsValidCode p stage.code.now }
+    ensures { IfOk result (λ u. TakesBack program.now u state.old state.new) }
+{
+    let thread = stage.thread;
+    let at = state.pc(thread);
+    let action = state.next(program, thread).unwrap();
+    let locals = locals_after(*state.locals(thread), state.variables(), action);
+    if signals_several(program, state, thread) {
+        seen.see_crowd(stage, at)?;
+    }
+    let undo = state.step(program, thread);
+    if goes_on(state.status(thread)) {
+        seen.see_step(stage, at, locals)?;
+    }
+    Ok(undo)
+}
+
+/// Sees what each thread carries out before its first step.
+fn see_start(program: &Program, seen: &mut Seen, spins: &[Spin]) -> Result<(), AllocError> {
+    for thread in 0..program.threads() {
+        let stage = Stage {
+            spins,
+            path: &[],
+            thread,
+            code: program.code(thread),
+        };
+        seen.see_run(stage, 0, [0; LOCALS])?;
+    }
+    Ok(())
+}
+
+impl Tour {
+    /// At the first state.
+    fn new(alloc: Global, program: &Program) -> Result<Tour, AllocError>
+        ensures { IfOk result (IsTour program.now) }
+    {
+        Ok(Tour {
+            state: State::start(alloc, program)?,
+            frames: Vec::new(alloc),
+            path: Vec::new(alloc),
+            asleep: Mask::empty(),
+            next: 0,
+        })
+    }
+
+    /// Takes a step, after which those sleep that sleep sets say.
+    fn enter(
+        &mut self,
+        program: &Program,
+        seen: &mut Seen,
+        spins: &[Spin],
+        thread: u8,
+    ) -> Result<(), AllocError>
+        requires tour { IsTour program.now self.old }
+        requires thread { thread < length program.now.threads }
+        requires enabled { IsTrue (is_enabled program.now self.old.state thread) }
+        ensures { OnOk result (IsTour program.now self.new) }
+    {
+        let enabled = self.state.enabled(program);
+        let asleep = sleepers_after(program, &self.state, enabled, self.asleep, thread);
+        self.path.push(thread)?;
+        let stage = Stage {
+            spins,
+            path: self.path.as_slice(),
+            thread,
+            code: program.code(thread),
+        };
+        let undo = step_seen(program, &mut self.state, seen, stage)?;
+        self.frames.push(Frame {
+            asleep: self.asleep,
+            next: thread + 1,
+            undo,
+        })?;
+        self.asleep = asleep;
+        self.next = 0;
+        Ok(())
+    }
+
+    /// Takes the last step back; false where there is none.
+    fn leave(&mut self, program: &Program) -> bool
+        requires { IsTour program.now self.old }
+        ensures { IsTour program.now self.new }
+    {
+        let Some(frame) = self.frames.pop() else {
+            return false;
+        };
+        self.state.undo(&frame.undo);
+        self.asleep = frame.asleep;
+        self.next = frame.next;
+        let _ = self.path.pop();
+        true
+    }
+}
+
+/// Goes through the schedules that sleep sets leave, up to a number of ends.
+pub fn explore(
+    alloc: Global,
+    program: &Program,
+    spins: &[Spin],
+    limit: u64,
+) -> Result<Depths, AllocError> {
+    let mut seen = Seen::new(alloc, program, spins.len())?;
+    see_start(program, &mut seen, spins)?;
+    let mut tour = Tour::new(alloc, program)?;
+    let mut left = limit;
+    let mut is_whole = false;
+    'ends: for _ in 0..u64::MAX {
+        if let Some(thread) = next_thread(program, &tour.state, tour.asleep, tour.next) {
+            tour.enter(program, &mut seen, spins, thread)?;
+            continue;
+        }
+        if tour.next == 0 {
+            if left == 0 {
+                break;
+            }
+            left -= 1;
+        }
+        if !tour.leave(program) {
+            is_whole = true;
+            break;
+        }
+    }
+    Ok(Depths { seen, is_whole })
+}

@@ -1,0 +1,87 @@
+//! The search that `rounds` is asked for.
+
+ghost use Rattle.std.specs.Prelude.{◌≤◌, IfSome};
+ghost use Rattle.report.specs.Promises.{IsSearch};
+
+use crate::gate::Does;
+use answering::Exploration;
+use runner::{BOUND, Options, Search, WORKERS};
+use std::alloc::Global;
+
+/// What the words ask for.
+#[derive(Debug, Drop)]
+pub struct Request {
+    pub file: String,
+    pub search: Exploration,
+    pub does: Does,
+}
+
+// A bound, or `unbounded`.
+fn search_of(word: &str) -> Option<Search>
+    ensures { IfSome result IsSearch }
+{
+    if word == "unbounded" {
+        return Some(Search::Unbounded);
+    }
+    let bound: u32 = word.parse().ok()?;
+    if bound <= BOUND {
+        Some(Search::UpTo(bound))
+    } else {
+        None
+    }
+}
+
+// A number from 1 on, up to a greatest one.
+fn number_of(word: &str, most: u32) -> Option<u32>
+    ensures some { IfSome result (λ n. 1 ≤ n) }
+    ensures few { IfSome result (λ n. n ≤ most) }
+{
+    let number: u32 = word.parse().ok()?;
+    if 1 <= number && number <= most {
+        Some(number)
+    } else {
+        None
+    }
+}
+
+// The search that these words ask for.
+fn exploration_of(words: &[String]) -> Option<Exploration> {
+    let search = search_of(words.get(2)?.as_str())?;
+    let limit: u64 = words.get(6)?.as_str().parse().ok()?;
+    let quota = number_of(words.get(5)?.as_str(), u32::MAX)?;
+    let workers = number_of(words.get(4)?.as_str(), WORKERS)?;
+    let options = Options {
+        search,
+        limit: if limit == 0 { None } else { Some(limit) },
+        quota,
+        quick: words.get(3)?.as_str() == "quick",
+    };
+    Some(Exploration {
+        options,
+        workers,
+        progress: false,
+    })
+}
+
+// What the gate does.
+fn does(words: &[String]) -> Option<Does> {
+    let number: u64 = words.get(8)?.as_str().parse().ok()?;
+    match words.get(7)?.as_str() {
+        "open" => Some(Does::Open),
+        "pass" => Some(Does::Pass(number)),
+        "worker" => Some(Does::StopWorker(number)),
+        "item" => Some(Does::StopFrom(number)),
+        "together" => Some(Does::Together(number)),
+        "after" => Some(Does::After(number)),
+        _ => None,
+    }
+}
+
+/// What the words ask for, if they ask for anything.
+pub fn request_of(alloc: Global, words: &[String]) -> Option<Request> {
+    Some(Request {
+        file: words.get(1)?.as_str().to_string(alloc).ok()?,
+        search: exploration_of(words)?,
+        does: does(words)?,
+    })
+}
