@@ -18,7 +18,7 @@ use std::{fs, io};
 
 /// The text of a guest program, or one byte more than a program may have where it is too long.
 fn read_text<R: Read>(alloc: Global, input: &mut R) -> io::Result<Vec<u8>>
-    ensures text { IfOk result (λ text. IfSome (R.remaining input.old) (IsPartRead text.items)) }
+    ensures { IfOk result (λ text. IfSome (R.remaining input.old) (IsPartRead text.items)) }
 {
     let mut text = Vec::new(alloc);
     input.take(TEXT_BYTES as u64 + 1).read_to_end(&mut text)?;
@@ -31,7 +31,7 @@ fn read_text<R: Read>(alloc: Global, input: &mut R) -> io::Result<Vec<u8>>
 ///
 /// What the device answers.
 pub fn write_out<W: Write>(out: &mut W, output: &[u8]) -> io::Result<()>
-    ensures written { IsWritten result (W.contents out.old) (W.contents out.new) output.now }
+    ensures { IsWritten result (W.contents out.old) (W.contents out.new) output.now }
 {
     if output.is_empty() {
         return Ok(());

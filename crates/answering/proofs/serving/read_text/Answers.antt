@@ -2,8 +2,8 @@ use Rattle.std.proofs.Common.{ap}
 use Rattle.answering.proofs.Reading.{filled_is_part}
 use Rattle.answering.proofs.serving.read_text.Goals as goal
 
-pub returns-clause-text : goal.returns-clause-text
-returns-clause-text g c =
+pub returns : goal.returns
+returns g c =
     let reader = ap (λ r. g.R.Read.remaining r.now) c.take.ensures.inner in
     filled_is_part _ _ c.take.result.limit c.new-text.result.items c.read_to_end.new.buf.items
     reader

@@ -8,7 +8,7 @@ returns-clause-served g c =
     let before = g.W.Write.contents c.args.out.now in
     let after = g.W.Write.contents c.write_out.new.out in
     let output = subst (λ (bytes : List ℕ). Appends before after bytes) c.output.ensures
-    c.in_ok-write_out.ensures.written in
+    c.in_ok-write_out.ensures in
     served (g.R.Read.remaining c.args.input.now) c.in_ok-text.text.items c.args.request.now
-    c.new-answer.result before after c.status.result c.in_ok-text.ensures.text c.new-answer.ensures
+    c.new-answer.result before after c.status.result c.in_ok-text.ensures c.new-answer.ensures
     output c.status.ensures
