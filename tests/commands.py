@@ -183,6 +183,11 @@ VERIFIED = [
      "no preemption: cut short, and none of the 256 tried is bad\n"
      "BAD: a schedule of crowd.guest with 1 preemption fails; whether one with fewer is bad isn't known.\n"
      "See why: ctxbound explain crowd.guest 0,1,0,2,3,4,5,6,7,8\n", 1),
+    # the first bad schedule of all is no nearest one; there are 9! with no preemption
+    (["crowd.guest"], "all schedules: one with 1 preemption is bad (2 tried)\n"
+     "no preemption: one with no preemption is bad (362880 tried)\n"
+     "BAD: a schedule of crowd.guest with no preemption fails.\n"
+     "See why: ctxbound explain crowd.guest 1,0x2,2,3,4,5,6,7,8\n", 1),
     (["waits.guest"], "all schedules: none is bad (3 tried)\nRIGHT: no schedule of waits.guest fails or gets stuck.\n"
      "But W12 RanOut at 2:12: this `repeat` runs out of turns with no `leave` in some schedule\n", 0),
     # loops are looked for in as many schedules as the limit says, those that are cut short among them

@@ -1,6 +1,6 @@
 -- The lines of an advice.
 use Rattle.std.specs.Prelude.{ℕ, ◌-◌, ◌/◌, min, max, List, [], ◌∷◌, ◌++◌, length, map, take, drop, replicate, codes, Bool, ◌==◌, ◌&&◌, ◌||◌, not, nat_le, if◌then◌else◌, Option, Some, None, string_bytes}
-use Rattle.std.specs.List.{prefix_len}
+use Rattle.std.specs.List.{prefix_len, before_first, after_first}
 use Rattle.std.specs.Fmt.{decimal}
 use Rattle.hints.specs.declared.message.Span.{Span}
 use Rattle.hints.specs.declared.message.Note.{Note}
@@ -74,6 +74,16 @@ remark_lines text (Some s) mark said = span_lines text s mark said
 abbrev pub note_lines : List ℕ → List Note → List ℕ
 note_lines text [] = []
 note_lines text (n ∷ ns) = remark_lines text n.span 45 n.text.items ++ note_lines text ns
+
+-- the second and the third word of a short form, the number and the name of what is told
+abbrev pub is_blank : ℕ → Bool
+is_blank b = b == 32
+
+abbrev pub code_number : List ℕ → List ℕ
+code_number form = before_first is_blank (after_first is_blank form)
+
+abbrev pub code_name : List ℕ → List ℕ
+code_name form = before_first is_blank (after_first is_blank (after_first is_blank form))
 
 -- an advice: its short form, its place marked with carets, and its notes
 abbrev pub advice_lines : List ℕ → Advice → List ℕ

@@ -23,7 +23,8 @@ impl<'a> Declared<'a> {
     }
 }
 
-fn kind_of(object: Object) -> &'static str {
+/// The kind of an object in a word.
+pub fn kind_of(object: Object) -> &'static str {
     match object {
         Object::Variable(_) => "variable",
         Object::Mutex => "mutex",

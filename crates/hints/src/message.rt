@@ -1,8 +1,8 @@
 //! Advice as a value, and its lines.
 
-ghost use Rattle.std.specs.Prelude.{◌≡◌, ◌-◌, ◌≤◌, [], length, map, take, drop, replicate};
-ghost use Rattle.std.specs.List.{prefix_len};
-ghost use Rattle.hints.specs.Lines.{from_line, goes_on, line_of, first_line, shown, left_out, margin, said_line, source_line, marks_line};
+ghost use Rattle.std.specs.Prelude.{◌≡◌, ◌-◌, ◌≤◌, [], length, map, take, drop, replicate, string_bytes};
+ghost use Rattle.std.specs.List.{prefix_len, before_first, after_first};
+ghost use Rattle.hints.specs.Lines.{is_blank, code_number, code_name, from_line, goes_on, line_of, first_line, shown, left_out, margin, said_line, source_line, marks_line};
 ghost use Rattle.hints.specs.Puts.{Puts};
 
 use crate::words::decimal;
@@ -60,11 +60,13 @@ pub struct Advice {
 
 impl Advice {
     /// The number and the name of what is told: the second and the third word of the short form.
-    pub fn code(&self) -> (&str, &str) {
-        let mut words = self.headline.split_ascii_whitespace();
-        let _ = words.next();
-        let number = words.next().unwrap_or("");
-        let name = words.next().unwrap_or("");
+    pub fn code(&self) -> (&str, &str)
+        ensures number { result.0.now ≡ code_number (string_bytes self.now.headline) }
+        ensures name { result.1.now ≡ code_name (string_bytes self.now.headline) }
+    {
+        let (_, rest) = cut_at_blank(&self.headline);
+        let (number, rest) = cut_at_blank(rest);
+        let (name, _) = cut_at_blank(rest);
         (number, name)
     }
 
@@ -75,6 +77,15 @@ impl Advice {
             None => (u32::MAX, u32::MAX),
         }
     }
+}
+
+/// What is before the first blank of a text, and what is after it; all of it and nothing where there
+/// is none.
+fn cut_at_blank(text: &str) -> (&str, &str)
+    ensures before { result.0.now ≡ before_first is_blank text.now }
+    ensures after { result.1.now ≡ after_first is_blank text.now }
+{
+    text.split_once(' ').unwrap_or((text, ""))
 }
 
 /// What is left of a text from a line on; lines count from 1.

@@ -6,12 +6,12 @@ ghost use Rattle.guest_syntax.specs.Tree.{thread_view, tree_view};
 ghost use Rattle.guest_code.specs.ErrorTexts.{check_error_text};
 ghost use Rattle.hints.specs.Refusals.{syntax_place, check_place, IsAdviceOf};
 
-use crate::braces::{is_first, missing_brace};
+use crate::braces::{closing, is_first, missing_brace};
 use crate::declared::{Declared, first_declared, nearest};
 use crate::forms::{Slot, slots, statement_start, wanted, written};
 use crate::message::{Advice, Grade, Note, Span};
 use crate::pieces::{piece_at, pieces};
-use crate::slips::{add_near_keyword, assignment, equals_sign, negative_local};
+use crate::slips::{add_meant, assignment, equals_sign, negative_local};
 use crate::told::{Told, note};
 use crate::words::{beside, decimal, joined, place};
 use guest_code::error::CheckError;
@@ -86,18 +86,16 @@ impl<'a> Context<'a> {
         all.get(passed).copied()
     }
 
-    /// How many blocks are open at the place.
-    pub fn depth(&self) -> usize {
-        let mut depth = 0_usize;
-        for (i, piece) in self.pieces.iter().enumerate() {
-            if i < self.at && matches!(piece.text, b"{") {
-                depth = depth.saturating_add(1);
-            }
-            if i < self.at && matches!(piece.text, b"}") {
-                depth = depth.saturating_sub(1);
-            }
-        }
-        depth
+    /// Whether the place is in a block.
+    pub fn is_in_block(&self) -> bool {
+        let is_left_open = |open| closing(self.pieces, open).is_none_or(|close| self.at <= close);
+        (0..self.at).any(|i| matches!(self.text(i), b"{") && is_left_open(i))
+    }
+
+    /// Whether a variable with this name is declared.
+    pub fn is_variable(&self, name: &[u8]) -> bool {
+        let mut all = 0..self.pieces.len();
+        all.any(|i| matches!(self.text(i), b"var") && self.text(i.saturating_add(1)) == name)
     }
 
     /// Whether a thread begins before the place.
@@ -246,7 +244,7 @@ fn bad_byte(alloc: Global, context: Context<'_>) -> Result<Told, AllocError> {
             alloc,
             &[b"no parentheses: ", written(context.keyword()).as_bytes()],
         ),
-        b"," if context.depth() == 0 => Told::with(
+        b"," if !context.is_in_block() => Told::with(
             alloc,
             &[b"no commas: one declaration for each name"],
             &[
@@ -257,17 +255,22 @@ fn bad_byte(alloc: Global, context: Context<'_>) -> Result<Told, AllocError> {
                 b";",
             ],
         ),
-        b":" if context.depth() == 0 => Told::new(
+        b":" if !context.is_in_block() => Told::new(
             alloc,
             &[b"a declaration has no type: all values are numbers"],
         ),
         b"." if context.before().iter().all(u8::is_ascii_digit) => {
             Told::new(alloc, &[b"numbers are whole: no point is in them"])
         }
-        b"&" | b"|" => Told::with(
+        b"&" => Told::with(
             alloc,
             &[b"one operator a statement, and none of these"],
             &[b"write: assert p; assert q; or, where both are 0 or 1: set r p * q;"],
+        ),
+        b"|" => Told::with(
+            alloc,
+            &[b"one operator a statement, and none of these"],
+            &[b"write, where both are 0 or 1: set r p + q; assert r;"],
         ),
         _ => Told::new(
             alloc,
@@ -304,10 +307,10 @@ fn expected(alloc: Global, context: Context<'_>) -> Result<Told, AllocError> {
     if context.start < context.at {
         return expected_in_statement(alloc, context);
     }
-    if context.depth() == 0 {
-        return expected_outside(alloc, context);
+    if context.is_in_block() {
+        return expected_in_block(alloc, context);
     }
-    expected_in_block(alloc, context)
+    expected_outside(alloc, context)
 }
 
 /// Of a token where a declaration or a thread would be.
@@ -320,7 +323,7 @@ fn expected_outside(alloc: Global, context: Context<'_>) -> Result<Told, AllocEr
     }
     if !context.has_thread() {
         let mut told = Told::new(alloc, &[b"a declaration or `thread` was expected"])?;
-        add_near_keyword(alloc, context.found(), true, &mut told)?;
+        add_meant(alloc, context.found(), true, &mut told)?;
         return Ok(told);
     }
     match context.found() {
@@ -390,7 +393,7 @@ fn expected_statement(alloc: Global, context: Context<'_>) -> Result<Told, Alloc
     if matches!(context.found(), b";") {
         told.add(note(alloc, &[b"is this `;` one too many?"])?)?;
     }
-    add_near_keyword(alloc, context.found(), false, &mut told)?;
+    add_meant(alloc, context.found(), false, &mut told)?;
     Ok(told)
 }
 
@@ -398,8 +401,9 @@ fn expected_statement(alloc: Global, context: Context<'_>) -> Result<Told, Alloc
 fn expected_in_statement(alloc: Global, context: Context<'_>) -> Result<Told, AllocError> {
     let keyword = context.keyword();
     let found = context.found();
-    if matches!(found, b"=") && matches!(keyword, b"set") {
-        return Told::with(alloc, &[b"no `=` here"], &[b"write: set LOCAL VALUE;"]);
+    if matches!(found, b"=") && matches!(keyword, b"set" | b"load" | b"store") {
+        let form = written(keyword).as_bytes();
+        return Told::with(alloc, &[b"no `=` here"], &[b"write: ", form]);
     }
     if matches!(keyword, b"else") && matches!(found, b"if") {
         return Told::with(

@@ -51,7 +51,8 @@ bad_of p L = refl
 
 -- the least bad one of the schedules that were tried
 tried_bad : (p : Program) (mode : Mode) (sum : SummaryView) (w : List ℕ)
-    → HasItems p mode sum → sum.first_bad ≡ Some w → IsBadSchedule p w
+    → HasItems p mode sum → sum.first_bad ≡ Some w
+    → In (schedules_of mode (root_of p)) w × (ends_badly p (start p) w ≡ true)
 tried_bad p mode sum w h e =
     let L : List (List ℕ) = left_by h.0 (schedules_of mode (root_of p)) in
     let same : sum.first_bad ≡ least (filter (ends_badly p (start p)) L) =
@@ -60,7 +61,7 @@ tried_bad p mode sum w h e =
     let l = least_some (filter (ends_badly p (start p)) L) w (sym same ∙ e) in
     let m : In L w × (ends_badly p (start p) w ≡ true) =
     from_filter (ends_badly p (start p)) L w (contains_in _ w l.0) in
-    (of_root p mode w (from_filter _ (schedules_of mode (root_of p)) w m.0).0, m.1)
+    ((from_filter _ (schedules_of mode (root_of p)) w m.0).0, m.1)
 
 same_schedule : (v w : List ℕ) → Some v ≡ Some w → v ≡ w
 same_schedule v w e = cc
@@ -72,7 +73,8 @@ named_up_to may p o last bound sum (Clean all) w h e = absurd cc
 named_up_to may p o last bound sum (Bad k steps kind) w h e =
     subst (IsBadSchedule p) (same_schedule steps.items w e) h.first.bad
 named_up_to may p o last bound sum (Incomplete cause finished) w h e =
-    tried_bad p (Bounded bound) sum w h.1.items e
+    let t = tried_bad p (Bounded bound) sum w h.1.items e in
+    (of_root p (Bounded bound) w t.0, t.1)
 
 named_without : (may : Bool) (p : Program) (o : Options) (sum : SummaryView) (v : Verdict)
     (w : List ℕ) → IsUnboundedVerdict may p o sum v → verdict_schedule sum.first_bad v ≡ Some w
@@ -81,7 +83,7 @@ named_without may p o sum (Clean all) w h e = absurd cc
 named_without may p o sum (Bad k steps kind) w h e =
     subst (IsBadSchedule p) (same_schedule steps.items w e) h.bad
 named_without may p o sum (Incomplete cause finished) w h e =
-    tried_bad p Reduced sum w h.1.items e
+    let t = tried_bad p Reduced sum w h.1.items e in (of_root p Reduced w t.0, t.1)
 
 -- the schedule that a report names is bad
 pub named_is_bad : (may : Bool) (p : Program) (o : Options) (r : Report) → IsReport may p o r
@@ -91,6 +93,26 @@ named_is_bad may p o r is w e = go o.search is.1
     go : (s : Search) → IsReportFor may p o s r → IsBadSchedule p w
     go (UpTo last) h = named_up_to may p o last h.0 r.summary r.verdict w h.2 e
     go Unbounded h = named_without may p o r.summary r.verdict w h.1 e
+
+few_up_to : (may : Bool) (p : Program) (o : Options) (last bound : ℕ) (sum : SummaryView)
+    (v : Verdict) (w : List ℕ) → IsBoundedVerdict may p o last bound sum v
+    → verdict_schedule sum.first_bad v ≡ Some w → preemptions p w ≤ last
+few_up_to may p o last bound sum (Clean all) w h e = absurd cc
+few_up_to may p o last bound sum (Bad k steps kind) w h e =
+    let count : preemptions p steps.items ≡ k = h.first.count in
+    subst (λ v. preemptions p v ≤ last) (same_schedule steps.items w e)
+    (omega (arith, count, h.low))
+few_up_to may p o last bound sum (Incomplete cause finished) w h e =
+    let t = tried_bad p (Bounded bound) sum w h.1.items e in
+    let c = in_contains (schedules_within p (root_of p).prefix bound) w t.0 in
+    let few : preemptions p w ≤ bound = ((in_within p (root_of p).prefix bound w).1 c).1 in
+    omega (arith, few, h.0)
+
+-- the schedule that the report of a search up to a bound names has no more preemptions
+pub named_has_few : (may : Bool) (p : Program) (o : Options) (last : ℕ) (r : Report)
+    → IsReportFor may p o (UpTo last) r → (w : List ℕ) → named_schedule r ≡ Some w
+    → preemptions p w ≤ last
+named_has_few may p o last r h w e = few_up_to may p o last h.0 r.summary r.verdict w h.2 e
 
 clear_up_to : (may : Bool) (p : Program) (o : Options) (last bound : ℕ) (sum : SummaryView)
     (v : Verdict) → IsBoundedVerdict may p o last bound sum v

@@ -1,5 +1,5 @@
 -- What is answered to the question whether a program is right.
-use Rattle.std.specs.Prelude.{◌≡◌, ◌⊎◌, ℕ, ◌+◌, ◌<◌, min, List, true, nat_le, Option, Some, None}
+use Rattle.std.specs.Prelude.{◌⊎◌, ℕ, ◌+◌, ◌<◌, min, List, true, false, nat_le, Option, Some, None}
 use Rattle.guest_code.specs.Program.{Program}
 use Rattle.report.specs.declared.options.Search.TheVariants.{UpTo, Unbounded}
 use Rattle.report.specs.Reports.{NoBadBelow}
@@ -8,12 +8,7 @@ use Rattle.answering.specs.declared.limits.Limits.{Limits}
 use Rattle.verify.specs.declared.answer.Answer.{Answer}
 use Rattle.verify.specs.declared.answer.Answer.TheVariants.{Right, Bad, Undecided}
 use Rattle.verify.specs.declared.found.BadSchedule.{BadSchedule}
-use Rattle.verify.specs.Shown.{options_of, IsRight, IsBadOf, WasCut}
-
--- a bad schedule, if one is known
-abbrev pub IsKnownBad : Program → Option BadSchedule → Type 0
-IsKnownBad p None = Unit {0}
-IsKnownBad p (Some b) = IsBadOf p b
+use Rattle.verify.specs.Shown.{options_of, IsRight, IsBadOf, WasCut, Names}
 
 -- the bounds below this one are gone through: up to the last, or to the preemptions of a bad
 -- schedule that is known
@@ -28,18 +23,28 @@ answer_of (Some b) known clear = Bad b (nat_le b.preemptions clear)
 answer_of None (Some b) clear = Bad b (nat_le b.preemptions clear)
 answer_of None None clear = Undecided clear
 
--- the search without a bound was cut short, and so was the one up to this bound, unless it is past
--- the last
+-- no bad schedule has fewer preemptions than this, and whether one has as many is left open: the
+-- search up to it was cut short and names none, unless it is past the last bound
 pub record IsOpen (p : Program) (l : Limits) (below : ℕ) : Type 0 where
-  pub unbounded : WasCut p (options_of Unbounded l.limit)
-  pub bounded : (l.bound < below) ⊎ WasCut p (options_of (UpTo below) l.limit)
+  pub none : NoBadBelow p below
+  pub cut : (l.bound < below) ⊎ WasCut p (options_of (UpTo below) l.limit)
 
--- what an answer says: no schedule is bad; this one is, and where it is so told none with fewer
--- preemptions; or none with fewer than this is, and the searches that would say more were cut short
+-- the search without a bound names this bad schedule, and whether one with fewer preemptions is bad
+-- is left open
+pub record MayHaveFewer (p : Program) (l : Limits) (b : BadSchedule) : Type 0 where
+  pub named : Names p (options_of Unbounded l.limit) b
+  pub below : ℕ
+  pub fewer : below < b.preemptions
+  pub rest : IsOpen p l below
+
+-- what an answer says: no schedule is bad; this one is, and none with fewer preemptions, or where
+-- that isn't told it is left open; or that is open from so many on, and the search without a bound
+-- was cut short
 abbrev pub AnswerMeans : Program → Limits → Answer → Type 0
 AnswerMeans p l Right = IsRight p
-AnswerMeans p l (Bad b is_fewest) = IsBadOf p b × (is_fewest ≡ true → NoBadBelow p b.preemptions)
-AnswerMeans p l (Undecided below) = NoBadBelow p below × IsOpen p l below
+AnswerMeans p l (Bad b true) = IsBadOf p b × NoBadBelow p b.preemptions
+AnswerMeans p l (Bad b false) = IsBadOf p b × MayHaveFewer p l b
+AnswerMeans p l (Undecided below) = IsOpen p l below × WasCut p (options_of Unbounded l.limit)
 
 -- the text spells a program, and the answer is of it
 pub record IsAnswerOfText (text : List ℕ) (l : Limits) (a : Answer) : Type 0 where

@@ -82,3 +82,14 @@ pub record WasCut (p : Program) (o : Options) : Type 0 where
   pub of : IsReport false p o report
   pub cut : is_cut_short report.verdict ≡ true
   pub unnamed : named_schedule report ≡ None
+
+-- the report of a search names this bad schedule
+pub record Names (p : Program) (o : Options) (b : BadSchedule) : Type 0 where
+  pub found : Found
+  pub of : IsFound false p o found
+  pub named : found.bad ≡ Some b
+
+-- the bad schedule that a search names, or, where it names none, that it was cut short
+abbrev pub IsLeft : Program → Options → Option BadSchedule → Type 0
+IsLeft p o None = WasCut p o
+IsLeft p o (Some b) = Names p o b

@@ -1,12 +1,12 @@
 //! Whether a program is right.
 
-ghost use Rattle.std.specs.Prelude.{◌≡◌, ◌≤◌, None, IfOk, IfErr};
+ghost use Rattle.std.specs.Prelude.{◌≡◌, ◌≤◌, IfOk, IfErr};
 ghost use Rattle.std.specs.Arc.{arc_value};
 ghost use Rattle.items.specs.declared.limits.TheConstants.{BOUND};
 ghost use Rattle.report.specs.declared.error.ExploreError.TheVariants.{OutOfMemory};
 ghost use Rattle.report.specs.declared.options.Search.TheVariants.{Unbounded};
-ghost use Rattle.verify.specs.Shown.{options_of, WasCut};
-ghost use Rattle.verify.specs.Answers.{AnswerMeans, IsKnownBad, answer_of, stop_of};
+ghost use Rattle.verify.specs.Shown.{options_of, IsLeft};
+ghost use Rattle.verify.specs.Answers.{AnswerMeans, answer_of, stop_of};
 
 use crate::found::{BadSchedule, Found, find};
 use answering::Limits;
@@ -127,9 +127,7 @@ fn answer_by_bounds<R, W: Write>(
 ) -> Result<Answer, ExploreError>
 where
     R: Threads + Wait + Sync + Alloc<A = Global>,
-    requires known { IsKnownBad (arc_value program.now) known }
-    requires cut { known ≡ None → WasCut (arc_value program.now)
-        (options_of Unbounded limits.limit) }
+    requires known { IsLeft (arc_value program.now) (options_of Unbounded limits.limit) known }
     ensures answer { IfOk result (AnswerMeans (arc_value program.now) limits) }
     ensures error { IfErr result (λ e. e ≡ OutOfMemory) }
 {
@@ -156,7 +154,7 @@ where
 /// # Errors
 ///
 /// `OutOfMemory` where memory runs out.
-#[tactic(auto, using(crate::proofs::Answers::named_known, crate::proofs::Answers::was_cut))]
+#[tactic(auto, using(crate::proofs::Answers::left_by))]
 pub fn verify<R, W: Write>(
     rt: &R,
     program: &Arc<Program>,

@@ -1,6 +1,6 @@
 -- The circles of those that are the first of theirs are all circles.
 use Rattle.std.proofs.Common.{◌≡◌, ◌∙◌, ℕ, zero, suc, ◌+◌, ◌<◌, ◌⊎◌, inl, inr, Bool, true, false, cond, List, [], ◌∷◌, length, map, arith, sym, subst, ap, refl}
-use Rattle.std.specs.Prelude.{◌↔◌, ◌&&◌, not, IsTrue, All, Any, is_some}
+use Rattle.std.specs.Prelude.{◌↔◌, ◌&&◌, not, IsTrue, All, Any, Contains, is_some}
 use Rattle.std.specs.List.{filter}
 use Rattle.std.proofs.lemmas.Bool.{cases_Bool, and_parts, and_from, not_from_false, cases_eq, false_from_ne_true, both_ways}
 use Rattle.std.proofs.Math.Bool.{and-false}
@@ -224,3 +224,14 @@ circles_told p told fates ws cs threads tells list = record {
       subst Q (sym list) (told_where p told fates ws t threads tells leads);
   list = list;
 }
+
+-- two circles with one thread in common are one
+pub same_circle : (p : Program) (told : Explanation) (cs : List Mask) (c d : Mask) (t : ℕ)
+    → All (IsCircle p told) cs → Contains cs c → Contains cs d → IsTrue (has c t)
+    → IsTrue (has d t) → (u : ℕ) → has c u ≡ has d u
+same_circle p told cs c d t all one other in-c in-d u =
+    let a = subst (IsCircle p told) one.2 (all one.0 c one.1) in
+    let b = subst (IsCircle p told) other.2 (all other.0 d other.1) in
+    same_from_ways (has c u) (has d u)
+    (λ h. (b.whole t u in-d).1 ((a.whole t u in-c).0 h))
+    (λ h. (a.whole t u in-c).1 ((b.whole t u in-d).0 h))

@@ -4,13 +4,15 @@
 //! semaphore waits for each thread that may still come to a `signal`, a `broadcast` or a `release`
 //! of it. [`Waits::new`] answers, for each blocked thread, every such statement and what came of it,
 //! the threads that it waits for, and all circles: sets of threads each of which waits, through one
-//! after the other, for each of them. All is read from an [`Explanation`](explain::Explanation)
-//! and the code of the program. `specs/` has the definitions, by relations and whole lists.
+//! after the other, for each of them. No thread is in two ([`laws`]). All is read from an
+//! [`Explanation`](explain::Explanation) and the code of the program. `specs/` has the definitions,
+//! by relations and whole lists.
 #![tactic(auto)]
 
 mod ending;
 mod fate;
 mod graph;
+pub mod laws;
 mod wait;
 
 pub use crate::ending::Statement;

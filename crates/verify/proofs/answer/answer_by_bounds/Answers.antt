@@ -17,7 +17,7 @@ returns-then-not-is_clean-clause-answer g c =
     ∙ ap (λ k. answer_of f.bad k c.loop-bound.bound) c.loop-bound.invariant.known in
     subst (AnswerMeans p l) (sym told)
     (stopped_at p l f c.args.known c.loop-bound.bound c.in_ok-found.ensures.found dirty
-    c.requires.known c.loop-bound.invariant.none c.requires.cut)
+    c.requires.known c.loop-bound.invariant.none)
 
 pub returns-clause-answer : goal.returns-clause-answer
 returns-clause-answer g c =
@@ -32,4 +32,4 @@ returns-clause-answer g c =
     ∙ (ap (λ k. answer_of None k c.stop_of-stop.result) c.loop-bound.invariant.known
     ∙ ap (λ k. answer_of None c.args.known k) stop) in
     subst (AnswerMeans p l) (sym told)
-    (gone_through p l c.args.known c.requires.known none c.requires.cut)
+    (gone_through p l c.args.known c.requires.known none)
