@@ -306,6 +306,18 @@ CUT_SHORT = ('{"bound":0,"cause":"limit","ends":[{"kind":"done","vars":[1,1,1,1,
              '"finished":null,"schedule":null,"stuck":0,"tried":')
 
 
+# What a preprocessor writes before a line: `cpp` of two files, `m4` of one, and a text without a mark. Each with its
+# number of lines, the file and the line that come after it, whether `explain` names that file, and where x is declared.
+MARKS = {
+    "cpp": ('# 1 "pair.c"\nvar x;\n# 1 "lib/worker.inc" 1 3\n', 3, "lib/worker.inc", 1, True, ("pair.c", 1)),
+    "m4": ('#line 12 "lock.m4"\nvar x;\n#line 40\n', 3, "lock.m4", 40, False, ("lock.m4", 12)),
+    "none": ("var x;\n# 40\n", 2, "-", 3, False, ("-", 1)),
+}
+LOADS = "thread A { load r x;\n  assert r; }\n"
+UNKNOWN = "thread A {\n  load r x; store y r; }\n"
+WAITS = "thread A {\n  repeat 1 { load r x; if r { leave; } } }\nthread B { store x 1; }\n"
+
+
 def threads(names, statements=""):
     """Threads of these names, with these statements."""
     return "".join("thread %s { %s} " % (name, statements) for name in names)
@@ -470,6 +482,35 @@ class Checker:
         # the schedule that is named is the one that it says
         told = self.run(["verify", "it's here.guest"])[0].split("ctxbound ")[-1]
         self.compare(["verify"], self.run(shlex.split(told))[2], 1)
+
+    def marked(self):
+        """Places that a person is told are those of a preprocessor's marks; others are those in the text."""
+        for name, (head, before, file, line, is_named, declared) in MARKS.items():
+            place, is_marked = "%s:%d" % (file, line + 1), name != "none"
+            told = "%s:%d" % (file, line) if is_named else "line %d" % line
+            after = "%s:%d" % (file, line + 2) if is_marked else "line %d" % (line + 2)
+            refusal = "check C2 Unknown at %d:19" % (before + 2)
+            begins = ((["explain", "-", "0"], LOADS,
+                       place + ": FAILED: assert r   in A after 1 step with 0 preemptions.\n"
+                       "    r = 0   loaded in step 0 (%s) from x, which nobody had written before\n" % told),
+                      (["check", "--short", "-"], LOADS, "%s:%d:5: warning W4 NeverStored: " % declared),
+                      (["check", "--short", "-"], UNKNOWN, place + ":19: error C2 Unknown: "),
+                      (["check", "-"], UNKNOWN, (place + ":19:\n") * is_marked + "ctxbound: %s\n" % refusal),
+                      *((words, UNKNOWN, "ctxbound: %s\n" % refusal)
+                        for words in (["replay", "-", "0"], ["explore", "-"], ["explain", "-", "0"])))
+            has = ((["suite", "-"], UNKNOWN, refusal + " (%s:19)" % place * is_marked + "\n"),
+                   (["suite", "-"], LOADS + "# Expect: bad\n", after + " looks like `# expect:` and isn't\n"),
+                   (["suite", "-"], LOADS + "# expect: good\n", after + ": one `# expect:` is wanted"),
+                   (["verify", "-"], WAITS, "But W12 RanOut at %s:3: " % (place if is_marked else line + 1)))
+            for words, text, wanted in begins + has:
+                out, err, _ = self.run(words, (head + text).encode())
+                is_so = (err + out).startswith(wanted) if (words, text, wanted) in begins else wanted in out + err
+                self.compare([name, *words], wanted if is_so else err + out, wanted)
+            out, _, _ = self.run(["check", "--json", "-"], (head + "mutex x;\nthread A { }\n").encode())
+            found = json.loads(out)
+            self.compare([name, "check", "--json"], [found[key] for key in ("file", "line", "column", "end")]
+                         + [(note.get("file", "-"), note["line"]) for note in found["notes"]],
+                         [file, line, 7, {"line": line, "column": 8}, declared])
 
     def suites_cut_short(self):
         """Where the search without a bound is cut short, or finds a schedule with preemptions, one with
@@ -652,6 +693,7 @@ def main():
         checker.expectations()
         checker.rows_as_they_come()
         checker.verified()
+        checker.marked()
         checker.examples()
         checker.traces()
         checker.progress()

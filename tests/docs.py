@@ -17,8 +17,8 @@ In README.md and docs/*.md, fenced blocks are read by their first line:
 
 In examples/*.guest the same stands in comments; there, a line that is no comment, or an empty
 one, ends what a command prints. `build/ctxbound` means the same as `ctxbound`, and every command
-finds the folder `examples`. `cpp -P NAME | ctxbound .. -` reads what the C preprocessor makes of a
-program. It fails where an output or a status differs, where a program is
+finds the folder `examples`. `cpp NAME | ctxbound .. -`, or `cpp -P NAME | ..`, reads what the C preprocessor
+makes of a program; where there is no `cpp`, such commands are passed over. It fails where an output or a status differs, where a program is
 shown that no command runs, and where nothing was run at all.
 
 In tests/rows.txt a line `guest: TEXT` is a program that ends where its line does, and the commands below it
@@ -29,6 +29,7 @@ Each search that is shown is made again by several workers, and must print the s
 """
 import re
 import shlex
+import shutil
 import subprocess
 import sys
 import tempfile
@@ -113,9 +114,17 @@ def lines_of(asked, out, err, status):
     return lines + ["[status %d]" % status] if status else lines
 
 
-def preprocessed(text):
-    """What the C preprocessor makes of a program."""
-    return subprocess.run(["cpp", "-P"], input=text, capture_output=True, text=True, check=True).stdout
+def preprocessed(words, programs):
+    """What the C preprocessor makes of a program, which may include others."""
+    with tempfile.TemporaryDirectory() as folder:
+        for name, text in programs.items():
+            (Path(folder) / name).write_text(text, encoding="utf-8")
+        return subprocess.run(["cpp", *words], cwd=folder, capture_output=True, text=True, check=True).stdout
+
+
+def included(text):
+    """The programs that a program includes."""
+    return re.findall(r'^#include "(.*)"$', text, re.M)
 
 
 def run(binary, asked):
@@ -190,7 +199,8 @@ class Asked:
 
     def prints_names(self):
         """Whether it prints the names of programs that a document shows."""
-        return self.words[:1] == ["suite"] and any(word in self.programs for word in self.words)
+        told = self.programs if self.words[:1] == ["suite"] else ("-",)
+        return self.words[:1] in (["suite"], ["explain"], ["verify"]) and any(word in told for word in self.words)
 
 
 class Reader:
@@ -204,9 +214,12 @@ class Reader:
         number, command, expected = shown
         place = "%s:%d: $ %s" % (path.name, number, command)
         program, *words = shlex.split(command) or [""]
-        if [program] + words[:1] == ["cpp", "-P"] and words[2:3] == ["|"] and words[1] in programs:
-            source, program, *words = words[1], *words[3:]
-            programs = {**programs, "-": preprocessed(programs[source])}
+        if program == "cpp" and "|" in words:
+            bar = words.index("|")
+            source, program, words = words[:bar], words[bar + 1], words[bar + 2:]
+            if shutil.which("cpp") is None:
+                return words
+            programs = {**programs, "-": preprocessed(source, programs)}
         if program not in ("ctxbound", "build/ctxbound"):
             self.faults.append(place + "\n    not a command of ctxbound: it belongs in another kind of block")
             return words
@@ -227,7 +240,8 @@ class Reader:
                 for shown in commands(lines, number):
                     self.take(path, shown, programs)
                     for word in shlex.split(shown[1]):
-                        unused.pop(word, None)
+                        for name in [word, *included(programs.get(word, ""))]:
+                            unused.pop(name, None)
         for name, number in unused.items():
             self.faults.append("%s:%d\n    no command runs the program %s" % (path.name, number, name))
 

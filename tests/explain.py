@@ -7,6 +7,7 @@ Usage: tests/explain.py BINARY
   status, and the file of tests/explain/ that has the output byte for byte.
 - What is said where a search finds nothing, that the last line is a command for a shell, and that the
   width is kept whatever the names are.
+- From which line on the page says that the lines of a preprocessed text come from where.
 - Of each example, with the schedule that a search finds: the text is ASCII and no line but the last is
   wider than it may be; the steps of the JSON are those of the trace, in its order; and the page has
   one script of data, which is the JSON with the text of the guest.
@@ -58,8 +59,18 @@ CASES = [
     (HERE, "woken_twice.guest", ["0x2,1x2,2,0x2,1x2"], 1, "woken_twice.txt"),
     (HERE, "lost_values.guest", ["0x3,1x3,0x4,2x3"], 1, "lost_values.txt"),
     (HERE, "dirty_cow.guest", [], 1, "dirty_cow.txt"),
+    (HERE, "marked_cpp.guest", ["1,0x3"], 1, "marked_cpp.txt"),
+    (HERE, "marked_m4.guest", [], 1, "marked_m4.txt"),
     (HERE, "jdk_6801020.guest", [], 1, "jdk_6801020.txt"),
     (HERE, "k8s_62464.guest", [], 1, "k8s_62464.txt"),
+]
+
+# A guest that a preprocessor wrote, a schedule, and from which line on its lines come from which file and line.
+MARKS = [
+    ("marked_cpp.guest", "1,0x3", [(2, "pair.c", 0), (3, "<built-in>", 0), (4, "<command-line>", 0),
+                                   (5, "/usr/include/stdc-predef.h", 1), (6, "<command-line>", 0), (7, "pair.c", 1),
+                                   (10, "lib/worker.inc", 1), (17, "pair.c", 4)]),
+    ("marked_m4.guest", "0x2", [(2, "lock.m4", 1), (4, "lock.m4", 12)]),
 ]
 
 # A guest of which no schedule is bad: two have no preemption, two have one, and two have two.
@@ -173,13 +184,24 @@ class Tester:
         self.expect("%s: the values reached" % guest, values == values_after(told))
         return told
 
-    def page(self, guest, schedule, told):
-        _, text, _ = self.run(EXAMPLES, "explain", guest, schedule, "--html")
+    def data(self, folder, guest, schedule):
+        """The page, and its data."""
+        _, text, _ = self.run(folder, "explain", guest, schedule, "--html")
         page = text.decode("ascii")
         found = re.findall(r'<script type="application/json" id="data">(.*?)</script>', page, re.S)
         self.expect("%s: the page has its data once" % guest, len(found) == 1)
         self.expect("%s: nothing in the data ends it" % guest, all("<" not in data for data in found))
-        data = json.loads(found[0])
+        return page, json.loads(found[0])
+
+    def marks(self):
+        """From which line on the lines come from where, on the page."""
+        for guest, schedule, wanted in MARKS:
+            _, data = self.data(HERE, guest, schedule)
+            got = [(mark["at"], mark["file"], mark["line"]) for mark in data["marks"]]
+            self.expect("%s: the marks are %r" % (guest, got), got == wanted, repr(wanted))
+
+    def page(self, guest, schedule, told):
+        page, data = self.data(EXAMPLES, guest, schedule)
         source, _ = data.pop("source"), data.pop("why")
         self.expect("%s: the page has the source" % guest, source == (EXAMPLES / guest).read_text())
         self.expect("%s: the page has the explanation" % guest, data == told)
@@ -254,6 +276,7 @@ def main():
         tester.case(*case)
     for path in sorted(EXAMPLES.glob("*.guest")):
         tester.example(path)
+    tester.marks()
     import tempfile
     with tempfile.TemporaryDirectory() as folder:
         for test in (tester.nothing, tester.odd_name, tester.long_names, tester.long_run):

@@ -11,6 +11,7 @@ Usage: tests/page.py BINARY
 - The summary must have the kind, the steps and the preemptions that the trace has, up to a failure; the words
   and the command must be those of the text.
 - Who waits for whom must be the edges and circles of the JSON, and not be there where nobody waits.
+- The numbers beside the source, and the place of the chosen step, are those of a preprocessor's marks.
 - Each key moves where it says; the page is no wider than a window of 390 pixels; the chosen step can be seen;
   and the console stays without an error.
 
@@ -39,6 +40,8 @@ GUESTS = {
     "two_ends.guest": "var x; var y;\nthread A { load r y; store x 9007199254740992; set q r * 1; "
                       "if r { store x 9007199254740993; } assert 0; }\nthread B { store y 1; }\n",
     "at_the_start.guest": "var x;\nthread A { set r 2; assert r == 3; store x 1; }\nthread B { store x 2; }\n",
+    "marked.guest": "# 1 \"two.c\"\nvar x;\n# 1 \"a.inc\" 1\nthread A { load r x; \nassert r == 0; }\n#line 3 \"two.c\"\n"
+                    "thread B { store x 1; }\n",
     "itself.guest": "mutex m;\nthread A { lock m; lock m; }\nthread B { lock m; unlock m; }\n",
 }
 
@@ -68,6 +71,8 @@ window.addEventListener("load", () => {
     command: text("command"), waits: document.getElementById("waits").hidden, nodes: all("#graph .node").map((e) => e.textContent),
     edges: all("#graph .edge").length, circles: all("#graph .edge.circle").length, label: all("#graph svg").map((e) =>
     e.getAttribute("aria-label")), marks: all("#lanes .cause").map((e) => e.id), failed: all("#lanes .failed").length,
+    numbers: all("#source .number").map((e) => [e.textContent, e.title]),
+    from: (text("place").match(/ \\(([^()]*:\\d+)\\)$/) || ["", ""])[1],
     counts: text("counts"), ends: [...search.querySelectorAll("tr")].map((tr) =>
       [...tr.children].map((td) => td.textContent)) };
   const out = document.createElement("pre");
@@ -180,6 +185,14 @@ def beside(told):
     return found
 
 
+def numbers(told):
+    """The numbers of the lines of the source, with the files and lines that they come from."""
+    marks, here = {mark["at"]: mark for mark in told.get("marks", [])}, None
+    for at in range(1, told["source"].count("\n") + 2):
+        here = marks.get(at) or here and {"file": here["file"], "line": here["line"] + 1}
+        yield [str(here["line"]), "%(file)s:%(line)d" % here] if here else [str(at), ""]
+
+
 def graph(told):
     """Who waits for whom at the end: the names that are there, the edges, and those of a circle."""
     waits = {thread["name"]: (thread["waits"] or {}).get("on", []) for thread in told["threads"]}
@@ -233,7 +246,8 @@ def faults(binary, browser, path, search):
     command = text.rstrip("\n").split("\n")[-1].removeprefix("Replay: ")
     want = {"title": str(path), "scripts": 3, "images": 0, "broken": 0, "hidden": not schedule, "counts": counts,
             "ends": rows, "beside": beside(told), "unseen": [], "wide": 0, "opened": opened, "summary": line,
-            "why": why, "command": command, **graph(told),
+            "why": why, "command": command, **graph(told), "numbers": list(numbers(told)),
+            "from": "%(file)s:%(line)d" % told["steps"][-1]["from"] if last and "from" in told["steps"][-1] else "",
             "keys": {"End": last, "ArrowRight": last, "Home": 0, "ArrowLeft": 0, "ArrowDown": min(1, last), "ArrowUp": 0},
             "marks": ["step%d" % step["step"] for step in told["steps"] if step.get("cause")],
             "failed": sum(step["stop"] is not None for step in told["steps"])}

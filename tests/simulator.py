@@ -43,11 +43,29 @@ PARTS = {"load": "lo", "store": "ov", "add": "lov", "cas": "lovv", "lock": "o", 
 OPERATORS = ("+", "-", "*", "==", "!=", "<", "<=", ">", ">=")
 
 
-class Statement:
-    """A statement: its word and parts, where it begins, and where its `;` ends."""
+# What a preprocessor writes: the line and the file of the line after it.
+MARK = re.compile(r'#line (\d+)(?: "([^"]*)"[0-9 \r]*)?|# (\d+) "([^"]*)"[0-9 \r]*')
 
-    def __init__(self, word, begin):
-        self.word, self.begin, self.end = word, begin, None
+
+def origins(text):
+    """The file and the line that each line of a text comes from, by the marks before it, or None."""
+    here, told = None, []
+    for line in text.split("\n"):
+        told.append(here)
+        mark = MARK.fullmatch(line)
+        if mark:
+            name = mark[2] or mark[4] or (here and here[0])
+            here = (name, int(mark[1] or mark[3])) if name else None
+        elif here:
+            here = (here[0], here[1] + 1)
+    return told
+
+
+class Statement:
+    """A statement: its word and parts, where it begins, and where its `;` ends, and where its line comes from."""
+
+    def __init__(self, word, begin, origin):
+        self.word, self.begin, self.end, self.origin = word, begin, None, origin
         self.parts, self.blocks, self.has_else = [], [], False
 
     def spelled(self):
@@ -56,13 +74,15 @@ class Statement:
 
     def place(self):
         (line, column), (end_line, end_column) = self.begin, self.end
-        return {"line": line, "column": column, "end": {"line": end_line, "column": end_column}}
+        told = {"from": {"file": self.origin[0], "line": self.origin[1]}} if self.origin else {}
+        return {"line": line, "column": column, "end": {"line": end_line, "column": end_column}, **told}
 
 
 class Reader:
     """The tokens of a text, each with the places of its first byte and of the byte after it."""
 
     def __init__(self, text):
+        self.origins = origins(text)
         self.tokens, line, first, at = [], 1, 0, 0
         while at < len(text):
             found = PIECE.match(text, at)
@@ -109,7 +129,7 @@ class Reader:
 
     def statement(self):
         _, word, begin, _ = self.take()
-        statement = Statement(word, begin)
+        statement = Statement(word, begin, self.origins[begin[0] - 1])
         if word in ("if", "repeat"):
             statement.parts.append(self.expression() if word == "if" else self.number())
             statement.blocks.append(self.block())
@@ -787,7 +807,17 @@ class Maker:
             self.number(), self.pick(0, 1, 2), self.pick(0, MOST_COUNT, MOST_COUNT - 1))
         for name in ("A", "B", "Third", "D_4")[:self.pick(1, 2, 2, 3, 3, 4, 4)]:
             text += "thread %s {%s%s}\n" % (name, self.pick(" ", "\n    "), self.statements(6, 0, False))
-        return text
+        return text if self.chance.random() < 0.7 else self.marked(text)
+
+    def marked(self, text):
+        """The text with marks, and with comments that are none, before some of its lines."""
+        forms = ('# %d "two.c"', '# %d "worker.inc" 1 3', '#line %d "lock.m4"', '#line %d', '# %d', ' # %d "no.c"',
+                 '#line %d "no.c" a', '#line  %d "no.c"', '# %d "no.c', '#line %d ""')
+        lines = text.split("\n")
+        for at in range(len(lines) - 1, -1, -1):
+            if self.chance.random() < 0.5:
+                lines.insert(at, self.pick(*forms) % self.pick(0, 1, 12, 400, 2 ** 31))
+        return "\n".join(lines)
 
     def schedule(self, guest):
         """A schedule, and what it is: complete, cut short, refused or past the end."""
@@ -960,7 +990,7 @@ def main():
                 tester.explained(name, text, maker.schedule(Guest(text)))
     tester.every_field()
     for name, schedule in (("deadlock4", "0x4,2x3"), ("check_then_act", "0x3,1x7,0x4")):
-        text = (ROOT / "examples" / (name + ".guest")).read_text()
+        text = '#line 7 "%s.m4"\n' % name + (ROOT / "examples" / (name + ".guest")).read_text()
         tester.notices(explanation(name, text, schedule_of(schedule), None)[0])
     print("%d passed, %d failed" % (tester.passed, tester.failed))
     raise SystemExit(1 if tester.failed or not tester.passed else 0)

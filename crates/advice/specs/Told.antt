@@ -1,6 +1,7 @@
 -- What a person is told of a text.
-use Rattle.std.specs.Prelude.{◌≡◌, ℕ, List, Bool, true, false, Some, None}
-use Rattle.std.specs.List.{list_any}
+use Rattle.std.specs.Prelude.{◌≡◌, ◌==◌, ℕ, List, [], ◌∷◌, ◌++◌, map, codes, Bool, true, false, Option, Some, None}
+use Rattle.std.specs.Fmt.{decimal}
+use Rattle.std.specs.List.{list_any, slice_split}
 use Rattle.guest_syntax.specs.declared.error.SyntaxError.{SyntaxError}
 use Rattle.guest_syntax.specs.Place.{start}
 use Rattle.guest_syntax.specs.ErrorTexts.{syntax_error_text}
@@ -13,7 +14,9 @@ use Rattle.guest_code.specs.Fault.{fault}
 use Rattle.hints.specs.declared.message.Advice.{Advice}
 use Rattle.hints.specs.declared.message.Grade.{Grade}
 use Rattle.hints.specs.declared.message.Grade.TheVariants as grades
-use Rattle.hints.specs.Lines.{advice_lines, all_lines}
+use Rattle.hints.specs.declared.message.Span.{Span}
+use Rattle.hints.specs.Lines.{advice_lines, shown}
+use Rattle.text_lines.specs.Marks.{Line, origin_at, origins}
 use Rattle.hints.specs.Refusals.{syntax_place, check_place, IsAdviceOf}
 use Rattle.advice.specs.declared.Checked.{Checked}
 use Rattle.advice.specs.declared.Checked.TheVariants.{Sound, Refused}
@@ -38,7 +41,30 @@ abbrev pub is_warned : Checked → Bool
 is_warned (Sound as_) = list_any (λ a. is_warning a.grade) as_.items
 is_warned (Refused a) = false
 
+-- the row above an advice at a place: the file and the line that a mark says it comes from, and the
+-- column in the text that was read
+abbrev pub row_by : Option Line → ℕ → List ℕ
+row_by None column = []
+row_by (Some l) column =
+    map shown l.file ++ 58 ∷ decimal l.number ++ 58 ∷ decimal column ++ codes ":\n"
+
+abbrev pub origin_row : List (Option Line) → Option Span → List ℕ
+origin_row os None = []
+origin_row os (Some s) = row_by (origin_at os s.at.line) s.at.col
+
+-- an advice, by the origins of all lines; and several
+abbrev pub told_lines : List (Option Line) → List ℕ → Advice → List ℕ
+told_lines os text a = origin_row os a.span ++ advice_lines text a
+
+abbrev pub all_told : List (Option Line) → List ℕ → List Advice → List ℕ
+all_told os text [] = []
+all_told os text (a ∷ as_) = told_lines os text a ++ all_told os text as_
+
+-- the lines of what was found, where lines have these origins
+abbrev pub lines_by : List (Option Line) → List ℕ → Checked → List ℕ
+lines_by os text (Sound as_) = all_told os text as_.items
+lines_by os text (Refused a) = told_lines os text a
+
 -- the lines of what was found
 abbrev pub checked_lines : List ℕ → Checked → List ℕ
-checked_lines text (Sound as_) = all_lines text as_.items
-checked_lines text (Refused a) = advice_lines text a
+checked_lines text c = lines_by (origins None (slice_split (λ b. b == 10) text)) text c

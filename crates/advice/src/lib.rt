@@ -6,6 +6,7 @@
 //! - The warnings are those of `lint`; here they get their places and their words. With a depth, what
 //!   that saw in schedules is told too.
 //! - [`advice_text`] answers the lines that `hints` defines: carets lie under the bytes that are meant.
+//!   Above them is told where a mark says that the line comes from.
 //!
 //! Which words an advice has, and all that schedules show, is shown by tests.
 #![tactic(auto)]
@@ -25,23 +26,25 @@ ghost use Rattle.advice.specs.Told.{Tells, is_warning, is_warned, checked_lines}
 mod allowed;
 mod depths;
 mod findings;
+mod origin;
 mod remarks;
 mod spins;
 
 use crate::allowed::is_allowed;
 pub use crate::depths::Depth;
 use crate::findings::Source;
+use crate::origin::{put_all, put_told};
 use guest_code::error::CheckError;
 use guest_code::lowering::lower;
 use guest_code::program::Program;
 use guest_code::source_map::SourceMap;
 use guest_syntax::tree::Tree as SyntaxTree;
 use guest_syntax::{SyntaxError, parse};
-use hints::message::texts::put_all;
 pub use hints::message::{Advice, Grade, Note, Span};
 use hints::pieces::pieces;
 use hints::refusal::{check_advice, syntax_advice};
 use std::alloc::{AllocError, Global};
+use text_lines::Marks;
 
 /// What [`check`] finds.
 #[derive(Debug, Drop)]
@@ -191,10 +194,11 @@ fn all_advice(
 pub fn advice_text(alloc: Global, text: &[u8], checked: &Checked) -> Result<Vec<u8>, AllocError>
     ensures { IfOk result (λ v. v.items ≡ checked_lines text.now checked.now) }
 {
+    let marks = Marks::new(alloc, text)?;
     let mut out = Vec::new(alloc);
     match checked {
-        Checked::Refused(advice) => advice.put(&mut out, text)?,
-        Checked::Sound(all) => put_all(&mut out, text, all)?,
+        Checked::Refused(advice) => put_told(&mut out, text, &marks, advice)?,
+        Checked::Sound(all) => put_all(&mut out, text, &marks, all)?,
     }
     Ok(out)
 }

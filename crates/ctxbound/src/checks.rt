@@ -121,8 +121,8 @@ fn told_as(
 {
     match form {
         CheckForm::Lines => advice_text(alloc, text, checked),
-        CheckForm::Short => short_text(alloc, file, checked),
-        CheckForm::Json => json_text(alloc, file, checked),
+        CheckForm::Short => short_text(alloc, text, file, checked),
+        CheckForm::Json => json_text(alloc, text, file, checked),
     }
 }
 

@@ -4,46 +4,62 @@ use advice::{Advice, Checked, Grade, Note, Span};
 use serde_json::{Map, Value, put};
 use std::alloc::{AllocError, Global};
 use std::fmt::Write;
+use text_lines::Marks;
 
 type Members = Map<String, Value>;
 
-/// A line for each refusal and each warning: `FILE:LINE:COLUMN: warning W5 NeverLoaded: MESSAGE`,
-/// where a refusal is an `error`. What has no place is told of the first byte.
+/// A line for each refusal and each warning of a text that was read from this file:
+/// `FILE:LINE:COLUMN: warning W5 NeverLoaded: MESSAGE`, where a refusal is an `error`. File and line
+/// are those of the mark where one comes before. What has no place is told of the first byte.
 ///
 /// # Errors
 ///
 /// `AllocError` where memory runs out.
-pub fn short_text(alloc: Global, file: &str, checked: &Checked) -> Result<Vec<u8>, AllocError> {
-    let mut text = String::new(alloc);
+pub fn short_text(
+    alloc: Global,
+    text: &[u8],
+    file: &str,
+    checked: &Checked,
+) -> Result<Vec<u8>, AllocError> {
+    let marks = Marks::new(alloc, text)?;
+    let mut lines = String::new(alloc);
     for advice in told(checked) {
         let (line, column) = match advice.span {
             Some(span) => (span.at.line, span.at.col),
             None => (1, 1),
         };
+        let place = marks.told(file, line).named();
         let severity = severity(advice.grade);
         let (number, name) = advice.code();
         let message = ascii(alloc, advice.message.as_slice())?;
         writeln!(
-            text,
-            "{file}:{line}:{column}: {severity} {number} {name}: {message}"
+            lines,
+            "{place}:{column}: {severity} {number} {name}: {message}"
         )?;
     }
-    Ok(text.into_bytes())
+    Ok(lines.into_bytes())
 }
 
-/// A JSON object for each refusal and each warning, a line each.
+/// A JSON object for each refusal and each warning, a line each. File and line are those of the
+/// mark where one comes before.
 ///
 /// # Errors
 ///
 /// `AllocError` where memory runs out.
-pub fn json_text(alloc: Global, file: &str, checked: &Checked) -> Result<Vec<u8>, AllocError> {
-    let mut text = Vec::new(alloc);
+pub fn json_text(
+    alloc: Global,
+    text: &[u8],
+    file: &str,
+    checked: &Checked,
+) -> Result<Vec<u8>, AllocError> {
+    let marks = Marks::new(alloc, text)?;
+    let mut lines = Vec::new(alloc);
     for advice in told(checked) {
-        let object = Value::Object(members_of(alloc, file, advice)?);
-        text.extend_from_slice(object.to_vec(alloc)?.as_slice())?;
-        text.push(b'\n')?;
+        let object = Value::Object(members_of(alloc, &marks, file, advice)?);
+        lines.extend_from_slice(object.to_vec(alloc)?.as_slice())?;
+        lines.push(b'\n')?;
     }
-    Ok(text)
+    Ok(lines)
 }
 
 // What is told of a text, one after the other.
@@ -64,39 +80,54 @@ fn severity(grade: Grade) -> &'static str {
 }
 
 // The members of the object of an advice.
-fn members_of(alloc: Global, file: &str, advice: &Advice) -> Result<Members, AllocError> {
-    let mut members = placed(alloc, advice.span, advice.message.as_slice())?;
+fn members_of(
+    alloc: Global,
+    marks: &Marks,
+    file: &str,
+    advice: &Advice,
+) -> Result<Members, AllocError> {
+    let mut members = placed(alloc, marks, advice.span, advice.message.as_slice())?;
     let (number, name) = advice.code();
     let code = format!(in alloc; "{number} {name}")?;
-    let file = ascii(alloc, file.as_bytes())?;
+    let notes = notes_of(alloc, marks, &advice.notes)?;
     let severity = Value::try_from_str(alloc, severity(advice.grade))?;
     put(&mut members, alloc, "code", Value::String(code))?;
-    put(&mut members, alloc, "file", Value::String(file))?;
-    put(
-        &mut members,
-        alloc,
-        "notes",
-        notes_of(alloc, &advice.notes)?,
-    )?;
+    if members.get("file").is_none() {
+        put_file(&mut members, alloc, file.as_bytes())?;
+    }
+    put(&mut members, alloc, "notes", notes)?;
     put(&mut members, alloc, "severity", severity)?;
     Ok(members)
 }
 
 // The notes, an object each.
-fn notes_of(alloc: Global, notes: &[Note]) -> Result<Value, AllocError> {
+fn notes_of(alloc: Global, marks: &Marks, notes: &[Note]) -> Result<Value, AllocError> {
     let mut all = Vec::new(alloc);
     for note in notes {
-        all.push(Value::Object(placed(alloc, note.span, note.text.as_slice())?))?;
+        let members = placed(alloc, marks, note.span, note.text.as_slice())?;
+        all.push(Value::Object(members))?;
     }
     Ok(Value::Array(all))
 }
 
+// Puts the name of a file.
+fn put_file(members: &mut Members, alloc: Global, file: &[u8]) -> Result<(), AllocError> {
+    let file = ascii(alloc, file)?;
+    put(members, alloc, "file", Value::String(file))
+}
+
 // What is said, and where: the place of the first byte, and as its end that after the last one, in
-// the same line; or null.
-fn placed(alloc: Global, span: Option<Span>, said: &[u8]) -> Result<Members, AllocError> {
+// the same line; or null. The file is that of the mark, if one comes before.
+fn placed(
+    alloc: Global,
+    marks: &Marks,
+    span: Option<Span>,
+    said: &[u8],
+) -> Result<Members, AllocError> {
     let (mut members, end) = match span {
         Some(span) => {
-            let (line, column) = (span.at.line, u64::from(span.at.col));
+            let line = marks.told("", span.at.line).line;
+            let column = u64::from(span.at.col);
             let past = column.saturating_add(span.length as u64);
             let first = place(alloc, Value::from(line), Value::from(column))?;
             let end = place(alloc, Value::from(line), Value::from(past))?;
@@ -104,6 +135,9 @@ fn placed(alloc: Global, span: Option<Span>, said: &[u8]) -> Result<Members, All
         }
         None => (place(alloc, Value::Null, Value::Null)?, Value::Null),
     };
+    if let Some(origin) = span.and_then(|span| marks.origin(span.at.line)) {
+        put_file(&mut members, alloc, origin.file())?;
+    }
     let message = Value::String(ascii(alloc, said)?);
     put(&mut members, alloc, "end", end)?;
     put(&mut members, alloc, "message", message)?;

@@ -10,6 +10,7 @@ use std::io::{Eprint, ErrorKind, Input, Write};
 use std::sync::Wait;
 use std::thread::Threads;
 use suite::{Entry, Outcome, Table, Tally, json_line};
+use text_lines::Marks;
 
 /// A file that is to be searched, or a name that stands for no file, and why.
 #[derive(Drop)]
@@ -52,12 +53,12 @@ where
     }
     let mut tally = Tally::new(rt.alloc());
     for each in &named {
-        let entry = entry_of(rt, each, request, err)?;
+        let (entry, marks) = entry_of(rt, each, request, err)?;
         tally.push(entry.status())?;
         let line = if request.json {
-            json_line(rt.alloc(), &entry)?
+            json_line(rt.alloc(), &entry, &marks)?
         } else {
-            table.row(&entry)?
+            table.row(&entry, &marks)?
         };
         write_out(out, line.as_slice())?;
     }
@@ -111,13 +112,13 @@ fn table_for(alloc: Global, named: &[Named]) -> io::Result<Table> {
     Ok(table)
 }
 
-// What becomes of a file.
+// What becomes of a file, and where its lines come from.
 fn entry_of<H, E: Write>(
     rt: &H,
     named: &Named,
     request: &SuiteRequest,
     err: &mut E,
-) -> io::Result<Entry>
+) -> io::Result<(Entry, Marks)>
 where
     H: Threads + Wait + Sync + Eprint + Files + Input + Alloc<A = Global>,
 {
@@ -131,22 +132,25 @@ where
                 let _ = writeln!(err, "{file}:");
             }
             let gate = Teller::new(rt, request.progress);
-            Ok(Entry::new(rt, file, text.as_slice(), request.limits, &gate))
+            let marks = Marks::new(rt.alloc(), text.as_slice())?;
+            let entry = Entry::new(rt, file, text.as_slice(), request.limits, &gate);
+            Ok((entry, marks))
         }
         Err(error) => unread(rt.alloc(), file, &error),
     }
 }
 
 // A file that couldn't be read.
-fn unread(alloc: Global, file: String, error: &io::Error) -> io::Result<Entry> {
+fn unread(alloc: Global, file: String, error: &io::Error) -> io::Result<(Entry, Marks)> {
     let outcome = match error.kind() {
         ErrorKind::OutOfMemory => Outcome::Refused(ExploreError::OutOfMemory),
         _ => Outcome::Unread(format!(in alloc; "{error}")?),
     };
-    Ok(Entry {
+    let entry = Entry {
         file,
         expected: None,
         near: None,
         outcome,
-    })
+    };
+    Ok((entry, Marks::new(alloc, b"")?))
 }

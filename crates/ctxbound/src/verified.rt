@@ -15,6 +15,7 @@ use std::io;
 use std::io::{Input, Write};
 use std::sync::Wait;
 use std::thread::Threads;
+use text_lines::Marks;
 use verify::{Answer, BadSchedule, Preemptions, verify_text};
 
 /// What is said where a search was cut short.
@@ -90,9 +91,15 @@ fn put_right(
         remarks: false,
     };
     let pieces = pieces(alloc, text)?;
+    let marks = Marks::new(alloc, text)?;
     if let Checked::Sound(all) = check(alloc, text, Some(depth))? {
         for advice in &all {
-            put_weakness(told, advice, &pieces)?;
+            let (line, column) = advice.place();
+            let at = match marks.origin(line) {
+                Some(_) => format!(in alloc; "{}:{column}", marks.told("", line).named())?,
+                None => format!(in alloc; "{line}:{column}")?,
+            };
+            put_weakness(told, advice, at.as_str(), &pieces)?;
         }
     }
     Ok(())
@@ -105,14 +112,18 @@ const WEAKNESSES: [(&str, &[u8], &str); 2] = [
     ("W13", b"signal", "signals for which several threads wait"),
 ];
 
-// Puts what an advice on the text of these pieces says against a right answer: what weakens it, or
-// that not all schedules were looked at for that.
-fn put_weakness(told: &mut Vec<u8>, advice: &Advice, pieces: &[Piece<'_>]) -> io::Result<()> {
+// Puts what an advice on a place in the text of these pieces says against a right answer: what
+// weakens it, or that not all schedules were looked at for that.
+fn put_weakness(
+    told: &mut Vec<u8>,
+    advice: &Advice,
+    at: &str,
+    pieces: &[Piece<'_>],
+) -> io::Result<()> {
     let (number, name) = advice.code();
     for (weakness, word, sought) in WEAKNESSES {
         if number == weakness {
-            let at = advice.place();
-            write!(told, "But {number} {name} at {}:{}: ", at.0, at.1)?;
+            write!(told, "But {number} {name} at {at}: ")?;
             told.write_all(advice.message.as_slice())?;
             writeln!(told)?;
         } else if number == "W21" && pieces.iter().any(|piece| piece.text == word) {

@@ -1,4 +1,4 @@
-mod Pushed
+pub mod Pushed
 mod CarriedOut
 mod HeldOn
 mod LocalRunsTold

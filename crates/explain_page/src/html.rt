@@ -9,6 +9,7 @@ use explain::{Explanation, Source};
 use serde::Serialize;
 use serde_json::Value;
 use std::alloc::{AllocError, Global};
+use text_lines::Marks;
 use waits::Waits;
 
 // The digits of a number, with its sign, that a script keeps for certain.
@@ -99,6 +100,7 @@ fn data_of<'a>(
 ) -> Result<Vec<u8>, AllocError> {
     let causes = Causes::of(alloc, source.program, explanation)?;
     let waits = Waits::new(alloc, source.program, explanation)?;
+    let marks = Marks::new(alloc, source.text)?;
     let teller = Teller {
         alloc,
         explanation,
@@ -106,6 +108,7 @@ fn data_of<'a>(
         waits: &waits,
         source,
         places: Places::new(alloc, source.text)?,
+        marks: &marks,
     };
     json_of(alloc, &teller.told(search, beside)?)
 }

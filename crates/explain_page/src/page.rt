@@ -11,49 +11,66 @@ pub const PAGE_BEGIN: &str = r##"<!DOCTYPE html>
 <style>
 :root { color-scheme: light dark; --ink: #1c2430; --soft: #5b6675; --line: #d7dce3; --paper: #fff; --back: #f5f6f8;
   --bad: #c62828; --held: #c3cad6; --now: #fff3c4; --chosen: #ffd54f; --arrow: #8a94a6;
-  --t0: #3559a8; --t1: #2e7d32; --t2: #8e44ad; --t3: #b8601a; --t4: #00796b; --t5: #ad1457; --t6: #5d4037; --t7: #37474f; }
+  --t0: #3559a8; --t1: #2e7d32; --t2: #8e44ad; --t3: #b8601a; --t4: #00796b; --t5: #ad1457; --t6: #5d4037;
+  --t7: #37474f; }
 @media (prefers-color-scheme: dark) {
   :root { --ink: #e6e9ee; --soft: #9aa5b4; --line: #3a4350; --paper: #1d2229; --back: #14181d;
     --bad: #ff7b72; --held: #4a5462; --now: #4a4220; --chosen: #b08900; --arrow: #7d8898;
-    --t0: #7aa2f7; --t1: #7bc47f; --t2: #cf8ef0; --t3: #f0a35e; --t4: #4fc3b0; --t5: #f48fb1; --t6: #bcaaa4; --t7: #b0bec5; }
+    --t0: #7aa2f7; --t1: #7bc47f; --t2: #cf8ef0; --t3: #f0a35e; --t4: #4fc3b0; --t5: #f48fb1; --t6: #bcaaa4;
+    --t7: #b0bec5; }
 }
 * { box-sizing: border-box; }
 body { margin: 0; font: 14px/1.45 system-ui, sans-serif; color: var(--ink); background: var(--back); }
 header { padding: 12px 16px; background: var(--paper); border-bottom: 1px solid var(--line); }
-h1 { margin: 0; font-size: 17px; overflow-wrap: anywhere; } h2 { margin: 0 0 6px; font-size: 13px; color: var(--soft); }
+h1 { margin: 0; font-size: 17px; overflow-wrap: anywhere; }
+h2 { margin: 0 0 6px; font-size: 13px; color: var(--soft); }
 #summary { margin: 4px 0 0; overflow-wrap: anywhere; } .bad { color: var(--bad); font-weight: 600; }
 #why { margin: 8px 0 0; font: 12px/1.5 ui-monospace, monospace; white-space: pre-wrap; overflow-wrap: anywhere; }
 #replay { display: flex; gap: 8px; align-items: start; margin: 8px 0 0; }
 #command { font: 12px/1.5 ui-monospace, monospace; overflow-wrap: anywhere; }
-main { display: grid; grid-template-columns: minmax(240px, 2fr) minmax(0, 3fr); gap: 12px; padding: 12px 16px; align-items: start; }
+main { display: grid; grid-template-columns: minmax(240px, 2fr) minmax(0, 3fr); gap: 12px; padding: 12px 16px;
+  align-items: start; }
 section { background: var(--paper); border: 1px solid var(--line); border-radius: 6px; padding: 10px; min-width: 0; }
-#source { max-height: 82vh; overflow: auto; position: relative; font: 12px/1.5 ui-monospace, monospace; white-space: pre; }
-#source .line { display: flex; min-width: max-content; } #source .number { width: 3em; color: var(--soft); text-align: right; flex: none; }
+#source { max-height: 82vh; overflow: auto; position: relative; font: 12px/1.5 ui-monospace, monospace;
+  white-space: pre; }
+#source .line { display: flex; min-width: max-content; }
+#source .number { width: 3em; color: var(--soft); text-align: right; flex: none; }
 #source .badges { min-width: 6px; padding: 0 4px; } #source .here { background: var(--now); }
 #source .statement { border-bottom: 2px solid; }
-.badge { font: 11px system-ui, sans-serif; color: var(--paper); border-radius: 8px; padding: 0 6px; margin-right: 2px; }
+.badge { font: 11px system-ui, sans-serif; color: var(--paper); border-radius: 8px; padding: 0 6px;
+  margin-right: 2px; }
 #right { display: grid; gap: 12px; min-width: 0; }
 #lanes { max-height: 48vh; overflow: auto; }
-#lanes svg { display: block; } #names { position: sticky; top: 0; background: var(--paper); } svg text { font: 11px ui-monospace, monospace; fill: var(--ink); }
+#lanes svg { display: block; } #names { position: sticky; top: 0; background: var(--paper); }
+svg text { font: 11px ui-monospace, monospace; fill: var(--ink); }
 .label { paint-order: stroke; stroke: var(--paper); stroke-width: 4px; stroke-linejoin: round; cursor: pointer; }
-.label.failed, .failed { fill: var(--bad); font-weight: 600; } .soft { fill: var(--soft); } .cause .label { font-weight: 600; }
-.mark { fill: var(--bad); } .held { fill: var(--held); } .lane { stroke: var(--line); } .interruption { fill: var(--bad); opacity: .35; }
+.label.failed, .failed { fill: var(--bad); font-weight: 600; } .soft { fill: var(--soft); }
+.cause .label { font-weight: 600; }
+.mark { fill: var(--bad); } .held { fill: var(--held); } .lane { stroke: var(--line); }
+.interruption { fill: var(--bad); opacity: .35; }
 .arrow { fill: none; stroke: var(--arrow); stroke-dasharray: 3 3; } .tip { fill: var(--arrow); }
 #chosen { fill: var(--chosen); opacity: .3; }
 .edge { fill: none; stroke: var(--soft); stroke-width: 1.2; } .edge.circle { stroke: var(--bad); stroke-width: 2.5; }
-.edgetip { fill: var(--soft); } .circletip { fill: var(--bad); } .halo { paint-order: stroke; stroke: var(--paper); stroke-width: 4px; }
-#legend { margin: 8px 0 0; color: var(--soft); font-size: 12px; } #legend b { color: var(--bad); } #legend .soft { color: var(--soft); } #legend .grey { color: var(--held); } #legend span { margin-right: 14px; white-space: nowrap; }
-#control { display: flex; gap: 8px; align-items: center; flex-wrap: wrap; } #slider { flex: 1; min-width: 120px; } #place { flex-basis: 100%; }
+.edgetip { fill: var(--soft); } .circletip { fill: var(--bad); }
+.halo { paint-order: stroke; stroke: var(--paper); stroke-width: 4px; }
+#legend { margin: 8px 0 0; color: var(--soft); font-size: 12px; } #legend b { color: var(--bad); }
+#legend .soft { color: var(--soft); } #legend .grey { color: var(--held); }
+#legend span { margin-right: 14px; white-space: nowrap; }
+#control { display: flex; gap: 8px; align-items: center; flex-wrap: wrap; } #slider { flex: 1; min-width: 120px; }
+#place { flex-basis: 100%; }
 #state { display: grid; grid-template-columns: repeat(auto-fit, minmax(150px, 1fr)); gap: 12px; }
-table { border-collapse: collapse; font: 12px ui-monospace, monospace; } td { padding: 1px 10px 1px 0; vertical-align: top; overflow-wrap: anywhere; }
+table { border-collapse: collapse; font: 12px ui-monospace, monospace; }
+td { padding: 1px 10px 1px 0; vertical-align: top; overflow-wrap: anywhere; }
 .changed { background: var(--now); } #graph svg { max-width: 100%; height: auto; } #search { overflow-x: auto; }
 @media (max-width: 800px) {
-  main { grid-template-columns: minmax(0, 1fr); padding: 8px; } #source { max-height: 36vh; } #lanes { max-height: 40vh; }
+  main { grid-template-columns: minmax(0, 1fr); padding: 8px; } #source { max-height: 36vh; }
+  #lanes { max-height: 40vh; }
   #right { display: contents; } #steps { position: sticky; top: 0; z-index: 1; order: -1; }
 }
 @media print {
   main { display: block; } section { margin: 0 0 10px; } #steps, #copy { display: none; }
-  #source, #lanes { max-height: none; overflow: visible; } #source { white-space: pre-wrap; } #source .line { min-width: 0; } #source .text { min-width: 0; overflow-wrap: anywhere; }
+  #source, #lanes { max-height: none; overflow: visible; } #source { white-space: pre-wrap; }
+  #source .line { min-width: 0; } #source .text { min-width: 0; overflow-wrap: anywhere; }
   #lanes svg { max-width: 100%; height: auto; } #names { position: static; }
 }
 </style>
@@ -100,14 +117,16 @@ function draw(parent, tag, attributes, text) {
   return e;
 }
 function tip(svg, id, name) {
-  const head = draw(draw(svg, "defs", {}), "marker", { id: id, viewBox: "0 0 8 8", refX: 7, refY: 4, markerWidth: 7, markerHeight: 7,
+  const head = draw(draw(svg, "defs", {}), "marker",
+    { id: id, viewBox: "0 0 8 8", refX: 7, refY: 4, markerWidth: 7, markerHeight: 7,
     markerUnits: "userSpaceOnUse", orient: "auto" });
   draw(head, "path", { d: "M0 0L8 4L0 8z", class: name });
 }
 // The state after the first `count` steps: each step has what it changed.
 function stateAfter(count) {
   const opening = data.opening, fill = (of, value) => byName(Object.fromEntries(of.map((name) => [name, value])));
-  const s = { variables: byName(opening.variables), mutexes: fill(opening.mutexes, null), conditions: fill(opening.conditions, []),
+  const s = { variables: byName(opening.variables), mutexes: fill(opening.mutexes, null),
+    conditions: fill(opening.conditions, []),
     semaphores: byName(opening.semaphores), locals: names.map(() => byName()), next: [] };
   opening.threads.forEach((t, i) => {
     s.next[i] = t.next;
@@ -115,7 +134,9 @@ function stateAfter(count) {
   });
   for (const step of steps.slice(0, count)) {
     for (const name in step.after) {
-      for (const kind of ["variables", "mutexes", "conditions", "semaphores"]) if (name in s[kind]) s[kind][name] = step.after[name];
+      for (const kind of ["variables", "mutexes", "conditions", "semaphores"]) {
+        if (name in s[kind]) s[kind][name] = step.after[name];
+      }
     }
     step.sets.forEach((l) => { s.locals[step.thread][l.local] = l.value; });
     s.next[step.thread] = step.next;
@@ -128,7 +149,9 @@ function told(s) {
   if (s.act === "load") return from + ": " + s.new;
   if (s.act === "cas" && String(s.sets[0].value) === "0") return from + ": " + s.old + ", miss";
   if (["store", "add", "cas", "acquire", "release"].includes(s.act)) return from + ": " + s.old + " \u2192 " + s.new;
-  if (s.act === "signal" || s.act === "broadcast") return from + (s.woken.length ? ": wakes " + s.woken.join(", ") : ": wakes nobody");
+  if (s.act === "signal" || s.act === "broadcast") {
+    return from + (s.woken.length ? ": wakes " + s.woken.join(", ") : ": wakes nobody");
+  }
   return from;
 }
 const label = (s) => told(s) + (s.stop === null ? "" : "  FAILED: " + s.stop);
@@ -139,7 +162,8 @@ let wide = left;
 function arrows() {
   const wrote = byName(), called = byName(), found = [];
   steps.forEach((s, k) => {
-    if (["load", "add", "cas"].includes(s.act) && s.object in wrote && steps[wrote[s.object]].thread !== s.thread) found.push([wrote[s.object], k]);
+    const isRead = ["load", "add", "cas"].includes(s.act) && s.object in wrote;
+    if (isRead && steps[wrote[s.object]].thread !== s.thread) found.push([wrote[s.object], k]);
     if (s.act === "retake" && s.name in called) found.push([called[s.name], k]);
     if (["store", "add"].includes(s.act) || (s.act === "cas" && String(s.sets[0].value) === "1")) wrote[s.object] = k;
     s.woken.forEach((n) => { called[n] = k; });
@@ -153,8 +177,11 @@ function setLanes() {
 }
 function drawLanes() {
   setLanes();
-  const tall = steps.length * row + 8, heads = draw(byId("lanes"), "svg", { width: wide, height: 24, viewBox: "0 0 " + wide + " 24", id: "names", "aria-hidden": "true" });
-  const svg = draw(byId("lanes"), "svg", { width: wide, height: tall, viewBox: "0 0 " + wide + " " + tall, id: "chart", role: "img",
+  const tall = steps.length * row + 8;
+  const heads = draw(byId("lanes"), "svg",
+    { width: wide, height: 24, viewBox: "0 0 " + wide + " 24", id: "names", "aria-hidden": "true" });
+  const svg = draw(byId("lanes"), "svg",
+    { width: wide, height: tall, viewBox: "0 0 " + wide + " " + tall, id: "chart", role: "img",
     "aria-label": "the steps of each thread" });
   tip(svg, "head", "tip");
   draw(svg, "rect", { id: "chosen", x: 0, y: 0, width: wide, height: row });
@@ -165,7 +192,8 @@ function drawLanes() {
   const owned = byName();
   const stripe = (m, to) => {
     const [t, from] = owned[m];
-    draw(svg, "rect", { x: xOf(t) - 11 - 5 * (data.opening.mutexes.indexOf(m) % 3), y: yOf(from), width: 4, height: Math.max(4, yOf(to) - yOf(from)), class: "held" });
+    draw(svg, "rect", { x: xOf(t) - 11 - 5 * (data.opening.mutexes.indexOf(m) % 3), y: yOf(from), width: 4,
+      height: Math.max(4, yOf(to) - yOf(from)), class: "held" });
     delete owned[m];
   };
   steps.forEach((s, k) => {
@@ -177,20 +205,29 @@ function drawLanes() {
   });
   Object.keys(owned).forEach((m) => stripe(m, steps.length - 0.5));
   arrows().forEach(([from, to]) => {
-    const x = xOf(steps[from].thread), y = yOf(from), v = xOf(steps[to].thread), w = yOf(to), bend = Math.min(60, 10 + (w - y) / 3);
-    draw(svg, "path", { d: "M" + (x + 3) + " " + (y + 4) + "C" + (x + 3) + " " + (y + bend) + " " + (v + 1) + " " + (w - bend) + " " + (v + 1) + " " + (w - 5), class: "arrow", "marker-end": "url(#head)" });
+    const x = xOf(steps[from].thread), y = yOf(from), v = xOf(steps[to].thread), w = yOf(to),
+      bend = Math.min(60, 10 + (w - y) / 3);
+    draw(svg, "path", { d: "M" + (x + 3) + " " + (y + 4) + "C" + (x + 3) + " " + (y + bend) + " " + (v + 1) + " "
+      + (w - bend) + " " + (v + 1) + " " + (w - 5), class: "arrow", "marker-end": "url(#head)" });
   });
   steps.forEach((s, k) => {
     const group = draw(svg, "g", { class: "step" + (s.cause ? " cause" : ""), id: "step" + k });
-    if (s.preempting) draw(group, "rect", { x: 0, y: yOf(k) - row / 2 - 2, width: wide, height: 4, class: "interruption" });
+    const top = yOf(k) - row / 2 - 2;
+    if (s.preempting) draw(group, "rect", { x: 0, y: top, width: wide, height: 4, class: "interruption" });
     if (s.cause) draw(group, "path", { d: "M4 " + (yOf(k) - 5) + "l8 5l-8 5z", class: "mark" });
     draw(group, "text", { x: 18, y: yOf(k) + 4, class: "soft" }, String(k));
-    draw(group, "circle", { cx: xOf(s.thread), cy: yOf(k), r: 4, style: "fill:" + (s.stop === null ? colour(s.thread) : "var(--bad)") });
-    draw(group, "text", { x: xOf(s.thread) + 9, y: yOf(k) + 4, class: s.stop === null ? "label" : "label failed" }, label(s));
+    draw(group, "circle",
+      { cx: xOf(s.thread), cy: yOf(k), r: 4, style: "fill:" + (s.stop === null ? colour(s.thread) : "var(--bad)") });
+    draw(group, "text", { x: xOf(s.thread) + 9, y: yOf(k) + 4, class: s.stop === null ? "label" : "label failed" },
+      label(s));
     group.addEventListener("click", () => show(k + 1));
   });
   const legend = byId("legend");
-  const item = (sign, text, name) => { const e = make("span"); e.append(make("b", sign, name), " " + text); legend.append(e, " "); };
+  const item = (sign, text, name) => {
+    const e = make("span");
+    e.append(make("b", sign, name), " " + text);
+    legend.append(e, " ");
+  };
   if (steps.some((s) => s.cause)) item("\u25b8", "in the cause");
   if (steps.some((s) => s.preempting)) item("\u2501", "a thread is interrupted");
   if (steps.some((s) => s.stop !== null)) item("\u25cf", "a thread fails");
@@ -198,9 +235,17 @@ function drawLanes() {
   if (data.opening.mutexes.length) item("\u258c", "a mutex is held", "grey");
 }
 const texts = data.source.split("\n");
+// Where each line comes from, by the marks of a preprocessor.
+const marks = new Map((data.marks || []).map((m) => [m.at, m])), origins = [];
+texts.forEach((text, i) => {
+  const last = origins[i - 1] || null;
+  origins.push(marks.get(i + 1) || last && { file: last.file, line: last.line + 1 });
+});
 const lines = texts.map((text, i) => {
-  const e = make("div", undefined, "line");
-  e.append(make("span", String(i + 1), "number"), make("span", "", "badges"), make("span", text, "text"));
+  const e = make("div", undefined, "line"), origin = origins[i];
+  const number = make("span", String(origin === null ? i + 1 : origin.line), "number");
+  if (origin !== null) number.title = origin.file + ":" + origin.line;
+  e.append(number, make("span", "", "badges"), make("span", text, "text"));
   byId("source").appendChild(e);
   return e;
 });
@@ -237,8 +282,10 @@ function showSource(s, count) {
 }
 // Scrolls a box, and not the page, to a place in it, where that can't be seen.
 function scrollTo(box, y, x, width) {
-  if (y < box.scrollTop + 30 || y > box.scrollTop + box.clientHeight - 60) box.scrollTop = Math.max(0, y - box.clientHeight / 2);
-  if (width > 0 && (x < box.scrollLeft + 40 || x + width > box.scrollLeft + box.clientWidth)) box.scrollLeft = Math.max(0, x - 80);
+  const isSeen = y >= box.scrollTop + 30 && y <= box.scrollTop + box.clientHeight - 60;
+  if (!isSeen) box.scrollTop = Math.max(0, y - box.clientHeight / 2);
+  const isBeside = x < box.scrollLeft + 40 || x + width > box.scrollLeft + box.clientWidth;
+  if (width > 0 && isBeside) box.scrollLeft = Math.max(0, x - 80);
 }
 function block(title, rows, changed) {
   const e = make("div"), table = make("table");
@@ -255,39 +302,53 @@ function showState(s, count) {
   const step = count > 0 ? steps[count - 1] : null, touched = step === null ? [] : Object.keys(step.after);
   const parts = [block("Variables", Object.entries(s.variables), touched),
     block("Mutexes", Object.entries(s.mutexes).map(([m, o]) => [m, o === null ? "free" : o]), touched),
-    block("Conditions", Object.entries(s.conditions).map(([c, q]) => [c, q.length ? q.join(", ") : "nobody waits"]), touched),
+    block("Conditions", Object.entries(s.conditions).map(([c, q]) => [c, q.length ? q.join(", ") : "nobody waits"]),
+      touched),
     block("Semaphores", Object.entries(s.semaphores), touched)];
-  s.locals.forEach((l, t) => parts.push(block(names[t], Object.entries(l), step !== null && step.thread === t ? step.sets.map((x) => x.local) : [])));
+  s.locals.forEach((l, t) => {
+    const sets = step !== null && step.thread === t ? step.sets.map((x) => x.local) : [];
+    parts.push(block(names[t], Object.entries(l), sets));
+  });
   byId("state").replaceChildren(...parts.filter((p) => p.querySelector("tr")));
 }
 // An arrow from each thread that waits to each for which it waits, round a circle of those threads.
 function drawGraph() {
-  const edges = data.threads.flatMap((t, u) => (t.waits === null ? [] : t.waits.on).map((n) => [u, names.indexOf(n), t.waits.object]));
+  const waited = (t) => t.waits === null ? [] : t.waits.on;
+  const edges = data.threads.flatMap((t, u) => waited(t).map((n) => [u, names.indexOf(n), t.waits.object]));
   const there = names.map((n, t) => t).filter((t) => edges.some((e) => e[0] === t || e[1] === t));
   if (edges.length === 0) return;
   byId("waits").hidden = false;
   const r = Math.max(80, there.length * 20), side = 2 * r + 110, width = side + 160, mid = [width / 2, side / 2];
   const angle = (t) => 2 * Math.PI * there.indexOf(t) / there.length - Math.PI / 2;
   const at = (t) => [mid[0] + r * Math.cos(angle(t)), mid[1] + r * Math.sin(angle(t))];
-  const svg = draw(byId("graph"), "svg", { width: width, height: side, viewBox: "0 0 " + width + " " + side, role: "img",
+  const svg = draw(byId("graph"), "svg",
+    { width: width, height: side, viewBox: "0 0 " + width + " " + side, role: "img",
     "aria-label": edges.map(([t, u, object]) => names[t] + " waits for " + object + " and " + names[u]).join("; ") });
   tip(svg, "edgetip", "edgetip"); tip(svg, "circletip", "circletip");
   const places = [];
   edges.forEach(([t, u, object]) => {
     const red = data.circles.some((c) => c.includes(names[t]) && c.includes(names[u])), [x, y] = at(t), [v, w] = at(u);
-    const out = [Math.cos(angle(t)), Math.sin(angle(t))], d = Math.hypot(v - x, w - y) || 1, n = [(w - y) / d, (x - v) / d];
+    const out = [Math.cos(angle(t)), Math.sin(angle(t))], d = Math.hypot(v - x, w - y) || 1,
+      n = [(w - y) / d, (x - v) / d];
     const bend = [(x + v) / 2 + 26 * n[0], (y + w) / 2 + 26 * n[1]], to = Math.hypot(v - bend[0], w - bend[1]) || 1;
     const path = t === u
-      ? "M" + (x - 8) + " " + (y + 10) + "C" + (x - 60 * out[0] - 45) + " " + (y - 60 * out[1] + 30) + " " + (x - 60 * out[0] + 45) + " " + (y - 60 * out[1] + 30) + " " + (x + 8) + " " + (y + 13)
-      : "M" + x + " " + y + "Q" + bend[0] + " " + bend[1] + " " + (v + 13 * (bend[0] - v) / to) + " " + (w + 13 * (bend[1] - w) / to);
-    draw(svg, "path", { d: path, class: red ? "edge circle" : "edge", "marker-end": red ? "url(#circletip)" : "url(#edgetip)" });
-    places.push([t === u ? x - 45 * out[0] : (3 * x + 6 * bend[0] + v) / 10, t === u ? y - 45 * out[1] + 20 : (3 * y + 6 * bend[1] + w) / 10, object, red]);
+      ? "M" + (x - 8) + " " + (y + 10) + "C" + (x - 60 * out[0] - 45) + " " + (y - 60 * out[1] + 30) + " "
+        + (x - 60 * out[0] + 45) + " " + (y - 60 * out[1] + 30) + " " + (x + 8) + " " + (y + 13)
+      : "M" + x + " " + y + "Q" + bend[0] + " " + bend[1] + " " + (v + 13 * (bend[0] - v) / to) + " "
+        + (w + 13 * (bend[1] - w) / to);
+    draw(svg, "path",
+      { d: path, class: red ? "edge circle" : "edge", "marker-end": red ? "url(#circletip)" : "url(#edgetip)" });
+    places.push([t === u ? x - 45 * out[0] : (3 * x + 6 * bend[0] + v) / 10,
+      t === u ? y - 45 * out[1] + 20 : (3 * y + 6 * bend[1] + w) / 10, object, red]);
   });
-  places.forEach(([x, y, object, red]) => draw(svg, "text", { x: x, y: y, "text-anchor": "middle", class: red ? "halo failed" : "halo soft" }, object));
+  places.forEach(([x, y, object, red]) => draw(svg, "text",
+    { x: x, y: y, "text-anchor": "middle", class: red ? "halo failed" : "halo soft" }, object));
   there.forEach((t) => {
     const [x, y] = at(t), c = Math.cos(angle(t)), anchor = c > 0.3 ? "start" : c < -0.3 ? "end" : "middle";
     draw(svg, "circle", { cx: x, cy: y, r: 10, style: "fill:" + colour(t) });
-    draw(svg, "text", { x: x + 16 * c, y: y + 4 + 20 * Math.sin(angle(t)), "text-anchor": anchor, class: "halo node" }, names[t] + (data.threads[t].waits === null ? " (" + data.threads[t].status + ")" : ""));
+    draw(svg, "text",
+      { x: x + 16 * c, y: y + 4 + 20 * Math.sin(angle(t)), "text-anchor": anchor, class: "halo node" },
+      names[t] + (data.threads[t].waits === null ? " (" + data.threads[t].status + ")" : ""));
   });
 }
 // How the schedules end that the search tried, where one found this schedule.
@@ -296,27 +357,33 @@ function showEnds() {
   if (search === null) return;
   byId("search").hidden = false;
   const within = search.bound === null ? "" : " with at most " + few(search.bound, "preemption");
-  byId("counts").textContent = few(search.tried, "schedule") + within + " tried: " + search.failed + " failed, " + search.stuck + " stuck"
-    + (search.quick ? ", others left out by a quick search" : "") + (search.verdict === "incomplete" ? ", then cut short" : "") + ".";
+  byId("counts").textContent = few(search.tried, "schedule") + within + " tried: " + search.failed + " failed, "
+    + search.stuck + " stuck" + (search.quick ? ", others left out by a quick search" : "")
+    + (search.verdict === "incomplete" ? ", then cut short" : "") + ".";
   const head = make("tr");
   head.append(make("td", "ends"), ...data.opening.declared.map((name) => make("td", name)));
   kinds.append(head);
   search.ends.forEach((end) => {
-    const own = end.kind === data.kind && data.opening.declared.every((name, x) => String(data.end.variables[name]) === String(end.vars[x]));
+    const own = end.kind === data.kind
+      && data.opening.declared.every((name, x) => String(data.end.variables[name]) === String(end.vars[x]));
     const tr = make("tr", undefined, own ? "changed" : "");
-    tr.append(make("td", end.kind, end.kind === "done" ? "" : "bad"), ...end.vars.map((value) => make("td", String(value))));
+    tr.append(make("td", end.kind, end.kind === "done" ? "" : "bad"),
+      ...end.vars.map((value) => make("td", String(value))));
     if (own) tr.append(make("td", "this schedule"));
     kinds.append(tr);
   });
 }
 function show(count) {
   const s = stateAfter(count), step = count > 0 ? steps[count - 1] : null;
-  const words = step === null ? "at the start" : "after step " + step.step + " of 0 to " + (steps.length - 1) + ": " + step.name + " " + label(step);
+  const at = step !== null && step.from ? " (" + step.from.file + ":" + step.from.line + ")" : "";
+  const words = step === null ? "at the start"
+    : "after step " + step.step + " of 0 to " + (steps.length - 1) + ": " + step.name + " " + label(step) + at;
   byId("slider").value = count;
   byId("slider").setAttribute("aria-valuetext", words);
   byId("place").textContent = words;
   byId("chosen").setAttribute("y", step === null ? -row : yOf(count - 1) - row / 2);
-  scrollTo(byId("lanes"), step === null ? 0 : yOf(count - 1) + 24, step === null ? 0 : xOf(step.thread), step === null ? 0 : 20 + 6.8 * label(step).length);
+  if (step === null) scrollTo(byId("lanes"), 0, 0, 0);
+  else scrollTo(byId("lanes"), yOf(count - 1) + 24, xOf(step.thread), 20 + 6.8 * label(step).length);
   showSource(s, count); showState(s, count);
 }
 window.addEventListener("resize", () => show(chosen()));
@@ -324,20 +391,25 @@ const chosen = () => Number(byId("slider").value), move = (to) => show(Math.max(
 document.title = data.file + " - ctxbound";
 byId("title").textContent = data.file;
 const failure = data.failures.length ? data.failures[0] : null;
-const kind = failure !== null ? "failed" : data.kind !== null ? data.kind : data.refused !== null ? "the schedule can't go on" : "not complete";
+const kind = failure !== null ? "failed" : data.kind !== null ? data.kind
+  : data.refused !== null ? "the schedule can't go on" : "not complete";
 const ran = failure === null ? steps.length : failure.step === null ? 0 : failure.step + 1;
-byId("summary").append(make("span", kind, kind === "done" || kind === "not complete" ? "" : "bad"), " after " + few(ran, "step") + " with "
-  + few(failure === null ? data.preemptions : failure.preemptions, "preemption") + (data.refused === null || failure === null && data.kind === null ? "" : "; then the schedule can't go on"));
+byId("summary").append(make("span", kind, kind === "done" || kind === "not complete" ? "" : "bad"),
+  " after " + few(ran, "step") + " with "
+  + few(failure === null ? data.preemptions : failure.preemptions, "preemption")
+  + (data.refused === null || failure === null && data.kind === null ? "" : "; then the schedule can't go on"));
 const cut = data.why.lastIndexOf("Replay: "), replay = data.why.slice(cut + 8).trim();
 byId("why").textContent = data.why.slice(0, cut).trim();
 byId("command").textContent = replay;
-byId("copy").addEventListener("click", () => navigator.clipboard.writeText(replay).then(() => { byId("copy").textContent = "Copied"; }));
+byId("copy").addEventListener("click",
+  () => navigator.clipboard.writeText(replay).then(() => { byId("copy").textContent = "Copied"; }));
 byId("slider").max = steps.length;
 byId("slider").addEventListener("input", (e) => show(Number(e.target.value)));
 byId("back").addEventListener("click", () => move(chosen() - 1));
 byId("on").addEventListener("click", () => move(chosen() + 1));
 document.addEventListener("keydown", (e) => {
-  const to = { ArrowLeft: chosen() - 1, ArrowUp: chosen() - 1, ArrowRight: chosen() + 1, ArrowDown: chosen() + 1, Home: 0, End: steps.length }[e.key];
+  const to = { ArrowLeft: chosen() - 1, ArrowUp: chosen() - 1, ArrowRight: chosen() + 1, ArrowDown: chosen() + 1,
+    Home: 0, End: steps.length }[e.key];
   if (to === undefined || e.ctrlKey || e.altKey || e.metaKey) return;
   e.preventDefault();
   move(to);

@@ -66,6 +66,7 @@ impl<'a> Teller<'a> {
                     ahead: false,
                     column: place.column,
                     end: place.end,
+                    from: place.from,
                     line: place.line,
                     name,
                     taken: Vec::new(self.alloc),
@@ -163,6 +164,7 @@ impl<'a> Teller<'a> {
         Ok(told::Origin {
             column: place.column,
             end: place.end,
+            from: place.from,
             line: place.line,
             name: self.name(event.thread),
             step: event.step,

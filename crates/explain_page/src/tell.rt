@@ -12,6 +12,7 @@ use replay::{Act, schedule_text};
 use semantics::state::Stop;
 use serde_json::Value;
 use std::alloc::{AllocError, Global};
+use text_lines::Marks;
 use waits::Waits;
 
 /// What the JSON is made of.
@@ -29,14 +30,17 @@ pub struct Teller<'a> {
     pub source: &'a Source<'a>,
     /// Where statements end.
     pub places: Places<'a>,
+    /// Where lines come from.
+    pub marks: &'a Marks,
 }
 
-/// Where a statement begins and ends, if there is one.
+/// Where a statement begins and ends, if there is one, and where its line comes from.
 #[derive(Clone, Copy, Drop)]
-pub struct Extent {
+pub struct Extent<'a> {
     pub line: Option<u32>,
     pub column: Option<u32>,
     pub end: Option<told::Place>,
+    pub from: Option<told::Mark<'a>>,
 }
 
 /// A name or another text.
@@ -66,6 +70,10 @@ impl<'a> Teller<'a> {
             failures,
             file: text(self.source.file),
             kind: explanation.kind().map(kind_word),
+            marks: match beside {
+                Some(_) => self.marked()?,
+                None => None,
+            },
             opening: self.opening()?,
             preemptions: explanation.preemptions(),
             refused: explanation.refused(),
@@ -112,7 +120,7 @@ impl<'a> Teller<'a> {
     }
 
     /// Where an instruction of a thread begins and ends; nowhere at the end of its code.
-    pub fn extent(&self, thread: u8, instruction: usize) -> Extent {
+    pub fn extent(&self, thread: u8, instruction: usize) -> Extent<'a> {
         match self.source.place(thread, instruction) {
             Some(place) => Extent {
                 line: Some(place.line),
@@ -123,13 +131,43 @@ impl<'a> Teller<'a> {
                         line: place.line,
                     }),
                 ),
+                from: self.from(place.line),
             },
             None => Extent {
                 line: None,
                 column: None,
                 end: None,
+                from: None,
             },
         }
+    }
+
+    // Where a line of the text comes from, if a mark says so.
+    fn from(&self, line: u32) -> Option<told::Mark<'a>> {
+        let origin = self.marks.origin(line)?;
+        Some(told::Mark {
+            file: text(origin.file()),
+            line: origin.line(),
+        })
+    }
+
+    // From which line of the text on the lines come from where, if marks say so.
+    fn marked(&self) -> Result<Option<Vec<told::Marked<'a>>>, AllocError> {
+        let mut all = Vec::new(self.alloc);
+        let mut last: Option<told::Mark<'a>> = None;
+        for (_, at) in self.source.text.split(|byte| *byte == b'\n').zip(1u32..) {
+            let here = self.from(at);
+            if let Some(told::Mark { file, line }) = here {
+                let goes_on = last.is_some_and(|last| {
+                    last.file == file && last.line.checked_add(1) == Some(line)
+                });
+                if !goes_on {
+                    all.push(told::Marked { at, file, line })?;
+                }
+            }
+            last = here;
+        }
+        Ok(if all.is_empty() { None } else { Some(all) })
     }
 
     /// The text of an instruction of a thread.
@@ -179,6 +217,7 @@ impl<'a> Teller<'a> {
             cause: self.causes.steps().get(at).copied().unwrap_or(false),
             column: place.column,
             end: place.end,
+            from: place.from,
             held: self.mutexes(step.held.as_slice())?,
             line: place.line,
             mutex: match step.line.act {
@@ -238,6 +277,7 @@ impl<'a> Teller<'a> {
         Ok(Some(told::Next {
             column: place.column,
             end: place.end,
+            from: place.from,
             line: place.line,
             text: self.statement(thread, instruction)?,
             wants: match statement {
@@ -256,6 +296,7 @@ impl<'a> Teller<'a> {
             all.push(told::Set {
                 column: place.column,
                 end: place.end,
+                from: place.from,
                 line: place.line,
                 local: self.local(thread, setting.local),
                 value: setting.value,
@@ -292,6 +333,7 @@ impl<'a> Teller<'a> {
         Ok(told::Failure {
             column: place.column,
             end: place.end,
+            from: place.from,
             line: place.line,
             mutex: None,
             name: self.name(thread),
@@ -326,6 +368,7 @@ impl<'a> Teller<'a> {
                 all.push(told::Thread {
                     column: place.column,
                     end: place.end,
+                    from: place.from,
                     line: place.line,
                     locals: self.locals(thread, standing)?,
                     name: self.name(thread),

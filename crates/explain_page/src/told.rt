@@ -16,6 +16,8 @@ pub struct Explained<'a> {
     pub failures: Vec<Failure<'a>>,
     pub file: &'a str,
     pub kind: Option<&'static str>,
+    #[serde(skip_serializing_if = "Option::is_none")]
+    pub marks: Option<Vec<Marked<'a>>>,
     pub opening: Opening<'a>,
     pub preemptions: usize,
     pub refused: Option<u8>,
@@ -48,6 +50,22 @@ pub struct Unexplained<'a> {
 #[derive(Clone, Copy, Drop, Serialize)]
 pub struct Place {
     pub column: u32,
+    pub line: u32,
+}
+
+/// The line of a file that a preprocessor's mark names.
+#[derive(Clone, Copy, Drop, Serialize)]
+pub struct Mark<'a> {
+    pub file: &'a str,
+    pub line: u32,
+}
+
+/// From a line of the text on, where the lines come from, for the page: this line of a file, and those
+/// after it.
+#[derive(Clone, Copy, Drop, Serialize)]
+pub struct Marked<'a> {
+    pub at: u32,
+    pub file: &'a str,
     pub line: u32,
 }
 
@@ -95,6 +113,8 @@ pub struct Step<'a> {
     pub cause: bool,
     pub column: Option<u32>,
     pub end: Option<Place>,
+    #[serde(skip_serializing_if = "Option::is_none")]
+    pub from: Option<Mark<'a>>,
     pub held: Vec<&'a str>,
     pub line: Option<u32>,
     #[serde(skip_serializing_if = "Option::is_none")]
@@ -127,6 +147,8 @@ pub enum Content<'a> {
 pub struct Set<'a> {
     pub column: Option<u32>,
     pub end: Option<Place>,
+    #[serde(skip_serializing_if = "Option::is_none")]
+    pub from: Option<Mark<'a>>,
     pub line: Option<u32>,
     pub local: &'a str,
     pub value: i64,
@@ -137,6 +159,8 @@ pub struct Set<'a> {
 pub struct Next<'a> {
     pub column: Option<u32>,
     pub end: Option<Place>,
+    #[serde(skip_serializing_if = "Option::is_none")]
+    pub from: Option<Mark<'a>>,
     pub line: Option<u32>,
     pub text: String,
     #[serde(skip_serializing_if = "Option::is_none")]
@@ -148,6 +172,8 @@ pub struct Next<'a> {
 pub struct Failure<'a> {
     pub column: Option<u32>,
     pub end: Option<Place>,
+    #[serde(skip_serializing_if = "Option::is_none")]
+    pub from: Option<Mark<'a>>,
     pub line: Option<u32>,
     pub mutex: Option<&'a str>,
     pub name: &'a str,
@@ -173,6 +199,8 @@ pub struct Operand<'a> {
 pub struct Origin<'a> {
     pub column: Option<u32>,
     pub end: Option<Place>,
+    #[serde(skip_serializing_if = "Option::is_none")]
+    pub from: Option<Mark<'a>>,
     pub line: Option<u32>,
     pub name: &'a str,
     pub step: Option<usize>,
@@ -184,6 +212,8 @@ pub struct Origin<'a> {
 pub struct Thread<'a> {
     pub column: Option<u32>,
     pub end: Option<Place>,
+    #[serde(skip_serializing_if = "Option::is_none")]
+    pub from: Option<Mark<'a>>,
     pub line: Option<u32>,
     pub locals: Named<'a, i64>,
     pub name: &'a str,
@@ -211,6 +241,8 @@ pub struct Ender<'a> {
     pub ahead: bool,
     pub column: Option<u32>,
     pub end: Option<Place>,
+    #[serde(skip_serializing_if = "Option::is_none")]
+    pub from: Option<Mark<'a>>,
     pub line: Option<u32>,
     pub name: &'a str,
     pub taken: Vec<usize>,

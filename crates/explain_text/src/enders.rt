@@ -6,7 +6,7 @@ use causes::Event;
 use explain::{Object, Reason};
 use guest_code::program::Instruction;
 use std::alloc::AllocError;
-use text_lines::Page;
+use text_lines::{InLine, Page};
 use waits::{Fate, Statement, Wait};
 
 /// Where values and the further lines of what is said of a thread begin.
@@ -126,12 +126,12 @@ impl Teller<'_> {
         };
         let (name, line) = (
             self.thread(thread),
-            self.source.line(thread, step.instruction),
+            InLine(self.line(thread, step.instruction)),
         );
         let mut words = match times {
-            1 => format!(in self.alloc; "  {name} did in step {at} (line {line})")?,
+            1 => format!(in self.alloc; "  {name} did in step {at} ({line})")?,
             n => format!(in self.alloc;
-                "  {name} did {n} times, the last time in step {at} (line {line})"
+                "  {name} did {n} times, the last time in step {at} ({line})"
             )?,
         };
         match step.object {
@@ -151,9 +151,9 @@ impl Teller<'_> {
         let thread = statement.thread;
         let (name, line) = (
             self.thread(thread),
-            self.source.line(thread, statement.instruction),
+            InLine(self.line(thread, statement.instruction)),
         );
-        let mut words = format!(in self.alloc; "  {name} has yet to come to line {line}")?;
+        let mut words = format!(in self.alloc; "  {name} has yet to come to {line}")?;
         match (self.waits.of(thread), self.is_stopped(thread)) {
             (Some(wait), _) => {
                 let blocked = self.blocked_at(thread, wait.reason)?;
@@ -168,9 +168,9 @@ impl Teller<'_> {
     // That a thread passed a statement by, and the test by which it did.
     fn put_passed(&self, page: &mut Page, passed: Statement) -> Result<(), AllocError> {
         let (thread, instruction) = (passed.thread, passed.instruction);
-        let (name, line) = (self.thread(thread), self.source.line(thread, instruction));
+        let (name, line) = (self.thread(thread), InLine(self.line(thread, instruction)));
         let statement = self.statement(thread, instruction);
-        let mut words = format!(in self.alloc; "  {name} passed by line {line}: {statement}")?;
+        let mut words = format!(in self.alloc; "  {name} passed by {line}: {statement}")?;
         let Some((at, event)) = self.test_passing(thread, instruction) else {
             return page.put_line(words.as_str(), FURTHER);
         };
@@ -180,11 +180,11 @@ impl Teller<'_> {
             ..
         } = self.site(&event);
         let Instruction::SkipIfZero(expression, _) = event.statement else {
-            write!(words, ", by `{test}` in line {line}")?;
+            write!(words, ", by `{test}` in {line}")?;
             return page.put_line(words.as_str(), FURTHER);
         };
         let outcome = event.value() != 0;
-        write!(words, ", since `{test}` in line {line} was {outcome}")?;
+        write!(words, ", since `{test}` in {line} was {outcome}")?;
         page.put_line(words.as_str(), FURTHER)?;
         let shown = Shown {
             indent: FURTHER,

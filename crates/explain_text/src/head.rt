@@ -7,7 +7,7 @@ use explain::Object;
 use guest_code::program::Instruction;
 use semantics::view::Kind;
 use std::alloc::AllocError;
-use text_lines::{Count, Page};
+use text_lines::{Count, InLine, Page};
 
 /// Where what is said of a failure begins, and where further lines do.
 const INDENT: usize = 4;
@@ -31,9 +31,20 @@ impl Teller<'_> {
         };
         let steps = Count(self.explanation.steps().len(), "step");
         let preemptions = Count(self.explanation.preemptions(), "preemption");
-        let mut head = format!(in self.alloc; "{}: {ending}", self.file())?;
+        let mut head = format!(in self.alloc; "{}: {ending}", self.told_file())?;
         write!(head, " after {steps} with {preemptions}.{}", self.least())?;
         page.put_line(head.as_str(), FURTHER)
+    }
+
+    // The file of the lines that are told without one, or else the one that was read.
+    fn told_file(&self) -> &str {
+        for thread in 0..self.source.program.threads() {
+            let line = self.line(thread, 0);
+            if line.line > 0 && !line.is_named {
+                return line.file;
+            }
+        }
+        self.file()
     }
 
     // That no schedule with fewer preemptions is bad, where a search showed it.
@@ -52,11 +63,11 @@ impl Teller<'_> {
         };
         let Site {
             name,
-            line,
+            line: InLine(line),
             statement,
             ..
         } = self.site(&event);
-        let mut head = format!(in self.alloc; "{}:{line}: FAILED: {statement}", self.file())?;
+        let mut head = format!(in self.alloc; "{}: FAILED: {statement}", line.named())?;
         let steps = match failure.step {
             Some(at) => Count(at.saturating_add(1), "step"),
             None => Count(0, "step"),
@@ -109,6 +120,6 @@ impl Teller<'_> {
             line,
             ..
         } = self.site(&event);
-        format!(in self.alloc; "{name} is held by {owner} (since step {step}, line {line})")
+        format!(in self.alloc; "{name} is held by {owner} (since step {step}, {line})")
     }
 }

@@ -86,18 +86,15 @@ impl Teller<'_> {
             ..
         } = self.site(&event);
         match event.statement {
-            Instruction::Load { .. } => write!(words, "loaded in step {step} (line {line})")?,
+            Instruction::Load { .. } => write!(words, "loaded in step {step} ({line})")?,
             Instruction::Add { .. } => {
-                write!(words, "read in step {step} (line {line}: {statement})")?;
+                write!(words, "read in step {step} ({line}: {statement})")?;
             }
             Instruction::Cas { .. } => {
                 let outcome = if event.value() == 0 { "missed" } else { "hit" };
-                write!(
-                    words,
-                    "since step {step} {outcome} (line {line}: {statement})"
-                )?;
+                write!(words, "since step {step} {outcome} ({line}: {statement})")?;
             }
-            _ => write!(words, "set in line {line}: {statement}")?,
+            _ => write!(words, "set in {line}: {statement}")?,
         }
         if let Some(variable) = event.variable_read() {
             self.put_found(&mut words, &event)?;
@@ -147,7 +144,7 @@ impl Teller<'_> {
         };
         write!(
             words,
-            ", which {name}{itself} set in step {step} (line {line}: {statement})"
+            ", which {name}{itself} set in step {step} ({line}: {statement})"
         )?;
         let Some((x, old, _)) = self.change_of(&event) else {
             return Ok(());
@@ -170,7 +167,7 @@ impl Teller<'_> {
             line,
             ..
         } = self.site(&event);
-        write!(words, " since step {step} ({name}, line {line})")?;
+        write!(words, " since step {step} ({name}, {line})")?;
         match self.interrupted(step) {
             Some(other) => write!(words, ", where {} was interrupted", self.thread(other)),
             None => Ok(()),

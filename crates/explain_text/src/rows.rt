@@ -1,6 +1,6 @@
 //! The rows of the table.
 
-use crate::columns::COLUMN;
+use crate::columns::{COLUMN, GAP, STEP, line_cell};
 use crate::text::Teller;
 use explain::{Object, Reading, Reason, Setting, Step, op_text};
 use guest_code::program::{Expression, Instruction, Value};
@@ -8,13 +8,10 @@ use replay::Act;
 use semantics::state::Stop;
 use semantics::view::Kind;
 use std::alloc::AllocError;
-use text_lines::{Count, Page, pad_to, put_cut, put_times, width_of};
+use text_lines::{Count, FileLine, InLine, Page, pad_to, put_cut, put_times, width_of};
 
 /// The fewest columns of a name that is cut, where it shares a column with its statement.
 const SHORTEST: usize = 4;
-
-/// Where the number of a line ends.
-const LINE: usize = 9;
 
 impl Teller<'_> {
     /// The steps in columns. The answer is how many of them are told.
@@ -35,6 +32,27 @@ impl Teller<'_> {
         told = told.saturating_add(self.put_gap(page, next, steps)?);
         self.put_end_rows(page)?;
         Ok(told)
+    }
+
+    /// Columns of the widest line that the table has with the name of its file.
+    pub fn widest_line(&self) -> Result<usize, AllocError> {
+        let mut widest = 0;
+        for step in self.explanation.steps() {
+            let line = self.line(step.line.thread, step.instruction);
+            widest = self.named_width(line)?.max(widest);
+        }
+        for t in 0..self.source.program.threads() {
+            widest = self.named_width(self.line_at_end(t))?.max(widest);
+        }
+        Ok(widest)
+    }
+
+    // Columns of a line that has the name of its file.
+    fn named_width(&self, line: FileLine<'_>) -> Result<usize, AllocError> {
+        if !line.is_named {
+            return Ok(0);
+        }
+        Ok(width_of(line_cell(self.alloc, line)?.as_str()))
     }
 
     // Whether a step is in the cause.
@@ -61,7 +79,12 @@ impl Teller<'_> {
     // The names of the columns, and a rule under each.
     fn put_header(&self, page: &mut Page) -> Result<(), AllocError> {
         let mut names = String::from_str(self.alloc, "step line")?;
-        let mut rules = String::from_str(self.alloc, "---- ----")?;
+        let mut rules = String::from_str(self.alloc, "----")?;
+        put_rule(
+            &mut rules,
+            STEP,
+            self.columns.margin.saturating_sub(STEP + GAP),
+        )?;
         for t in 0..self.source.program.threads() {
             if self.has_column(t) {
                 pad_to(&mut names, self.columns.start(t as usize))?;
@@ -156,11 +179,12 @@ impl Teller<'_> {
         &self,
         row: &mut String,
         thread: u8,
-        line: u32,
+        line: FileLine<'_>,
         statement: &str,
     ) -> Result<(), AllocError> {
-        let line = line.to_string(self.alloc)?;
-        pad_to(row, LINE.saturating_sub(line.len()))?;
+        let line = line_cell(self.alloc, line)?;
+        let end = self.columns.margin.saturating_sub(GAP);
+        pad_to(row, end.saturating_sub(width_of(line.as_str())))?;
         row.push_str(line.as_str())?;
         pad_to(row, self.columns.start(thread as usize))?;
         if !self.has_column(thread) {
@@ -217,7 +241,7 @@ impl Teller<'_> {
                 .statement(thread, step.instruction)
                 .to_string(self.alloc)?,
         };
-        let line = self.source.line(thread, step.instruction);
+        let line = self.line(thread, step.instruction);
         self.put_cell(&mut row, thread, line, statement.as_str())?;
         let mut changes = self.changes(step)?;
         self.put_between(&mut changes, at)?;
@@ -293,8 +317,8 @@ impl Teller<'_> {
         if setting.instruction != step.instruction {
             write!(
                 changes,
-                "line {}: ",
-                self.source.line(thread, setting.instruction)
+                "{}: ",
+                InLine(self.line(thread, setting.instruction))
             )?;
         }
         write!(
@@ -351,7 +375,7 @@ impl Teller<'_> {
         let Some(standing) = self.standing(thread) else {
             return Ok(());
         };
-        let line = self.source.line(thread, standing.instruction);
+        let line = self.line(thread, standing.instruction);
         self.put_cell(&mut row, thread, line, "assert")?;
         let changes = match self.source.instruction(thread, standing.instruction) {
             Some(Instruction::Assert(e)) => self.comparison(thread, e)?,
@@ -389,11 +413,9 @@ impl Teller<'_> {
         let mut row = String::new(self.alloc);
         pad_to(&mut row, column)?;
         put_times(&mut row, '~', COLUMN)?;
-        let (name, line) = (self.thread(thread), self.source.line(thread, step.next));
+        let (name, line) = (self.thread(thread), InLine(self.line(thread, step.next)));
         let statement = self.statement(thread, step.next);
-        let words = format!(in self.alloc;
-            "{name} is interrupted before line {line}: {statement}"
-        )?;
+        let words = format!(in self.alloc; "{name} is interrupted before {line}: {statement}")?;
         page.put_columns(row.as_str(), words.as_str(), 0, column)
     }
 
@@ -438,10 +460,10 @@ impl Teller<'_> {
     }
 
     /// The line at which a thread is at the end.
-    pub fn line_at_end(&self, thread: u8) -> u32 {
+    pub fn line_at_end(&self, thread: u8) -> FileLine<'_> {
         match self.standing(thread) {
-            Some(standing) => self.source.line(thread, standing.instruction),
-            None => 0,
+            Some(standing) => self.line(thread, standing.instruction),
+            None => self.marks.told(self.file(), 0),
         }
     }
 

@@ -7,7 +7,7 @@ use replay::schedule_text;
 use std::alloc::{AllocError, Global};
 use std::fmt;
 use std::str::from_utf8;
-use text_lines::Page;
+use text_lines::{FileLine, InLine, Marks, Page};
 use waits::Waits;
 
 /// What a text is made of, and how.
@@ -18,6 +18,8 @@ pub struct Teller<'a> {
     pub causes: &'a Causes,
     pub waits: &'a Waits,
     pub source: &'a Source<'a>,
+    /// Where the lines of the text come from.
+    pub marks: &'a Marks,
     pub shape: Shape,
     pub columns: Columns,
 }
@@ -34,27 +36,7 @@ pub fn explanation_text(
     source: &Source<'_>,
     shape: Shape,
 ) -> Result<Vec<u8>, AllocError> {
-    let columns = Columns::new(shape.width, explanation.standings().len());
-    let causes = Causes::of(alloc, source.program, explanation)?;
-    let waits = Waits::new(alloc, source.program, explanation)?;
-    let teller = Teller {
-        alloc,
-        explanation,
-        causes: &causes,
-        waits: &waits,
-        source,
-        shape,
-        columns,
-    };
-    let mut page = Page::new(alloc, columns.width);
-    teller.put_head(&mut page)?;
-    page.put_blank()?;
-    let told = teller.put_table(&mut page)?;
-    page.put_blank()?;
-    teller.put_reasons(&mut page)?;
-    teller.put_count(&mut page, told)?;
-    teller.put_replay(&mut page)?;
-    Ok(page.into_bytes())
+    told(alloc, explanation, source, shape, true)
 }
 
 /// How the schedule ends and why, in words, without the steps; the last line is the command that
@@ -69,36 +51,56 @@ pub fn why_text(
     source: &Source<'_>,
     shape: Shape,
 ) -> Result<Vec<u8>, AllocError> {
-    let columns = Columns::new(shape.width, explanation.standings().len());
+    told(alloc, explanation, source, shape, false)
+}
+
+// How the schedule ends and why, with the table of its steps or without.
+fn told(
+    alloc: Global,
+    explanation: &Explanation,
+    source: &Source<'_>,
+    shape: Shape,
+    with_steps: bool,
+) -> Result<Vec<u8>, AllocError> {
     let causes = Causes::of(alloc, source.program, explanation)?;
     let waits = Waits::new(alloc, source.program, explanation)?;
-    let teller = Teller {
+    let marks = Marks::new(alloc, source.text)?;
+    let mut teller = Teller {
         alloc,
         explanation,
         causes: &causes,
         waits: &waits,
         source,
+        marks: &marks,
         shape,
-        columns,
+        columns: Columns::new(shape.width, 0, 0),
     };
-    let mut page = Page::new(alloc, columns.width);
+    let threads = explanation.standings().len();
+    teller.columns = Columns::new(shape.width, threads, teller.widest_line()?);
+    let mut page = Page::new(alloc, teller.columns.width);
     teller.put_head(&mut page)?;
     page.put_blank()?;
+    let mut shown = explanation.steps().len();
+    if with_steps {
+        shown = teller.put_table(&mut page)?;
+        page.put_blank()?;
+    }
     teller.put_reasons(&mut page)?;
+    teller.put_count(&mut page, shown)?;
     teller.put_replay(&mut page)?;
     Ok(page.into_bytes())
 }
 
 /// A step and the line of its statement: `step 5, line 37`.
 #[derive(Clone, Copy)]
-pub struct Place {
+pub struct Place<'a> {
     pub at: usize,
-    pub line: u32,
+    pub line: InLine<'a>,
 }
 
-impl fmt::Display for Place {
+impl fmt::Display for Place<'_> {
     fn fmt<W: fmt::Write>(&self, f: &mut fmt::Formatter<W>) -> fmt::Result {
-        write!(f, "step {}, line {}", self.at, self.line)
+        write!(f, "step {}, {}", self.at, self.line)
     }
 }
 
@@ -110,7 +112,7 @@ pub struct Site<'a> {
     /// The step that it is, or after which it was; 0 before the first one.
     pub step: usize,
     /// The line of its statement.
-    pub line: u32,
+    pub line: InLine<'a>,
     pub statement: Statement<'a>,
 }
 
@@ -196,7 +198,7 @@ impl<'a> Teller<'a> {
         Site {
             name: self.thread(event.thread),
             step: event.step.unwrap_or(0),
-            line: self.source.line(event.thread, event.instruction),
+            line: InLine(self.line(event.thread, event.instruction)),
             statement: self.statement(event.thread, event.instruction),
         }
     }
@@ -209,13 +211,22 @@ impl<'a> Teller<'a> {
         }
     }
 
+    /// The line of an instruction of a thread.
+    pub fn line(&self, thread: u8, instruction: usize) -> FileLine<'a> {
+        let line = self.source.line(thread, instruction);
+        self.marks.told(self.file(), line)
+    }
+
     /// A step and its line.
-    pub fn place(&self, at: usize) -> Place {
+    pub fn place(&self, at: usize) -> Place<'a> {
         let line = match self.step(at) {
-            Some(step) => self.source.line(step.line.thread, step.instruction),
-            None => 0,
+            Some(step) => self.line(step.line.thread, step.instruction),
+            None => self.marks.told(self.file(), 0),
         };
-        Place { at, line }
+        Place {
+            at,
+            line: InLine(line),
+        }
     }
 
     /// Where a thread is at the end, if there is such a thread.

@@ -3,10 +3,13 @@
 use crate::entry::{Entry, Outcome};
 use crate::expectation::Expected;
 use crate::searches::Searched;
+use guest_code::error::CheckError;
+use guest_syntax::{Pos, SyntaxError};
 use replay::schedule_text;
-use runner::{Verdict, report_text};
+use runner::{ExploreError, Verdict, report_text};
 use serde_json::Value;
 use std::alloc::{AllocError, Global};
+use text_lines::{FileLine, Marks};
 use verify::Found;
 
 // What stands above the columns.
@@ -79,13 +82,13 @@ impl Table {
 
     /// The line of a file, in ASCII: its verdict, the bound of the search, the preemptions of the
     /// bad schedule and that schedule, how many schedules were tried, and a note where the verdict
-    /// isn't all that there is to say.
+    /// isn't all that there is to say. Lines of the file are told by its marks.
     ///
     /// # Errors
     ///
     /// `AllocError` where memory runs out.
-    pub fn row(&self, entry: &Entry) -> Result<Vec<u8>, AllocError> {
-        self.line(row_of(self.alloc, entry)?.as_slice())
+    pub fn row(&self, entry: &Entry, marks: &Marks) -> Result<Vec<u8>, AllocError> {
+        self.line(row_of(self.alloc, entry, marks)?.as_slice())
     }
 
     // A line: its cells, each at the start of its column or two blanks after the one before, and a
@@ -118,7 +121,7 @@ fn put_blanks(text: &mut Vec<u8>, count: usize) -> Result<(), AllocError> {
 }
 
 // The cells of a file.
-fn row_of(alloc: Global, entry: &Entry) -> Result<Vec<String>, AllocError> {
+fn row_of(alloc: Global, entry: &Entry, marks: &Marks) -> Result<Vec<String>, AllocError> {
     let mut row = Vec::new(alloc);
     row.push(printable(alloc, entry.file.as_str())?)?;
     match &entry.outcome {
@@ -126,7 +129,7 @@ fn row_of(alloc: Global, entry: &Entry) -> Result<Vec<String>, AllocError> {
         Outcome::Unread(_) => put_words(&mut row, alloc, "unread")?,
         _ => put_words(&mut row, alloc, "refused")?,
     }
-    row.push(note_of(alloc, entry)?)?;
+    row.push(note_of(alloc, entry, marks)?)?;
     Ok(row)
 }
 
@@ -188,22 +191,83 @@ fn printable(alloc: Global, name: &str) -> Result<String, AllocError> {
     Ok(text)
 }
 
+// The lines of a file, as they are told.
+#[derive(Clone, Copy)]
+struct Lines<'a> {
+    alloc: Global,
+    marks: &'a Marks,
+}
+
+impl Lines<'_> {
+    // The line that a mark says, with its file, if one comes before it.
+    fn marked(&self, line: u32) -> Option<FileLine<'_>> {
+        self.marks.origin(line)?;
+        Some(self.marks.told("", line).named())
+    }
+
+    // A line: `line 12`, or `worker.inc:12` where a mark says so.
+    fn line(&self, line: u64) -> Result<String, AllocError> {
+        let line = u32::try_from(line).unwrap_or(u32::MAX);
+        match self.marked(line) {
+            Some(line) => printable(self.alloc, format!(in self.alloc; "{line}")?.as_str()),
+            None => format!(in self.alloc; "line {line}"),
+        }
+    }
+
+    // A refusal, and after it its place by the marks, where they have one.
+    fn refusal(&self, error: ExploreError) -> Result<String, AllocError> {
+        let mut told = format!(in self.alloc; "{error}")?;
+        if let Some(at) = place_of(error) {
+            if let Some(line) = self.marked(at.line) {
+                let place = format!(in self.alloc; " ({line}:{})", at.col)?;
+                told.push_str(printable(self.alloc, place.as_str())?.as_str())?;
+            }
+        }
+        Ok(told)
+    }
+}
+
+// The place that a refusal tells.
+fn place_of(error: ExploreError) -> Option<Pos> {
+    match error {
+        ExploreError::Syntax(
+            SyntaxError::NotAscii(at)
+            | SyntaxError::BadChar(at)
+            | SyntaxError::Expected(at)
+            | SyntaxError::NumberTooBig(at)
+            | SyntaxError::TooLong(at)
+            | SyntaxError::TooDeep(at),
+        )
+        | ExploreError::Check(
+            CheckError::Duplicate(at)
+            | CheckError::Unknown(at)
+            | CheckError::WrongKind(at)
+            | CheckError::TooMany(at)
+            | CheckError::LeaveOutside(at),
+        ) => Some(at),
+        _ => None,
+    }
+}
+
 // What there is to say of a file beside its verdict.
-fn note_of(alloc: Global, entry: &Entry) -> Result<String, AllocError> {
+fn note_of(alloc: Global, entry: &Entry, marks: &Marks) -> Result<String, AllocError> {
+    let lines = Lines { alloc, marks };
     let mut note = String::new(alloc);
     match &entry.outcome {
         Outcome::Searched(searched) => put_search_notes(&mut note, alloc, entry, searched)?,
-        Outcome::Refused(error) => put_part(&mut note, format!(in alloc; "{error}")?)?,
-        Outcome::Unclear(line) => put_part(
-            &mut note,
-            format!(in alloc;
-                "line {line}: one `# expect:` is wanted, with bad, bad N, failed, stuck or clean"
-            )?,
-        )?,
+        Outcome::Refused(error) => put_part(&mut note, lines.refusal(*error)?)?,
+        Outcome::Unclear(line) => {
+            let line = lines.line(*line)?;
+            let part = format!(in alloc;
+                "{line}: one `# expect:` is wanted, with bad, bad N, failed, stuck or clean"
+            )?;
+            put_part(&mut note, part)?;
+        }
         Outcome::Unread(cause) => put_part(&mut note, printable(alloc, cause.as_str())?)?,
     }
     if let Some(line) = entry.near {
-        let part = format!(in alloc; "line {line} looks like `# expect:` and isn't")?;
+        let line = lines.line(line)?;
+        let part = format!(in alloc; "{line} looks like `# expect:` and isn't")?;
         put_part(&mut note, part)?;
     }
     Ok(note)
@@ -244,14 +308,15 @@ fn put_search_notes(
 }
 
 /// The JSON of a file, an object and a line feed: `file`, `expect` (the words, or null), `status`
-/// and `note`, and then the members of its report, or `fault`, which says why there is none.
+/// and `note`, and then the members of its report, or `fault`, which says why there is none. Lines
+/// of the file are told by its marks.
 ///
 /// # Errors
 ///
 /// `AllocError` where memory runs out.
-pub fn json_line(alloc: Global, entry: &Entry) -> Result<Vec<u8>, AllocError> {
+pub fn json_line(alloc: Global, entry: &Entry, marks: &Marks) -> Result<Vec<u8>, AllocError> {
     let mut text = Vec::new(alloc);
-    let note = note_of(alloc, entry)?;
+    let note = note_of(alloc, entry, marks)?;
     put_member(&mut text, alloc, b"{\"file\":", entry.file.as_str())?;
     match entry.expected {
         Some(expected) => {

@@ -2,6 +2,8 @@
 use Rattle.std.specs.Prelude.{ℕ, ◌+◌, ◌-◌, ◌*◌, ◌^◌, min, Bool, true, false, not, ◌==◌, ◌&&◌, ◌||◌, nat_lt, List, [], ◌∷◌, length, map, get_or, take, drop, codes, bytes_eq, Option, Some, None, option_and_then, option_map, if◌then◌else◌}
 use Rattle.std.specs.List.{prefix_len, list_all}
 use Rattle.std.specs.Char.{is_ascii_digit}
+use Rattle.std.specs.Rc.{rc_value}
+use Rattle.text_lines.specs.declared.marks.Mark.{Mark}
 use Rattle.text_lines.specs.declared.marks.Origin.{Origin}
 use Rattle.text_lines.specs.declared.marks.Marks.{Marks}
 
@@ -10,9 +12,12 @@ pub record Line : Type 0 where
   pub file : List ℕ
   pub number : ℕ
 
--- the line that an origin holds
+-- the line that an origin holds, and the one that a mark has
 abbrev pub line_in : Origin → Line
-line_in o = record { file = o.file.now; number = o.line }
+line_in o = record { file = (rc_value o.file).items; number = o.line }
+
+abbrev pub line_by : Mark → Line
+line_by m = record { file = m.file.now; number = m.line }
 
 -- the origins that marks hold
 abbrev pub origins_in : Marks → List (Option Line)

@@ -4,8 +4,10 @@
 
 pub mod laws;
 mod marks;
+mod told;
 
 pub use crate::marks::{Marks, Origin};
+pub use crate::told::{FileLine, InLine};
 use std::alloc::{AllocError, Global};
 use std::fmt;
 

@@ -3,25 +3,54 @@
 ghost use Rattle.std.specs.Prelude.{◌≡◌, ◌≤◌, ◌==◌, IfOk, MatchOption, List, None, length, map, option_map};
 ghost use Rattle.std.specs.List.{list_all, prefix_len, slice_split};
 ghost use Rattle.std.specs.Char.{is_ascii_digit};
-ghost use Rattle.text_lines.specs.Marks.{Line, after, number_after, is_inside, is_flag, name_in, name_of, name_or_none, name_by, line_of, mark_of, next, origins, origin_at, origins_in, line_in};
+ghost use Rattle.text_lines.specs.Marks.{Line, after, number_after, is_inside, is_flag, name_in, name_of, name_or_none, name_by, line_of, mark_of, next, origins, origin_at, origins_in, line_in, line_by};
+ghost use Rattle.std.specs.Rc.{rc_value};
 
+use crate::told::FileLine;
 use std::alloc::{AllocError, Global};
+use std::rc::Rc;
+use std::str::from_utf8;
 
 /// A line of a file.
-#[derive(Clone, Copy, Debug)]
-pub struct Origin<'a> {
+#[derive(Drop)]
+pub struct Origin {
+    // The name of the file, as the mark has it.
+    file: Rc<Vec<u8>>,
+    // The line, counted from 1.
+    line: u32,
+}
+
+impl Origin {
     /// The name of the file, as the mark has it.
-    pub file: &'a [u8],
+    pub fn file(&self) -> &[u8]
+        ensures { result.now ≡ (line_in self.now).file }
+    {
+        &self.file
+    }
+
     /// The line, counted from 1.
-    pub line: u32,
+    pub fn line(&self) -> u32
+        ensures { result ≡ (line_in self.now).number }
+    {
+        self.line
+    }
 }
 
 /// Where the lines of a text come from, by the marks in it: a comment `# 12 "file"` or `#line 12
 /// "file"` says that the line after it is line 12 of that file.
-#[derive(Debug, Drop)]
-pub struct Marks<'a> {
+#[derive(Drop)]
+pub struct Marks {
     // Where each line comes from.
-    origins: Vec<Option<Origin<'a>>>,
+    origins: Vec<Option<Origin>>,
+    // Whether those that have more than blanks and a comment come from several files.
+    is_several: bool,
+}
+
+// A mark: the line and the name that it has, which may be none.
+#[derive(Clone, Copy)]
+struct Mark<'a> {
+    file: &'a [u8],
+    line: u32,
 }
 
 // What comes after these bytes, where a text begins with them.
@@ -126,9 +155,9 @@ fn name_by(text: &[u8], is_owed: bool) -> Option<&[u8]>
 }
 
 // A number and the name after it.
-fn line_of(text: &[u8], is_owed: bool) -> Option<Origin<'_>>
+fn line_of(text: &[u8], is_owed: bool) -> Option<Mark<'_>>
     ensures { MatchOption result (line_of is_owed text.now ≡ None)
-        (λ mark. line_of is_owed text.now ≡ Some (line_in mark)) }
+        (λ mark. line_of is_owed text.now ≡ Some (line_by mark)) }
 {
     let digits = digits_in(text);
     if digits == 0 {
@@ -136,7 +165,7 @@ fn line_of(text: &[u8], is_owed: bool) -> Option<Origin<'_>>
     }
     let (number, rest) = text.split_at(digits);
     let file = name_by(rest, is_owed)?;
-    Some(Origin {
+    Some(Mark {
         file,
         line: number_of(number),
     })
@@ -144,9 +173,9 @@ fn line_of(text: &[u8], is_owed: bool) -> Option<Origin<'_>>
 
 // What a line says where it is a mark: where the line after it comes from. No name is that of the
 // mark before it.
-fn mark_of(text: &[u8]) -> Option<Origin<'_>>
+fn mark_of(text: &[u8]) -> Option<Mark<'_>>
     ensures { MatchOption result (mark_of text.now ≡ None)
-        (λ mark. mark_of text.now ≡ Some (line_in mark)) }
+        (λ mark. mark_of text.now ≡ Some (line_by mark)) }
 {
     match after(b"#line ", text) {
         Some(words) => line_of(words, false),
@@ -155,56 +184,100 @@ fn mark_of(text: &[u8]) -> Option<Origin<'_>>
 }
 
 // Where the line after a line comes from that comes from here.
-fn next<'a>(here: Option<Origin<'a>>, text: &'a [u8]) -> Option<Origin<'a>>
-    ensures { option_map line_in result ≡ next (option_map line_in here.entry) text.now }
+fn next(alloc: Global, here: &Option<Origin>, text: &[u8]) -> Result<Option<Origin>, AllocError>
+    ensures { IfOk result (λ it.
+        option_map line_in it ≡ next (option_map line_in here.now) text.now) }
 {
     let (file, line) = match (mark_of(text), here) {
-        (Some(mark), Some(here)) if mark.file.is_empty() => (here.file, mark.line),
-        (Some(mark), None) if mark.file.is_empty() => return None,
-        (Some(mark), _) => (mark.file, mark.line),
-        (None, here) => (here?.file, here?.line.saturating_add(1)),
+        (Some(mark), _) if !mark.file.is_empty() => (named(alloc, mark.file)?, mark.line),
+        (Some(mark), Some(here)) => (here.file.clone()?, mark.line),
+        (None, Some(here)) => (here.file.clone()?, here.line.saturating_add(1)),
+        (_, None) => return Ok(None),
     };
-    Some(Origin { file, line })
+    Ok(Some(Origin { file, line }))
 }
 
-impl<'a> Marks<'a> {
+// A name that lines share.
+fn named(alloc: Global, name: &[u8]) -> Result<Rc<Vec<u8>>, AllocError>
+    ensures { IfOk result (λ file. (rc_value file).items ≡ name.now) }
+{
+    Ok(Rc::new(alloc, Vec::from_slice(alloc, name)?)?)
+}
+
+// Whether the lines of a text that have more than blanks and a comment come from several files.
+fn is_several(origins: &[Option<Origin>], text: &[u8]) -> bool {
+    let mut first = None;
+    for (line, origin) in text.split(|byte| *byte == b'\n').zip(origins) {
+        let code = line.trim_ascii();
+        if !code.is_empty() && !code.starts_with(b"#") {
+            let file = origin.as_ref().map(|origin| origin.file());
+            if first.is_some_and(|first| first != file) {
+                return true;
+            }
+            first = Some(file);
+        }
+    }
+    false
+}
+
+impl Marks {
     /// The marks of a text.
     ///
     /// # Errors
     ///
     /// `AllocError` where memory runs out.
-    pub fn new(alloc: Global, text: &'a [u8]) -> Result<Marks<'a>, AllocError>
+    pub fn new(alloc: Global, text: &[u8]) -> Result<Marks, AllocError>
         ensures { IfOk result (λ marks. origins_in marks
             ≡ origins None (slice_split (λ b. b == 10) text.now)) }
     {
         let mut origins = Vec::new(alloc);
         let mut here = None;
         for line in text.split(|byte| *byte == b'\n') {
+            let after = next(alloc, &here, line)?;
             origins.push(here)?;
-            here = next(here, line);
+            here = after;
         }
-        Ok(Marks { origins })
-    }
-
-    /// Where each line comes from, if a mark comes before it.
-    pub fn origins(&self) -> &[Option<Origin<'a>>]
-        ensures { result.now ≡ self.now.origins.items }
-    {
-        &self.origins
+        let is_several = is_several(origins.as_slice(), text);
+        Ok(Marks {
+            origins,
+            is_several,
+        })
     }
 
     /// Where a line comes from, counted from 1, if a mark comes before it.
-    pub fn origin(&self, line: u32) -> Option<Origin<'a>>
-        ensures { option_map line_in result ≡ origin_at (origins_in self.now) line }
+    pub fn origin(&self, line: u32) -> Option<&Origin>
+        ensures { option_map (λ o. line_in o.now) result ≡ origin_at (origins_in self.now) line }
     {
         if line == 0 {
             return None;
         }
         let at = line as usize - 1;
         if at < self.origins.len() {
-            self.origins[at]
+            self.origins[at].as_ref()
         } else {
             None
         }
+    }
+
+    /// A line of the text that was read from this file, as it is told: that of the mark where one
+    /// comes before it.
+    pub fn told<'a>(&'a self, read: &'a str, line: u32) -> FileLine<'a> {
+        let (file, line) = match self.origin(line) {
+            Some(origin) => (shown(origin.file()), origin.line),
+            None => (read, line),
+        };
+        FileLine {
+            file,
+            line,
+            is_named: self.is_several,
+        }
+    }
+}
+
+// A name as it is told: of one that isn't to be printed, a question mark.
+fn shown(name: &[u8]) -> &str {
+    match from_utf8(name) {
+        Ok(name) if !name.chars().any(char::is_control) => name,
+        _ => "?",
     }
 }

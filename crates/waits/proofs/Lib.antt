@@ -6,4 +6,3 @@ pub mod EndersListed
 pub mod PathsAhead
 pub mod Sets
 pub mod WaitsTold
-pub mod Pushed

@@ -6,7 +6,7 @@ use Rattle.lint.specs.declared.paths.Watch.TheVariants.{Nothing}
 use Rattle.waits.specs.declared.fate.Fate.{Fate}
 use Rattle.waits.specs.Fates.{IsFate}
 use Rattle.waits.specs.inner.Taking.{fate_by}
-use Rattle.waits.proofs.Pushed.{one_longer}
+use Rattle.explain.proofs.Pushed.{one_longer}
 use Rattle.waits.proofs.PathsAhead.{fates_more, fate_by_marks}
 use Rattle.waits.proofs.fate.ahead_from.Goals as goal
 

@@ -1,5 +1,5 @@
 use Rattle.std.proofs.Common.{◌≡◌, ◌∙◌, List, length, sym, subst, ap}
-use Rattle.waits.proofs.Pushed.{written_back}
+use Rattle.explain.proofs.Pushed.{written_back}
 use Rattle.waits.specs.declared.fate.Fate.{Fate}
 use Rattle.waits.specs.Fates.{Fates}
 use Rattle.waits.specs.inner.Taking.{AreFates}

@@ -10,15 +10,14 @@ loop-line-preserved c = record {
       c.loop-line.origins.items _ c.loop-line.invariant.so_far c.loop-line.invariant.here
       c.in_ok-push.ensures.items;
   here = next_origin (λ x. x.now) c.loop-line.yielded c.in-Some.line c.loop-line.here _
-      c.loop-line.invariant.here c.next-here.ensures;
+      c.loop-line.invariant.here c.in_ok-after.ensures;
 }
 
--- all lines
-all_read : (c : goal.In-None) → map (λ x. x.now) c.loop-line.yielded ≡ lines c.args.text.now
-all_read c = ended c.loop-line.yielded _ c.loop-line.yielded_by _ _ c.in-None.is
+-- all lines were read
+pub returns : goal.returns
+returns c = let all : map (λ x. x.now) c.loop-line.yielded ≡ lines c.args.text.now =
+    ended c.loop-line.yielded _ c.loop-line.yielded_by _ _ c.in-None.is
     c.next.ensures.steps (yields_lines _ c.into_iter-line-iterator.ensures.into_iter_gives
     c.split-line-items.ensures.rest c.split-line-items.ensures.done
     c.split-line-items.ensures.closure (λ x r q k. search (rules, tests)))
-
-pub returns : goal.returns
-returns c = rw (all_read c) at c.loop-line.invariant.so_far
+    in rw all at c.loop-line.invariant.so_far

@@ -1,0 +1,45 @@
+//! Lines as they are told.
+
+use std::fmt;
+
+/// A line of a file: `12`, or `worker.inc:12` where the name is told.
+#[derive(Clone, Copy)]
+pub struct FileLine<'a> {
+    /// The name of the file.
+    pub file: &'a str,
+    /// The line, counted from 1.
+    pub line: u32,
+    /// Whether the name is told: where a text comes from several files.
+    pub is_named: bool,
+}
+
+impl FileLine<'_> {
+    /// The same with the name of the file.
+    pub fn named(self) -> Self {
+        FileLine {
+            file: self.file,
+            line: self.line,
+            is_named: true,
+        }
+    }
+}
+
+impl fmt::Display for FileLine<'_> {
+    fn fmt<W: fmt::Write>(&self, f: &mut fmt::Formatter<W>) -> fmt::Result {
+        if self.is_named {
+            write!(f, "{}:", self.file)?;
+        }
+        write!(f, "{}", self.line)
+    }
+}
+
+/// The same in a sentence: `line 12`, or `worker.inc:12`.
+#[derive(Clone, Copy)]
+pub struct InLine<'a>(pub FileLine<'a>);
+
+impl fmt::Display for InLine<'_> {
+    fn fmt<W: fmt::Write>(&self, f: &mut fmt::Formatter<W>) -> fmt::Result {
+        let word = if self.0.is_named { "" } else { "line " };
+        write!(f, "{word}{}", self.0)
+    }
+}
