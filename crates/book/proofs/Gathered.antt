@@ -1,24 +1,86 @@
--- Walks that were gathered, settled one after another.
+-- Walks that are gathered one after another, and settled at once.
 use Rattle.std.proofs.Common.{◌≡◌, ℕ, ◌<◌, zero, suc, List, [], ◌∷◌, ◌++◌, length, flat_map, Some, slice_get}
 use Rattle.std.proofs.Common.{refl, ap, ◌∙◌, sym, subst, arith, append_assoc, All}
-use Rattle.std.proofs.Common.{false, not, ◌&&◌}
+use Rattle.std.proofs.Common.{true, false, not, ◌&&◌}
 use Rattle.std.specs.List.{remove}
 use Rattle.std.proofs.lemmas.List.{append-nil}
 use Rattle.std.proofs.lemmas.List.Edits.{remove-append_left}
 use Rattle.std.proofs.lemmas.List.Elements.{All-nil, All-cons}
+use Rattle.std.proofs.lemmas.Grind.{flat_map-append}
 use Rattle.guest_code.specs.Program.{Program}
-use Rattle.summary.specs.Summaries.{SummaryView, nothing, join}
+use Rattle.summary.specs.Summaries.{SummaryView, IsSummary, nothing, join}
 use Rattle.summary.proofs.SumsJoin.{join_assoc, join_nothing}
-use Rattle.items.specs.Items.{ItemView, AreOf}
+use Rattle.items.specs.Items.{ItemView, AreOf, root_of}
 use Rattle.items.specs.declared.mode.Mode.{Mode}
 use Rattle.walk.specs.declared.found.Found.{Found}
-use Rattle.items.specs.Walks.{WalkView, listed_if}
+use Rattle.items.specs.Walks.{WalkView, IsWalked, items_at, listed_if}
+use Rattle.walk.specs.Founds.{HasAdded}
 use Rattle.items.proofs.Listed.{listed_none, listed_both, listed_twice}
-use Rattle.book.specs.Books.{BookView, Keeps, IsOpenAt, AreOpenAt, AreWalksAt, HaveFound}
+use Rattle.items.proofs.Splits.{split_kept}
+use Rattle.book.specs.Books.{BookView, Keeps, KeepsWhere, with_deferred, IsOpenAt, AreOpenAt, AreWalksAt, HaveFound}
 use Rattle.book.specs.Books.{HaveSettled, settled, taken_in, remove_each, joined}
 use Rattle.book.proofs.PackedItems.{got-left}
-use Rattle.book.proofs.Rounds.{finished_kept}
 use Rattle.book.proofs.Thinned.{settles_any}
+
+-- gathered one after another
+
+pub walks_more : (mode : Mode) (items : List ItemView) (ks : List ℕ) (ws : List WalkView) (k : ℕ)
+    (w : WalkView) → AreWalksAt mode items ks ws → w.mode ≡ mode → slice_get items k ≡ Some w.item →
+    IsWalked w → AreWalksAt mode items (ks ++ k ∷ []) (ws ++ w ∷ [])
+walks_more mode items [] [] k w h m at walked = (m, at, walked, tt)
+walks_more mode items [] (x ∷ ws) k w h m at walked = absurd h
+walks_more mode items (j ∷ ks) [] k w h m at walked = absurd h
+walks_more mode items (j ∷ ks) (x ∷ ws) k w h m at walked =
+    (h.0, h.1, h.2, walks_more mode items ks ws k w h.3 m at walked)
+
+pub joined_more : (s : SummaryView) (ws : List WalkView) (w : WalkView) →
+    joined s (ws ++ w ∷ []) ≡ join (joined s ws) w.part
+joined_more s [] w = refl
+joined_more s (x ∷ ws) w = joined_more (join s x.part) ws w
+
+pub flat_more : (f : WalkView → List ItemView) (ws : List WalkView) (w : WalkView) →
+    flat_map f (ws ++ w ∷ []) ≡ flat_map f ws ++ f w
+flat_more f ws w =
+    flat_map-append f ws (w ∷ []) ∙ ap (λ xs. flat_map f ws ++ xs) (append-nil (f w))
+
+abbrev pub none_found : (p : Program) (mode : Mode) (items : List ItemView) (f : Found) →
+    f.part ≡ nothing → f.rest.items ≡ [] → f.deferred ≡ [] → HaveFound p mode items [] f
+none_found p mode items f part rest deferred = record {
+  walks = [];
+  of = tt;
+  part = part;
+  rest = rest;
+  deferred = ap (items_at p) deferred ∙ sym (listed_none f.lists);
+}
+
+abbrev pub one_more_found : (p : Program) (mode : Mode) (items : List ItemView) (places : List ℕ)
+    (place quota : ℕ) (i : ItemView) (f g : Found) → HaveFound p mode items places f →
+    slice_get items place ≡ Some i → i.program ≡ p → HasAdded mode i quota f g →
+    HaveFound p mode items (places ++ place ∷ []) g
+one_more_found p mode items places place quota i f g h at of a = record {
+  walks = h.walks ++ a.walk ∷ [];
+  of = walks_more mode items places h.walks place a.walk h.of a.in_mode
+      (at ∙ ap (λ j. Some j) (sym a.of)) a.walked;
+  part = a.part ∙ (ap (λ s. join s a.walk.part) h.part ∙ sym (joined_more nothing h.walks a.walk));
+  rest = a.rest ∙ (ap (λ xs. xs ++ a.walk.rest) h.rest
+      ∙ sym (flat_more (λ w. w.rest) h.walks a.walk));
+  deferred = subst (λ (q : Program). items_at q g.deferred
+      ≡ items_at q f.deferred ++ listed_if f.lists a.walk.deferred) of a.deferred
+      ∙ (ap (λ xs. xs ++ listed_if f.lists a.walk.deferred) h.deferred
+      ∙ (listed_both f.lists (flat_map (λ w. w.deferred) h.walks) a.walk.deferred
+      ∙ (λ k. listed_if (sym a.lists k) (sym (flat_more (λ w. w.deferred) h.walks a.walk) k))));
+}
+
+-- settled at once
+
+-- what is finished is a summary
+pub finished_kept : (b : BookView) → Keeps b → IsSummary b.finished
+finished_kept b h = go b.dropped h.split
+  where
+    go : (d : _) → KeepsWhere d (with_deferred b h.put) → IsSummary b.finished
+    go true t =
+        split_kept b.mode (root_of b.program) b.finished (t.gone ++ b.open_items) h.put t.split
+    go false s = split_kept b.mode (root_of b.program) b.finished b.open_items h.put s
 
 got_within : {X : Type 0} (xs : List X) (k : ℕ) (x : X) → slice_get xs k ≡ Some x → k < length xs
 got_within [] k x e = cc

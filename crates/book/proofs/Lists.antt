@@ -39,25 +39,6 @@ dropped_at [] k x h e = absurd (omega arith)
 dropped_at (y ∷ ys) zero x h e = λ j. (let f : y ≡ x = cc in f) j ∷ ys
 dropped_at (y ∷ ys) (suc k) x h e = dropped_at ys k x (omega arith) e
 
-pub got_behind : {X : Type 0} (xs ys : List X) (k : ℕ) (x : X) → k ≤ length xs →
-    slice_get (take k xs ++ x ∷ ys) k ≡ Some x
-got_behind xs ys zero x h = refl
-got_behind [] ys (suc k) x h = absurd (omega arith)
-got_behind (z ∷ xs) ys (suc k) x h = got_behind xs ys k x (omega arith)
-
-pub removed_behind : {X : Type 0} (xs ys : List X) (k : ℕ) (x : X) → k ≤ length xs →
-    remove (take k xs ++ x ∷ ys) k ≡ take k xs ++ ys
-removed_behind xs ys zero x h = refl
-removed_behind [] ys (suc k) x h = absurd (omega arith)
-removed_behind (z ∷ xs) ys (suc k) x h = ap (λ zs. z ∷ zs) (removed_behind xs ys k x (omega arith))
-
-pub length_behind : {X : Type 0} (xs ys : List X) (k : ℕ) (x : X) → k ≤ length xs →
-    k < length (take k xs ++ x ∷ ys)
-length_behind xs ys zero x h = omega arith
-length_behind [] ys (suc k) x h = absurd (omega arith)
-length_behind (z ∷ xs) ys (suc k) x h = let l = length_behind xs ys k x (omega arith) in
-    omega (arith, l)
-
 -- a range taken out of a list that more elements precede
 pub range_right : {X : Type 0} (xs ys : List X) (first end : ℕ) → length xs ≤ first → first ≤ end →
     xs ++ remove_range ys (first - length xs) (end - length xs)
@@ -165,21 +146,6 @@ each_same {X} xs first (k ∷ ks) a h =
           ∙ ap (remove_range xs first) e)),
     )
 
-pub range_out : {X : Type 0} (xs : List X) (first end most : ℕ) → first ≤ end → end ≤ length xs →
-    end - first ≤ most →
-    AreWithin xs (take (end - first) (replicate most first))
-    × (remove_each xs (take (end - first) (replicate most first)) ≡ remove_range xs first end)
-range_out xs first end most from to few =
-    let n : length (take (end - first) (replicate most first)) ≡ end - first =
-    length-take-le (end - first) (replicate most first)
-    (let m = length-replicate most first in omega (arith, m, few)) in
-    let over : first + length (take (end - first) (replicate most first)) ≡ end =
-    omega (arith, n, from) in
-    let r = each_same xs first (take (end - first) (replicate most first))
-    (All-take (λ k. k ≡ first) (end - first) (replicate most first)
-    (All-replicate (λ k. k ≡ first) most first refl)) (omega (arith, over, to)) in
-    (r.0, r.1 ∙ ap (remove_range xs first) over)
-
 -- what is left begins with some elements, and goes on as the list does after the last place
 pub record IsBehind {X : Type 0} (xs left : List X) (least behind count : ℕ) : Type 0 where
   pub front : List X
@@ -198,7 +164,7 @@ behind_first xs least behind h l =
       from = omega (arith, n, l);
     }
 
-at_front : {X : Type 0} (front ys : List X) (x : X) (k : ℕ) → k ≡ length front →
+pub at_front : {X : Type 0} (front ys : List X) (x : X) (k : ℕ) → k ≡ length front →
     (k < length (front ++ x ∷ ys)) × (slice_get (front ++ x ∷ ys) k ≡ Some x)
     × (remove (front ++ x ∷ ys) k ≡ front ++ ys)
 at_front [] ys x zero e = (omega arith, refl, refl)

@@ -48,20 +48,22 @@ pub deferred_run : (b : BookView) (l : ListView) → b.deferred ≡ all_of b.pro
 deferred_run b l e h =
     all_left IsItem (items_at b.program l.packed) l.unpacked (subst (All IsItem) e (waiting_run b h))
 
+pub open_of : (b : BookView) → Keeps b → AreOf b.program b.open_items
+open_of b h =
+    All-weaker (IsBelow (root_of b.program)) (λ i. i.program ≡ b.program) (λ i g. g.program)
+    b.open_items
+    (all_left (IsBelow (root_of b.program)) b.open_items b.deferred (left_below b h))
+
 pub unpacked_own : (b : BookView) (l : ListView) → b.open_items ≡ all_of b.program l → Keeps b →
     AreOf b.program l.unpacked
 unpacked_own b l e h =
-    All-weaker (IsBelow (root_of b.program)) (λ i. i.program ≡ b.program) (λ i g. g.program) l.unpacked
-    (all_right (IsBelow (root_of b.program)) (items_at b.program l.packed) l.unpacked
-    (subst (All (IsBelow (root_of b.program))) e
-    (all_left (IsBelow (root_of b.program)) b.open_items b.deferred (left_below b h))))
+    all_right (λ i. i.program ≡ b.program) (items_at b.program l.packed) l.unpacked
+    (subst (AreOf b.program) e (open_of b h))
 
 -- an open item is of the book's program
 pub open_own : (b : BookView) → Keeps b → (k : ℕ) (i : ItemView) → k < length b.open_items →
     slice_get b.open_items k ≡ Some i → b.program ≡ i.program
 open_own b h k i lt at =
-    let below : IsBelow (root_of b.program) (get_or b.open_items k i) =
-    all_left (IsBelow (root_of b.program)) b.open_items b.deferred (left_below b h) k i lt in
     let there : Some (get_or b.open_items k i) ≡ Some i = sym (got-or b.open_items k i lt) ∙ at in
     let same : get_or b.open_items k i ≡ i = cc in
-    sym (subst (λ (x : ItemView). x.program ≡ b.program) same below.program)
+    sym (subst (λ (x : ItemView). x.program ≡ b.program) same (open_of b h k i lt))

@@ -1,104 +1,69 @@
--- The items of a round, walked one after another and settled at once.
-use Rattle.std.proofs.Common.{◌≡◌, ℕ, zero, suc, ◌+◌, ◌-◌, ◌<◌, ◌≤◌, min, true, false, List, [], ◌∷◌, ◌++◌}
-use Rattle.std.proofs.Common.{length, take, drop, Some, slice_get, ap, ◌∙◌, sym, arith, subst}
-use Rattle.std.proofs.Common.{append_assoc, replicate}
-use Rattle.std.specs.List.{remove, remove_range}
-use Rattle.std.proofs.lemmas.List.{append-nil}
-use Rattle.guest_code.specs.Program.{Program}
-use Rattle.summary.specs.Summaries.{SummaryView, IsSummary, nothing, join}
-use Rattle.summary.proofs.SumsJoin.{join_assoc, join_nothing}
-use Rattle.items.specs.Items.{ItemView, root_of}
+-- The items of a round, walked one after another where they stand.
+use Rattle.std.proofs.Common.{◌≡◌, ℕ, zero, suc, ◌+◌, ◌-◌, ◌<◌, ◌≤◌, min, Bool, true, false, not, ◌&&◌, List, [], ◌∷◌, ◌++◌}
+use Rattle.std.proofs.Common.{length, take, drop, Some, slice_get, ap, ◌∙◌, sym, arith, subst, refl}
+use Rattle.std.proofs.Common.{append_assoc, replicate, All, length-drop}
+use Rattle.std.proofs.lemmas.List.{take-append-drop, length-take-le}
+use Rattle.std.proofs.lemmas.List.Elements.{All-nil, All-cons, All-head, All-tail}
+use Rattle.summary.specs.Summaries.{SummaryView, nothing, join}
+use Rattle.items.specs.Items.{ItemView}
+use Rattle.items.specs.Walks.{WalkView}
 use Rattle.walk.specs.declared.found.Found.{Found}
-use Rattle.items.specs.Walks.{items_at, listed_if}
 use Rattle.walk.specs.Founds.{HasAdded}
-use Rattle.items.proofs.Listed.{listed_none, listed_more}
-use Rattle.items.proofs.Splits.{split_kept}
-use Rattle.book.specs.Books.{BookView, Keeps, KeepsWhere, with_deferred, IsOpenAt, HasWalkedAt, HaveWalked}
-use Rattle.book.specs.Books.{HasWalkedRound, taken_over, AreWithin, remove_each}
+use Rattle.book.specs.Books.{BookView, Keeps, IsOpenAt, AreOpenAt, AreWithin, AreWalksAt, HaveFound, IsWithinQuota}
+use Rattle.book.specs.Books.{HasWalkedRound, places_from, remove_each, taken_in}
 use Rattle.book.specs.declared.limits.TheConstants.{ROUND}
-use Rattle.book.proofs.Lists.{range_out, dropped_at, got_behind, removed_behind, length_behind, none_out}
-use Rattle.book.proofs.OpenItems.{open_own}
-use Rattle.book.proofs.Thinned.{settles_any}
+use Rattle.book.proofs.Gathered.{none_found, one_more_found, settled_together}
+use Rattle.book.proofs.Lists.{at_front, open_within}
+use Rattle.book.proofs.OpenItems.{open_of, open_own}
 
--- what is finished is a summary
-pub finished_kept : (b : BookView) → Keeps b → IsSummary b.finished
-finished_kept b h = go b.dropped h.split
-  where
-    go : (d : _) → KeepsWhere d (with_deferred b h.put) → IsSummary b.finished
-    go true t =
-        split_kept b.mode (root_of b.program) b.finished (t.gone ++ b.open_items) h.put t.split
-    go false s = split_kept b.mode (root_of b.program) b.finished b.open_items h.put s
+-- walks of so many open items from a place on, each up to a quota, found this
+pub record IsFoundFrom (b : BookView) (first n quota : ℕ) (f : Found) : Type 0 where
+  pub found : HaveFound b.program b.mode b.open_items (places_from first n) f
+  pub within : All (IsWithinQuota quota) found.walks
 
--- before the first walk nothing is to be settled
-pub none_walked : (b : BookView) (first : ℕ) (f : Found) → Keeps b → f.part ≡ nothing →
-    f.rest.items ≡ [] → f.deferred ≡ [] → taken_over b first first f ≡ b
-none_walked b first f h part rest deferred = λ k. record b {
-  finished = (ap (join b.finished) part ∙ join_nothing b.finished (finished_kept b h)) k;
-  open_items = ((λ j. none_out b.open_items first j ++ rest j) ∙ append-nil b.open_items) k;
-  deferred = (ap (λ (ps : List (List ℕ)). b.deferred ++ listed_if b.lists (items_at b.program ps))
-      deferred
-      ∙ (ap (λ ds. b.deferred ++ ds) (listed_none b.lists) ∙ append-nil b.deferred)) k;
+one_place_more : (first n : ℕ) → places_from first n ++ (first + n) ∷ [] ≡ places_from first (suc n)
+one_place_more first zero = λ k. (let e : first + 0 ≡ first = omega arith in e) k ∷ []
+one_place_more first (suc n) =
+    ap (λ ks. first ∷ ks)
+    ((λ k. places_from (suc first) n
+    ++ (let e : first + suc n ≡ suc first + n = omega arith in e) k ∷ [])
+    ∙ one_place_more (suc first) n)
+
+within_more : (quota : ℕ) (ws : List WalkView) (w : WalkView) → All (IsWithinQuota quota) ws →
+    IsWithinQuota quota w → All (IsWithinQuota quota) (ws ++ w ∷ [])
+within_more quota [] w h l = All-cons (IsWithinQuota quota) w [] l (All-nil (IsWithinQuota quota))
+within_more quota (x ∷ ws) w h l =
+    All-cons (IsWithinQuota quota) x (ws ++ w ∷ []) (All-head (IsWithinQuota quota) x ws h)
+    (within_more quota ws w (All-tail (IsWithinQuota quota) x ws h) l)
+
+pub round_begins : (b : BookView) (first n quota : ℕ) (f : Found) → n ≡ 0 → f.part ≡ nothing →
+    f.rest.items ≡ [] → f.deferred ≡ [] → IsFoundFrom b first n quota f
+round_begins b first (suc n) quota f none part rest deferred = absurd (omega (arith, none))
+round_begins b first zero quota f none part rest deferred = record {
+  found = none_found b.program b.mode b.open_items f part rest deferred;
+  within = All-nil (IsWithinQuota quota);
 }
 
--- the next item of a round stands where the first one stood, once those before it are settled
-pub next_walked : (b : BookView) (i : ItemView) (first place quota : ℕ) (f g : Found) →
-    first ≤ place → IsOpenAt b i place → b.program ≡ i.program → f.lists ≡ b.lists →
-    HasAdded b.mode i quota f g →
-    HasWalkedAt (taken_over b first place f) first quota (taken_over b first (suc place) g)
-next_walked b i first place quota f g from at of lists h = record {
-  walk = h.walk;
-  of = (sym h.in_mode, of ∙ ap (λ (j : ItemView). j.program) (sym h.of));
-  is_open = (
-    subst (λ (xs : List ItemView). first < length xs) (sym open_is)
-        (length_behind b.open_items behind first i few),
-    ap (λ (xs : List ItemView). slice_get xs first) open_is
-        ∙ (got_behind b.open_items behind first i few ∙ ap (λ j. Some j) (sym h.of)),
-  );
-  walked = h.walked;
-  tried = h.few;
-  rest = h.all;
-  book = λ k. record b { finished = finished k; open_items = open_items k; deferred = deferred k };
-}
+pub round_goes_on : (b : BookView) (i : ItemView) (first place quota : ℕ) (f g : Found) →
+    first ≤ place → IsOpenAt b i place → b.program ≡ i.program → HasAdded b.mode i quota f g →
+    IsFoundFrom b first (place - first) quota f → IsFoundFrom b first (place + 1 - first) quota g
+round_goes_on b i first place quota f g from at of h before =
+    let there : first + (place - first) ≡ place = omega (arith, from) in
+    let count : suc (place - first) ≡ place + 1 - first = omega (arith, from) in
+    let more = one_more_found b.program b.mode b.open_items (places_from first (place - first))
+    (first + (place - first)) quota i f g before.found
+    (ap (slice_get b.open_items) there ∙ at.1) (sym of) h in
+    let at_all = found_at (one_place_more first (place - first)) more
+    (within_more quota before.found.walks h.walk before.within
+    (record { tried = h.few; rest = h.all })) in
+    subst (λ n. IsFoundFrom b first n quota g) count
+    (record { found = at_all.0; within = at_all.1 })
   where
-    few : first ≤ length b.open_items
-    few = let l = at.0 in omega (arith, l, from)
-
-    after : List ItemView
-    after = drop (suc place) b.open_items
-
-    behind : List ItemView
-    behind = after ++ f.rest.items
-
-    open_is : (taken_over b first place f).open_items ≡ take first b.open_items ++ i ∷ behind
-    open_is = ap (λ xs. (take first b.open_items ++ xs) ++ f.rest.items)
-        (dropped_at b.open_items place i at.0 at.1)
-        ∙ append_assoc (take first b.open_items) (i ∷ after) f.rest.items
-
-    finished : join b.finished g.part ≡ join (join b.finished f.part) h.walk.part
-    finished = ap (join b.finished) h.part ∙ sym (join_assoc b.finished f.part h.walk.part)
-
-    open_items : (taken_over b first (suc place) g).open_items
-        ≡ remove (taken_over b first place f).open_items first ++ h.walk.rest
-    open_items = append_assoc (take first b.open_items) after g.rest.items
-        ∙ (ap (λ xs. take first b.open_items ++ xs) (ap (λ xs. after ++ xs) h.rest
-        ∙ sym (append_assoc after f.rest.items h.walk.rest))
-        ∙ (sym (append_assoc (take first b.open_items) behind h.walk.rest)
-        ∙ sym (ap (λ xs. xs ++ h.walk.rest) (ap (λ xs. remove xs first) open_is
-        ∙ removed_behind b.open_items behind first i few))))
-
-    added : items_at b.program g.deferred
-        ≡ items_at b.program f.deferred ++ listed_if b.lists h.walk.deferred
-    added = subst (λ (p : Program). items_at p g.deferred
-        ≡ items_at p f.deferred ++ listed_if b.lists h.walk.deferred) (sym of)
-        (h.deferred ∙ ap (λ l. items_at i.program f.deferred ++ listed_if l h.walk.deferred) lists)
-
-    deferred : b.deferred ++ listed_if b.lists (items_at b.program g.deferred)
-        ≡ (b.deferred ++ listed_if b.lists (items_at b.program f.deferred))
-        ++ listed_if b.lists h.walk.deferred
-    deferred = ap (λ xs. b.deferred ++ xs) (ap (listed_if b.lists) added
-        ∙ listed_more b.lists (items_at b.program f.deferred) h.walk.deferred)
-        ∙ sym (append_assoc b.deferred (listed_if b.lists (items_at b.program f.deferred))
-        (listed_if b.lists h.walk.deferred))
+    found_at : {ks js : List ℕ} → ks ≡ js → (h : HaveFound b.program b.mode b.open_items ks g) →
+        All (IsWithinQuota quota) h.walks →
+        (h : HaveFound b.program b.mode b.open_items js g) × All (IsWithinQuota quota) h.walks
+    found_at {ks} {js} e h a = subst (λ js. (h : HaveFound b.program b.mode b.open_items js g)
+        × All (IsWithinQuota quota) h.walks) e (h, a)
 
 -- an item of a list that is the open items is an open one, of the book's program
 pub open_at : (b : BookView) (items : List ItemView) (end place : ℕ) (i : ItemView) → Keeps b →
@@ -116,23 +81,87 @@ pub at_end : (first place end : ℕ) → first ≡ end - ROUND → (first ≤ en
 at_end first place end start most over =
     let m = most (omega (arith, start)) in omega (arith, m, over)
 
--- its places are open ones, and this is left without them
-pub round_out : (items is : List ItemView) (first end : ℕ) → first ≡ end - ROUND →
-    end ≡ length is → items ≡ is → AreWithin items (take (end - first) (replicate ROUND first))
-    × (remove_each items (take (end - first) (replicate ROUND first))
-    ≡ remove_range items first end)
-round_out items is first end start count same =
-    range_out items first end ROUND (omega (arith, start)) (omega (arith, count, ap length same))
-    (omega (arith, start))
+-- the items from a place on stand there one after another, each at that place without those before
+open_from : (whole front ys : List ItemView) (n k first : ℕ) → k ≡ length whole →
+    first ≡ length front → n ≤ length ys →
+    AreOpenAt (front ++ ys) (whole ++ ys) (places_from k n) (replicate n first)
+open_from whole front ys zero k first e f few = tt
+open_from whole front [] (suc n) k first e f few = absurd (omega (arith, few))
+open_from whole front (y ∷ ys) (suc n) k first e f few =
+    let here = at_front front ys y first f in
+    let there = at_front whole ys y k e in
+    let longer : suc k ≡ length (whole ++ y ∷ []) = longer_by whole y k e in
+    let later = open_from (whole ++ y ∷ []) front ys n (suc k) first longer f
+    (omega (arith, few)) in (
+      here.0,
+      there.1 ∙ sym here.1,
+      subst (λ xs. AreOpenAt xs (whole ++ y ∷ ys) (places_from (suc k) n) (replicate n first))
+          (sym here.2)
+          (subst (λ xs. AreOpenAt (front ++ ys) xs (places_from (suc k) n) (replicate n first))
+          (append_assoc whole (y ∷ []) ys) later),
+    )
+  where
+    longer_by : (xs : List ItemView) (x : ItemView) (n : ℕ) → n ≡ length xs →
+        suc n ≡ length (xs ++ x ∷ [])
+    longer_by [] x n e = omega (arith, e)
+    longer_by (z ∷ xs) x zero e = absurd (omega (arith, e))
+    longer_by (z ∷ xs) x (suc n) e = let l = longer_by xs x n (omega (arith, e)) in omega (arith, l)
 
--- so the book keeps what it does
-pub walked_kept : (n : ℕ) (old : BookView) (place quota : ℕ) (new : BookView) → Keeps old →
-    HaveWalked n old place quota new → Keeps new
-walked_kept zero old place quota new h same = subst Keeps (sym same) h
-walked_kept (suc n) old place quota new h (between, before, w) =
-    subst Keeps (sym w.book)
-    (settles_any between w.walk place (walked_kept n old place quota between h before) w.walked w.of
-    w.is_open)
+taken_of : (n most k : ℕ) → n ≤ most → take n (replicate most k) ≡ replicate n k
+taken_of zero most k h = refl
+taken_of (suc n) zero k h = absurd (omega (arith, h))
+taken_of (suc n) (suc most) k h = ap (λ ks. k ∷ ks) (taken_of n most k (omega (arith, h)))
+
+pub round_stands : (xs : List ItemView) (first end : ℕ) → first ≡ end - ROUND → end ≡ length xs →
+    AreOpenAt xs xs (places_from first (end - first)) (take (end - first) (replicate ROUND first))
+round_stands xs first end start count =
+    let n = length-take-le first xs (omega (arith, start, count)) in
+    let l = length-drop first xs in
+    subst (λ ys. AreOpenAt ys ys (places_from first (end - first))
+    (take (end - first) (replicate ROUND first))) (take-append-drop first xs)
+    (subst (AreOpenAt (take first xs ++ drop first xs) (take first xs ++ drop first xs)
+    (places_from first (end - first)))
+    (sym (taken_of (end - first) ROUND first (omega (arith, start))))
+    (open_from (take first xs) (take first xs) (drop first xs) (end - first) first first
+    (sym n) (sym n) (omega (arith, l, count))))
+
+both_list : (lists listed : Bool) → listed ≡ lists → (lists && not listed) ≡ false
+both_list true listed e = ap not e
+both_list false listed e = refl
+
+-- where its last item was walked, all is settled at once
+pub round_settles : (b : BookView) (first end place quota : ℕ) (f : Found) → Keeps b →
+    first ≡ end - ROUND → end ≡ length b.open_items → place ≡ end → f.lists ≡ b.lists →
+    IsFoundFrom b first (place - first) quota f →
+    AreWithin b.open_items (take (end - first) (replicate ROUND first))
+    × Keeps (taken_in b (remove_each b.open_items (take (end - first) (replicate ROUND first))) f)
+    × HasWalkedRound b quota
+    (taken_in b (remove_each b.open_items (take (end - first) (replicate ROUND first))) f)
+round_settles b first end place quota f h start all over lists found =
+    let few : end - (end - 64) ≡ min end 64 = grind arith in
+    let count : place - first ≡ min (length b.open_items) ROUND =
+    (let e : place - first ≡ min end ROUND = omega (arith, few, start, over) in e)
+    ∙ ap (λ n. min n ROUND) all in
+    let from : first ≡ length b.open_items - ROUND = start ∙ ap (λ n. n - ROUND) all in
+    let ks : List ℕ = places_from first (end - first) in
+    let qs : List ℕ = take (end - first) (replicate ROUND first) in
+    let walked : IsFoundFrom b first (end - first) quota f =
+    subst (λ n. IsFoundFrom b first (n - first) quota f) over found in
+    let stand : AreOpenAt b.open_items b.open_items ks qs =
+    round_stands b.open_items first end start all in
+    let r = settled_together b.open_items ks qs f b (open_of b h) h stand
+    (both_list b.lists f.lists lists) walked.found in (
+      open_within b.open_items b.open_items ks qs stand,
+      r.1,
+      record {
+        walks = walked.found.walks;
+        of = subst (λ js. AreWalksAt b.mode b.open_items js walked.found.walks)
+            ((λ k. places_from (from k) ((ap (λ n. n - first) (sym over) ∙ count) k)))
+            walked.found.of;
+        within = walked.within;
+        settled = r.0;
+      },
+    )
 
 -- at most the quota was tried more than before
 pub added_tried : (mode : _) (i : ItemView) (quota : ℕ) (f g : Found) → HasAdded mode i quota f g →
@@ -145,36 +174,3 @@ added_tried mode i quota f g h =
   where
     least : (a g n : ℕ) → a ≤ n → min a g ≤ n
     least a g n h = grind (arith, h)
-
--- so the round goes on
-pub round_goes_on : (old b : BookView) (i : ItemView) (first place quota : ℕ) (f g : Found) →
-    b ≡ old → first ≤ place → IsOpenAt b i place → b.program ≡ i.program → f.lists ≡ b.lists →
-    HasAdded b.mode i quota f g →
-    HaveWalked (place - first) old first quota (taken_over old first place f) →
-    HaveWalked (place + 1 - first) old first quota (taken_over old first (place + 1) g)
-round_goes_on old b i first place quota f g same from at of lists h before =
-    let count : suc (place - first) ≡ place + 1 - first = omega (arith, from) in
-    let after : suc place ≡ place + 1 = omega arith in
-    subst (λ n. HaveWalked n old first quota (taken_over old first (place + 1) g)) count
-    (subst (λ n. HaveWalked (suc (place - first)) old first quota (taken_over old first n g)) after (
-      taken_over old first place f,
-      before,
-      subst (λ (z : BookView). HasWalkedAt (taken_over z first place f) first quota
-          (taken_over z first (suc place) g)) same
-          (next_walked b i first place quota f g from at of lists h),
-    ))
-
--- and where its last item was walked, all is settled at once
-pub round_settled : (old b new : BookView) (first end place quota : ℕ) (f : Found) → b ≡ old →
-    end ≡ length old.open_items → first ≡ end - ROUND → place ≡ end →
-    HaveWalked (place - first) old first quota (taken_over old first place f) →
-    new ≡ taken_over b first end f → HasWalkedRound old quota new
-round_settled old b new first end place quota f same all start over h is =
-    let n : ℕ = length old.open_items in
-    let most : n - (n - 64) ≡ min n 64 = grind arith in
-    let count : place - first ≡ min n ROUND = omega (arith, most, all, start, over) in
-    let from : first ≡ n - ROUND = omega (arith, all, start) in
-    subst (HaveWalked (min n ROUND) old (n - ROUND) quota)
-    ((λ k. taken_over (sym same k) first (over k) f) ∙ sym is)
-    (subst (λ m. HaveWalked m old (n - ROUND) quota (taken_over old first place f)) count
-    (subst (λ m. HaveWalked (place - first) old m quota (taken_over old first place f)) from h))

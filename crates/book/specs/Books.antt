@@ -143,36 +143,6 @@ pub record Settles (old : BookView) (w : WalkView) (new : BookView) : Type 0 whe
   pub is_open : IsOpenAt old w.item place
   pub book : new ≡ settled old w place
 
--- the open item at this place was walked up to a quota, and the walk was settled
-pub record HasWalkedAt (old : BookView) (place quota : ℕ) (new : BookView) : Type 0 where
-  pub walk : WalkView
-  pub of : IsWalkOf old walk
-  pub is_open : IsOpenAt old walk.item place
-  pub walked : IsWalked walk
-  pub tried : walk.part.tried ≤ quota
-  pub rest : walk.part.tried < quota → walk.rest ≡ []
-  pub book : new ≡ settled old walk place
-
--- so it was, this many times in turn
-abbrev pub HaveWalked : ℕ → BookView → ℕ → ℕ → BookView → Type 0
-HaveWalked zero old place quota new = new ≡ old
-HaveWalked (suc n) old place quota new =
-    (between : BookView) × HaveWalked n old place quota between
-    × HasWalkedAt between place quota new
-
--- the last open items, at most as many as a round has, were walked in their order, and the walks
--- were settled
-abbrev pub HasWalkedRound : BookView → ℕ → BookView → Type 0
-HasWalkedRound old quota new =
-    HaveWalked (min (length old.open_items) ROUND) old (length old.open_items - ROUND) quota new
-
--- a walk of the open item at this place, in the book's mode, found this
-pub record IsFoundAt (b : BookView) (found : Found) (place : ℕ) : Type 0 where
-  pub item : ItemView
-  pub program : b.program ≡ item.program
-  pub is_open : IsOpenAt b item place
-  pub walked : IsWalked (found_walk b.mode item found)
-
 -- the book where what walks found is settled, and these are left of the open items
 abbrev pub taken_in : BookView → List ItemView → Found → BookView
 taken_in b left found = record b {
@@ -180,10 +150,6 @@ taken_in b left found = record b {
   open_items = left ++ found.rest.items;
   deferred = b.deferred ++ listed_if b.lists (items_at b.program found.deferred);
 }
-
--- so where the walks are of the open items in a range of places
-abbrev pub taken_over : BookView → ℕ → ℕ → Found → BookView
-taken_over b first end found = taken_in b (remove_range b.open_items first end) found
 
 -- the list without the elements at these places, each counted in what those before it leave
 abbrev pub remove_each : {X : Type 0} → List X → List ℕ → List X
@@ -239,6 +205,25 @@ abbrev pub HaveSettled : BookView → List WalkView → BookView → Type 0
 HaveSettled old [] new = new ≡ old
 HaveSettled old (w ∷ ws) new =
     (between : BookView) × Settles old w between × HaveSettled between ws new
+
+-- so many places from one on
+abbrev pub places_from : ℕ → ℕ → List ℕ
+places_from first zero = []
+places_from first (suc n) = first ∷ places_from (suc first) n
+
+-- a walk tried at most as many schedules as this, and left nothing where it tried fewer
+pub record IsWithinQuota (quota : ℕ) (w : WalkView) : Type 0 where
+  pub tried : w.part.tried ≤ quota
+  pub rest : w.part.tried < quota → w.rest ≡ []
+
+-- the last open items, at most as many as a round has, were walked in their order, each up to a
+-- quota, and the walks were settled
+pub record HasWalkedRound (old : BookView) (quota : ℕ) (new : BookView) : Type 0 where
+  pub walks : List WalkView
+  pub of : AreWalksAt old.mode old.open_items
+      (places_from (length old.open_items - ROUND) (min (length old.open_items) ROUND)) walks
+  pub within : All (IsWithinQuota quota) walks
+  pub settled : HaveSettled old walks new
 
 -- why walks of the items at these places of a list aren't settled together: what they put off is
 -- wanted and wasn't listed, or the items aren't open one after another

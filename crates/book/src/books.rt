@@ -6,11 +6,10 @@ ghost use Rattle.std.specs.List.{remove};
 ghost use Rattle.items.specs.declared.limits.TheConstants.{BOUND};
 ghost use Rattle.items.specs.declared.mode.Mode.TheVariants.{Bounded};
 ghost use Rattle.items.specs.Items.{whole, AreOf};
-ghost use Rattle.items.specs.Walks.{IsWalked, listed_if};
-ghost use Rattle.walk.specs.Founds.{found_walk};
+ghost use Rattle.items.specs.Walks.{listed_if};
 ghost use Rattle.book.specs.declared.limits.TheConstants.{ROUND};
 ghost use Rattle.summary.specs.Summaries.{IsBoundedBy};
-ghost use Rattle.book.specs.Books.{Keeps, drops, thinned, opening, IsFoundAt, HasWalkedRound, HaveFound, HaveSettled, AreNotTaken, taken_in, remove_each, AreWithin, Settles, IsRefused, Raises, IsNotRaised, IsClosed, bound_of, made_last};
+ghost use Rattle.book.specs.Books.{Keeps, drops, thinned, opening, HasWalkedRound, HaveFound, HaveSettled, AreNotTaken, taken_in, remove_each, AreWithin, Settles, IsRefused, Raises, IsNotRaised, IsClosed, bound_of, made_last};
 
 use crate::errors::{RaiseError, SettleError};
 use crate::item_list::{ItemList, is_later};
@@ -333,54 +332,13 @@ impl Book {
             return Err(SettleError::Stranger);
         }
         let (item, mut found) = walked.into_parts();
-        self.settle_found(alloc, &item, &mut found)
-    }
-
-    /// Settles what a walk of an item in the book's mode found, where the item is known to be of
-    /// the book's program: no program is compared, and nothing is moved. The memory of what was
-    /// found serves a later walk.
-    ///
-    /// # Errors
-    ///
-    /// As those of `settle`, but for `Stranger`. Book and what was found are as before then, so
-    /// what was found of an item that is open can be settled later.
-    pub fn settle_found(
-        &mut self,
-        alloc: Global,
-        item: &Item,
-        found: &mut Found,
-    ) -> Result<(), SettleError>
-        requires program { self.old.program ≡ item.now.program }
-        requires walked { IsWalked (found_walk self.old.mode item.now found.old) }
-        ensures ok { let w = found_walk self.old.mode item.now found.old in
-            OnOk result (Settles self.old w self.new) }
-        ensures err { let w = found_walk self.old.mode item.now found.old in
-            IfErr result (λ e. (self.new ≡ self.old) × IsRefused self.old w e) }
-        ensures found { OnErr result (found.new ≡ found.old) }
-    {
-        let Some(place) = self.open_items.place_of(item) else {
+        let Some(place) = self.open_items.place_of(&item) else {
             return Err(SettleError::NotOpen);
         };
-        match self.settle_at(alloc, found, place) {
+        match self.take_over(alloc, &mut found, place, &[place]) {
             Ok(()) => Ok(()),
             Err(AllocError) => Err(SettleError::OutOfMemory),
         }
-    }
-
-    // Settles what a walk of the open item at a place found.
-    fn settle_at(
-        &mut self,
-        alloc: Global,
-        found: &mut Found,
-        place: usize,
-    ) -> Result<(), AllocError>
-        requires { IsFoundAt self.old found.old place }
-        ensures book { self.new ≡ (if is_ok result
-            then taken_in self.old (remove self.old.open_items place) found.old else self.old) }
-        ensures found { OnErr result (found.new ≡ found.old) }
-    {
-        let _open = self.open_length();
-        self.take_over(alloc, found, place, &[place])
     }
 
     /// Settles at once what walks of items of the book's last round found, in its mode and one

@@ -133,7 +133,7 @@ impl ItemList {
         ensures none { IfNone result
             (All (λ i. i ≡ item.now → ⊥) (all_of item.now.program self.now)) }
     {
-        match find(&self.unpacked, self.hint, item) {
+        match find_behind(&self.unpacked, 0, item) {
             Some(place) => Some(self.packed.length() + place),
             None => self.packed_place_of(item),
         }
@@ -379,7 +379,9 @@ impl ItemList {
         ensures number { result ≡
             count_by (λ i. is_later schedule.now i.prefix) self.old.unpacked }
     {
-        drop_later(&mut self.unpacked, schedule)
+        let number = drop_later(&mut self.unpacked, schedule);
+        self.hint = self.hint.saturating_sub(number as usize);
+        number
     }
 }
 
@@ -414,21 +416,6 @@ fn push_copies(
     Ok(())
 }
 
-// Where an item stands among others of its program: looked for from this place on, and else in the
-// places before it from the last one on.
-fn find(items: &VecDeque<Item>, first: usize, item: &Item) -> Option<usize>
-    requires { AreOf item.now.program items.now.items }
-    ensures some { IfSome result (λ k.
-        (k < length items.now.items) × (slice_get items.now.items k ≡ Some item.now)) }
-    ensures none { IfNone result (All (λ i. i ≡ item.now → ⊥) items.now.items) }
-{
-    let start = first.min(items.len());
-    match find_behind(items, start, item) {
-        Some(place) => Some(place),
-        None => find_before(items, start, item),
-    }
-}
-
 // The first place from a place on where an item stands among others of its program.
 fn find_behind(items: &VecDeque<Item>, start: usize, item: &Item) -> Option<usize>
     requires { AreOf item.now.program items.now.items }
@@ -440,25 +427,6 @@ fn find_behind(items: &VecDeque<Item>, start: usize, item: &Item) -> Option<usiz
         slice_index_or items.now.items j d ≡ item.now → ⊥) }
 {
     for place in start..items.len() {
-        if is_at(items, place, item) {
-            return Some(place);
-        }
-    }
-    None
-}
-
-// Where an item stands among others of its program before a place.
-fn find_before(items: &VecDeque<Item>, end: usize, item: &Item) -> Option<usize>
-    requires program { AreOf item.now.program items.now.items }
-    requires end { end ≤ length items.now.items }
-    ensures some { IfSome result (λ k.
-        (k < length items.now.items) × (slice_get items.now.items k ≡ Some item.now)) }
-    ensures none { IfNone result ((j : ℕ) (d : ItemView) → j < end →
-        slice_index_or items.now.items j d ≡ item.now → ⊥) }
-{
-    let mut place = end;
-    while 0 < place {
-        place -= 1;
         if is_at(items, place, item) {
             return Some(place);
         }

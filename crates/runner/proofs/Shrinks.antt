@@ -1,22 +1,25 @@
 -- A settled walk leaves less to walk.
 use Rattle.std.proofs.Common.{◌≡◌, ℕ, zero, suc, min, Bool, true, false, cond, not, ◌||◌, ◌+◌, ◌-◌, ◌*◌, ◌^◌, ◌<◌, ◌≤◌}
 use Rattle.std.proofs.Common.{◌⊎◌, inl, inr, ⊎_elim, List, [], ◌∷◌, ◌++◌, length, get_or, take, drop}
-use Rattle.std.proofs.Common.{refl, ap, sym, ◌∙◌, subst, arith, Ok, length-append, length-drop}
+use Rattle.std.proofs.Common.{refl, ap, sym, ◌∙◌, subst, arith, Ok, Some, slice_get, length-append, length-drop}
 use Rattle.std.specs.List.{All, remove, filter, list_any}
 use Rattle.std.proofs.lemmas.Bool.{cases_lt}
 use Rattle.std.proofs.lemmas.List.{get_or-drop, nil_from_length}
-use Rattle.std.proofs.lemmas.List.Elements.{All-nil, All-cons, All-weaker}
+use Rattle.std.proofs.lemmas.List.Elements.{All-nil, All-cons, All-head, All-tail, All-weaker}
 use mathlib.Core.Logic.{dite}
 use native.Mathlib.Decide.{ℕ_discrete}
 use Rattle.guest_code.specs.Program.{Program}
 use Rattle.items.specs.declared.mode.Mode.{Mode}
-use Rattle.summary.specs.Summaries.{cut}
+use Rattle.summary.specs.Summaries.{cut, nothing}
+use Rattle.walk.specs.declared.found.Found.{Found}
+use Rattle.walk.specs.Founds.{HasAdded}
 use Rattle.items.specs.Items.{ItemView, schedule_count, schedules_of}
 use Rattle.items.specs.Walks.{WalkView, IsWalked, tried_by}
 use Rattle.items.proofs.WalkedItems.{walked_counts, walked_count}
-use Rattle.book.specs.Books.{BookView, Settles, HasWalkedAt, HaveWalked, HasWalkedRound}
-use Rattle.book.specs.Books.{drops, thinned}
+use Rattle.book.specs.Books.{BookView, Settles, AreWalksAt, HaveFound, HaveSettled, StandInOrder}
+use Rattle.book.specs.Books.{IsWithinQuota, HasWalkedRound, places_from, drops, thinned}
 use Rattle.book.specs.declared.limits.TheConstants.{ROUND}
+use Rattle.book.proofs.Gathered.{none_found, one_more_found}
 use Rattle.book.proofs.DroppedCounts.{nothing_dropped}
 use Rattle.book.proofs.Lists.{parted}
 use Rattle.runner.specs.inner.Shrinking.{IsSmaller, HasLess, Went, Goes}
@@ -52,7 +55,7 @@ smaller mode a b rest i tried e ends =
     fewer (inr some) t lx ly lz = absurd (omega (arith, some, t))
 
 -- a walk with a quota leaves no rest where it tried fewer
-pub walk_ends : (w : WalkView) (quota : ℕ) → 1 ≤ quota → IsWalked w
+walk_ends : (w : WalkView) (quota : ℕ) → 1 ≤ quota → IsWalked w
     → (w.part.tried < quota → w.rest ≡ []) → (w.rest ≡ []) ⊎ (0 < length (tried_by w))
 walk_ends w quota some h ends = elim (cases_lt 0 w.part.tried) [
   | inl l ↦ inr (let t = walked_count w h in tried_some (length (tried_by w)) w.part.tried l t)
@@ -62,7 +65,7 @@ walk_ends w quota some h ends = elim (cases_lt 0 w.part.tried) [
     tried_some : (n tried : ℕ) → 0 < tried → tried ≡ cut n → 0 < n
     tried_some n tried l e = omega (arith, l, e)
 
-pub settled_less : (old new : BookView) (w : WalkView) → Settles old w new → IsWalked w
+settled_less : (old new : BookView) (w : WalkView) → Settles old w new → IsWalked w
     → (w.rest ≡ []) ⊎ (0 < length (tried_by w)) → HasLess old new
 settled_less old new w s walk ends =
     let is = parted old.open_items s.place w.item s.is_open.0 s.is_open.1 in
@@ -81,14 +84,6 @@ settled_less old new w s walk ends =
           (smaller w.mode before after w.rest w.item (length (tried_by w))
           (walked_counts w walk) ends)));
     }
-
--- an open item was walked where it stands
-pub walked_less : (old new : BookView) (place quota : ℕ) → 1 ≤ quota
-    → HasWalkedAt old place quota new → HasLess old new
-walked_less old new place quota some h =
-    settled_less old new h.walk
-    (record { of = h.of; place = place; is_open = h.is_open; book = h.book }) h.walked
-    (walk_ends h.walk quota some h.walked h.rest)
 
 smaller_again : (mode : Mode) (a b c : List ItemView) → IsSmaller mode b a → IsSmaller mode c b
     → IsSmaller mode c a
@@ -118,28 +113,77 @@ round_less old book new item j start less went k inside at = dite (ℕ_discrete 
     (λ n. let l : HasLess old book = less (omega arith) in
     ⊎_elim (λ q. less_again old book new l q) (λ t. subst (HasLess old) (sym t.book) l) went)
 
--- the first n + 1 items of a round were walked
-walked_on : (n : ℕ) (old new : BookView) (place quota : ℕ) → 1 ≤ quota
-    → HaveWalked (suc n) old place quota new → HasLess old new
-walked_on zero old new place quota some (between, before, walked) =
-    subst (λ (b : BookView). HasLess b new) before (walked_less between new place quota some walked)
-walked_on (suc n) old new place quota some (between, before, walked) =
-    less_again old between new (walked_on n old between place quota some before)
-    (walked_less between new place quota some walked)
+-- walks up to a quota were settled
+walks_less : (mode : Mode) (items : List ItemView) (ks : List ℕ) (ws : List WalkView) (quota : ℕ)
+    (old new : BookView) → 1 ≤ quota → AreWalksAt mode items ks ws
+    → All (IsWithinQuota quota) ws → HaveSettled old ws new
+    → HasLess old new ⊎ ((new ≡ old) × (ks ≡ []))
+walks_less mode items [] [] quota old new some of all h = inr (h, refl)
+walks_less mode items [] (w ∷ ws) quota old new some of all h = absurd of
+walks_less mode items (k ∷ ks) [] quota old new some of all h = absurd of
+walks_less mode items (k ∷ ks) (w ∷ ws) quota old new some of all (between, settles, h) =
+    let within = All-head (IsWithinQuota quota) w ws all in
+    let first : HasLess old between =
+    settled_less old between w settles of.2 (walk_ends w quota some of.2 within.rest) in
+    ⊎_elim (λ l. inl (less_again old between new first l))
+    (λ e. inl (subst (HasLess old) (sym e.0) first))
+    (walks_less mode items ks ws quota between new some of.3
+    (All-tail (IsWithinQuota quota) w ws all) h)
 
 -- all items of a round were walked
 pub round_walked : (old new : BookView) (quota : ℕ) → 1 ≤ quota → HasWalkedRound old quota new
     → Goes old new
-round_walked old new quota some h = go (min (length old.open_items) ROUND) refl h
+round_walked old new quota some h =
+    let n : ℕ = length old.open_items in
+    ⊎_elim (λ l. inl l)
+    (λ e. inr (e.0, nil_from_length old.open_items (none n (no_places (n - ROUND) (min n ROUND) e.1))))
+    (walks_less old.mode old.open_items (places_from (n - ROUND) (min n ROUND)) h.walks quota old new
+    some h.of h.within h.settled)
   where
-    go : (n : ℕ) → n ≡ min (length old.open_items) ROUND
-        → HaveWalked n old (length old.open_items - ROUND) quota new → Goes old new
-    go zero is h = inr (h, nil_from_length old.open_items (none (length old.open_items) is))
-      where
-        none : (k : ℕ) → 0 ≡ min k 64 → k ≡ 0
-        none k e = grind (arith, e)
-    go (suc n) is h =
-        inl (walked_on n old new (length old.open_items - ROUND) quota some h)
+    no_places : (first n : ℕ) → places_from first n ≡ [] → n ≡ 0
+    no_places first zero e = refl
+    no_places first (suc n) e = cc
+
+    none : (k : ℕ) → min k 64 ≡ 0 → k ≡ 0
+    none k e = grind (arith, e)
+
+-- one walk found this
+pub one_found : (b : BookView) (item : ItemView) (items : List ItemView) (quota : ℕ) (f g : Found)
+    → item.program ≡ b.program → items ≡ item ∷ [] → f.part ≡ nothing → f.rest.items ≡ []
+    → f.deferred ≡ [] → HasAdded b.mode item quota f g
+    → (h : HaveFound b.program b.mode items (0 ∷ []) g) × All (IsWithinQuota quota) h.walks
+one_found b item items quota f g of is part rest deferred added =
+    subst (λ (xs : List ItemView). (h : HaveFound b.program b.mode xs (0 ∷ []) g)
+    × All (IsWithinQuota quota) h.walks) (sym is) (
+      one_more_found b.program b.mode (item ∷ []) [] 0 quota item f g
+          (none_found b.program b.mode (item ∷ []) f part rest deferred) refl of added,
+      All-cons (IsWithinQuota quota) added.walk []
+          (record { tried = added.few; rest = added.all }) (All-nil (IsWithinQuota quota)),
+    )
+
+-- and was settled
+pub one_settled : (old new : BookView) (items : List ItemView) (quota : ℕ) (g : Found)
+    → 1 ≤ quota → (h : HaveFound old.program old.mode items (0 ∷ []) g)
+    → All (IsWithinQuota quota) h.walks → HaveSettled old h.walks new → HasLess old new
+one_settled old new items quota g some h within settled =
+    ⊎_elim (λ l. l) (λ e. absurd (some_place 0 [] e.1))
+    (walks_less old.mode items (0 ∷ []) h.walks quota old new some h.of within settled)
+  where
+    some_place : (k : ℕ) (ks : List ℕ) → k ∷ ks ≡ [] → ⊥
+    some_place k ks e = cc
+
+none_stand : (xs items : List ItemView) → StandInOrder xs items []
+none_stand [] items = tt
+none_stand (x ∷ xs) items = tt
+
+-- or its item isn't open
+pub not_open : (xs items : List ItemView) (item : ItemView) → items ≡ item ∷ []
+    → (StandInOrder xs items (0 ∷ []) → ⊥) → All (λ i. i ≡ item → ⊥) xs
+not_open [] items item is never = All-nil (λ i. i ≡ item → ⊥)
+not_open (x ∷ xs) items item is never =
+    All-cons (λ i. i ≡ item → ⊥) x xs
+    (λ e. never (inl (ap (λ ys. slice_get ys 0) is ∙ ap (λ i. Some i) (sym e), none_stand xs items)))
+    (not_open xs items item is (λ s. never (inr s)))
 
 -- an item of the last ones is at a place among all
 pub last_at : (open_items items : List ItemView) (first j : ℕ) (item : ItemView)

@@ -9,13 +9,14 @@ ghost use Rattle.runner.specs.inner.Shrinking.{Went, Goes};
 
 use crate::judge::{Decision, Stage, begin_bound, judge};
 use book::books::Book;
-use book::errors::{RaiseError, SettleError};
+use book::errors::RaiseError;
 use book::progress::Progress;
 use guest_code::program::Program;
 use items::item::Item;
 use items::mode::Mode;
 use report::{ExploreError, Options, Report, Search};
 use std::alloc::Global;
+use std::slice;
 use std::sync::Arc;
 use walk::found::Found;
 use walk::walker::Walker;
@@ -81,17 +82,14 @@ impl Lone {
             let _number = book.drop_later();
             return Ok(());
         }
+        self.walker.clear(&mut self.found, book.lists());
         self.walker
-            .walk_into(alloc, &mut self.found, item, book.mode(), quota)?;
-        match book.settle_found(alloc, item, &mut self.found) {
-            Ok(()) => {
-                let _number = book.drop_later();
-                Ok(())
-            }
-            Err(SettleError::OutOfMemory) => Err(ExploreError::OutOfMemory),
-            Err(SettleError::NotOpen) => Ok(()),
-            Err(SettleError::Stranger) => unreachable!(),
+            .walk_on(alloc, &mut self.found, item, book.mode(), quota)?;
+        if !book.settle_all(alloc, slice::from_ref(item), &[0], &mut self.found)? {
+            return Ok(());
         }
+        let _dropped = book.drop_later();
+        Ok(())
     }
 
     // Walks copies of the items of a round in their order: some items may be dropped in between.
@@ -107,7 +105,6 @@ impl Lone {
         ensures book { OnOk result (Goes book.old book.new) }
         ensures error { IfErr result (λ e. e ≡ OutOfMemory) }
     {
-        let _open = book.open_length();
         let mut items = Vec::new(alloc);
         book.next_round(alloc, &mut items)?;
         for item in &items {

@@ -49,62 +49,6 @@ impl Walker {
         Ok(Walker { program, path })
     }
 
-    /// Tries the first `quota` schedules of an item of the walker's program in a mode, or all where
-    /// there are fewer, and leaves the others; see [`walk`].
-    ///
-    /// # Errors
-    ///
-    /// `AllocError` where memory runs out. The walker can be used again then.
-    pub fn walk(
-        &mut self,
-        alloc: Global,
-        item: &Item,
-        mode: Mode,
-        quota: u32,
-    ) -> Result<Walked, AllocError>
-        requires program { item.now.program ≡ self.old }
-        requires quota { 1 ≤ quota }
-        ensures program { self.new ≡ self.old }
-        ensures item { IfOk result (λ w. w.item ≡ item.now) }
-        ensures mode { IfOk result (λ w. w.mode ≡ mode) }
-        ensures tried { IfOk result (λ w. w.part.tried ≤ quota) }
-        ensures rest { IfOk result (λ w. w.part.tried < quota → w.rest ≡ []) }
-        ensures past { IfOk result (λ w.
-            IsPastBound mode item.now → w ≡ walk_past_bound mode item.now) }
-        ensures walked { IfOk result IsWalked }
-    {
-        let mut found = Found::new(alloc);
-        self.walk_into(alloc, &mut found, item, mode, quota)?;
-        Ok(Walked::new(mode, item.try_clone(alloc)?, found))
-    }
-
-    /// Walks an item as [`Walker::walk`] does, for a caller that has the item: what is found takes
-    /// the place of what another walk found, in its memory, and no item is copied.
-    ///
-    /// # Errors
-    ///
-    /// `AllocError` where memory runs out. The walker and the memory can be used again then.
-    pub fn walk_into(
-        &mut self,
-        alloc: Global,
-        found: &mut Found,
-        item: &Item,
-        mode: Mode,
-        quota: u32,
-    ) -> Result<(), AllocError>
-        requires program { item.now.program ≡ self.old }
-        requires quota { 1 ≤ quota }
-        ensures program { self.new ≡ self.old }
-        ensures tried { OnOk result (found.new.part.tried ≤ quota) }
-        ensures rest { OnOk result (found.new.part.tried < quota → found.new.rest.items ≡ []) }
-        ensures past { OnOk result (IsPastBound mode item.now →
-            found_walk mode item.now found.new ≡ walk_past_bound mode item.now) }
-        ensures walked { OnOk result (IsWalked (found_walk mode item.now found.new)) }
-    {
-        self.clear(found, true);
-        self.walk_on(alloc, found, item, mode, quota)
-    }
-
     /// Forgets what walks found. Its memory serves other walks, of which what they put off is to be
     /// listed or not.
     pub fn clear(&mut self, found: &mut Found, lists: bool)
@@ -117,8 +61,9 @@ impl Walker {
         found.clear(&mut self.path.ends, lists);
     }
 
-    /// Walks an item as [`Walker::walk_into`] does, and adds what is found to what other walks
-    /// found. The schedules that those tried and the quota are fewer than the greatest count
+    /// Tries the first `quota` schedules of an item of the walker's program in a mode, or all where
+    /// there are fewer, leaves the others, and adds what is found to what other walks found; see
+    /// [`walk`]. The schedules that those tried and the quota are fewer than the greatest count
     /// together.
     ///
     /// # Errors

@@ -1,3 +1,2 @@
-pub mod RoundItems
 pub mod Teams
 pub mod Kept

@@ -1,17 +1,19 @@
 //! Books that are known to be of one search.
 
-ghost use Rattle.std.specs.Prelude.{◌≡◌, ◌-◌, ◌↔◌, true, false, Ok, OnOk, IsTrue, length, drop};
+ghost use Rattle.std.specs.Prelude.{◌≡◌, ◌-◌, ◌⊎◌, ◌↔◌, [], OnOk, OnErr, IsTrue, length, drop};
 ghost use Rattle.items.specs.Items.{AreOf};
 ghost use Rattle.book.specs.declared.limits.TheConstants.{ROUND};
 ghost use Rattle.book.specs.Books.{HaveFound, HaveSettled, AreNotTaken, thinned};
 ghost use Rattle.workers.specs.Teams.{IsOf};
-ghost use Rattle.workers.specs.inner.Rounds.{GoesOn};
+ghost use Rattle.workers.specs.declared.round.Round.{Round};
+ghost use Rattle.workers.specs.inner.Rounds.{IsRoundOf, AreKept, GoesOn};
 
+use crate::batch::Batch;
+use crate::round::Round;
 use book::books::Book;
 use items::item::Item;
 use std::alloc::{AllocError, Global};
 use std::marker::{Brand, Model, PhantomData};
-use walk::found::Found;
 
 /// Which search a book is of. Each stretch of rounds picks it.
 pub(crate) trait SearchBrand {
@@ -94,30 +96,36 @@ impl<N: SearchBrand> BrandedBook<N> {
         self.book
     }
 
-    /// Settles at once what walks of items of its last round found, one after another: of those at
-    /// these places of the round. Answers whether the book took it: it doesn't only where the items
-    /// aren't open in that order, or what the walks put off isn't listed and the book lists it. The
-    /// memory of what was found serves later walks.
+    /// Settles the walks of a round that a batch keeps, all at once, and the batch keeps none then.
+    /// They are given up where their items aren't open in that order, or what they put off isn't
+    /// listed and the book lists it.
     ///
     /// # Errors
     ///
-    /// `AllocError` where memory runs out. The book is as before then.
+    /// `AllocError` where memory runs out; the walks are given up then.
     pub fn settle(
         &mut self,
         alloc: Global,
-        items: &[Item],
-        places: &[usize],
-        found: &mut Found,
-    ) -> Result<bool, AllocError>
-        requires items { AreOf N.program items.now }
-        requires walked { HaveFound N.program N.mode items.now places.now found.old }
-        ensures taken { (f : HaveFound N.program N.mode items.now places.now found.old) →
-            result ≡ Ok true → HaveSettled self.old f.walks self.new }
-        ensures not_taken { result ≡ Ok false →
-            AreNotTaken self.old items.now places.now found.old }
-        ensures same { (result ≡ Ok true → ⊥) → self.new ≡ self.old }
+        batch: &mut Batch,
+        round: &Round,
+    ) -> Result<(), AllocError>
+        requires round { IsRoundOf N.program N.mode round.now }
+        requires walker { batch.old.walker ≡ N.program }
+        requires kept { AreKept round.now batch.old }
+        ensures settled { let ks = batch.old.places.items in
+            (f : HaveFound N.program N.mode round.now.items.items ks batch.old.found) →
+            OnOk result (HaveSettled self.old f.walks self.new
+            ⊎ AreNotTaken self.old round.now.items.items ks batch.old.found) }
+        ensures refused { OnErr result (self.new ≡ self.old) }
+        ensures walker { batch.new.walker ≡ batch.old.walker }
+        ensures places { batch.new.places.items ≡ [] }
+        ensures kept { (r : Round) → AreKept r batch.new }
     {
-        self.book.settle_all(alloc, items, places, found)
+        let (items, places) = (round.items.as_slice(), batch.places.as_slice());
+        let settled = self.book.settle_all(alloc, items, places, &mut batch.found);
+        batch.forget(round.lists);
+        let _is_taken = settled?;
+        Ok(())
     }
 
     /// Goes from a round to the next where the search does so whatever the round found: some items

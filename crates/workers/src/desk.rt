@@ -1,15 +1,14 @@
 //! What the workers of a search share under a lock.
 
-ghost use Rattle.std.specs.Prelude.{◌≡◌, ◌≤◌, ◌-◌, ◌||◌, ◌⊎◌, ◌↔◌, [], true, false, if◌then◌else◌, vec_len, IfSome, OnOk, OnErr, IsTrue};
+ghost use Rattle.std.specs.Prelude.{◌≡◌, ◌≤◌, ◌-◌, ◌||◌, ◌↔◌, true, false, if◌then◌else◌, vec_len, IfSome, OnOk, OnErr, IsTrue};
 ghost use Rattle.std.specs.Option.{ForSome};
 ghost use Rattle.std.specs.Arc.{arc_value};
 ghost use Rattle.items.specs.Items.{AreOf};
-ghost use Rattle.book.specs.Books.{HaveFound, HaveSettled, AreNotTaken, thinned};
+ghost use Rattle.book.specs.Books.{thinned};
 ghost use Rattle.workers.specs.Teams.{IsOf};
 ghost use Rattle.workers.specs.declared.round.Round.{Round};
-ghost use Rattle.workers.specs.inner.Rounds.{IsRoundOf, AreKept, Follows, GoesOn};
+ghost use Rattle.workers.specs.inner.Rounds.{IsRoundOf, Follows, GoesOn};
 
-use crate::batch::Batch;
 use crate::branded::{BrandedBook, SearchBrand};
 use crate::gate::Gate;
 use crate::limits::APART;
@@ -27,7 +26,7 @@ use std::sync::Arc;
 pub(crate) struct Desk<N: SearchBrand> {
     /// What stands before it in memory is the lock, which workers try while one is at the desk.
     apart: [u64; APART],
-    book: BrandedBook<N>,
+    pub book: BrandedBook<N>,
     limit: Option<u64>,
     round: Arc<Round>,
     /// The round before, whose memory serves the next one.
@@ -141,40 +140,6 @@ impl<N: SearchBrand> Desk<N> {
         self.last = Some(mem::replace(&mut self.round, round));
         self.left = self.round.items.len();
         self.is_over = self.left == 0;
-        Ok(())
-    }
-
-    /// Settles the walks of a round that a batch keeps, all at once, and the batch keeps none then.
-    /// Where one of the items isn't open they are given up.
-    ///
-    /// # Errors
-    ///
-    /// `AllocError` where memory runs out; the walks are given up then.
-    pub fn settle(
-        &mut self,
-        alloc: Global,
-        batch: &mut Batch,
-        round: &Round,
-    ) -> Result<(), AllocError>
-        requires round { IsRoundOf N.program N.mode round.now }
-        requires walker { batch.old.walker ≡ N.program }
-        requires kept { AreKept round.now batch.old }
-        ensures settled { let ks = batch.old.places.items in
-            (f : HaveFound N.program N.mode round.now.items.items ks batch.old.found) →
-            OnOk result (HaveSettled self.old.book f.walks self.new.book
-            ⊎ AreNotTaken self.old.book round.now.items.items ks batch.old.found) }
-        ensures refused { OnErr result (self.new.book ≡ self.old.book) }
-        ensures same { (self.new.round ≡ self.old.round) × (self.new.left ≡ self.old.left)
-            × (self.new.limit ≡ self.old.limit) × (self.new.ends ≡ self.old.ends)
-            × (self.new.is_over ≡ self.old.is_over) }
-        ensures walker { batch.new.walker ≡ batch.old.walker }
-        ensures places { batch.new.places.items ≡ [] }
-        ensures kept { (r : Round) → AreKept r batch.new }
-    {
-        let (items, places) = (round.items.as_slice(), batch.places.as_slice());
-        let settled = self.book.settle(alloc, items, places, &mut batch.found);
-        batch.forget(round.lists);
-        let _is_taken = settled?;
         Ok(())
     }
 

@@ -5,12 +5,9 @@ ghost use Rattle.workers.specs.declared.limits.TheConstants.{WORKERS};
 ghost use Rattle.report.specs.declared.error.ExploreError.TheVariants.{OutOfMemory};
 ghost use Rattle.workers.specs.declared.worker.Ending.TheVariants.{Stopped};
 ghost use Rattle.workers.specs.Teams.{IsOf, IsTeam};
-ghost use Rattle.workers.specs.inner.Rounds.{IsRoundOf};
 
 use crate::batch::Batch;
 use crate::gate::{Answer, Gate};
-use crate::limits::APART;
-use crate::round::Round;
 use crate::stretch::Stretch;
 use crate::worker::Ending;
 use board::Board;
@@ -21,7 +18,7 @@ use std::alloc::{AllocError, Global};
 use std::marker::Brand;
 use std::sync::{Arc, Wait};
 use std::thread::Threads;
-use walk::walker::Walker;
+use walk::walker::walk;
 
 /// The book of a search, and a batch for each of its workers: all that is kept from one stretch of
 /// rounds to the next.
@@ -32,33 +29,34 @@ pub struct Team {
     pub(crate) batches: Vec<Batch>,
 }
 
-// Walks the items of a round in their order, as the first worker.
+// Walks a round of a book in its items' order, and settles each walk, as the first worker.
+//
+// # Errors
+//
+// `AllocError` where memory runs out.
 fn walk_in_order<G: Gate>(
     alloc: Global,
     gate: &G,
-    round: &Round,
     book: &mut Book,
-    walker: &mut Walker,
-) -> Ending
-    requires round { IsRoundOf walker.old round.now.mode round.now }
-    ensures walker { walker.new ≡ walker.old }
+    quota: u32,
+) -> Result<Ending, AllocError>
+    requires quota { 1 ≤ quota }
     ensures book { let b = book.old in
         IsOf book.new b.program b.mode b.quick b.lists }
-    ensures stopped { result ≡ Stopped → G.stops gate.now ≡ true }
+    ensures stopped { IfOk result (λ e. e ≡ Stopped → G.stops gate.now ≡ true) }
 {
-    for k in 0..round.items.len() {
+    let items = book.round(alloc)?;
+    for k in 0..items.len() {
         if gate.before(0, k as u64) == Answer::Stop {
-            return Ending::Stopped;
+            return Ok(Ending::Stopped);
         }
-        let Ok(walked) = walker.walk(alloc, &round.items[k], round.mode, round.quota) else {
-            return Ending::OutOfMemory;
-        };
+        let walked = walk(alloc, &items[k], book.mode(), quota)?;
         gate.walked(0, k as u64);
         if let Err(SettleError::OutOfMemory) = book.settle(alloc, walked) {
-            return Ending::OutOfMemory;
+            return Err(AllocError);
         }
     }
-    Ending::Drawn
+    Ok(Ending::Drawn)
 }
 
 impl Team {
@@ -73,42 +71,6 @@ impl Team {
             batches.push(Batch::new(alloc, Arc::try_clone(book.program())?)?)?;
         }
         Ok(Team { book, batches })
-    }
-
-    /// Walks a round, and settles the walks, without a board: its items in their order, as the
-    /// first worker.
-    ///
-    /// # Errors
-    ///
-    /// `AllocError` where memory for the items runs out.
-    pub fn walk_round<G: Gate>(
-        &mut self,
-        alloc: Global,
-        gate: &G,
-        quota: u32,
-    ) -> Result<Ending, AllocError>
-        requires quota { 1 ≤ quota }
-        requires team { IsTeam self.old.book.program self.old }
-        ensures book { let b = self.old.book in
-            IsOf self.new.book b.program b.mode b.quick b.lists }
-        ensures team { IsTeam self.old.book.program self.new }
-        ensures stopped { IfOk result (λ e. e ≡ Stopped → G.stops gate.now ≡ true) }
-    {
-        let _open = self.book.open_length();
-        let mut items = Vec::new(alloc);
-        self.book.next_round(alloc, &mut items)?;
-        let round = Round {
-            apart: [0; APART],
-            mode: self.book.mode(),
-            quick: self.book.is_quick(),
-            lists: self.book.lists(),
-            quota,
-            turn: 1,
-            first: 0,
-            items,
-        };
-        let walker = &mut self.batches[0].walker;
-        Ok(walk_in_order(alloc, gate, &round, &mut self.book, walker))
     }
 
     /// Walks a stretch of rounds, at least one, and settles the walks, until what follows the last
@@ -131,7 +93,7 @@ impl Team {
         ensures error { IfErr result (λ e. e ≡ OutOfMemory) }
     {
         let Ok((board, seats)) = Board::new(alloc, u32::MAX, self.batches.len() as u32) else {
-            let ending = self.walk_round(alloc, gate, options.quota)?;
+            let ending = walk_in_order(alloc, gate, &mut self.book, options.quota)?;
             return Ok((self, ending));
         };
         let stretch = Stretch::new(alloc, self, board, seats)?;

@@ -153,57 +153,10 @@ impl Worker {
         if self.drawn == 0 {
             return ending;
         }
-        match self.settle(rt, shared, round, ending.is_some()) {
+        let desk = shared.desk(rt);
+        match self.settle(shared, round, desk, ending.is_some()) {
             Ok(()) => ending,
             Err(AllocError) => Some(Ending::OutOfMemory),
-        }
-    }
-
-    // Settles the walks that it keeps of a round, once the desk is free. The stretch ends with the
-    // round or not.
-    //
-    // # Errors
-    //
-    // `AllocError` where memory runs out; the walks are given up then.
-    fn settle<N: SearchBrand, G: Gate, R: Wait>(
-        &mut self,
-        rt: &R,
-        shared: &Shared<N, G>,
-        round: &Round,
-        ends: bool,
-    ) -> Result<(), AllocError>
-        requires round { IsRoundOf N.program N.mode round.now }
-        requires on { IsOn shared.now.board.id N.program self.old }
-        requires kept { AreKept round.now self.old.batch }
-        ensures on { IsOn shared.now.board.id N.program self.new }
-        ensures kept { AreKept round.now self.new.batch }
-        ensures places { self.new.batch.places.items ≡ [] }
-    {
-        let desk = shared.desk(rt);
-        self.settle_at(shared, round, desk, ends)
-    }
-
-    // Settles the walks that it keeps of a round where the desk is free now, and does nothing where
-    // it isn't.
-    //
-    // # Errors
-    //
-    // `AllocError` where memory runs out; the walks are given up then.
-    fn settle_if_free<N: SearchBrand, G: Gate>(
-        &mut self,
-        shared: &Shared<N, G>,
-        round: &Round,
-    ) -> Result<(), AllocError>
-        requires round { IsRoundOf N.program N.mode round.now }
-        requires on { IsOn shared.now.board.id N.program self.old }
-        requires kept { AreKept round.now self.old.batch }
-        ensures on { IsOn shared.now.board.id N.program self.new }
-        ensures kept { AreKept round.now self.new.batch }
-        ensures few { vec_len self.new.batch.places ≤ vec_len self.old.batch.places }
-    {
-        match shared.desk_if_free() {
-            Some(desk) => self.settle_at(shared, round, desk, false),
-            None => Ok(()),
         }
     }
 
@@ -213,7 +166,7 @@ impl Worker {
     // # Errors
     //
     // `AllocError` where memory runs out; the walks are given up then.
-    fn settle_at<N: SearchBrand, G: Gate>(
+    fn settle<N: SearchBrand, G: Gate>(
         &mut self,
         shared: &Shared<N, G>,
         round: &Round,
@@ -228,7 +181,7 @@ impl Worker {
         ensures places { self.new.batch.places.items ≡ [] }
     {
         let drawn = mem::replace(&mut self.drawn, 0);
-        let settled = desk.settle(shared.alloc, &mut self.batch, round);
+        let settled = desk.book.settle(shared.alloc, &mut self.batch, round);
         if !desk.note_done(drawn, ends || settled.is_err()) {
             return settled;
         }
@@ -239,9 +192,28 @@ impl Worker {
         ended
     }
 
-    // Settles its walks where the last one, of this item, found a bad schedule in a quick search,
-    // and tells the other workers of the item: that is of this round alone, so the stretch ends
-    // with it. Else it settles them where it keeps as many as it may, or some and the desk is free.
+    // The desk, where the walks that it keeps of a round are to be settled: they are as many as it
+    // may keep, or the stretch ends with the round, or some are kept and the desk is free.
+    fn desk_in_time<'a, N: SearchBrand, G: Gate, R: Wait>(
+        &self,
+        rt: &R,
+        shared: &'a Shared<'_, N, G>,
+        ends: bool,
+    ) -> Option<MutexGuard<'a, Desk<N>>>
+        ensures { IfNone result (vec_len self.now.batch.places < KEPT_WALKS) }
+    {
+        if ends || self.batch.is_full() {
+            Some(shared.desk(rt))
+        } else if self.batch.is_worth_a_lock() {
+            shared.desk_if_free()
+        } else {
+            None
+        }
+    }
+
+    // Settles the walks that it keeps where that is to be done before all items are drawn. Where the
+    // last one, of this item, found a bad schedule in a quick search, it tells the other workers of
+    // the item: that is of this round alone, so the stretch ends with it.
     //
     // # Errors
     //
@@ -261,17 +233,15 @@ impl Worker {
         ensures kept { AreKept round.now self.new.batch }
         ensures room { OnOk result (vec_len self.new.batch.places < KEPT_WALKS) }
     {
-        if round.quick && is_bad {
-            self.settle(rt, shared, round, true)?;
+        let ends = round.quick && is_bad;
+        let Some(desk) = self.desk_in_time(rt, shared, ends) else {
+            return Ok(());
+        };
+        self.settle(shared, round, desk, ends)?;
+        if ends {
             self.tells_of(&shared.board, round, item);
-            Ok(())
-        } else if self.batch.is_full() {
-            self.settle(rt, shared, round, false)
-        } else if self.batch.is_worth_a_lock() {
-            self.settle_if_free(shared, round)
-        } else {
-            Ok(())
         }
+        Ok(())
     }
 
     // Draws items of a round and walks them, until all are drawn. Answers how it ended where it

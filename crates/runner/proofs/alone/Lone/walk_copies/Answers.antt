@@ -1,16 +1,15 @@
-use Rattle.std.proofs.Common.{rules, ◌∙◌, ◌+◌, ◌-◌, sym, arith, length}
-use Rattle.workers.proofs.RoundItems.{of_book}
+use Rattle.std.proofs.Common.{rules, ◌≡◌, ◌∙◌, ◌+◌, ◌-◌, ap, sym, arith, length, get_or}
+use Rattle.items.specs.Items.{ItemView}
 use Rattle.runner.proofs.Shrinks.{round_less, last_at}
 use Rattle.runner.proofs.alone.Lone.walk_copies.Goals as goal
 
 pub walk_item-requires-clause-item : goal.walk_item-requires-clause-item
 walk_item-requires-clause-item c =
-    let b = c.args.book.now in
-    let at = last_at b.open_items c.next_round.new.items.items (length b.open_items - 64)
-    c.loop-item.item-index c.item-item.result c.in_ok-next_round.ensures.items (search rules)
-    (search rules) in
-    of_book b c.open_length-open.ensures.kept _ c.item-item.result at.0 at.1
-    ∙ c.requires.book ∙ sym c.loop-item.invariant.walker
+    let i = c.item-item.result in
+    let at : i ≡ get_or c.next_round.new.items.items c.loop-item.item-index i = search rules in
+    ap (λ (x : ItemView). x.program) at
+    ∙ (c.next_round.ensures.program c.loop-item.item-index i (search rules)
+    ∙ (c.requires.book ∙ sym c.loop-item.invariant.walker))
 
 pub loop-item-preserved : goal.loop-item-preserved
 loop-item-preserved c =

@@ -1,6 +1,6 @@
 use Rattle.std.proofs.Common.{◌≡◌, ap, sym, subst, arith}
 use Rattle.book.specs.Books.{HaveFound}
-use Rattle.workers.proofs.Kept.{none_found}
+use Rattle.book.proofs.Gathered.{none_found}
 use Rattle.workers.proofs.batch.Batch.forget.Goals as goal
 
 pub returns-clause-kept : goal.returns-clause-kept

@@ -2,7 +2,7 @@ use Rattle.std.proofs.Common.{rules, ◌≡◌, ◌<◌, ◌^◌, ◌∙◌, ap,
 use Rattle.book.specs.Books.{HaveFound}
 use Rattle.book.proofs.PackedItems.{got-or}
 use Rattle.book.proofs.Rounds.{added_tried}
-use Rattle.workers.proofs.Kept.{one_more_found}
+use Rattle.book.proofs.Gathered.{one_more_found}
 use Rattle.workers.proofs.batch.Batch.walk_on.Goals as goal
 
 pub returns-clause-kept : goal.returns-clause-kept

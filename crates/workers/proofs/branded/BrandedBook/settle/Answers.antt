@@ -1,34 +1,72 @@
-use Rattle.std.proofs.Common.{sym, subst}
-use Rattle.book.specs.Books.{HaveSettled, AreNotTaken}
-use Rattle.workers.specs.Teams.{IsOf}
-use Rattle.workers.proofs.Kept.{found_in, settled_of, either_way}
+use Rattle.std.proofs.Common.{◌≡◌, ◌⊎◌, ◌∙◌, ℕ, true, false, List, Ok, inl, inr, sym, subst}
+use Rattle.items.specs.Items.{ItemView, AreOf}
+use Rattle.book.specs.Books.{BookView, HaveFound, HaveSettled, AreNotTaken}
+use Rattle.workers.proofs.Kept.{found_in, kept_of}
 use Rattle.workers.proofs.branded.BrandedBook.settle.Goals as goal
+
+pub settle_all-settled-requires-clause-program : goal.settle_all-settled-requires-clause-program
+settle_all-settled-requires-clause-program g c =
+    subst (λ q. AreOf q c.as_slice-items.result.now) (sym c.self.invariant.program)
+    (subst (AreOf g.N.SearchBrand.program) (sym c.as_slice-items.ensures.value)
+    c.requires.round.items)
+
+pub settle_all-settled-requires-clause-walked : goal.settle_all-settled-requires-clause-walked
+settle_all-settled-requires-clause-walked g c =
+    let b = c.self.inside.book in
+    let of = c.self.invariant in
+    let round = c.args.round.now in
+    let batch = c.args.batch.now in
+    found_in batch.walker b.program round.mode b.mode round.items.items c.as_slice-items.result.now
+    batch.places.items c.as_slice-places.result.now batch.found
+    (of.program ∙ sym c.requires.walker) (of.mode ∙ sym c.requires.round.mode)
+    c.as_slice-items.ensures.value c.as_slice-places.ensures.value c.requires.kept.found
 
 pub invariant_of-self : goal.invariant_of-self
 invariant_of-self g c =
-    let p = g.N.SearchBrand.program in
-    let mode = g.N.SearchBrand.mode in
-    let quick = g.N.SearchBrand.quick in
-    let lists = g.N.SearchBrand.lists in
-    let b = c.self.inside.book in
-    let new = c.settle_all.new.self in
-    let of = c.self.invariant in
-    let found = found_in p b.program mode b.mode c.args.items.now c.args.places.now c.args.found.now
-    of.program of.mode c.requires.walked in
-    either_way c.settle_all.result (IsOf new p mode quick lists)
-    (λ taken. settled_of p mode quick lists found.walks b new of (c.settle_all.ensures.taken found taken))
-    (λ kept. subst (λ z. IsOf z p mode quick lists) (sym (c.settle_all.ensures.same kept)) of)
-
-pub returns-clause-taken : goal.returns-clause-taken
-returns-clause-taken g c = λ f taken.
     let b = c.self.inside.book in
     let of = c.self.invariant in
-    subst (λ z. HaveSettled z f.walks c.settle_all.new.self) c.self.view_is
-    (c.settle_all.ensures.taken
-    (found_in g.N.SearchBrand.program b.program g.N.SearchBrand.mode b.mode c.args.items.now c.args.places.now
-    c.args.found.now of.program of.mode f) taken)
+    let round = c.args.round.now in
+    let batch = c.args.batch.now in
+    let found = found_in batch.walker b.program round.mode b.mode round.items.items
+    c.as_slice-items.result.now batch.places.items c.as_slice-places.result.now batch.found
+    (of.program ∙ sym c.requires.walker) (of.mode ∙ sym c.requires.round.mode)
+    c.as_slice-items.ensures.value c.as_slice-places.ensures.value c.requires.kept.found in
+    kept_of g.N.SearchBrand.program g.N.SearchBrand.mode g.N.SearchBrand.quick
+    g.N.SearchBrand.lists found.walks b c.settle_all-settled.new.self c.settle_all-settled.result of
+    (c.settle_all-settled.ensures.taken found) c.settle_all-settled.ensures.same
 
-pub returns-clause-not_taken : goal.returns-clause-not_taken
-returns-clause-not_taken g c = λ e.
-    subst (λ z. AreNotTaken z c.args.items.now c.args.places.now c.args.found.now) c.self.view_is
-    (c.settle_all.ensures.not_taken e)
+pub invariant_of-self-2 : goal.invariant_of-self-2
+invariant_of-self-2 g c =
+    let b = c.self.inside.book in
+    let of = c.self.invariant in
+    let round = c.args.round.now in
+    let batch = c.args.batch.now in
+    let found = found_in batch.walker b.program round.mode b.mode round.items.items
+    c.as_slice-items.result.now batch.places.items c.as_slice-places.result.now batch.found
+    (of.program ∙ sym c.requires.walker) (of.mode ∙ sym c.requires.round.mode)
+    c.as_slice-items.ensures.value c.as_slice-places.ensures.value c.requires.kept.found in
+    kept_of g.N.SearchBrand.program g.N.SearchBrand.mode g.N.SearchBrand.quick
+    g.N.SearchBrand.lists found.walks b c.settle_all-settled.new.self c.settle_all-settled.result of
+    (c.settle_all-settled.ensures.taken found) c.settle_all-settled.ensures.same
+
+pub returns-clause-settled : goal.returns-clause-settled
+returns-clause-settled g c = λ f.
+    let old = c.args.self.now in
+    let b = c.self.inside.book in
+    let of = c.self.invariant in
+    let round = c.args.round.now in
+    let batch = c.args.batch.now in
+    let again = found_in g.N.SearchBrand.program b.program g.N.SearchBrand.mode b.mode
+    round.items.items c.as_slice-items.result.now batch.places.items c.as_slice-places.result.now
+    batch.found of.program of.mode c.as_slice-items.ensures.value c.as_slice-places.ensures.value f in
+    elim c.in_ok-_is_taken._is_taken as (λ taken. c.settle_all-settled.result ≡ Ok taken
+    → HaveSettled old f.walks c.settle_all-settled.new.self
+    ⊎ AreNotTaken old round.items.items batch.places.items batch.found) [
+      | true ↦ λ e. inl (subst (λ z. HaveSettled z f.walks c.settle_all-settled.new.self)
+          c.self.view_is (c.settle_all-settled.ensures.taken again e))
+      | false ↦ λ e. inr (subst (λ z. AreNotTaken z round.items.items batch.places.items batch.found)
+          c.self.view_is (subst (λ ks. AreNotTaken b round.items.items ks batch.found)
+          c.as_slice-places.ensures.value
+          (subst (λ is. AreNotTaken b is c.as_slice-places.result.now batch.found)
+          c.as_slice-items.ensures.value (c.settle_all-settled.ensures.not_taken e))))
+    ] c.in_ok-_is_taken.was

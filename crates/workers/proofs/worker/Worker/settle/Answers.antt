@@ -1,4 +1,4 @@
-use Rattle.workers.proofs.worker.Worker.settle_at.Goals as goal
+use Rattle.workers.proofs.worker.Worker.settle.Goals as goal
 
 pub returns-then-not-note_done-clause-kept : goal.returns-then-not-note_done-clause-kept
 returns-then-not-note_done-clause-kept g c = c.settle-settled.ensures.kept c.args.round.now
