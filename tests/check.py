@@ -127,7 +127,7 @@ REFUSED = [
     ("thread A { ^let r = 1; }", 3, "syntax S3 Expected at", "= write: set LOCAL VALUE; or"),
     ("thread A { ^fail; }", 4, "syntax S3 Expected at", "= write: assert VALUE; or"),
     ("thread A { ^sleep 1; }", 5, "syntax S3 Expected at", "= leave it out: a thread may be interrupted"),
-    ("thread A { ^join B; } thread B { }", 4, "syntax S3 Expected at", "acquire a semaphore that it releases"),
+    ("thread A { ^join B; } thread B { }", 4, "syntax S3 Expected at", "acquire a semaphore that the other thread releases"),
     ("thread A { ^continue; }", 8, "syntax S3 Expected at", "`leave` leaves the nearest `repeat`"),
     ("^const x = 1; thread A { }", 5, "syntax S3 Expected at", "= write: var NAME; or"),
     ("^semaphore s = 1; thread A { }", 9, "syntax S3 Expected at", "= write: sem NAME = COUNT;\n"),
@@ -284,8 +284,9 @@ DEEP_CLEAN = [
 ]
 
 # A text with two warnings, the name of one, and comments that silence it and that don't.
-ALLOWED = [" # allow W5", "# allow W9 W5", " # allow W5 since nobody asks"]
-NOT_ALLOWED = ["", " # W5", " # allow W6", " # allow  ", " # don't allow W5", " ## allow W5"]
+ALLOWED = [" # allow W5", "# allow W9 W5", " # allow W5 since nobody asks", " #  allow\tW5\r"]
+NOT_ALLOWED = ["", " # W5", " # allow W6", " # allow  ", " # don't allow W5", " ## allow W5", " #allow W5", " # allow W55",
+               " # allow xW5", " # allowed W5"]
 
 # Texts with the lines of `--short`, after the name of the file.
 SHORT = [
@@ -531,7 +532,7 @@ def main():
         for text, names, options in DEEP_CLEAN:
             status, err = check.run(text.encode(), "--deep", *options)
             check.expect("%r" % text, status == 0 and not any(w in err for w in names), err)
-            check.expect("%r: the limit" % text, ("W21 CutShort" in err) == ("--limit" in options), err)
+            check.expect("%r: the limit" % text, ("W21 CutShort after 1 schedule\n" in err) == ("--limit" in options), err)
         check.crowded()
         check.in_order()
         check.allowed()

@@ -1,7 +1,8 @@
 -- What a person is told of a text.
-use Rattle.std.specs.Prelude.{◌≡◌, ◌==◌, ℕ, List, [], ◌∷◌, ◌++◌, map, codes, Bool, true, false, Option, Some, None}
+use Rattle.std.specs.Prelude.{◌≡◌, ◌==◌, ℕ, List, [], ◌∷◌, ◌++◌, map, codes, Bool, true, false, Option, Some, None, All}
 use Rattle.std.specs.Fmt.{decimal}
 use Rattle.std.specs.List.{list_any, slice_split}
+use Rattle.std.proofs.Common.{Vec, Global}
 use Rattle.guest_syntax.specs.declared.error.SyntaxError.{SyntaxError}
 use Rattle.guest_syntax.specs.Place.{start}
 use Rattle.guest_syntax.specs.ErrorTexts.{syntax_error_text}
@@ -18,13 +19,15 @@ use Rattle.hints.specs.declared.message.Span.{Span}
 use Rattle.hints.specs.Lines.{advice_lines, shown}
 use Rattle.text_lines.specs.Marks.{Line, origin_at, origins}
 use Rattle.hints.specs.Refusals.{syntax_place, check_place, IsAdviceOf}
+use Rattle.advice.specs.Allowed.{is_allowed}
 use Rattle.advice.specs.declared.Checked.{Checked}
 use Rattle.advice.specs.declared.Checked.TheVariants.{Sound, Refused}
 
 -- What is told of a text: that it is refused, and why, exactly where it spells no tree without a
--- fault.
+-- fault; else warnings, none of which a comment allows.
 pub data Tells (text : List ℕ) : Checked → Type 0 where
-  is_sound : {as_ : _} → (t : Tree) → Spells text t → fault t ≡ None → Tells text (Sound as_)
+  is_sound : {as_ : Vec Advice Global} → (t : Tree) → Spells text t → fault t ≡ None
+      → All (λ a. is_allowed text a ≡ false) as_.items → Tells text (Sound as_)
   spells_none : {a : Advice} → ((t : Tree) → ¬ Spells text t) → (e : SyntaxError)
       → RefusalIn start text e → IsAdviceOf a (syntax_error_text e) (Some (syntax_place e))
       → Tells text (Refused a)

@@ -1,32 +1,108 @@
 //! Warnings that a line allows.
 
+ghost use Rattle.std.specs.Prelude.{◌≡◌, ◌<◌, length};
+ghost use Rattle.std.specs.List.{prefix_len};
+ghost use Rattle.advice.specs.Allowed.{is_code, comment_of, is_in_word, word, after_word, is_blank_at, is_word_at, has_word, allows, is_allowed};
+
 use hints::message::{Advice, line_of};
-use std::str;
 
 /// Whether the line of a warning ends in a comment `# allow W6`, with this number among others.
-pub fn is_allowed(text: &[u8], advice: &Advice) -> bool {
-    let Some(span) = advice.span else {
-        return false;
-    };
-    let (number, _) = advice.code();
-    let comment = comment_of(line_of(text, span.at.line));
-    for (i, word) in comment.split_ascii_whitespace().enumerate() {
-        if i == 0 && word != "#" || i == 1 && word != "allow" {
-            return false;
+pub fn is_allowed(text: &[u8], advice: &Advice) -> bool
+    ensures { result ≡ is_allowed text.now advice.now }
+{
+    match advice.span {
+        Some(span) => {
+            let comment = comment_of(line_of(text, span.at.line));
+            allows(comment, advice.code().0.as_bytes())
         }
-        if i >= 2 && word == number {
+        None => false,
+    }
+}
+
+/// Whether a byte begins no comment.
+fn is_code(byte: u8) -> bool
+    ensures { result ≡ is_code byte }
+{
+    byte != b'#'
+}
+
+/// How many bytes come before the comment of a line.
+fn code_length(line: &[u8]) -> usize
+    ensures { result ≡ prefix_len is_code line.now }
+{
+    line.iter().take_while(|byte| is_code(**byte)).count()
+}
+
+/// The comment that a line ends in; nothing where it has none.
+fn comment_of(line: &[u8]) -> &[u8]
+    ensures { result.now ≡ comment_of line.now }
+{
+    let (_, comment) = line.split_at(code_length(line));
+    comment
+}
+
+/// Whether a comment allows the warnings of a number.
+fn allows(comment: &[u8], number: &[u8]) -> bool
+    ensures { result ≡ allows comment.now number.now }
+{
+    let (mark, rest) = first_word(comment);
+    let (allow, rest) = first_word(rest);
+    mark == b"#".as_slice() && allow == b"allow".as_slice() && has_word(rest, number)
+}
+
+/// Whether a byte is no white space.
+fn is_in_word(byte: u8) -> bool
+    ensures { result ≡ is_in_word byte }
+{
+    !byte.is_ascii_whitespace()
+}
+
+/// How many bytes come before the first white space.
+fn word_length(text: &[u8]) -> usize
+    ensures { result ≡ prefix_len is_in_word text.now }
+{
+    text.iter().take_while(|byte| is_in_word(**byte)).count()
+}
+
+/// The first word of a text, and what follows it.
+fn first_word(text: &[u8]) -> (&[u8], &[u8])
+    ensures word { result.0.now ≡ word text.now }
+    ensures after { result.1.now ≡ after_word text.now }
+{
+    let text = text.trim_ascii_start();
+    text.split_at(word_length(text))
+}
+
+/// Whether one of the words of a text is this.
+fn has_word(text: &[u8], word: &[u8]) -> bool
+    ensures { result ≡ has_word text.now word.now }
+{
+    for at in 0..text.len() {
+        if is_word_at(text, word, at) {
             return true;
         }
     }
     false
 }
 
-/// The comment that a line ends in; nothing where it has none.
-fn comment_of(line: &[u8]) -> &str {
-    for (i, byte) in line.iter().enumerate() {
-        if *byte == b'#' {
-            return str::from_utf8(&line[i..]).unwrap_or("");
-        }
+/// Whether this is a word of a text at a place.
+fn is_word_at(text: &[u8], word: &[u8], at: usize) -> bool
+    requires { at < length text.now }
+    ensures { result ≡ is_word_at text.now word.now at }
+{
+    let (_, rest) = text.split_at(at);
+    rest.starts_with(word)
+        && (at == 0 || is_blank_at(text, at - 1))
+        && is_blank_at(rest, word.len())
+}
+
+/// Whether white space is at a place of a text, or its end.
+fn is_blank_at(text: &[u8], at: usize) -> bool
+    ensures { result ≡ is_blank_at text.now at }
+{
+    if at < text.len() {
+        text[at].is_ascii_whitespace()
+    } else {
+        true
     }
-    ""
 }

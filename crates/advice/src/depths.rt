@@ -235,9 +235,10 @@ fn cut_short(alloc: Global, limit: u64) -> Result<Advice, AllocError> {
         alloc,
         &[b"assertions are told of only where all schedules were gone through"],
     )?;
+    let plural = if limit == 1 { "" } else { "s" };
     Ok(Advice {
         grade: Grade::Remark,
-        headline: format!(in alloc; "remark W21 CutShort after {limit} schedules")?,
+        headline: format!(in alloc; "remark W21 CutShort after {limit} schedule{plural}")?,
         span: None,
         message: told.message,
         notes: told.notes,

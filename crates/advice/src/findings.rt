@@ -7,7 +7,8 @@ use guest_code::program::{Instruction, Program};
 use guest_code::source_map::SourceMap;
 use guest_syntax::pieces::Piece;
 use guest_syntax::place::Pos;
-use guest_syntax::tree::{Object, Tree};
+use guest_syntax::tree::Tree;
+use hints::declared::kind_of;
 use lint::uses::Use;
 use lint::warning::{Kind, Warning};
 use lint::warnings::all_warnings;
@@ -30,21 +31,11 @@ pub struct Source<'a> {
     ghost fits: { IsMapOf map.now program.now },
 }
 
-/// The kind of an object in a word.
-fn kind_name(object: Object) -> &'static str {
-    match object {
-        Object::Variable(_) => "variable",
-        Object::Mutex => "mutex",
-        Object::Condition => "condition",
-        Object::Semaphore(_) => "semaphore",
-    }
-}
-
 /// Where the object of a kind and a number is declared.
 fn declared_at(tree: &Tree, kind: &str, number: usize) -> Pos {
     let mut left = number;
     for declaration in tree.declarations() {
-        if kind_name(declaration.object) == kind {
+        if kind_of(declaration.object) == kind {
             if left == 0 {
                 return declaration.name.at;
             }

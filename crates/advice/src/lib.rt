@@ -11,7 +11,7 @@
 //! Which words an advice has, and all that schedules show, is shown by tests.
 #![tactic(auto)]
 
-ghost use Rattle.std.specs.Prelude.{◌≡◌, ◌≢◌, IfOk, MatchBool};
+ghost use Rattle.std.specs.Prelude.{◌≡◌, ◌≢◌, IfOk, MatchBool, All, false};
 ghost use Rattle.std.specs.List.{list_any};
 ghost use Rattle.guest_syntax.specs.Answers.{RefusalIn};
 ghost use Rattle.guest_syntax.specs.Grammar.{Spells};
@@ -21,6 +21,7 @@ ghost use Rattle.guest_syntax.specs.declared.error.SyntaxError.TheVariants as sy
 ghost use Rattle.guest_code.specs.declared.error.CheckError.TheVariants as checks;
 ghost use Rattle.guest_code.specs.Code.{code};
 ghost use Rattle.guest_code.specs.Fault.{fault, Refuses};
+ghost use Rattle.advice.specs.Allowed.{is_allowed};
 ghost use Rattle.advice.specs.Told.{Tells, is_warning, is_warned, checked_lines};
 
 mod allowed;
@@ -154,7 +155,7 @@ fn check_tree(
     }
 }
 
-/// All warnings of the program of a tree, in the order of the text.
+/// All warnings of the program of a tree that no comment allows, in the order of the text.
 fn all_advice(
     alloc: Global,
     text: &[u8],
@@ -163,6 +164,7 @@ fn all_advice(
     program: &Program,
 ) -> Result<Vec<Advice>, AllocError>
     requires { program.now ≡ code (tree_view tree.now) }
+    ensures { IfOk result (λ v. All (λ a. is_allowed text.now a ≡ false) v.items) }
 {
     let Ok(map) = SourceMap::new(alloc, tree) else {
         return Err(AllocError);

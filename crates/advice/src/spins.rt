@@ -23,55 +23,30 @@ fn is_before(first: Pos, second: Pos) -> bool {
     first.line < second.line || first.line == second.line && first.col < second.col
 }
 
-/// The piece that opens the nearest `repeat` round a piece, and the keyword.
-fn repeat_round(
-    alloc: Global,
-    pieces: &[Piece<'_>],
-    at: usize,
-) -> Result<(usize, usize), AllocError> {
-    let mut open = Vec::new(alloc);
-    let mut start = 0;
-    for (i, piece) in pieces.iter().enumerate() {
-        if i < at && matches!(piece.text, b"{") {
-            open.push((i, start))?;
-        }
-        if i < at && matches!(piece.text, b"}") {
-            let _ = open.pop();
-        }
-        if matches!(piece.text, b";" | b"{" | b"}") {
-            start = i.saturating_add(1);
-        }
-    }
-    let mut nearest = (0, 0);
-    for pair in &open {
-        if let Some(piece) = pieces.get(pair.1) {
-            if matches!(piece.text, b"repeat") {
-                nearest = *pair;
-            }
-        }
-    }
-    Ok(nearest)
+/// The block of the `repeat` that is this piece, where it lies round another piece.
+fn block_round(pieces: &[Piece<'_>], keyword: usize, inside: usize) -> Option<Block> {
+    let open = keyword.saturating_add(2);
+    let close = closing(pieces, open).filter(|close| inside < *close)?;
+    Some(Block {
+        keyword: pieces.get(keyword)?.at,
+        open: pieces.get(open)?.at,
+        close: pieces.get(close)?.at,
+    })
 }
 
 /// The nearest `repeat` round the `leave` at a place; none where no `leave` is there.
-fn block_left(alloc: Global, pieces: &[Piece<'_>], at: Pos) -> Result<Option<Block>, AllocError> {
+fn block_left(pieces: &[Piece<'_>], at: Pos) -> Option<Block> {
     let number = piece_at(pieces, at);
-    match pieces.get(number) {
-        Some(piece) if matches!(piece.text, b"leave") => {}
-        _ => return Ok(None),
+    if !matches!(pieces.get(number)?.text, b"leave") {
+        return None;
     }
-    let (open, keyword) = repeat_round(alloc, pieces, number)?;
-    let Some(close) = closing(pieces, open) else {
-        return Ok(None);
-    };
-    match (pieces.get(keyword), pieces.get(open), pieces.get(close)) {
-        (Some(keyword), Some(open), Some(close)) => Ok(Some(Block {
-            keyword: keyword.at,
-            open: open.at,
-            close: close.at,
-        })),
-        _ => Ok(None),
+    let mut nearest = None;
+    for (i, piece) in pieces.iter().take(number).enumerate() {
+        if matches!(piece.text, b"repeat") {
+            nearest = block_round(pieces, i, number).or(nearest);
+        }
     }
+    nearest
 }
 
 impl Source<'_> {
@@ -81,10 +56,8 @@ impl Source<'_> {
         for at in 0..self.code(thread).len() {
             let place = self.place(thread, at);
             let is_inside = is_before(block.open, place) && is_before(place, block.close);
-            let leaves = match block_left(alloc, self.pieces, place)? {
-                Some(left) => left.keyword == block.keyword,
-                None => false,
-            };
+            let left = block_left(self.pieces, place);
+            let leaves = left.is_some_and(|left| left.keyword == block.keyword);
             all.push(is_inside && !leaves)?;
         }
         Ok(all)
@@ -100,7 +73,7 @@ impl Source<'_> {
         for (i, instruction) in self.code(thread).iter().enumerate() {
             if let Instruction::Skip(over) = instruction {
                 let exit = i.saturating_add(1).saturating_add(*over);
-                if let Some(block) = block_left(alloc, self.pieces, self.place(thread, i))? {
+                if let Some(block) = block_left(self.pieces, self.place(thread, i)) {
                     let is_new = !spins.iter().any(|spin| {
                         spin.thread == thread && spin.exit == exit && spin.at == block.keyword
                     });

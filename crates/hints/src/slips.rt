@@ -45,7 +45,7 @@ fn without(word: &[u8]) -> &'static str {
     match word {
         b"sleep" | b"yield" => "leave it out: a thread may be interrupted before each of its steps",
         b"spawn" => "all threads begin at once",
-        b"join" => "for the end of another thread, acquire a semaphore that it releases there",
+        b"join" => "acquire a semaphore that the other thread releases at its end",
         b"atomic" | b"synchronized" => "lock a mutex before these steps, and unlock it after them",
         b"continue" | b"goto" => "`leave` leaves the nearest `repeat`, and there is no other jump",
         b"exit" | b"halt" => "a thread ends at the end of its braces; put the rest into an `if`",
