@@ -11,7 +11,7 @@ use Rattle.guest_code.specs.declared.error.CheckError.{CheckError}
 use Rattle.guest_code.specs.declared.error.CheckError.TheVariants.{Duplicate, Unknown, WrongKind, NoThreads, TooMany, CodeTooLong, LeaveOutside, OutOfMemory}
 use Rattle.guest_code.specs.ErrorTexts.{check_error_text}
 use Rattle.guest_code.specs.Fault.{fault, Refuses}
-use Rattle.hints.specs.declared.message.Advice.{Advice}
+use Rattle.messages.specs.declared.message.Advice.{Advice}
 use Rattle.advice.specs.declared.Checked.TheVariants.{Sound, Refused}
 use Rattle.hints.specs.Refusals.{syntax_place, check_place, IsAdviceOf}
 use Rattle.advice.specs.Allowed.{is_allowed}

@@ -3,9 +3,9 @@ use Rattle.std.specs.Prelude.{ℕ, zero, suc, ◌-◌, ◌==◌, ◌&&◌, ◌||
 use Rattle.std.specs.Char.{is_ascii_whitespace}
 use Rattle.std.specs.List.{prefix_len, starts_with}
 use Rattle.std.specs.Str.{bytes_eq}
-use Rattle.hints.specs.declared.message.Span.{Span}
-use Rattle.hints.specs.declared.message.Advice.{Advice}
-use Rattle.hints.specs.Lines.{line_of, code_number}
+use Rattle.messages.specs.declared.message.Span.{Span}
+use Rattle.messages.specs.declared.message.Advice.{Advice}
+use Rattle.messages.specs.Lines.{line_of, code_number}
 
 -- what a line has from its first `#` on
 abbrev pub is_code : ℕ → Bool

@@ -12,11 +12,11 @@ use Rattle.guest_syntax.specs.Tree.{Tree}
 use Rattle.guest_code.specs.declared.error.CheckError.{CheckError}
 use Rattle.guest_code.specs.ErrorTexts.{check_error_text}
 use Rattle.guest_code.specs.Fault.{fault}
-use Rattle.hints.specs.declared.message.Advice.{Advice}
-use Rattle.hints.specs.declared.message.Grade.{Grade}
-use Rattle.hints.specs.declared.message.Grade.TheVariants as grades
-use Rattle.hints.specs.declared.message.Span.{Span}
-use Rattle.hints.specs.Lines.{advice_lines, shown}
+use Rattle.messages.specs.declared.message.Advice.{Advice}
+use Rattle.messages.specs.declared.message.Grade.{Grade}
+use Rattle.messages.specs.declared.message.Grade.TheVariants as grades
+use Rattle.messages.specs.declared.message.Span.{Span}
+use Rattle.messages.specs.Lines.{advice_lines, shown}
 use Rattle.text_lines.specs.Marks.{Line, origin_at, origins}
 use Rattle.hints.specs.Refusals.{syntax_place, check_place, IsAdviceOf}
 use Rattle.advice.specs.Allowed.{is_allowed}

@@ -4,7 +4,7 @@ ghost use Rattle.std.specs.Prelude.{◌≡◌, ◌<◌, length};
 ghost use Rattle.std.specs.List.{prefix_len};
 ghost use Rattle.advice.specs.Allowed.{is_code, comment_of, is_in_word, word, after_word, is_blank_at, is_word_at, has_word, allows, is_allowed};
 
-use hints::message::{Advice, line_of};
+use messages::message::{Advice, line_of};
 
 /// Whether the line of a warning ends in a comment `# allow W6`, with this number among others.
 pub fn is_allowed(text: &[u8], advice: &Advice) -> bool

@@ -3,13 +3,13 @@
 use crate::findings::Source;
 use guest_code::program::Instruction;
 use guest_syntax::place::Pos;
-use hints::message::{Advice, Grade, Span};
 use hints::pieces::piece_at;
 use hints::told::{Told, note};
-use hints::words::signed;
 use lint::deep::explore;
 use lint::seen::{Seen, Sight, and_now};
 use lint::uses::forbids;
+use messages::message::{Advice, Grade, Span};
+use messages::words::signed;
 use replay::schedule_text;
 use std::alloc::{AllocError, Global};
 

@@ -41,9 +41,9 @@ use guest_code::program::Program;
 use guest_code::source_map::SourceMap;
 use guest_syntax::tree::Tree as SyntaxTree;
 use guest_syntax::{SyntaxError, parse};
-pub use hints::message::{Advice, Grade, Note, Span};
 use hints::pieces::pieces;
 use hints::refusal::{check_advice, syntax_advice};
+pub use messages::message::{Advice, Grade, Note, Span};
 use std::alloc::{AllocError, Global};
 use text_lines::Marks;
 

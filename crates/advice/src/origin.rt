@@ -2,12 +2,12 @@
 
 ghost use Rattle.std.specs.Prelude.{map};
 ghost use Rattle.text_lines.specs.Marks.{origins_in};
-ghost use Rattle.hints.specs.Lines.{shown};
-ghost use Rattle.hints.specs.Puts.{Puts};
+ghost use Rattle.messages.specs.Lines.{shown};
+ghost use Rattle.messages.specs.Puts.{Puts};
 ghost use Rattle.advice.specs.Told.{all_told, origin_row, told_lines};
 
-use hints::message::{Advice, Span, shown};
-use hints::words::decimal;
+use messages::message::{Advice, Span, shown};
+use messages::words::decimal;
 use std::alloc::AllocError;
 use text_lines::Marks;
 

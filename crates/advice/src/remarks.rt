@@ -4,12 +4,12 @@ use crate::findings::{Finding, Source};
 use guest_syntax::place::Pos;
 use hints::declared::near_name;
 use hints::forms::is_boundary;
-use hints::message::{Advice, Grade, Span};
 use hints::pieces::piece_at;
 use hints::told::{Told, note};
-use hints::words::joined;
 use lint::uses::Use;
 use lint::warning::Kind;
+use messages::message::{Advice, Grade, Span};
+use messages::words::joined;
 use std::alloc::{AllocError, Global};
 
 /// The number and the name of a kind of warnings.

@@ -1,7 +1,8 @@
 //! The forms of an explanation that aren't text in columns.
 
 use explain::Source;
-use explain_page::{explanation_html, explanation_json, nothing_html, nothing_json};
+use explain_json::{explanation_json, nothing_json};
+use explain_page::{explanation_html, nothing_html};
 use explain_text::{Shape, why_text};
 use explained::{Explained, Tell, is_least, sentence_of};
 use runner::report_value;

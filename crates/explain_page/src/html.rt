@@ -1,54 +1,13 @@
-//! The explanation as JSON and as a page.
+//! The explanation as a page.
 
 use crate::page::{PAGE_BEGIN, PAGE_END, SENTENCE_BEGIN, SENTENCE_END, SENTENCE_TITLE};
-use crate::places::Places;
-use crate::tell::{Teller, text};
-use crate::told::{Beside, Unexplained};
-use causes::Causes;
 use explain::{Explanation, Source};
-use serde::Serialize;
+use explain_json::page_json;
 use serde_json::Value;
 use std::alloc::{AllocError, Global};
-use text_lines::Marks;
-use waits::Waits;
 
 // The digits of a number, with its sign, that a script keeps for certain.
 const DIGITS: usize = 15;
-
-/// The explanation as compact JSON of one object, its keys in the order of their bytes, with a line
-/// feed. `docs/FORMATS.md` says what each key has. `search` is the report of the search that found the
-/// schedule, if one did.
-///
-/// # Errors
-///
-/// `AllocError` where memory runs out.
-pub fn explanation_json<'a>(
-    alloc: Global,
-    explanation: &'a Explanation,
-    source: &'a Source<'a>,
-    search: Option<Value>,
-) -> Result<Vec<u8>, AllocError> {
-    let mut data = data_of(alloc, explanation, source, search, None)?;
-    data.push(b'\n')?;
-    Ok(data)
-}
-
-/// What is told as JSON where a search found no bad schedule: the file, no schedule, and the report
-/// of the search.
-///
-/// # Errors
-///
-/// `AllocError` where memory runs out.
-pub fn nothing_json(alloc: Global, file: &str, search: Value) -> Result<Vec<u8>, AllocError> {
-    let told = Unexplained {
-        file,
-        schedule: None,
-        search,
-    };
-    let mut data = json_of(alloc, &told)?;
-    data.push(b'\n')?;
-    Ok(data)
-}
 
 /// The explanation as a page: one file, which asks no network. Its data is the JSON of the
 /// explanation with the text of the guest, and its script draws it. `search` is the report of the
@@ -65,11 +24,7 @@ pub fn explanation_html<'a>(
     search: Option<Value>,
     why: &'a str,
 ) -> Result<Vec<u8>, AllocError> {
-    let beside = Beside {
-        source: text(source.text),
-        why,
-    };
-    let data = data_of(alloc, explanation, source, search, Some(beside))?;
+    let data = page_json(alloc, explanation, source, search, why)?;
     let mut page = Vec::from_slice(alloc, PAGE_BEGIN.as_bytes())?;
     put_data(&mut page, alloc, data.as_slice())?;
     page.extend_from_slice(PAGE_END.as_bytes())?;
@@ -88,34 +43,6 @@ pub fn nothing_html(alloc: Global, file: &str, sentence: &str) -> Result<Vec<u8>
     put_escaped(&mut page, sentence)?;
     page.extend_from_slice(SENTENCE_END.as_bytes())?;
     Ok(page)
-}
-
-// The JSON of an explanation, with what only the page has, if it is given.
-fn data_of<'a>(
-    alloc: Global,
-    explanation: &'a Explanation,
-    source: &'a Source<'a>,
-    search: Option<Value>,
-    beside: Option<Beside<'a>>,
-) -> Result<Vec<u8>, AllocError> {
-    let causes = Causes::of(alloc, source.program, explanation)?;
-    let waits = Waits::new(alloc, source.program, explanation)?;
-    let marks = Marks::new(alloc, source.text)?;
-    let teller = Teller {
-        alloc,
-        explanation,
-        causes: &causes,
-        waits: &waits,
-        source,
-        places: Places::new(alloc, source.text)?,
-        marks: &marks,
-    };
-    json_of(alloc, &teller.told(search, beside)?)
-}
-
-// A value as compact JSON. All that can go wrong is that memory runs out.
-fn json_of<T: Serialize>(alloc: Global, value: &T) -> Result<Vec<u8>, AllocError> {
-    serde_json::to_vec(alloc, value).map_err(|_| AllocError)
 }
 
 // Text inside an element, in which no name ends it.

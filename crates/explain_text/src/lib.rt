@@ -4,7 +4,6 @@
 //! steps; under it `reasons` says why threads can't go on, and `enders` who could end that.
 #![tactic(auto)]
 
-mod columns;
 mod enders;
 mod head;
 mod origins;
@@ -12,5 +11,4 @@ mod reasons;
 mod rows;
 mod text;
 
-pub use crate::columns::Shape;
-pub use crate::text::{explanation_text, why_text};
+pub use crate::text::{Shape, explanation_text, why_text};

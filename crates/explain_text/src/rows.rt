@@ -1,6 +1,5 @@
 //! The rows of the table.
 
-use crate::columns::{COLUMN, GAP, STEP, line_cell};
 use crate::text::Teller;
 use explain::{Object, Reading, Reason, Setting, Step, op_text};
 use guest_code::program::{Expression, Instruction, Value};
@@ -8,7 +7,10 @@ use replay::Act;
 use semantics::state::Stop;
 use semantics::view::Kind;
 use std::alloc::AllocError;
-use text_lines::{Count, FileLine, InLine, Page, pad_to, put_cut, put_times, width_of};
+use text_lines::{
+    COLUMN, Count, FileLine, GAP, InLine, Page, STEP, line_cell, pad_to, put_cut, put_times,
+    width_of,
+};
 
 /// The fewest columns of a name that is cut, where it shares a column with its statement.
 const SHORTEST: usize = 4;

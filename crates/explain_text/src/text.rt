@@ -1,14 +1,24 @@
 //! The explanation as text.
 
-use crate::columns::{Columns, Shape};
 use causes::{Causes, Event};
 use explain::{Explanation, Object, Source, Standing, Statement, Step, name_text};
 use replay::schedule_text;
 use std::alloc::{AllocError, Global};
 use std::fmt;
 use std::str::from_utf8;
-use text_lines::{FileLine, InLine, Marks, Page};
+use text_lines::{Columns, FileLine, InLine, Marks, Page};
 use waits::Waits;
+
+/// The form of a text.
+#[derive(Clone, Copy, Debug)]
+pub struct Shape {
+    /// Columns of a line, at most; fewer than 40 count as 40, more than 1,000 as 1,000.
+    pub width: usize,
+    /// Each step has a row where there are at most this many; else some are folded.
+    pub steps: usize,
+    /// Whether a search showed that no schedule with fewer preemptions is bad.
+    pub is_least: bool,
+}
 
 /// What a text is made of, and how.
 #[derive(Drop)]

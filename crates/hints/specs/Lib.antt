@@ -1,4 +1,2 @@
-pub mod Lines
 pub mod Near
-pub mod Puts
 pub mod Refusals

@@ -7,7 +7,7 @@ use Rattle.guest_syntax.specs.Place.{start}
 use Rattle.guest_syntax.specs.Tree.{Tree}
 use Rattle.guest_code.specs.declared.error.CheckError.{CheckError}
 use Rattle.guest_code.specs.declared.error.CheckError.TheVariants as checks
-use Rattle.hints.specs.declared.message.Advice.{Advice}
+use Rattle.messages.specs.declared.message.Advice.{Advice}
 
 -- where a refusal of a text is
 abbrev pub syntax_place : SyntaxError → Pos

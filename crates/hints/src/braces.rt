@@ -1,9 +1,9 @@
 //! Which brace seems to be missing.
 
-use crate::message::{Note, Span};
-use crate::words::{decimal, joined, place};
 use guest_syntax::pieces::{self, Piece};
 use guest_syntax::place::Pos;
+use messages::message::{Note, Span};
+use messages::words::{decimal, joined, place};
 use std::alloc::{AllocError, Global};
 
 /// Whether a piece is the first of its line.

@@ -3,8 +3,6 @@
 //! - [`refusal::syntax_advice`] and [`refusal::check_advice`] answer an advice whose short form and place
 //!   are those of the refusal.
 //! - [`declared::near_name`] answers a name of few edits.
-//! - The lines of an advice are those that `specs/Lines.antt` defines: carets lie under the bytes that
-//!   are meant.
 //!
 //! Which words an advice has is shown by tests.
 #![tactic(auto)]
@@ -12,9 +10,7 @@
 pub mod braces;
 pub mod declared;
 pub mod forms;
-pub mod message;
 pub mod pieces;
 pub mod refusal;
 mod slips;
 pub mod told;
-pub mod words;

@@ -9,16 +9,16 @@ ghost use Rattle.hints.specs.Refusals.{syntax_place, check_place, IsAdviceOf};
 use crate::braces::{closing, is_first, missing_brace};
 use crate::declared::{Declared, first_declared, nearest};
 use crate::forms::{Slot, slots, statement_start, wanted, written};
-use crate::message::{Advice, Grade, Note, Span};
 use crate::pieces::{piece_at, pieces};
 use crate::slips::{add_meant, assignment, equals_sign, negative_local};
 use crate::told::{Told, note};
-use crate::words::{beside, decimal, joined, place};
 use guest_code::error::CheckError;
 use guest_syntax::SyntaxError;
 use guest_syntax::pieces::Piece;
 use guest_syntax::place::Pos;
 use guest_syntax::tree::{Thread, Tree};
+use messages::message::{Advice, Grade, Note, Span};
+use messages::words::{beside, decimal, joined, place};
 use std::alloc::{AllocError, Global};
 
 /// The statement or declaration round a place: its keyword, and what the place is for.

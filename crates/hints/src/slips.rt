@@ -2,9 +2,9 @@
 
 use crate::declared::near_name;
 use crate::forms::{Slot, keywords, written};
-use crate::message::Note;
 use crate::refusal::Context;
 use crate::told::{Told, note};
+use messages::message::Note;
 use std::alloc::{AllocError, Global};
 
 /// The keyword of a declaration or a thread that begins with this word in other languages; empty

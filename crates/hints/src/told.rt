@@ -1,7 +1,7 @@
 //! Words and remarks of an advice.
 
-use crate::message::Note;
-use crate::words::joined;
+use messages::message::Note;
+use messages::words::joined;
 use std::alloc::{AllocError, Global};
 
 /// A remark without a place.

@@ -2,10 +2,12 @@
 //! fit; where the lines of a text come from that a preprocessor wrote.
 #![tactic(auto)]
 
+mod columns;
 pub mod laws;
 mod marks;
 mod told;
 
+pub use crate::columns::{COLUMN, Columns, GAP, STEP, line_cell};
 pub use crate::marks::{Marks, Origin};
 pub use crate::told::{FileLine, InLine};
 use std::alloc::{AllocError, Global};

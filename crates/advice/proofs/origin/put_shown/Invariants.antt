@@ -1,5 +1,5 @@
 use Rattle.std.proofs.Common.{◌≡◌, ◌++◌, take, map}
-use Rattle.hints.specs.Lines.{shown}
+use Rattle.messages.specs.Lines.{shown}
 use Rattle.advice.proofs.origin.put_shown.Given as goal
 
 abbrev pub invariant-loop-byte : goal.invariant-loop-byte

@@ -1,6 +1,6 @@
 use Rattle.std.proofs.Common.{◌≡◌, ◌++◌, drop}
-use Rattle.hints.specs.Lines.{note_lines}
-use Rattle.hints.proofs.message.texts.put_notes.Given as goal
+use Rattle.messages.specs.Lines.{note_lines}
+use Rattle.messages.proofs.message.texts.put_notes.Given as goal
 
 abbrev pub invariant-loop-note : goal.invariant-loop-note
 invariant-loop-note l = l.out.items ++ note_lines l.text (drop l.note-index l.notes)

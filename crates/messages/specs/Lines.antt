@@ -2,10 +2,10 @@
 use Rattle.std.specs.Prelude.{ℕ, ◌-◌, ◌/◌, min, max, List, [], ◌∷◌, ◌++◌, length, map, take, drop, replicate, codes, Bool, ◌==◌, ◌&&◌, ◌||◌, not, nat_le, if◌then◌else◌, Option, Some, None, string_bytes}
 use Rattle.std.specs.List.{prefix_len, before_first, after_first}
 use Rattle.std.specs.Fmt.{decimal}
-use Rattle.hints.specs.declared.message.Span.{Span}
-use Rattle.hints.specs.declared.message.Note.{Note}
-use Rattle.hints.specs.declared.message.Advice.{Advice}
-use Rattle.hints.specs.declared.message.TheConstants.{SHOWN}
+use Rattle.messages.specs.declared.message.Span.{Span}
+use Rattle.messages.specs.declared.message.Note.{Note}
+use Rattle.messages.specs.declared.message.Advice.{Advice}
+use Rattle.messages.specs.declared.message.TheConstants.{SHOWN}
 
 -- ---- the source line
 
@@ -89,8 +89,3 @@ code_name form = before_first is_blank (after_first is_blank (after_first is_bla
 abbrev pub advice_lines : List ℕ → Advice → List ℕ
 advice_lines text a = codes "ctxbound: " ++ string_bytes a.headline ++ 10 ∷ []
     ++ remark_lines text a.span 94 a.message.items ++ note_lines text a.notes.items
-
--- several
-abbrev pub all_lines : List ℕ → List Advice → List ℕ
-all_lines text [] = []
-all_lines text (a ∷ as_) = advice_lines text a ++ all_lines text as_

@@ -2,8 +2,8 @@
 
 ghost use Rattle.std.specs.Prelude.{◌≡◌, ◌-◌, ◌≤◌, [], length, map, take, drop, replicate, string_bytes};
 ghost use Rattle.std.specs.List.{prefix_len, before_first, after_first};
-ghost use Rattle.hints.specs.Lines.{is_blank, code_number, code_name, from_line, goes_on, line_of, first_line, shown, left_out, margin, said_line, source_line, marks_line};
-ghost use Rattle.hints.specs.Puts.{Puts};
+ghost use Rattle.messages.specs.Lines.{is_blank, code_number, code_name, from_line, goes_on, line_of, first_line, shown, left_out, margin, said_line, source_line, marks_line};
+ghost use Rattle.messages.specs.Puts.{Puts};
 
 use crate::words::decimal;
 use guest_syntax::place::Pos;

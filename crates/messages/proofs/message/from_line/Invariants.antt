@@ -1,6 +1,6 @@
 use Rattle.std.proofs.Common.{◌≡◌, drop}
-use Rattle.hints.specs.Lines.{from_line}
-use Rattle.hints.proofs.message.from_line.Given as goal
+use Rattle.messages.specs.Lines.{from_line}
+use Rattle.messages.proofs.message.from_line.Given as goal
 
 abbrev pub invariant-loop-i : goal.invariant-loop-i
 invariant-loop-i l = from_line (drop l.i l.text) l.left ≡ from_line l.text l.line

@@ -1,7 +1,7 @@
 //! The lines of spans, notes and advice.
 
-ghost use Rattle.hints.specs.Lines.{span_lines, remark_lines, note_lines, advice_lines, all_lines};
-ghost use Rattle.hints.specs.Puts.{Puts};
+ghost use Rattle.messages.specs.Lines.{span_lines, remark_lines, note_lines, advice_lines};
+ghost use Rattle.messages.specs.Puts.{Puts};
 
 use crate::message::{
     Advice, Note, Span, left_out, line_of, put_margin, put_marks, put_said, put_source,
@@ -66,14 +66,4 @@ impl Advice {
         put_remark(out, text, self.span, b'^', &self.message)?;
         put_notes(out, text, &self.notes)
     }
-}
-
-/// Adds the lines of several.
-pub fn put_all(out: &mut Vec<u8>, text: &[u8], all: &[Advice]) -> Result<(), AllocError>
-    ensures { Puts result out.old out.new (all_lines text.now all.now) }
-{
-    for advice in all {
-        advice.put(out, text)?;
-    }
-    Ok(())
 }

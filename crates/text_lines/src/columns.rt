@@ -1,18 +1,8 @@
-//! The columns of a text.
+//! The columns of a table.
 
+use crate::put_cut;
+use crate::told::FileLine;
 use std::alloc::{AllocError, Global};
-use text_lines::{FileLine, put_cut};
-
-/// The form of a text.
-#[derive(Clone, Copy, Debug)]
-pub struct Shape {
-    /// Columns of a line, at most; fewer than 40 count as 40, more than 1,000 as 1,000.
-    pub width: usize,
-    /// Each step has a row where there are at most this many; else some are folded.
-    pub steps: usize,
-    /// Whether a search showed that no schedule with fewer preemptions is bad.
-    pub is_least: bool,
-}
 
 /// Columns of the narrowest text, and of the widest one.
 const NARROWEST: usize = 40;
