@@ -8,10 +8,11 @@ on standard output; a suite may also say it of one of its files, if all else tha
 after the rows of some files, and `verify` after the lines of some searches. TOOLS is the program of the crate
 `tools`. Its `walk` walks all schedules of a guest: with ample memory it must count them and end with status 0,
 and with a request refused do the same, or say nothing and end with status 1 or 2. Its `again` makes each call
-of the libraries again that was refused: it must say the same, or nothing with status 2. A run that doesn't end in time fails its sweep. The sweep of a run ends at the first
-number that is past its last request; since runs of several threads have more requests or fewer, it ends
-only after some such numbers in a row. Several workers must make a thread for all but one of them, once for
-all rounds of a bound. The last line is `N passed, M failed`.
+of the libraries again that was refused: it must say the same, or nothing with status 2. A run that doesn't
+end in time fails its sweep. The sweep of a run ends at the first number that is past its last request; since
+runs of several threads have more requests or fewer, it ends only after some such numbers in a row. Several
+workers must make a thread for all but one of them, once for all rounds of a bound. The last line is
+`N passed, M failed`.
 """
 import json
 import os

@@ -65,7 +65,7 @@ IsScheduleFault text (Schedule e) = ScheduleErrorMeans text e
 IsScheduleFault text Memory = Unit {0}
 IsScheduleFault text other = ⊥
 
--- the same of the schedule that was asked for, if one was
+-- what may be wrong with the schedule that was asked for; where none was, memory alone
 abbrev pub IsFaultOf : Option (String Global) → Fault → Type 0
 IsFaultOf None fault = fault ≡ Memory
 IsFaultOf (Some text) fault = IsScheduleFault (string_bytes text) fault

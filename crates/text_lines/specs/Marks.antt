@@ -87,7 +87,7 @@ abbrev pub marked : Option Line → List ℕ → ℕ → Option Line
 marked here [] number = option_map (λ l. record { file = l.file; number = number }) here
 marked here (b ∷ bs) number = Some (record { file = b ∷ bs; number = number })
 
--- the same where the line is this mark, or none
+-- where the line after this one comes from, where this one is a mark or isn't
 abbrev pub next_by : Option Line → Option Line → Option Line
 next_by here None = option_map following here
 next_by here (Some mark) = marked here mark.file mark.number

@@ -14,7 +14,7 @@ pub struct FileLine<'a> {
 }
 
 impl FileLine<'_> {
-    /// The same with the name of the file.
+    /// This line, told with the name of its file.
     pub fn named(self) -> Self {
         FileLine {
             file: self.file,
@@ -33,7 +33,7 @@ impl fmt::Display for FileLine<'_> {
     }
 }
 
-/// The same in a sentence: `line 12`, or `worker.inc:12`.
+/// A line of a file as a sentence tells it: `line 12`, or `worker.inc:12`.
 #[derive(Clone, Copy)]
 pub struct InLine<'a>(pub FileLine<'a>);
 
