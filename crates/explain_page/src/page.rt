@@ -58,9 +58,9 @@ svg text { font: 11px ui-monospace, monospace; fill: var(--ink); }
 #legend span { margin-right: 14px; white-space: nowrap; }
 #control { display: flex; gap: 8px; align-items: center; flex-wrap: wrap; } #slider { flex: 1; min-width: 120px; }
 #place { flex-basis: 100%; }
-#state { display: grid; grid-template-columns: repeat(auto-fit, minmax(150px, 1fr)); gap: 12px; }
+#state { display: flex; flex-wrap: wrap; gap: 12px; overflow-x: auto; } #state > div { flex: 1 1 150px; }
 table { border-collapse: collapse; font: 12px ui-monospace, monospace; }
-td { padding: 1px 10px 1px 0; vertical-align: top; overflow-wrap: anywhere; }
+td { padding: 1px 10px 1px 0; vertical-align: top; }
 .changed { background: var(--now); } #graph svg { max-width: 100%; height: auto; } #search { overflow-x: auto; }
 @media (max-width: 800px) {
   main { grid-template-columns: minmax(0, 1fr); padding: 8px; } #source { max-height: 36vh; }
