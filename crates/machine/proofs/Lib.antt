@@ -9,3 +9,4 @@ pub mod Values
 pub mod Openings
 pub mod EndKinds
 pub mod Sleepers
+pub mod Runs

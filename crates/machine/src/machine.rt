@@ -1,10 +1,11 @@
 //! The state in which a walk runs a program.
 
-ghost use Rattle.std.specs.Prelude.{◌≡◌, ◌<◌, ◌≤◌, ◌+◌, ◌&&◌, ◌||◌, ◌≢◌, nat_lt, ℕ, true, false, length, All, IfOk, OnOk, IsTrue, IsFalse};
+ghost use Rattle.std.specs.Prelude.{◌≡◌, ◌<◌, ◌≤◌, ◌+◌, ◌*◌, ◌&&◌, ◌||◌, ◌≢◌, nat_lt, ℕ, replicate, true, false, length, All, IfOk, OnOk, IsTrue, IsFalse};
 ghost use Rattle.guest_code.specs.Program.{Program, LocalsBelow};
-ghost use Rattle.guest_code.specs.declared.limits.TheConstants.{THREADS};
+ghost use Rattle.guest_code.specs.declared.limits.TheConstants.{THREADS, INSTRUCTIONS};
 ghost use Rattle.semantics.specs.Mask.{HasEnabled, has, mask_of};
 ghost use Rattle.semantics.specs.Ends.{final_kind};
+ghost use Rattle.schedules.specs.Schedules.{state_after};
 ghost use Rattle.schedules.specs.Sleep.{next_sleep_set};
 ghost use Rattle.semantics.specs.Reachable.{IsOf};
 ghost use Rattle.semantics.specs.Machine.{Snapshot, start, step, is_enabled};
@@ -37,6 +38,17 @@ pub struct Machine {
     pub(crate) fixed: usize,
     /// How many locals are kept for each thread: the most that one has.
     pub(crate) width: usize,
+}
+
+/// What a run of a thread came to.
+#[derive(Clone, Copy, Debug)]
+pub struct Run {
+    /// How many steps were taken, at least one.
+    pub steps: u32,
+    /// The threads that were enabled after each step but the last.
+    pub among: Mask,
+    /// The threads that are enabled now.
+    pub enabled: Mask,
 }
 
 // The most locals that a thread has.
@@ -108,9 +120,9 @@ impl Machine {
         Ok(machine)
     }
 
-    /// A step of an enabled thread. It takes no memory.
+    // A step of an enabled thread.
     #[inline(always)]
-    pub fn step(&mut self, program: &Program, thread: u8)
+    fn step(&mut self, program: &Program, thread: u8)
         requires { (s : Snapshot) × Shows program.now self.old s
             × (is_enabled program.now s thread ≡ true) }
         ensures shows { (s : Snapshot) → Shows program.now self.old s
@@ -123,6 +135,45 @@ impl Machine {
         let values = self.values.as_mut_slice();
         self.control
             .advance_over(values, program, thread, self.fixed, self.width);
+    }
+
+    /// A run of an enabled thread: a step and, where the thread is alone, further ones, while it is
+    /// enabled and the set of the enabled threads is what it was after the first. It takes no
+    /// memory.
+    #[inline(always)]
+    pub fn run(&mut self, program: &Program, thread: u8, alone: bool) -> Run
+        requires { (s : Snapshot) × Shows program.now self.old s
+            × (is_enabled program.now s thread ≡ true) }
+        ensures shows { (s : Snapshot) → Shows program.now self.old s
+            → is_enabled program.now s thread ≡ true
+            → Shows program.now self.new
+            (state_after program.now s (replicate result.steps thread)) }
+        ensures some { 1 ≤ result.steps }
+        ensures few { result.steps ≤ 2 * INSTRUCTIONS }
+        ensures one { alone ≡ false → result.steps ≡ 1 }
+        ensures among { (s : Snapshot) → Shows program.now self.old s
+            → is_enabled program.now s thread ≡ true
+            → (k : ℕ) → 1 ≤ k → k < result.steps → HasEnabled result.among program.now
+            (state_after program.now s (replicate k thread)) }
+        ensures on { 1 < result.steps → has result.among thread ≡ true }
+        ensures enabled { result.enabled ≡ self.new.control.enabled }
+        ensures size { length self.new.values.items ≡ length self.old.values.items }
+        ensures fixed { self.new.fixed ≡ self.old.fixed }
+        ensures width { self.new.width ≡ self.old.width }
+    {
+        program.keeps_limits();
+        self.step(program, thread);
+        let among = self.control.enabled;
+        let mut steps = 1;
+        while alone && among.has(thread) && self.control.enabled == among {
+            self.step(program, thread);
+            steps += 1;
+        }
+        Run {
+            steps,
+            among,
+            enabled: self.control.enabled,
+        }
     }
 
     /// The set of the enabled threads.
