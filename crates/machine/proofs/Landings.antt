@@ -1,7 +1,7 @@
 -- A thread is put where it is after its step, or after it was called.
 use Rattle.std.proofs.Common.{◌≡◌, ◌≢◌, ℕ, zero, suc, ◌+◌, ◌<◌, ℤ, cond, List, [], ◌∷◌, drop, slice_get, Bool, true, false, not, ◌&&◌, ◌⊎◌, nat_eq, nat_lt, length, Option, Some, None, get_or, set, refl, ap, ◌∙◌, sym, subst, arith, get_or-set_same, get_or-set_other, inl, inr}
 use Rattle.std.proofs.lemmas.Bool.{cases_order}
-use Rattle.std.specs.Option.{is_some}
+use Rattle.std.specs.Prelude.{if◌then◌else◌}
 use Rattle.guest_code.specs.declared.program.Expression.{Expression}
 use Rattle.guest_code.specs.declared.program.Instruction.{Instruction}
 use Rattle.guest_code.specs.declared.program.Instruction.TheVariants.{Lock, Acquire, Set, Assert, SkipIfZero, Skip}
@@ -20,8 +20,9 @@ use Rattle.semantics.specs.declared.local.Turn.TheVariants.{Runs, Fails, Visible
 use Rattle.semantics.specs.Mask.{has}
 use Rattle.semantics.specs.Ends.{is_stopped, is_ended}
 use Rattle.machine.specs.declared.control.Control.{Control}
+use Rattle.machine.specs.declared.control.TheConstants.{FREE}
 use Rattle.semantics.specs.declared.local.Landing.{Landing}
-use Rattle.machine.specs.Refinement.{takes_mutex, takes_semaphore, is_woken, at_mutex, at_semaphore, held, next_at, HasObjects, HasThreadAt, IsControl}
+use Rattle.machine.specs.Refinement.{thread_or_none, takes_mutex, takes_semaphore, is_woken, at_mutex, at_semaphore, held, next_at, HasObjects, HasThreadAt, IsControl}
 use Rattle.machine.specs.inner.LocalRuns.{IsLandingOf}
 use Rattle.machine.specs.inner.Parts.{IsIdle, IsApart, IsControlBut, LeavesOthers, IsMarked, Stands, Lands, IsTaking, IsPlain, IsFreeIn}
 use Rattle.machine.proofs.Lists.{set_has, set_there}
@@ -30,11 +31,12 @@ and_true : (b : Bool) → (b && true) ≡ b
 and_true true = refl
 and_true false = refl
 
-pub free_is : (o : Option ℕ) (b : Bool) → is_some o ≡ not b → b ≡ is_free o
-free_is None true e = refl
-free_is None false e = cc
-free_is (Some t) true e = cc
-free_is (Some t) false e = refl
+-- a mutex is free where its owner's number stands for none
+pub free_is : (n : ℕ) (b : Bool) → b ≡ nat_eq n FREE → b ≡ is_free (thread_or_none n)
+free_is n b e = e ∙ elim (nat_eq n FREE) as (λ q. q ≡ is_free (if q then None else Some n)) [
+  | true ↦ refl
+  | false ↦ refl
+]
 
 -- nothing changes for the others
 pub same_others : (t : ℕ) (c : Control) → LeavesOthers t c c
@@ -61,7 +63,7 @@ pub stands_at_mutex : (s : Snapshot) (t m : ℕ) (d : MutexAction) (c : Control)
     (on : Bool)
     → HasObjects c s → IsApart c t → IsTaking d → m < length c.mutexes
     → has near t ≡ true → ((u : ℕ) → u ≢ t → has near u ≡ has (at_mutex c m) u)
-    → on ≡ is_free (get_or c.owners m None)
+    → on ≡ is_free (thread_or_none (get_or c.owners m FREE))
     → Stands c (record c { mutexes = set c.mutexes m near }) s t (Some (OnMutex m d)) on
 stands_at_mutex s t m d c near on objects apart take few here others free = record {
   objects = objects;

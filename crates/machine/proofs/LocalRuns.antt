@@ -106,15 +106,15 @@ narrow_run n (i ∷ is) zero th below = refl
 
 -- after what was performed
 
-pub ran_on : (p : Program) (s : Snapshot) (t : ℕ) (c : Control) (vars mine mine' : List ℤ)
+pub ran_on : (p : Program) (s : Snapshot) (t : ℕ) (c : Control) (cells mine mine' : List ℤ)
     (at : Landing) (pc : ℕ)
-    (code : List Instruction) (q : IsPerformed p s t c vars mine Running) → pc
+    (code : List Instruction) (q : IsPerformed p s t c cells mine Running) → pc
     ≡ (thread_at s t).pc → code ≡ code_of p t
     → All (LocalsBelow (length mine)) code
     → own_thread at mine' ≡ run_from code
     (own_thread (record { pc = pc + 1; status = Running; free = false }) mine)
     → own_thread at mine' ≡ narrow (length mine) (settled (code_of p t) Running q.th)
-ran_on p s t c vars mine mine' at pc code q here same below ran =
+ran_on p s t c cells mine mine' at pc code q here same below ran =
     ran ∙ ((λ i. local_run (drop (place i + 1) code) 0
     (record { pc = place i + 1; locals = q.own i; status = Running }))
     ∙ (narrow_run (length mine) (drop (q.th.pc + 1) code) 0
@@ -125,12 +125,12 @@ ran_on p s t c vars mine mine' at pc code q here same below ran =
     place : pc ≡ q.th.pc
     place = here ∙ sym q.pc
 
-pub stayed : (p : Program) (s : Snapshot) (t : ℕ) (c : Control) (vars mine : List ℤ) (pc : ℕ)
+pub stayed : (p : Program) (s : Snapshot) (t : ℕ) (c : Control) (cells mine : List ℤ) (pc : ℕ)
     (status : Status)
-    (q : IsPerformed p s t c vars mine status) → pc ≡ (thread_at s t).pc → (status ≡ Running → ⊥)
+    (q : IsPerformed p s t c cells mine status) → pc ≡ (thread_at s t).pc → (status ≡ Running → ⊥)
     → own_thread (record { pc = pc; status = status; free = false }) mine
     ≡ narrow (length mine) (settled (code_of p t) status q.th)
-stayed p s t c vars mine pc status q here stops = of status stops
+stayed p s t c cells mine pc status q here stops = of status stops
   where
     same : (w : Status) → own_thread (record { pc = pc; status = w; free = false }) mine
         ≡ narrow (length mine) (with_status q.th w)

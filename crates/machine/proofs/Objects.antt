@@ -1,5 +1,6 @@
 -- Who may go on after a change of an object, and the sets of those who are at it.
-use Rattle.std.proofs.Common.{◌≡◌, ◌≢◌, ℕ, zero, suc, ◌+◌, ◌-◌, ◌<◌, Bool, true, false, cond, not, ◌&&◌, ◌||◌, nat_eq, nat_lt, length, Option, Some, None, get_or, set, refl, ap, ◌∙◌, sym, arith}
+use Rattle.std.proofs.Common.{◌≡◌, ◌≢◌, ℕ, zero, suc, ◌+◌, ◌-◌, ◌<◌, Bool, true, false, cond, not, ◌&&◌, ◌||◌, nat_eq, nat_lt, length, Option, Some, None, get_or, set, refl, ap, ◌∙◌, sym, arith, get_or-set_same, get_or-set_other}
+use Rattle.std.specs.Prelude.{if◌then◌else◌}
 use Rattle.std.proofs.lemmas.Bool.Decides.{nat_tests}
 use Rattle.guest_code.specs.Program.{Program}
 use Rattle.guest_code.specs.declared.program.Instruction.{Instruction}
@@ -16,9 +17,10 @@ use Rattle.semantics.specs.Machine.{Snapshot, thread_at, owner_of, count_of, nex
 use Rattle.semantics.specs.Mask.{has}
 use Rattle.semantics.specs.Ends.{is_stopped, is_ended}
 use Rattle.machine.specs.declared.control.Control.{Control}
-use Rattle.machine.specs.Refinement.{takes_mutex, takes_semaphore, is_woken, at_mutex, at_semaphore, held, HasThreadAt, IsControl}
+use Rattle.machine.specs.declared.control.TheConstants.{FREE}
+use Rattle.machine.specs.Refinement.{takes_mutex, takes_semaphore, is_woken, at_mutex, at_semaphore, held, thread_or_none, HasObjects, HasThreadAt, IsControl}
 use Rattle.machine.specs.inner.Parts.{IsControlBut, IsTaking}
-use Rattle.machine.proofs.Lists.{same_set, set_has, set_there, test_set}
+use Rattle.machine.proofs.Lists.{by_place, same_set, set_has, set_there, test_set}
 
 and_true : (b : Bool) → (b && true) ≡ b
 and_true true = refl
@@ -153,32 +155,44 @@ not_called Woken None k e = cc
 not_called Woken (Some (Wait c m)) k e = cc
 not_called Woken (Some x) k e = cc
 
+-- the number of a thread stands for it
+pub its_number : (t : ℕ) → t < 16 → thread_or_none t ≡ Some t
+its_number t few = let z : nat_eq t FREE ≡ false = grind (arith, nat_tests, few) in
+    ap (λ b. if b then None else Some t) z
+
 takes : (d : MutexAction) (m n : ℕ) → IsTaking d → takes_mutex n (Some (OnMutex m d)) ≡ nat_eq m n
 takes Locks m n h = refl
 takes Retakes m n h = refl
 takes Unlocks m n h = absurd h
 
+-- the owners, where one is another
+owned : (c : Control) (s : Snapshot) (m n : ℕ) (o : Option ℕ) → HasObjects c s
+    → m < length s.owners → m < length c.owners → thread_or_none n ≡ o
+    → (k : ℕ) → thread_or_none (get_or (set c.owners m n) k FREE) ≡ get_or (set s.owners m o) k None
+owned c s m n o objects inside room e =
+    by_place (λ k x. thread_or_none x ≡ get_or (set s.owners m o) k None) c.owners m n FREE room
+    (e ∙ sym (get_or-set_same s.owners m o None inside))
+    (λ k ne. objects.owners_are k ∙ sym (get_or-set_other s.owners m k o None ne))
+
 -- a thread takes a mutex
 pub took : (p : Program) (s : Snapshot) (t m : ℕ) (d : MutexAction) (c : Control)
     (near up less : Mask)
     → IsControl p c s → m < length s.owners → m < length c.mutexes → m < length c.owners
-    → next_of p s t ≡ Some (OnMutex m d) → IsTaking d
+    → t < 16 → next_of p s t ≡ Some (OnMutex m d) → IsTaking d
     → has near t ≡ false → ((u : ℕ) → u ≢ t → has near u ≡ has (at_mutex c m) u)
     → has up t ≡ false → ((u : ℕ) → u ≢ t → has up u ≡ has c.woken u)
     → ((u : ℕ) → has less u ≡ (has c.enabled u && not (has near u)))
     → IsControlBut p (record c {
       mutexes = set c.mutexes m near;
-      owners = set c.owners m (Some t);
+      owners = set c.owners m t;
       woken = up;
       enabled = less;
     }) (record s { owners = set s.owners m (Some t) }) t
-took p s t m d c near up less shows inside few room next taking out others awake sleep left =
+took p s t m d c near up less shows inside few room small next taking out others awake sleep left =
     record {
       objects = record {
-        owners_are = same_set c.owners s.owners m (Some t) None shows.objects.owners_are room
-            inside;
+        owners_are = owned c s m t (Some t) shows.objects inside room (its_number t small);
         counts_are = shows.objects.counts_are;
-        queues_are = shows.objects.queues_are;
         lengths_are = shows.objects.lengths_are;
       };
       threads = λ u ne. let h = shows.threads u in record {
@@ -214,13 +228,12 @@ took p s t m d c near up less shows inside few room next taking out others awake
 pub gave : (p : Program) (s : Snapshot) (t m : ℕ) (c : Control) (more : Mask)
     → IsControlBut p c s t → m < length s.owners → m < length c.owners
     → ((u : ℕ) → has more u ≡ (has c.enabled u || has (at_mutex c m) u))
-    → IsControlBut p (record c { owners = set c.owners m None; enabled = more })
+    → IsControlBut p (record c { owners = set c.owners m FREE; enabled = more })
     (record s { owners = set s.owners m None }) t
 gave p s t m c more shows inside room more_is = record {
   objects = record {
-    owners_are = same_set c.owners s.owners m None None shows.objects.owners_are room inside;
+    owners_are = owned c s m FREE None shows.objects inside room refl;
     counts_are = shows.objects.counts_are;
-    queues_are = shows.objects.queues_are;
     lengths_are = shows.objects.lengths_are;
   };
   threads = λ u ne. let h = shows.threads u ne in record {
@@ -253,7 +266,6 @@ acquired p s t k c near less shows inside few room next out others left = record
     owners_are = shows.objects.owners_are;
     counts_are = λ j. ap (λ n. get_or (set c.counts k (n - 1)) j 0) (shows.objects.counts_are k)
         ∙ same_set c.counts s.counts k (count_of s k - 1) 0 shows.objects.counts_are room inside j;
-    queues_are = shows.objects.queues_are;
     lengths_are = shows.objects.lengths_are;
   };
   threads = λ u ne. let h = shows.threads u in record {
@@ -325,7 +337,6 @@ rose p s t k c more shows inside room more_is = record {
     owners_are = shows.objects.owners_are;
     counts_are = λ j. ap (λ n. get_or (set c.counts k (n + 1)) j 0) (shows.objects.counts_are k)
         ∙ same_set c.counts s.counts k (count_of s k + 1) 0 shows.objects.counts_are room inside j;
-    queues_are = shows.objects.queues_are;
     lengths_are = shows.objects.lengths_are;
   };
   threads = λ u ne. let h = shows.threads u ne in record {

@@ -19,8 +19,9 @@ use Rattle.semantics.proofs.Masks.{empty_has}
 use Rattle.semantics.proofs.StepsKeepStates.{start_is_of}
 use Rattle.std.proofs.lemmas.List.Elements.{All-map}
 use Rattle.machine.specs.declared.control.Control.{Control}
+use Rattle.machine.specs.declared.control.TheConstants.{FREE}
 use Rattle.machine.specs.declared.machine.Machine.{Machine}
-use Rattle.machine.specs.Refinement.{HasThreadAt, IsControl, Shows, locals_at, queued}
+use Rattle.machine.specs.Refinement.{HasObjects, HasThreadAt, IsControl, Shows, AreQueues, thread_or_none, locals_at, queued}
 use Rattle.machine.specs.inner.Parts.{Lands}
 use Rattle.machine.specs.inner.Opening.{IsOpenedTo, IsOpening}
 use Rattle.machine.proofs.Lists.{by_place, same_all}
@@ -59,12 +60,11 @@ unbegun threads counts = record {
   stopped = no_threads;
   woken = no_threads;
   places = replicate 16 0;
-  owners = replicate 8 None;
+  owners = replicate 8 FREE;
   counts = counts;
   mutexes = replicate 8 no_threads;
   semaphores = replicate 8 no_threads;
   lengths = replicate 8 0;
-  queues = replicate 8 0;
 }
 
 pub unbegun_is : (p : Program) (threads : Mask) (counts : List ℕ)
@@ -73,10 +73,9 @@ pub unbegun_is : (p : Program) (threads : Mask) (counts : List ℕ)
     → IsOpenedTo p (start p) 0 (unbegun threads counts)
 unbegun_is p threads counts all same = record {
   objects = record {
-    owners_are = λ m. same_all 8 m None ∙ sym (same_all (length p.mutexes) m None);
+    owners_are = λ m. ap thread_or_none (same_all 8 m FREE)
+        ∙ sym (same_all (length p.mutexes) m None);
     counts_are = same;
-    queues_are = λ n. ap (λ k. queued k (get_or (replicate 8 0) n 0)) (same_all 8 n 0)
-        ∙ sym (same_all (length p.conditions) n []);
     lengths_are = λ n. same_all 8 n 0
         ∙ sym (ap (λ (q : List ℕ). length q) (same_all (length p.conditions) n []));
   };
@@ -202,7 +201,7 @@ opening_more p s k m n ys there h lands is more own f w = record {
   fixed = f ∙ h.fixed;
   variables = (λ i. take (f i) (is i))
       ∙ (take-append-le m.fixed m.values.items ys (omega (arith, h.size)) ∙ h.variables);
-  locals = λ t l. (λ i. locals_at (w i) (drop (f i) (is i)) t)
+  locals = λ t l. (λ i. locals_at (w i) (drop (f i + length s.queues) (is i)) t)
       ∙ (go t (omega (arith, l)) ∙ ap (λ x. take x (thread_at s t).locals) (sym w));
   size = ap (λ (x : List ℤ). length x) is ∙ (length-append m.values.items ys
       ∙ (let e : (k + 1) * m.width ≡ k * m.width + m.width = one_more k m.width in
@@ -215,12 +214,13 @@ opening_more p s k m n ys there h lands is more own f w = record {
     one_more k x = omega arith
 
     go : (t : ℕ) → t ≤ k
-        → locals_at m.width (drop m.fixed (m.values.items ++ ys)) t
+        → locals_at m.width (drop (m.fixed + length s.queues) (m.values.items ++ ys)) t
         ≡ take m.width (thread_at s t).locals
     go t l = elim (cases_lt t k) [
-      | inl a ↦ locals_before m.width k m.fixed m.values.items ys h.size more t a ∙ h.locals t a
+      | inl a ↦ locals_before m.width k (m.fixed + length s.queues) m.values.items ys h.size more t a
+          ∙ h.locals t a
       | inr b ↦ (let e : t ≡ k = omega (arith, l, b) in
-          rw e (locals_new m.width k m.fixed m.values.items ys h.size more ∙ own))
+          rw e (locals_new m.width k (m.fixed + length s.queues) m.values.items ys h.size more ∙ own))
     ]
 
 -- all threads are there
@@ -235,6 +235,14 @@ opened_all p s k c full opened = record {
   ];
 }
 
+-- all queues are empty
+no_queues : (p : Program) (c : Control) (f : ℕ) (cells : List ℤ) → HasObjects c (start p)
+    → AreQueues f c.lengths cells (start p).queues
+no_queues p c f cells objects n l =
+    let none = same_all (length p.conditions) n [] in
+    ap (λ k. queued k (get_or cells (f + n) (pos 0)))
+    (objects.lengths_are n ∙ ap (λ (q : List ℕ). length q) none) ∙ sym none
+
 pub shows_start : (p : Program) (k : ℕ) (m : Machine) → IsWellFormed p → length p.threads ≤ k
     → k ≤ length p.threads → IsOpening p (start p) k m → Shows p m (start p)
 shows_start p k m fine full few h = record {
@@ -243,8 +251,9 @@ shows_start p k m fine full few h = record {
   control = opened_all p (start p) k m.control (omega (arith, full, many)) h.control;
   fixed_are = h.fixed;
   variables = h.variables;
+  queues = no_queues p m.control m.fixed m.values.items h.control.objects;
   locals = λ t l. h.locals t (omega (arith, l, many, full));
-  size = h.size ∙ ap (λ n. m.fixed + n * m.width)
+  size = h.size ∙ ap (λ n. m.fixed + length (start p).queues + n * m.width)
       (let e : k ≡ length (start p).threads = omega (arith, full, few, many) in e);
   wide = h.wide;
 }

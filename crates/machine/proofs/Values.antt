@@ -1,11 +1,11 @@
--- The values of a machine, in one list: the variables, and then each thread's locals.
-use Rattle.std.proofs.Common.{◌≡◌, ◌≢◌, ℕ, ℤ, suc, ◌+◌, ◌-◌, ◌*◌, ◌<◌, ◌≤◌, true, ◌⊎◌, List, ◌++◌, length, take, drop, refl, ap, ◌∙◌, sym, subst, arith, inl, inr}
+-- The values of a machine, in one list: the variables, the queues, and then each thread's locals.
+use Rattle.std.proofs.Common.{◌≡◌, ◌≢◌, ℕ, ℤ, suc, ◌+◌, ◌-◌, ◌*◌, ◌<◌, ◌≤◌, true, ◌⊎◌, List, ◌++◌, pos, get_or, length, take, drop, refl, ap, ◌∙◌, sym, subst, arith, inl, inr}
 use Rattle.std.specs.Prelude.{All}
 use Rattle.std.proofs.lemmas.Bool.{cases_order}
 use Rattle.std.proofs.Math.Nat.{mul-le-mul_right}
 use borrow.Rule.Slice.PartMut.{put_mid}
-use Rattle.std.proofs.Math.Seq.{take-append_seam, drop-append_seam}
-use Rattle.std.proofs.lemmas.List.{drop-take, length-append, length-drop, length-take, length-take-le}
+use Rattle.std.proofs.Math.Seq.{drop-append_seam}
+use Rattle.std.proofs.lemmas.List.{drop-take, length-append, length-drop, length-take, length-take-le, take-take, take-append-le, get_or-take, get_or_append_left}
 use Rattle.std.proofs.lemmas.Slice.{take-put_mid_below, drop-put_mid, between-put_mid}
 use Rattle.guest_code.specs.Program.{Program, LocalsBelow, code_of, no_thread}
 use Rattle.semantics.specs.Machine.{Snapshot, thread_at, is_enabled, step}
@@ -13,8 +13,8 @@ use Rattle.semantics.specs.Reachable.{IsOf}
 use Rattle.semantics.proofs.WorkFalls.{enabled_below}
 use Rattle.semantics.proofs.StepsKeepStates.{step_is_of}
 use Rattle.machine.specs.declared.control.Control.{Control}
-use Rattle.machine.specs.Refinement.{IsState, locals_at}
-use Rattle.machine.specs.inner.Steps.{IsReadyIn, IsStepped}
+use Rattle.machine.specs.Refinement.{IsState, AreQueues, queued, locals_at}
+use Rattle.machine.specs.inner.Steps.{AreShared, HasShared, IsReadyIn, IsStepped}
 
 -- thread t's part is in the list
 pub chunk_inside : (t n w L : ℕ) → t < n → L ≡ n * w → t * w + w ≤ L
@@ -86,6 +86,35 @@ module _ (w t : ℕ) (xs : List ℤ) (inside : t * w + w ≤ length xs) where
           (long ∙ sym width);
     }
 
+-- the variables and the queues, in the first cells of a machine
+
+-- out of all cells
+shared_of : (p : Program) (f w : ℕ) (c : Control) (values : List ℤ) (s : Snapshot)
+    → IsState p f w c values s → HasShared c (take (f + length s.queues) values) s
+shared_of p f w c values s h = record {
+  variables = ap (λ n. take n (take (f + length s.queues) values)) (sym h.fixed_are)
+      ∙ (take-take f (f + length s.queues) values (omega arith) ∙ h.variables);
+  are_queues = λ n l. ap (queued (get_or c.lengths n 0))
+      (get_or-take (f + length s.queues) values (length s.vars + n) (pos 0)
+      (omega (arith, l, h.fixed_are))
+      ∙ ap (λ k. get_or values (k + n) (pos 0)) (sym h.fixed_are)) ∙ h.queues n l;
+  size = length-take-le (f + length s.queues) values (omega (arith, h.size))
+      ∙ ap (λ n. n + length s.queues) h.fixed_are;
+}
+
+-- and back, before others
+module _ (lengths : List ℕ) (cells vars new : List ℤ) (queues : List (List ℕ)) (f : ℕ)
+    (h : AreShared lengths cells vars queues) (fixed : f ≡ length vars) where
+  pub shared_variables : take f (cells ++ new) ≡ vars
+  shared_variables = ap (λ n. take n (cells ++ new)) fixed
+      ∙ (take-append-le (length vars) cells new (omega (arith, h.size)) ∙ h.variables)
+
+  pub shared_queues : AreQueues f lengths (cells ++ new) queues
+  shared_queues n l = ap (queued (get_or lengths n 0))
+      (ap (λ k. get_or (cells ++ new) (k + n) (pos 0)) fixed
+      ∙ get_or_append_left cells new (pos 0) (length vars + n) (omega (arith, h.size, l)))
+      ∙ h.are_queues n l
+
 -- a step over the values
 
 module _ (p : Program) (f w : ℕ) (c : Control) (values : List ℤ) (s : Snapshot) (t : ℕ)
@@ -93,8 +122,15 @@ module _ (p : Program) (f w : ℕ) (c : Control) (values : List ℤ) (s : Snapsh
   there : t < length s.threads
   there = enabled_below p s t enabled
 
+  -- where the locals begin
+  abbrev begin : ℕ
+  begin = f + length s.queues
+
+  pub begins : (n : ℕ) → n ≡ length p.conditions → f + n ≡ begin
+  begins n e = ap (λ k. f + k) (e ∙ sym shows.of.queues)
+
   abbrev old : List ℤ
-  old = drop f values
+  old = drop begin values
 
   of_after : IsOf p (step p s t)
   of_after = step_is_of p s t shows.of enabled
@@ -102,16 +138,23 @@ module _ (p : Program) (f w : ℕ) (c : Control) (values : List ℤ) (s : Snapsh
   many_after : length (step p s t).threads ≡ length s.threads
   many_after = of_after.threads ∙ sym shows.of.threads
 
+  queues_after : length (step p s t).queues ≡ length s.queues
+  queues_after = of_after.queues ∙ sym shows.of.queues
+
+  vars_after : length (step p s t).vars ≡ length s.vars
+  vars_after = of_after.variables ∙ sym shows.of.variables
+
   pub old_inside : t * w + w ≤ length old
   old_inside = chunk_inside t (length s.threads) w (length old) there
-      (omega (arith, shows.size, length-drop f values))
+      (omega (arith, shows.size, length-drop begin values))
 
-  pub ready : (vars mine : List ℤ) → vars ≡ take f values → mine ≡ locals_at w old t
-      → length mine ≡ w → IsReadyIn p s t c vars mine
-  ready vars mine vs own long = record {
+  pub ready : (g : ℕ) (cells mine : List ℤ) → g ≡ begin → cells ≡ take g values
+      → mine ≡ locals_at w old t → length mine ≡ w → IsReadyIn p s t c cells mine
+  ready g cells mine at first own long = record {
     of = shows.of;
     control = shows.control;
-    variables = vs ∙ shows.variables;
+    shared = subst (λ xs. AreShared c.lengths xs s.vars s.queues)
+        (sym (first ∙ ap (λ n. take n values) at)) (shared_of p f w c values s shows);
     own = own ∙ (shows.locals t there ∙ ap (λ n. take n (thread_at s t).locals) (sym long));
     enabled = enabled;
     below = subst (λ n. All (LocalsBelow n) (code_of p t)) (sym long)
@@ -119,7 +162,10 @@ module _ (p : Program) (f w : ℕ) (c : Control) (values : List ℤ) (s : Snapsh
   }
 
   -- thread t's locals, as a slice of them all
-  module _ (all : List ℤ) (same : all ≡ old) where
+  module _ (g : ℕ) (at : g ≡ begin) (all : List ℤ) (is : all ≡ drop g values) where
+    same : all ≡ old
+    same = is ∙ ap (λ n. drop n values) at
+
     pub all_inside : t * w + w ≤ length all
     all_inside = omega (arith, old_inside, ap (λ (x : List ℤ). length x) same)
 
@@ -135,8 +181,8 @@ module _ (p : Program) (f w : ℕ) (c : Control) (values : List ℤ) (s : Snapsh
         subst (λ x. Rewrites w t x (put_mid (t * w) (t * w + w - t * w) all ys) ys) same
         (rewrites w t all all_inside ys long)
 
-  module _ (d : Control) (vars new mine : List ℤ) (st : IsStepped p s t d vars mine)
-      (few : length vars ≡ f) (long : length mine ≡ w) (wrote : Rewrites w t old new mine) where
+  module _ (d : Control) (cells new mine : List ℤ) (st : IsStepped p s t d cells mine)
+      (long : length mine ≡ w) (wrote : Rewrites w t old new mine) where
     locals_after : (u : ℕ) → u < length s.threads → (u ≡ t) ⊎ ((u < t) ⊎ (t < u))
         → locals_at w new u ≡ take w (thread_at (step p s t) u).locals
     locals_after u h (inl e) = rw e (wrote.chunk
@@ -147,23 +193,32 @@ module _ (p : Program) (f w : ℕ) (c : Control) (values : List ℤ) (s : Snapsh
         ne : u ≢ t
         ne = elim side [ inl l ↦ omega (arith, l) | inr l ↦ omega (arith, l) ]
 
-    rest : drop f (vars ++ new) ≡ new
-    rest = ap (λ n. drop n (vars ++ new)) (sym few) ∙ drop-append_seam vars new
+    fixed_after : f ≡ length (step p s t).vars
+    fixed_after = shows.fixed_are ∙ sym vars_after
 
-    pub size_after : length (vars ++ new) ≡ length values
-    size_after = length-append vars new
+    few : length cells ≡ f + length (step p s t).queues
+    few = st.shared.size ∙ ap (λ n. n + length (step p s t).queues) (sym fixed_after)
+
+    rest : drop (f + length (step p s t).queues) (cells ++ new) ≡ new
+    rest = ap (λ n. drop n (cells ++ new)) (sym few) ∙ drop-append_seam cells new
+
+    pub size_after : length (cells ++ new) ≡ length values
+    size_after = length-append cells new
         ∙ (let e = same_length w t old new mine wrote long old_inside in
-        omega (arith, e, few, shows.size, length-drop f values))
+        omega (arith, e, few, queues_after, shows.size, length-drop begin values))
 
-    pub shows_after : IsState p f w d (vars ++ new) (step p s t)
+    pub shows_after : IsState p f w d (cells ++ new) (step p s t)
     shows_after = record {
       of = of_after;
       control = st.control;
-      fixed_are = sym few ∙ ap (λ (x : List ℤ). length x) st.variables;
-      variables = ap (λ n. take n (vars ++ new)) (sym few)
-          ∙ (take-append_seam vars new ∙ st.variables);
+      fixed_are = fixed_after;
+      variables = shared_variables d.lengths cells (step p s t).vars new (step p s t).queues f
+          st.shared fixed_after;
+      queues = shared_queues d.lengths cells (step p s t).vars new (step p s t).queues f st.shared
+          fixed_after;
       locals = λ u h. ap (λ x. locals_at w x u) rest
           ∙ locals_after u (omega (arith, h, many_after)) (cases_order u t);
-      size = size_after ∙ (shows.size ∙ ap (λ n. f + n * w) (sym many_after));
+      size = size_after ∙ (shows.size
+          ∙ (λ i. f + sym queues_after i + sym many_after i * w));
       wide = shows.wide;
     }

@@ -1,5 +1,6 @@
 -- A whole step: who may take it, and what it makes of the state.
 use Rattle.std.proofs.Common.{◌≡◌, ℕ, ℤ, ◌<◌, true, false, List, length, take, Option, Some, slice_get, get_or, set, refl, ap, ◌∙◌, sym, subst, arith, get_or-set_same, get_or-set_other}
+use Rattle.std.proofs.Math.Path.{transport}
 use Rattle.std.specs.Prelude.{All}
 use Rattle.guest_code.specs.Program.{Program, code_of, IsValid, LocalsBelow}
 use Rattle.guest_code.specs.declared.program.Instruction.{Instruction}
@@ -15,7 +16,7 @@ use Rattle.semantics.specs.declared.local.Landing.{Landing}
 use Rattle.machine.specs.Refinement.{is_woken, IsControl}
 use Rattle.semantics.specs.Turns.{own_thread}
 use Rattle.machine.specs.inner.LocalRuns.{narrow}
-use Rattle.machine.specs.inner.Steps.{IsPoised, IsPerformed, IsStepped, IsReadyIn, settled}
+use Rattle.machine.specs.inner.Steps.{AreShared, IsPoised, IsPerformed, IsStepped, IsReadyIn, settled}
 use Rattle.machine.proofs.Lists.{read_at}
 
 -- where an enabled thread is
@@ -67,13 +68,13 @@ module _ (p : Program) (s : Snapshot) (t : ℕ) (c : Control) (code : List Instr
   here_retakes woke = λ i. action_at
       (is_the_woken (thread_at s t).status (sym (shows.threads t).woken ∙ woke) i) (read i)
 
-  pub poised_here : (vars mine : List ℤ) → IsReadyIn p s t c vars mine → All (IsValid p) code
-      → has c.woken t ≡ false → IsPoised p s t here c vars mine
-  poised_here vars mine ready valid asleep = record {
+  pub poised_here : (cells mine : List ℤ) → IsReadyIn p s t c cells mine → All (IsValid p) code
+      → has c.woken t ≡ false → IsPoised p s t here c cells mine
+  poised_here cells mine ready valid asleep = record {
     of = ready.of;
     thread = enabled_below p s t enabled;
     control = shows;
-    variables = ready.variables;
+    shared = ready.shared;
     own = ready.own;
     status = here_runs asleep;
     next = here_next asleep;
@@ -84,18 +85,20 @@ module _ (p : Program) (s : Snapshot) (t : ℕ) (c : Control) (code : List Instr
   }
 
 -- the whole step: what was performed, and what the thread did after it
-pub finished : (p : Program) (s : Snapshot) (t : ℕ) (c e : Control) (vars mine mine' : List ℤ)
+pub finished : (p : Program) (s : Snapshot) (t : ℕ) (c e : Control) (cells mine mine' : List ℤ)
     (status : Status) (at : Landing)
-    (q : IsPerformed p s t c vars mine status) → t < length s.threads → length mine' ≡ length mine
+    (q : IsPerformed p s t c cells mine status) → t < length s.threads → length mine' ≡ length mine
     → own_thread at mine' ≡ narrow (length mine) (settled (code_of p t) status q.th)
+    → e.lengths ≡ c.lengths
     → IsControl p e (record q.after {
       threads = set q.after.threads t
           (settled (code_of p t) status q.th);
     })
-    → IsStepped p s t e vars mine'
-finished p s t c e vars mine mine' status at q there long own control = record {
+    → IsStepped p s t e cells mine'
+finished p s t c e cells mine mine' status at q there long own kept control = record {
   control = subst (IsControl p e) (sym q.step) control;
-  variables = q.variables ∙ sym (ap (λ (z : Snapshot). z.vars) q.step);
+  shared = transport (λ i. AreShared e.lengths cells (sym q.step i).vars (sym q.step i).queues)
+      (subst (λ ls. AreShared ls cells q.after.vars q.after.queues) (sym kept) q.shared);
   own = ap (λ (x : Thread). x.locals) own
       ∙ ((λ i. take (sym long i) (settled (code_of p t) status q.th).locals)
       ∙ sym (ap (λ (x : Thread). take (length mine') x.locals) now));

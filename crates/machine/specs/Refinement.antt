@@ -1,5 +1,6 @@
 -- What a machine shows: a state of a program.
-use Rattle.std.specs.Prelude.{◌≡◌, ℕ, zero, suc, ◌+◌, ◌*◌, ◌^◌, ◌/◌, ◌%◌, ◌<◌, ℤ, Bool, true, false, not, nat_eq, List, [], ◌∷◌, length, take, drop, slice_get, slice_index_or, All, Option, Some, None}
+use Rattle.std.specs.Prelude.{◌≡◌, ℕ, zero, suc, ◌+◌, ◌*◌, ◌^◌, ◌/◌, ◌%◌, ◌<◌, ℤ, pos, Bool, true, false, not, nat_eq, List, [], ◌∷◌, length, take, drop, slice_get, slice_index_or, All, Option, Some, None, if◌then◌else◌}
+use Rattle.std.specs.Int.{cast_unsigned, w64}
 use Rattle.guest_code.specs.Program.{Program, code_of, LocalsBelow}
 use Rattle.semantics.specs.declared.mask.Mask.{Mask}
 use Rattle.semantics.specs.declared.state.Thread.{Thread}
@@ -14,6 +15,7 @@ use Rattle.semantics.specs.Mask.{has, no_threads}
 use Rattle.semantics.specs.Ends.{is_stopped, is_ended}
 use Rattle.semantics.specs.Reachable.{IsOf}
 use Rattle.machine.specs.declared.control.Control.{Control}
+use Rattle.machine.specs.declared.control.TheConstants.{FREE}
 use Rattle.machine.specs.declared.machine.Machine.{Machine}
 
 -- the step takes mutex m
@@ -52,24 +54,36 @@ at_mutex c m = slice_index_or c.mutexes m no_threads
 abbrev pub at_semaphore : Control → ℕ → Mask
 at_semaphore c k = slice_index_or c.semaphores k no_threads
 
--- the threads of a queue of this length that is kept as a number: four bits for each, the last lowest
-abbrev pub queued : ℕ → ℕ → List ℕ
-queued zero bits = []
-queued (suc n) bits = bits / 2 ^ (4 * n) % 16 ∷ queued n bits
+-- the thread of this number, or none where it stands for none
+abbrev pub thread_or_none : ℕ → Option ℕ
+thread_or_none n = if nat_eq n FREE then None else Some n
 
--- the owners, the counts and the queues are those of the state
-pub record AreObjects (owners : List (Option ℕ)) (counts lengths bits : List ℕ)
+-- the owners and the counts are those of the state, and the queues are as long as its own
+pub record AreObjects (owners counts lengths : List ℕ)
     (state_owners : List (Option ℕ)) (state_counts : List ℕ) (state_queues : List (List ℕ))
     : Type 0 where
-  pub owners_are : (m : ℕ) → slice_index_or owners m None ≡ slice_index_or state_owners m None
+  pub owners_are : (m : ℕ) → thread_or_none (slice_index_or owners m FREE)
+      ≡ slice_index_or state_owners m None
   pub counts_are : (k : ℕ) → slice_index_or counts k 0 ≡ slice_index_or state_counts k 0
-  pub queues_are : (n : ℕ) → queued (slice_index_or lengths n 0) (slice_index_or bits n 0)
-      ≡ slice_index_or state_queues n []
   pub lengths_are : (n : ℕ) → slice_index_or lengths n 0
       ≡ length (slice_index_or state_queues n [])
 
 abbrev pub HasObjects : Control → Snapshot → Type 0
-HasObjects c s = AreObjects c.owners c.counts c.lengths c.queues s.owners s.counts s.queues
+HasObjects c s = AreObjects c.owners c.counts c.lengths s.owners s.counts s.queues
+
+-- the threads of a queue of this length that is kept in 64 bits: four for each, the last lowest
+abbrev pub queued_in : ℕ → ℕ → List ℕ
+queued_in zero bits = []
+queued_in (suc n) bits = bits / 2 ^ (4 * n) % 16 ∷ queued_in n bits
+
+abbrev pub queued : ℕ → ℤ → List ℕ
+queued n cell = queued_in n (cast_unsigned w64 cell)
+
+-- the queues are those of the state, one in each cell from this place on
+abbrev pub AreQueues : ℕ → List ℕ → List ℤ → List (List ℕ) → Type 0
+AreQueues first lengths cells state_queues = (n : ℕ) → n < length state_queues
+    → queued (slice_index_or lengths n 0) (slice_index_or cells (first + n) (pos 0))
+    ≡ slice_index_or state_queues n []
 
 -- a state of which only the objects are looked at that can hold a thread up
 abbrev pub held : Snapshot → Snapshot
@@ -107,17 +121,19 @@ pub record IsControl (p : Program) (c : Control) (s : Snapshot) : Type 0 where
 abbrev pub locals_at : ℕ → List ℤ → ℕ → List ℤ
 locals_at width locals t = take width (drop (t * width) locals)
 
--- the values are those of the state: first those of the variables, and then for each thread its
--- first locals, as many as any thread's code speaks of
+-- the values are those of the state: first those of the variables, then the queues, and then for
+-- each thread its first locals, as many as any thread's code speaks of
 pub record IsState (p : Program) (fixed width : ℕ) (c : Control) (values : List ℤ) (s : Snapshot)
     : Type 0 where
   pub of : IsOf p s
   pub control : IsControl p c s
   pub fixed_are : fixed ≡ length s.vars
   pub variables : take fixed values ≡ s.vars
+  pub queues : AreQueues fixed c.lengths values s.queues
   pub locals : (t : ℕ) → t < length s.threads
-      → locals_at width (drop fixed values) t ≡ take width (thread_at s t).locals
-  pub size : length values ≡ fixed + length s.threads * width
+      → locals_at width (drop (fixed + length s.queues) values) t
+      ≡ take width (thread_at s t).locals
+  pub size : length values ≡ fixed + length s.queues + length s.threads * width
   pub wide : All (λ th. All (LocalsBelow width) th.code) p.threads
 
 -- the machine shows the state

@@ -1,6 +1,6 @@
 //! A state but for its values, and the parts of a step.
 
-ghost use Rattle.std.specs.Prelude.{◌≡◌, ◌≢◌, ◌^◌, ◌<◌, ◌≤◌, ◌∷◌, [], ◌+◌, ◌-◌, ℕ, ◌++◌, take, drop, nat_lt, length, slice_get, slice_index_or, slice_set, Some, None};
+ghost use Rattle.std.specs.Prelude.{◌≡◌, ◌≢◌, ◌^◌, ◌<◌, ◌≤◌, ◌∷◌, [], ◌+◌, ◌-◌, ℕ, ◌++◌, drop, nat_lt, length, slice_get, slice_index_or, slice_set, Some, None};
 ghost use Rattle.guest_code.specs.Program.{Program, IsValid, IsValidCode, IsWellFormed, code_of};
 ghost use Rattle.semantics.specs.declared.state.Thread.{Thread};
 ghost use Rattle.semantics.specs.declared.state.Status.TheVariants.{Waiting, Woken};
@@ -22,8 +22,9 @@ use semantics::Landing;
 use semantics::mask::Mask;
 use semantics::state::Status;
 
-/// A state but for its values: which threads can take a step and which are over, where each is, the
-/// objects, and which threads are at each mutex and semaphore. It is copied as it is.
+/// A state but for its values and queues: which threads can take a step and which are over, where
+/// each is, the mutexes and semaphores, and which threads are at each of them. It is copied as it
+/// is, and small, so that a copy takes no call.
 #[derive(Clone, Copy, Debug)]
 pub struct Control {
     /// The threads that can take a step.
@@ -36,7 +37,8 @@ pub struct Control {
     pub(crate) woken: Mask,
     /// The number of the instruction where each thread is.
     pub(crate) places: [u16; THREADS],
-    pub(crate) owners: [Option<u8>; OBJECTS],
+    /// The thread that owns each mutex, or `FREE`.
+    pub(crate) owners: [u8; OBJECTS],
     pub(crate) counts: [u16; OBJECTS],
     /// The threads whose next step takes each mutex, whether it is free or not.
     pub(crate) mutexes: [Mask; OBJECTS],
@@ -44,9 +46,10 @@ pub struct Control {
     pub(crate) semaphores: [Mask; OBJECTS],
     /// How many threads are in each queue.
     pub(crate) lengths: [u8; OBJECTS],
-    /// Who is in each queue: four bits for each thread, the last one lowest.
-    pub(crate) queues: [u64; OBJECTS],
 }
+
+/// In place of the owner of a mutex that is free.
+pub(crate) const FREE: u8 = 255;
 
 /// The set of the threads before this number.
 pub(crate) fn threads_below(number: u8) -> Mask
@@ -79,23 +82,23 @@ fn counts_of(program: &Program) -> [u16; OBJECTS]
     counts
 }
 
-// A queue of this length with a thread put at its end.
-fn joined(queue: u64, thread: u8, _length: u8) -> u64
+// A queue of this length with a thread put at its end: four bits for each, the last one lowest.
+fn joined(queue: i64, thread: u8, _length: u8) -> i64
     requires thread { thread < THREADS }
     requires room { _length < THREADS }
     ensures { queued (_length + 1) result ≡ queued _length queue ++ thread ∷ [] }
 {
-    (queue << 4) | (thread as u64)
+    ((queue.cast_unsigned() << 4) | (thread as u64)).cast_signed()
 }
 
 // The first of a queue of this length.
-fn first_of(queue: u64, length: u8) -> u8
+fn first_of(queue: i64, length: u8) -> u8
     requires some { 0 < length }
     requires few { length ≤ THREADS }
     ensures few { result < THREADS }
     ensures first { queued length queue ≡ result ∷ queued (length - 1) queue }
 {
-    ((queue >> (4 * (length - 1))) & 15) as u8
+    ((queue.cast_unsigned() >> (4 * (length - 1))) & 15) as u8
 }
 
 impl Control {
@@ -109,12 +112,11 @@ impl Control {
             stopped: Mask::empty(),
             woken: Mask::empty(),
             places: [0; THREADS],
-            owners: [None; OBJECTS],
+            owners: [FREE; OBJECTS],
             counts: counts_of(program),
             mutexes: [Mask::empty(); OBJECTS],
             semaphores: [Mask::empty(); OBJECTS],
             lengths: [0; OBJECTS],
-            queues: [0; OBJECTS],
         }
     }
 
@@ -130,14 +132,15 @@ impl Control {
     fn take(&mut self, thread: u8, m: usize)
         requires thread { thread < THREADS }
         requires m { m < OBJECTS }
-        ensures { (p : Program) → (s : Snapshot) → (d : MutexAction) → IsControl p self.old s
+        ensures lengths { self.new.lengths ≡ self.old.lengths }
+        ensures takes { (p : Program) → (s : Snapshot) → (d : MutexAction) → IsControl p self.old s
             → m < length s.owners → next_of p s thread ≡ Some (OnMutex m d) → IsTaking d
             → IsControlBut p self.new
             (record s { owners = slice_set s.owners m (Some thread) }) thread }
     {
         let near = self.mutexes[m].with(thread, false);
         self.mutexes[m] = near;
-        self.owners[m] = Some(thread);
+        self.owners[m] = thread;
         self.woken = self.woken.with(thread, false);
         self.enabled = self.enabled.minus(near);
     }
@@ -145,11 +148,12 @@ impl Control {
     // A mutex gets free.
     fn give_back(&mut self, m: usize)
         requires m { m < OBJECTS }
-        ensures { (p : Program) → (s : Snapshot) → (t : ℕ) → IsControlBut p self.old s t
+        ensures lengths { self.new.lengths ≡ self.old.lengths }
+        ensures frees { (p : Program) → (s : Snapshot) → (t : ℕ) → IsControlBut p self.old s t
             → m < length s.owners
             → IsControlBut p self.new (record s { owners = slice_set s.owners m None }) t }
     {
-        self.owners[m] = None;
+        self.owners[m] = FREE;
         self.enabled = self.enabled.union(self.mutexes[m]);
     }
 
@@ -158,7 +162,8 @@ impl Control {
         requires thread { thread < THREADS }
         requires k { k < OBJECTS }
         requires count { 0 < slice_index_or self.old.counts k 0 }
-        ensures { (p : Program) → (s : Snapshot) → IsControl p self.old s → k < length s.counts
+        ensures lengths { self.new.lengths ≡ self.old.lengths }
+        ensures acquires { (p : Program) → (s : Snapshot) → IsControl p self.old s → k < length s.counts
             → next_of p s thread ≡ Some (OnSemaphore k Acquires)
             → IsControlBut p self.new
             (record s { counts = slice_set s.counts k (count_of s k - 1) }) thread }
@@ -176,7 +181,8 @@ impl Control {
     fn release(&mut self, k: usize)
         requires k { k < OBJECTS }
         requires count { slice_index_or self.old.counts k 0 < COUNT }
-        ensures { (p : Program) → (s : Snapshot) → (t : ℕ) → IsControlBut p self.old s t
+        ensures lengths { self.new.lengths ≡ self.old.lengths }
+        ensures rises { (p : Program) → (s : Snapshot) → (t : ℕ) → IsControlBut p self.old s t
             → k < length s.counts
             → IsControlBut p self.new
             (record s { counts = slice_set s.counts k (count_of s k + 1) }) t }
@@ -185,34 +191,39 @@ impl Control {
         self.enabled = self.enabled.union(self.semaphores[k]);
     }
 
-    // A thread joins a condition's queue.
-    fn put_last(&mut self, thread: u8, c: usize)
+    // A thread joins the queue of a condition, which is this cell.
+    fn put_last(&mut self, queue: &mut i64, thread: u8, c: usize)
         requires thread { thread < THREADS }
         requires c { c < OBJECTS }
         requires room { slice_index_or self.old.lengths c 0 < THREADS }
-        ensures { (p : Program) → (s : Snapshot) → (t : ℕ) → IsControlBut p self.old s t
+        ensures lengths { self.new.lengths
+            ≡ slice_set self.old.lengths c (slice_index_or self.old.lengths c 0 + 1) }
+        ensures queue { queued (slice_index_or self.old.lengths c 0 + 1) queue.new
+            ≡ queued (slice_index_or self.old.lengths c 0) queue.old ++ thread ∷ [] }
+        ensures rest { (p : Program) → (s : Snapshot) → (t : ℕ) → IsControlBut p self.old s t
             → c < length s.queues → IsControlBut p self.new
             (record s { queues = slice_set s.queues c (queue_of s c ++ thread ∷ []) }) t }
     {
         let length = self.lengths[c];
-        self.queues[c] = joined(self.queues[c], thread, length);
+        *queue = joined(*queue, thread, length);
         self.lengths[c] = length + 1;
     }
 
-    // Takes the first out of a condition's queue.
-    fn take_first(&mut self, c: usize) -> u8
+    // Takes the first out of the queue of a condition, which is this cell.
+    fn take_first(&mut self, queue: i64, c: usize) -> u8
         requires c { c < OBJECTS }
         requires some { 0 < slice_index_or self.old.lengths c 0 }
         requires few { slice_index_or self.old.lengths c 0 ≤ THREADS }
-        ensures fewer { slice_index_or self.new.lengths c 0 < slice_index_or self.old.lengths c 0 }
-        ensures first { (p : Program) → (s : Snapshot) → (t : ℕ) → IsControlBut p self.old s t
-            → take 1 (queue_of s c) ≡ result ∷ [] }
+        ensures lengths { self.new.lengths
+            ≡ slice_set self.old.lengths c (slice_index_or self.old.lengths c 0 - 1) }
+        ensures first { queued (slice_index_or self.old.lengths c 0) queue
+            ≡ result ∷ queued (slice_index_or self.old.lengths c 0 - 1) queue }
         ensures rest { (p : Program) → (s : Snapshot) → (t : ℕ) → IsControlBut p self.old s t
             → c < length s.queues → IsControlBut p self.new
             (record s { queues = slice_set s.queues c (drop 1 (queue_of s c)) }) t }
     {
         let length = self.lengths[c];
-        let thread = first_of(self.queues[c], length);
+        let thread = first_of(queue, length);
         self.lengths[c] = length - 1;
         thread
     }
@@ -241,7 +252,7 @@ impl Control {
             → Stands self.old self.new s thread (Some (OnMutex m d)) result }
     {
         self.mutexes[m] = self.mutexes[m].with(thread, true);
-        self.owners[m].is_none()
+        self.owners[m] == FREE
     }
 
     // A running thread is put to what this instruction takes. Whether it may go on.

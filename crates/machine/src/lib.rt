@@ -1,10 +1,10 @@
 //! A state of a program in the form in which it is fast to step and to copy.
 //!
-//! A [`Machine`] shows a state: it holds the values of its variables and locals in one list, and
-//! all else, of a fixed size, in a [`Control`]. Beside the places of the threads and the objects
-//! that is which threads can take a step, which haven't ended and which stopped, and which are about
-//! to take each mutex and semaphore; so a step asks no thread anew but its own and those that it
-//! wakes. It knows no schedule.
+//! A [`Machine`] shows a state: it holds the values of its variables, its queues and the locals in
+//! one list, and all else, of a fixed size, in a [`Control`]. Beside the places of the threads, the
+//! owners and the counts that is which threads can take a step, which haven't ended and which
+//! stopped, and which are about to take each mutex and semaphore; so a step asks no thread anew but
+//! its own and those that it wakes. It knows no schedule.
 //!
 //! Each public contract speaks of the state that is shown (`Shows` in `specs/Refinement.antt`):
 //!

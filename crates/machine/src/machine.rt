@@ -14,7 +14,7 @@ ghost use Rattle.machine.specs.Refinement.{Shows};
 ghost use Rattle.machine.specs.inner.Opening.{IsOpening};
 
 use crate::control::{Control, threads_below};
-use guest_code::limits::{LOCALS, THREADS, VARIABLES};
+use guest_code::limits::{LOCALS, OBJECTS, THREADS, VARIABLES};
 use guest_code::program::Program;
 use schedules::independence::next_apart;
 use semantics::Landing;
@@ -25,14 +25,15 @@ use std::alloc::{AllocError, Global};
 
 // For how many values a machine has room: the most that there are, and more than a line of a
 // processor's cache, so that no two machines' values are in one.
-const ROOM: usize = VARIABLES + THREADS * LOCALS + 16;
+const ROOM: usize = VARIABLES + OBJECTS + THREADS * LOCALS + 16;
 
 /// A state of a program, in a form that is fast to step and to copy.
 #[derive(Drop)]
 pub struct Machine {
     /// All of the state but its values.
     pub control: Control,
-    /// The values of the variables, and then for each thread the same number of locals.
+    /// The values of the variables, a queue for each condition, and then for each thread the same
+    /// number of locals.
     pub values: Vec<i64>,
     /// How many variables there are.
     pub(crate) fixed: usize,
@@ -108,6 +109,7 @@ impl Machine {
         let state = State::start(alloc, program)?;
         let mut values = Vec::with_capacity(alloc, ROOM)?;
         values.extend_from_slice(state.variables())?;
+        values.extend_from_slice(&[0; OBJECTS][..program.conditions() as usize])?;
         let mut machine = Machine {
             control: Control::unbegun(program),
             values,

@@ -49,7 +49,8 @@ chunk_same size k n new old l same =
 pub same_values : (p : Program) (l m : Machine) (s z : Snapshot) → Shows p l s → Shows p m z
     → l.fixed ≡ m.fixed → l.width ≡ m.width → length l.values.items ≡ length m.values.items
 same_values p l m s z a b fixed width = a.size
-    ∙ ((λ i. fixed i + (a.of.threads ∙ sym b.of.threads) i * width i) ∙ sym b.size)
+    ∙ ((λ i. fixed i + (a.of.queues ∙ sym b.of.queues) i
+    + (a.of.threads ∙ sym b.of.threads) i * width i) ∙ sym b.size)
 
 -- what is open, for ways that share the frames
 

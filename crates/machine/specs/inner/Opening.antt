@@ -20,6 +20,7 @@ pub record IsOpening (p : Program) (s : Snapshot) (k : ℕ) (m : Machine) : Type
   pub fixed : m.fixed ≡ length s.vars
   pub variables : take m.fixed m.values.items ≡ s.vars
   pub locals : (t : ℕ) → t < k
-      → locals_at m.width (drop m.fixed m.values.items) t ≡ take m.width (thread_at s t).locals
-  pub size : length m.values.items ≡ m.fixed + k * m.width
+      → locals_at m.width (drop (m.fixed + length s.queues) m.values.items) t
+      ≡ take m.width (thread_at s t).locals
+  pub size : length m.values.items ≡ m.fixed + length s.queues + k * m.width
   pub wide : All (λ th. All (LocalsBelow m.width) th.code) p.threads

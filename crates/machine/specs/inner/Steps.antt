@@ -1,5 +1,5 @@
 -- A step, from the thread that may take it to what it made of the state.
-use Rattle.std.specs.Prelude.{◌≡◌, ◌≢◌, ℕ, ◌<◌, ℤ, true, List, length, take, slice_index_or, slice_set, All}
+use Rattle.std.specs.Prelude.{◌≡◌, ◌≢◌, ℕ, ◌+◌, ◌<◌, ℤ, true, List, length, take, slice_index_or, slice_set, All}
 use Rattle.guest_code.specs.Program.{Program, code_of, IsValid, LocalsBelow}
 use Rattle.guest_code.specs.declared.program.Instruction.{Instruction}
 use Rattle.semantics.specs.declared.state.Thread.{Thread}
@@ -9,26 +9,36 @@ use Rattle.semantics.specs.Machine.{Snapshot, thread_at, queue_of, next_of, is_e
 use Rattle.semantics.specs.Reachable.{IsOf}
 use Rattle.semantics.specs.Waiters.{In, Once}
 use Rattle.machine.specs.declared.control.Control.{Control}
-use Rattle.machine.specs.Refinement.{IsControl}
+use Rattle.machine.specs.Refinement.{IsControl, AreQueues}
 use Rattle.machine.specs.inner.Parts.{IsControlBut}
 
+-- the cells are those of these variables, and of these queues behind them
+pub record AreShared (lengths : List ℕ) (cells vars : List ℤ) (queues : List (List ℕ))
+    : Type 0 where
+  pub variables : take (length vars) cells ≡ vars
+  pub are_queues : AreQueues (length vars) lengths cells queues
+  pub size : length cells ≡ length vars + length queues
+
+abbrev pub HasShared : Control → List ℤ → Snapshot → Type 0
+HasShared c cells s = AreShared c.lengths cells s.vars s.queues
+
 -- thread t may take a step; its locals are these
-pub record IsReadyIn (p : Program) (s : Snapshot) (t : ℕ) (c : Control) (vars mine : List ℤ)
+pub record IsReadyIn (p : Program) (s : Snapshot) (t : ℕ) (c : Control) (cells mine : List ℤ)
     : Type 0 where
   pub of : IsOf p s
   pub control : IsControl p c s
-  pub variables : vars ≡ s.vars
+  pub shared : HasShared c cells s
   pub own : mine ≡ take (length mine) (thread_at s t).locals
   pub enabled : is_enabled p s t ≡ true
   pub below : All (LocalsBelow (length mine)) (code_of p t)
 
 -- thread t is at this instruction and may take its step; its locals are these
 pub record IsPoised (p : Program) (s : Snapshot) (t : ℕ) (i : Instruction) (c : Control)
-    (vars mine : List ℤ) : Type 0 where
+    (cells mine : List ℤ) : Type 0 where
   pub of : IsOf p s
   pub thread : t < length s.threads
   pub control : IsControl p c s
-  pub variables : vars ≡ s.vars
+  pub shared : HasShared c cells s
   pub own : mine ≡ take (length mine) (thread_at s t).locals
   pub status : (thread_at s t).status ≡ Running
   pub next : next_of p s t ≡ action_of i
@@ -45,12 +55,12 @@ settled code (Waiting c) th = with_status th (Waiting c)
 settled code (Stopped why) th = with_status th (Stopped why)
 
 -- all that a step of thread t does, but for what the thread does itself after it
-pub record IsPerformed (p : Program) (s : Snapshot) (t : ℕ) (c : Control) (vars mine : List ℤ)
+pub record IsPerformed (p : Program) (s : Snapshot) (t : ℕ) (c : Control) (cells mine : List ℤ)
     (status : Status) : Type 0 where
   pub after : Snapshot
   pub th : Thread
   pub control : IsControlBut p c after t
-  pub variables : vars ≡ after.vars
+  pub shared : HasShared c cells after
   pub own : mine ≡ take (length mine) th.locals
   pub pc : th.pc ≡ (thread_at s t).pc
   pub threads : length after.threads ≡ length s.threads
@@ -59,20 +69,22 @@ pub record IsPerformed (p : Program) (s : Snapshot) (t : ℕ) (c : Control) (var
       ≡ record after { threads = slice_set after.threads t (settled (code_of p t) status th) }
 
 -- a step of thread t led from s to this
-pub record IsStepped (p : Program) (s : Snapshot) (t : ℕ) (c : Control) (vars mine : List ℤ)
+pub record IsStepped (p : Program) (s : Snapshot) (t : ℕ) (c : Control) (cells mine : List ℤ)
     : Type 0 where
   pub control : IsControl p c (step p s t)
-  pub variables : vars ≡ (step p s t).vars
+  pub shared : HasShared c cells (step p s t)
   pub own : mine ≡ take (length mine) (thread_at (step p s t) t).locals
   pub others : (u : ℕ) → u ≢ t → (thread_at (step p s t) u).locals ≡ (thread_at s u).locals
 
 -- some of those whom a broadcast for condition n calls were called, and the rest are still in the
 -- queue
-pub record IsCalling (p : Program) (s : Snapshot) (t n : ℕ) (c : Control) : Type 0 where
+pub record IsCalling (p : Program) (s : Snapshot) (t n : ℕ) (c : Control) (cells : List ℤ)
+    : Type 0 where
   pub rest : List ℕ
   pub threads : List Thread
   pub control : IsControlBut p c
       (record s { queues = slice_set s.queues n rest; threads = threads }) t
+  pub shared : HasShared c cells (record s { queues = slice_set s.queues n rest })
   pub same : wake n rest threads ≡ wake n (queue_of s n) s.threads
   pub waits : (u : ℕ) → In rest u
       → (slice_index_or threads u missing_thread).status ≡ Waiting n

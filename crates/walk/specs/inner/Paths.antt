@@ -51,7 +51,6 @@ no_frame = record {
     mutexes = [];
     semaphores = [];
     lengths = [];
-    queues = [];
   };
 }
 

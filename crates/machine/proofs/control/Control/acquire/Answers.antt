@@ -2,16 +2,16 @@ use Rattle.std.proofs.Common.{arith}
 use Rattle.machine.proofs.Objects.{acquired, left_empty, left_some}
 use Rattle.machine.proofs.control.Control.acquire.Goals as goal
 
-pub returns-then-count-eq0 : goal.returns-then-count-eq0
-returns-then-count-eq0 c = λ p s shows inside next.
+pub returns-then-count-eq0-clause-acquires : goal.returns-then-count-eq0-clause-acquires
+returns-then-count-eq0-clause-acquires c = λ p s shows inside next.
     acquired p s c.args.thread c.args.k c.args.self.now c.with-near.result c.minus-self.result shows
     inside (omega (arith, c.requires)) (omega (arith, c.requires)) next
     c.with-near.ensures.same c.with-near.ensures.others
     (left_empty p s c.args.thread c.args.k c.args.self.now c.with-near.result c.minus-self.result
     shows inside c.if-count-eq0.true c.with-near.ensures.others c.minus-self.ensures)
 
-pub returns-else-count-eq0 : goal.returns-else-count-eq0
-returns-else-count-eq0 c = λ p s shows inside next.
+pub returns-else-count-eq0-clause-acquires : goal.returns-else-count-eq0-clause-acquires
+returns-else-count-eq0-clause-acquires c = λ p s shows inside next.
     acquired p s c.args.thread c.args.k c.args.self.now c.with-near.result
     c.args.self.now.enabled shows inside (omega (arith, c.requires)) (omega (arith, c.requires))
     next

@@ -11,7 +11,7 @@ perform-status-requires-clause-ready c =
     let ready = c.requires.1 in (
       s,
       poised_here p s c.args.thread c.args.self.now c.code-code.result.now _ ready.control
-          ready.enabled c.code-code.ensures.code c.args.variables.now c.args.own.now ready
+          ready.enabled c.code-code.ensures.code c.args.shared.now c.args.own.now ready
           c.code-code.ensures.valid.fine (sym c.has.ensures ∙ c.if-has.false),
     )
 
@@ -24,10 +24,10 @@ finish-requires-else-has-clause-pc c =
 pub returns-else-has : goal.returns-else-has
 returns-else-has c = λ s ready.
     let p = c.args.program.now in
-    c.finish-else-has.ensures p s c.perform-status.new.variables c.code-code.ensures.code
+    c.finish-else-has.ensures p s c.perform-status.new.shared c.code-code.ensures.code
     (c.perform-status.ensures s (poised_here p s c.args.thread c.args.self.now
     c.code-code.result.now _ ready.control ready.enabled c.code-code.ensures.code
-    c.args.variables.now c.args.own.now ready c.code-code.ensures.valid.fine
+    c.args.shared.now c.args.own.now ready c.code-code.ensures.valid.fine
     (sym c.has.ensures ∙ c.if-has.false)))
     (enabled_below p s c.args.thread ready.enabled) (ready.control.threads c.args.thread).place
 
@@ -36,8 +36,8 @@ returns-then-has c = λ s ready.
     let p = c.args.program.now in
     let t = c.args.thread in
     let code = c.code-code.result.now in
-    c.finish.ensures p s c.args.variables.now c.code-code.ensures.code
-    (c.retake.ensures p s c.args.variables.now c.args.own.now ready.control ready.variables
+    c.finish.ensures p s c.args.shared.now c.code-code.ensures.code
+    (c.retake.ensures p s c.args.shared.now c.args.own.now ready.control ready.shared
     ready.own
     ready.of (c.code-code.ensures.valid.fine _ _ (here_inside p s t c.args.self.now code (Load 0 0)
     ready.control ready.enabled c.code-code.ensures.code))

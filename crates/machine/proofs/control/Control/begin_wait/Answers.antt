@@ -1,26 +1,56 @@
-use Rattle.std.proofs.Common.{arith, ◌∙◌, refl, ap, sym}
-use Rattle.semantics.specs.Machine.{owns}
-use Rattle.machine.proofs.Performed.{leaves, waits_on, cannot_wait, room_for}
+use Rattle.std.proofs.Common.{arith, ◌∙◌, ◌∷◌, [], ◌++◌, ◌+◌, ◌<◌, length, refl, ap, sym, subst, get_or, set}
+use Rattle.semantics.specs.Machine.{queue_of}
+use Rattle.machine.specs.Refinement.{queued}
+use Rattle.machine.specs.inner.Steps.{AreShared}
+use Rattle.machine.proofs.Queues.{recelled}
+use Rattle.machine.proofs.Performed.{leaves, waits_on, cannot_wait, room_for, owns_number, owner_is, owner_is_not}
+use Rattle.std.proofs.lemmas.List.{set-get_or}
+use Rattle.std.proofs.Common.{pos}
+use Rattle.machine.specs.inner.Steps.{IsPerformed}
+use Rattle.semantics.specs.declared.state.Status.TheVariants.{Stopped}
+use Rattle.semantics.specs.declared.state.Stop.TheVariants.{NotHeld}
 use Rattle.machine.proofs.control.Control.begin_wait.Goals as goal
 
-pub returns-then-not-owns : goal.returns-then-not-owns
-returns-then-not-owns c = λ p s vars mine poised.
-    cannot_wait p s c.args.thread _ c.args.self.now vars mine c.args.condition c.args.mutex
+pub returns-then-self-mutex : goal.returns-then-self-mutex
+returns-then-self-mutex c = λ p s cells mine poised is.
+    let few : c.args.mutex < length c.args.self.now.owners =
+    omega (arith, c.requires.ready.5.fine.1, c.requires.ready.4.mutexes) in
+    subst (λ xs. IsPerformed p s c.args.thread c.args.self.now xs mine (Stopped NotHeld))
+    (sym (ap (set cells (length s.vars + c.args.condition)) is
+    ∙ set-get_or cells (length s.vars + c.args.condition) (pos 0)))
+    (cannot_wait p s c.args.thread _ c.args.self.now cells mine c.args.condition c.args.mutex
     poised refl
-    (ap (owns c.args.thread) (sym (poised.control.objects.owners_are c.args.mutex))
-    ∙ (sym c.owns.ensures ∙ c.if-not-owns.true))
+    (owns_number c.args.thread _ _ c.requires.thread
+    (poised.control.objects.owners_are c.args.mutex)
+    ∙ owner_is_not c.args.self.now.owners c.args.mutex c.args.thread few c.if-self-mutex.true))
 
 pub returns : goal.returns
-returns c = λ p s vars mine poised.
-    waits_on p s c.args.thread _ c.args.self.now c.give_back.new.self vars mine c.args.condition
+returns c = λ p s cells mine poised is.
+    let n = c.args.condition in
+    let L = get_or c.args.self.now.lengths n 0 in
+    let few : c.args.mutex < length c.args.self.now.owners =
+    omega (arith, c.requires.ready.5.fine.1, c.requires.ready.4.mutexes) in
+    let inside : n < length s.queues = omega (arith, poised.fine.0, poised.of.queues) in
+    let room : n < length c.args.self.now.lengths =
+    omega (arith, c.requires.ready.5.fine.0, c.requires.ready.4.conditions) in
+    waits_on p s c.args.thread _ c.args.self.now c.give_back.new.self cells mine
+    (set cells (length s.vars + n) c.put_last.new.queue) n
     c.args.mutex poised refl
-    (ap (owns c.args.thread) (sym (poised.control.objects.owners_are c.args.mutex))
-    ∙ (sym c.owns.ensures ∙ c.if-not-owns.false))
-    (c.give_back.ensures p _ c.args.thread
-    (c.put_last.ensures p s c.args.thread
-    (leaves p s c.args.thread _ c.args.self.now vars mine _ poised refl (λ n. refl) (λ k. refl))
-    (omega (arith, poised.fine.0, poised.of.queues)))
+    (owns_number c.args.thread _ _ c.requires.thread
+    (poised.control.objects.owners_are c.args.mutex)
+    ∙ owner_is c.args.self.now.owners c.args.mutex c.args.thread few c.if-self-mutex.false)
+    (c.give_back.ensures.frees p _ c.args.thread
+    (c.put_last.ensures.rest p s c.args.thread
+    (leaves p s c.args.thread _ c.args.self.now cells mine _ poised refl (λ n. refl) (λ k. refl))
+    inside)
     (omega (arith, poised.fine.1, poised.of.owners)))
+    (subst (λ ls. AreShared ls (set cells (length s.vars + n) c.put_last.new.queue) s.vars
+    (set s.queues n (queue_of s n ++ c.args.thread ∷ [])))
+    (sym (c.give_back.ensures.lengths ∙ c.put_last.ensures.lengths))
+    (recelled c.args.self.now.lengths cells s.vars s.queues n (L + 1) c.put_last.new.queue
+    (queue_of s n ++ c.args.thread ∷ []) poised.shared inside room
+    (c.put_last.ensures.queue ∙ ap (λ q. q ++ c.args.thread ∷ [])
+    (ap (queued L) is ∙ poised.shared.are_queues n inside))))
 
 pub put_last-requires-clause-room : goal.put_last-requires-clause-room
 put_last-requires-clause-room c = room_for c.requires.ready.0 c.requires.ready.1 c.args.thread _

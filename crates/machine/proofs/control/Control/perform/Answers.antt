@@ -10,8 +10,9 @@ returns-in-Lock c = λ s poised.
     let p = c.args.program.now in
     let is = ap action_of c.in-Lock.is in
     locks p s c.args.thread c.args.instruction.now c.args.self.now c.take.new.self
-    c.args.variables.now c.args.own.now c.in-Lock.m poised is
-    (c.take.ensures p s Locks poised.control
+    c.args.shared.now c.args.own.now c.in-Lock.m poised is
+    c.take.ensures.lengths
+    (c.take.ensures.takes p s Locks poised.control
     (let v = subst (IsValid c.args.program.now) c.in-Lock.is poised.fine in
     omega (arith, v, poised.of.owners)) (poised.next ∙ is) tt)
 
@@ -20,7 +21,8 @@ returns-in-Acquire c = λ s poised.
     let p = c.args.program.now in
     let is = ap action_of c.in-Acquire.is in
     acquires p s c.args.thread c.args.instruction.now c.args.self.now c.acquire.new.self
-    c.args.variables.now c.args.own.now c.in-Acquire.k poised is
-    (c.acquire.ensures p s poised.control
+    c.args.shared.now c.args.own.now c.in-Acquire.k poised is
+    c.acquire.ensures.lengths
+    (c.acquire.ensures.acquires p s poised.control
     (let v = subst (IsValid c.args.program.now) c.in-Acquire.is poised.fine in
     omega (arith, v, poised.of.counts)) (poised.next ∙ is))

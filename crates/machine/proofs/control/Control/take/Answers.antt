@@ -2,9 +2,10 @@ use Rattle.std.proofs.Common.{arith}
 use Rattle.machine.proofs.Objects.{took}
 use Rattle.machine.proofs.control.Control.take.Goals as goal
 
-pub returns : goal.returns
-returns c = λ p s d shows inside next taking.
+pub returns-clause-takes : goal.returns-clause-takes
+returns-clause-takes c = λ p s d shows inside next taking.
     took p s c.args.thread c.args.m d c.args.self.now c.with-near.result c.with-self.result
-    c.minus-self.result shows inside (omega (arith, c.requires)) (omega (arith, c.requires)) next
+    c.minus-self.result shows inside (omega (arith, c.requires)) (omega (arith, c.requires))
+    (omega (arith, c.requires)) next
     taking c.with-near.ensures.same c.with-near.ensures.others c.with-self.ensures.same
     c.with-self.ensures.others c.minus-self.ensures

@@ -1,6 +1,7 @@
-use Rattle.std.proofs.Common.{None, replicate, sym, subst}
+use Rattle.std.proofs.Common.{replicate, sym, subst}
 use Rattle.semantics.specs.Machine.{start}
 use Rattle.machine.specs.declared.control.Control.{Control}
+use Rattle.machine.specs.declared.control.TheConstants.{FREE}
 use Rattle.machine.specs.inner.Opening.{IsOpenedTo}
 use Rattle.machine.proofs.Openings.{unbegun_is}
 use Rattle.machine.proofs.control.Control.unbegun.Goals as goal
@@ -13,12 +14,11 @@ returns c = subst (λ (x : Control). IsOpenedTo c.args.program.now (start c.args
       stopped = c.empty-2.ensures i;
       woken = c.empty-3.ensures i;
       places = replicate 16 0;
-      owners = replicate 8 None;
+      owners = replicate 8 FREE;
       counts = c.counts_of.result;
       mutexes = replicate 8 (c.empty-4.ensures i);
       semaphores = replicate 8 (c.empty-5.ensures i);
       lengths = replicate 8 0;
-      queues = replicate 8 0;
     }))
     (unbegun_is c.args.program.now c.threads_of.result c.counts_of.result c.threads_of.ensures
     c.counts_of.ensures)

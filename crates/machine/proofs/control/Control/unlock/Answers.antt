@@ -1,20 +1,26 @@
-use Rattle.std.proofs.Common.{arith, ◌∙◌, refl, ap, sym}
-use Rattle.semantics.specs.Machine.{owns}
-use Rattle.machine.proofs.Performed.{leaves, unlocks, cannot_unlock}
+use Rattle.std.proofs.Common.{arith, ◌∙◌, ◌<◌, length, refl}
+use Rattle.machine.proofs.Performed.{leaves, unlocks, cannot_unlock, owns_number, owner_is, owner_is_not}
 use Rattle.machine.proofs.control.Control.unlock.Goals as goal
 
-pub returns-then-not-owns : goal.returns-then-not-owns
-returns-then-not-owns c = λ p s vars mine poised.
-    cannot_unlock p s c.args.thread _ c.args.self.now vars mine c.args.mutex poised refl
-    (ap (owns c.args.thread) (sym (poised.control.objects.owners_are c.args.mutex))
-    ∙ (sym c.owns.ensures ∙ c.if-not-owns.true))
+pub returns-then-self-mutex : goal.returns-then-self-mutex
+returns-then-self-mutex c = λ p s cells mine poised.
+    let few : c.args.mutex < length c.args.self.now.owners =
+    omega (arith, c.requires.ready.5.fine, c.requires.ready.4.mutexes) in
+    cannot_unlock p s c.args.thread _ c.args.self.now cells mine c.args.mutex poised refl
+    (owns_number c.args.thread _ _ c.requires.thread
+    (poised.control.objects.owners_are c.args.mutex)
+    ∙ owner_is_not c.args.self.now.owners c.args.mutex c.args.thread few c.if-self-mutex.true)
 
 pub returns : goal.returns
-returns c = λ p s vars mine poised.
-    unlocks p s c.args.thread _ c.args.self.now c.give_back.new.self vars mine c.args.mutex
+returns c = λ p s cells mine poised.
+    let few : c.args.mutex < length c.args.self.now.owners =
+    omega (arith, c.requires.ready.5.fine, c.requires.ready.4.mutexes) in
+    unlocks p s c.args.thread _ c.args.self.now c.give_back.new.self cells mine c.args.mutex
     poised refl
-    (ap (owns c.args.thread) (sym (poised.control.objects.owners_are c.args.mutex))
-    ∙ (sym c.owns.ensures ∙ c.if-not-owns.false))
-    (c.give_back.ensures p s c.args.thread
-    (leaves p s c.args.thread _ c.args.self.now vars mine _ poised refl (λ n. refl) (λ k. refl))
+    (owns_number c.args.thread _ _ c.requires.thread
+    (poised.control.objects.owners_are c.args.mutex)
+    ∙ owner_is c.args.self.now.owners c.args.mutex c.args.thread few c.if-self-mutex.false)
+    c.give_back.ensures.lengths
+    (c.give_back.ensures.frees p s c.args.thread
+    (leaves p s c.args.thread _ c.args.self.now cells mine _ poised refl (λ n. refl) (λ k. refl))
     (omega (arith, poised.fine, poised.of.owners)))

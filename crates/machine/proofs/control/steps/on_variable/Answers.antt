@@ -3,8 +3,8 @@ use Rattle.machine.proofs.Performed.{accessed}
 use Rattle.machine.proofs.control.steps.on_variable.Goals as goal
 
 pub returns : goal.returns
-returns c = λ p s t i d poised is. accessed p s t i d c.args.variables.now c.args.own.now
+returns c = λ p s t i d poised inside is. accessed p s t i d c.args.shared.now c.args.own.now
     c.args.variable c.args.action _
-    (set c.args.variables.now c.args.variable c.access.new.cell) c.access.new.locals poised is
-    c.requires.below refl (ap (set c.args.variables.now c.args.variable) c.access.ensures.cell)
+    (set c.args.shared.now c.args.variable c.access.new.cell) c.access.new.locals poised is inside
+    c.requires.below refl (ap (set c.args.shared.now c.args.variable) c.access.ensures.cell)
     c.access.ensures.locals (omega arith)
