@@ -10,3 +10,4 @@ pub mod Openings
 pub mod EndKinds
 pub mod Sleepers
 pub mod Runs
+pub mod TouchBits

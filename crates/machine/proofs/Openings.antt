@@ -21,6 +21,8 @@ use Rattle.std.proofs.lemmas.List.Elements.{All-map}
 use Rattle.machine.specs.declared.control.Control.{Control}
 use Rattle.machine.specs.declared.control.TheConstants.{FREE}
 use Rattle.machine.specs.declared.machine.Machine.{Machine}
+use Rattle.machine.specs.declared.machine.Shape.{Shape}
+use Rattle.machine.specs.Touches.{AreTouches}
 use Rattle.machine.specs.Refinement.{HasObjects, HasThreadAt, IsControl, Shows, AreQueues, thread_or_none, locals_at, queued}
 use Rattle.machine.specs.inner.Parts.{Lands}
 use Rattle.machine.specs.inner.Opening.{IsOpenedTo, IsOpening}
@@ -193,34 +195,42 @@ opening_room p t l =
 pub opening_more : (p : Program) (s : Snapshot) (k : ℕ) (m n : Machine) (ys : List ℤ)
     → k < length s.threads → IsOpening p s k m
     → Lands p m.control n.control s k (thread_at s k)
-    → n.values.items ≡ m.values.items ++ ys → length ys ≡ m.width
-    → ys ≡ take m.width (thread_at s k).locals → n.fixed ≡ m.fixed → n.width ≡ m.width
+    → n.values.items ≡ m.values.items ++ ys → length ys ≡ m.shape.width
+    → ys ≡ take m.shape.width (thread_at s k).locals → n.shape ≡ m.shape
     → IsOpening p s (k + 1) n
-opening_more p s k m n ys there h lands is more own f w = record {
+opening_more p s k m n ys there h lands is more own same = record {
   control = opened_more p s k m.control n.control there h.control lands;
   fixed = f ∙ h.fixed;
   variables = (λ i. take (f i) (is i))
-      ∙ (take-append-le m.fixed m.values.items ys (omega (arith, h.size)) ∙ h.variables);
+      ∙ (take-append-le m.shape.fixed m.values.items ys (omega (arith, h.size)) ∙ h.variables);
   locals = λ t l. (λ i. locals_at (w i) (drop (f i + length s.queues) (is i)) t)
       ∙ (go t (omega (arith, l)) ∙ ap (λ x. take x (thread_at s t).locals) (sym w));
   size = ap (λ (x : List ℤ). length x) is ∙ (length-append m.values.items ys
-      ∙ (let e : (k + 1) * m.width ≡ k * m.width + m.width = one_more k m.width in
-      let g : (k + 1) * n.width ≡ (k + 1) * m.width = ap (λ x. (k + 1) * x) w in
+      ∙ (let e : (k + 1) * m.shape.width ≡ k * m.shape.width + m.shape.width =
+      one_more k m.shape.width in
+      let g : (k + 1) * n.shape.width ≡ (k + 1) * m.shape.width = ap (λ x. (k + 1) * x) w in
       omega (arith, e, g, more, h.size, f)));
   wide = subst (λ x. All (λ th. All (LocalsBelow x) th.code) p.threads) (sym w) h.wide;
+  touches = subst (λ (x : Shape). AreTouches p x.touches) (sym same) h.touches;
 }
   where
+    f : n.shape.fixed ≡ m.shape.fixed
+    f = ap (λ (x : Shape). x.fixed) same
+
+    w : n.shape.width ≡ m.shape.width
+    w = ap (λ (x : Shape). x.width) same
+
     one_more : (k x : ℕ) → (k + 1) * x ≡ k * x + x
     one_more k x = omega arith
 
     go : (t : ℕ) → t ≤ k
-        → locals_at m.width (drop (m.fixed + length s.queues) (m.values.items ++ ys)) t
-        ≡ take m.width (thread_at s t).locals
+        → locals_at m.shape.width (drop (m.shape.fixed + length s.queues) (m.values.items ++ ys)) t
+        ≡ take m.shape.width (thread_at s t).locals
     go t l = elim (cases_lt t k) [
-      | inl a ↦ locals_before m.width k (m.fixed + length s.queues) m.values.items ys h.size more t a
+      | inl a ↦ locals_before m.shape.width k (m.shape.fixed + length s.queues) m.values.items ys h.size more t a
           ∙ h.locals t a
       | inr b ↦ (let e : t ≡ k = omega (arith, l, b) in
-          rw e (locals_new m.width k (m.fixed + length s.queues) m.values.items ys h.size more ∙ own))
+          rw e (locals_new m.shape.width k (m.shape.fixed + length s.queues) m.values.items ys h.size more ∙ own))
     ]
 
 -- all threads are there
@@ -246,16 +256,19 @@ no_queues p c f cells objects n l =
 pub shows_start : (p : Program) (k : ℕ) (m : Machine) → IsWellFormed p → length p.threads ≤ k
     → k ≤ length p.threads → IsOpening p (start p) k m → Shows p m (start p)
 shows_start p k m fine full few h = record {
-  of = start_is_of p fine.threads (All-map (λ n. n ≤ COUNT) (λ s. s.count) p.semaphores
-      fine.counts);
-  control = opened_all p (start p) k m.control (omega (arith, full, many)) h.control;
-  fixed_are = h.fixed;
-  variables = h.variables;
-  queues = no_queues p m.control m.fixed m.values.items h.control.objects;
-  locals = λ t l. h.locals t (omega (arith, l, many, full));
-  size = h.size ∙ ap (λ n. m.fixed + length (start p).queues + n * m.width)
-      (let e : k ≡ length (start p).threads = omega (arith, full, few, many) in e);
-  wide = h.wide;
+  state = record {
+    of = start_is_of p fine.threads (All-map (λ n. n ≤ COUNT) (λ s. s.count) p.semaphores
+        fine.counts);
+    control = opened_all p (start p) k m.control (omega (arith, full, many)) h.control;
+    fixed_are = h.fixed;
+    variables = h.variables;
+    queues = no_queues p m.control m.shape.fixed m.values.items h.control.objects;
+    locals = λ t l. h.locals t (omega (arith, l, many, full));
+    size = h.size ∙ ap (λ n. m.shape.fixed + length (start p).queues + n * m.shape.width)
+        (let e : k ≡ length (start p).threads = omega (arith, full, few, many) in e);
+    wide = h.wide;
+  };
+  touches = h.touches;
 }
   where
     many : length (start p).threads ≡ length p.threads

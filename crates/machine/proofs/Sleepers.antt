@@ -1,21 +1,29 @@
 -- Who sleeps after a step.
-use Rattle.std.proofs.Common.{◌≡◌, ◌≢◌, ℕ, Bool, true, false, not, ◌&&◌, ◌||◌, nat_eq, nat_lt, refl, ap, ◌∙◌, sym, arith, inl, inr}
+use Rattle.std.proofs.Common.{◌≡◌, ◌≢◌, ◌<◌, ℕ, Bool, true, false, not, ◌&&◌, ◌||◌, ◌⊎◌, nat_eq, nat_lt, List, [], length, map, get_or, Option, Some, None, Vec, Global, refl, ap, ◌∙◌, sym, arith, inl, inr}
+use Rattle.std.proofs.lemmas.List.{get_or-map, length-map}
 use Rattle.std.proofs.lemmas.Bool.{cases_order}
 use Rattle.std.proofs.lemmas.Bool.Decides.{nat_tests}
-use Rattle.guest_code.specs.Program.{Program}
-use Rattle.semantics.specs.Machine.{Snapshot, is_enabled, next_of}
+use Rattle.guest_code.specs.Program.{Program, code_of, no_thread}
+use Rattle.guest_code.specs.declared.program.Instruction.{Instruction}
+use Rattle.guest_code.specs.declared.program.Instruction.TheVariants.{Skip}
+use Rattle.semantics.specs.declared.state.Action.{Action}
+use Rattle.semantics.proofs.WorkFalls.{enabled_below}
+use Rattle.semantics.specs.Machine.{Snapshot, is_enabled, next_of, can_do}
 use Rattle.semantics.specs.declared.mask.Mask.{Mask}
 use Rattle.semantics.specs.Mask.{has}
 use Rattle.schedules.specs.Sleep.{apart, independent, next_sleep_set}
 use Rattle.schedules.proofs.DependentSteps.{independent-itself}
 use Rattle.machine.proofs.Objects.{and_false, can_held}
 use Rattle.machine.specs.declared.machine.Machine.{Machine}
+use Rattle.machine.specs.declared.touch.Touch.{Touch}
+use Rattle.machine.specs.Touches.{touch_of, touches_at}
 use Rattle.machine.specs.Refinement.{Shows}
+use Rattle.machine.proofs.WholeSteps.{here_inside, here_next, here_retakes}
 
 -- the set of the enabled threads
 pub enabled_are : (p : Program) (m : Machine) (s : Snapshot) → Shows p m s
     → (t : ℕ) → has m.control.enabled t ≡ is_enabled p s t
-enabled_are p m s shows t = (shows.control.threads t).enabled ∙ can_held s (next_of p s t)
+enabled_are p m s shows t = (shows.state.control.threads t).enabled ∙ can_held s (next_of p s t)
 
 -- what it says of two tests that both hold
 pub both_true : (a b : Bool) → (a && b) ≡ true → (a ≡ true) × (b ≡ true)
@@ -61,3 +69,84 @@ untried p m s Z t tried shows others v h = elim (cases_order v t) [
   | inr (inr l) ↦ (let ne : v ≢ t = omega (arith, l) in
       left_out p s Z t v (enabled_are p m s shows v) (sym (others v ne) ∙ h))
 ]
+
+-- what is known of two steps by what each touches
+pub touches_apart : (p : Program) (s : Snapshot) (t v : ℕ) (x y : Touch) (r : Bool)
+    → is_enabled p s t ≡ true → is_enabled p s v ≡ true
+    → x ≡ touch_of (next_of p s t) → y ≡ touch_of (next_of p s v)
+    → ((a b : Action) → x ≡ touch_of (Some a) → y ≡ touch_of (Some b)
+    → r ≡ apart (Some a) (Some b))
+    → r ≡ apart (next_of p s t) (next_of p s v)
+touches_apart p s t v x y r on both e f h = go (next_of p s t) (next_of p s v) on both e f
+  where
+    go : (o q : Option Action) → can_do s o ≡ true → can_do s q ≡ true
+        → x ≡ touch_of o → y ≡ touch_of q → r ≡ apart o q
+    go (Some a) (Some b) i j e f = h a b e f
+    go None q i j e f = cc
+    go (Some a) None i j e f = cc
+
+-- what the step of an enabled thread touches, as it is kept
+module _ (p : Program) (m : Machine) (s : Snapshot) (t : ℕ) (shows : Shows p m s)
+    (on : is_enabled p s t ≡ true) where
+  there : t < length p.threads
+  there = let l = enabled_below p s t on in omega (arith, l, shows.state.of.threads)
+
+  abbrev rows : List (Vec (List Touch) Global)
+  rows = m.shape.touches.threads.items
+
+  pub row_there : t < length rows
+  row_there = omega (
+    arith,
+    there,
+    length-map rows (λ v. v.items),
+    length-map p.threads (λ th. map touches_at th.code),
+    ap (λ (xs : List (List (List Touch))). length xs) shows.touches.threads,
+  )
+
+  row : (d : Vec (List Touch) Global) → (get_or rows t d).items ≡ map touches_at (code_of p t)
+  row d = sym (get_or-map (λ v. v.items) rows t d [] row_there)
+      ∙ (ap (λ xs. get_or xs t []) shows.touches.threads
+      ∙ get_or-map (λ th. map touches_at th.code) p.threads t no_thread [] there)
+
+  pub place_there : (d : Vec (List Touch) Global) → get_or m.control.places t 0
+      < length (get_or rows t d).items
+  place_there d = omega (
+    arith,
+    inside,
+    ap (λ (xs : List (List Touch)). length xs) (row d),
+    length-map (code_of p t) touches_at,
+  )
+    where
+      inside : get_or m.control.places t 0 < length (code_of p t)
+      inside = here_inside p s t m.control (code_of p t) (Skip 0) shows.state.control on refl
+
+  abbrev here : Instruction
+  here = get_or (code_of p t) (get_or m.control.places t 0) (Skip 0)
+
+  kept : (d : Vec (List Touch) Global) (e : List Touch)
+      → get_or (get_or rows t d).items (get_or m.control.places t 0) e ≡ touches_at here
+  kept d e = ap (λ xs. get_or xs (get_or m.control.places t 0) e) (row d)
+      ∙ get_or-map touches_at (code_of p t) (get_or m.control.places t 0) (Skip 0) e
+      (here_inside p s t m.control (code_of p t) (Skip 0) shows.state.control on refl)
+
+  -- by whether the thread was woken
+  pub touches_running : (d : Vec (List Touch) Global) (e : List Touch)
+      → has m.control.woken t ≡ false
+      → get_or (get_or (get_or rows t d).items (get_or m.control.places t 0) e) 0 (touch_of None)
+      ≡ touch_of (next_of p s t)
+  touches_running d e asleep = ap (λ xs. get_or xs 0 (touch_of None)) (kept d e)
+      ∙ ap touch_of (sym (here_next p s t m.control (code_of p t) (Skip 0) shows.state.control on
+      refl asleep))
+
+  pub touches_woken : (d : Vec (List Touch) Global) (e : List Touch)
+      → has m.control.woken t ≡ true
+      → get_or (get_or (get_or rows t d).items (get_or m.control.places t 0) e) 1 (touch_of None)
+      ≡ touch_of (next_of p s t)
+  touches_woken d e woke = ap (λ xs. get_or xs 1 (touch_of None)) (kept d e)
+      ∙ ap touch_of (sym (here_retakes p s t m.control (code_of p t) (Skip 0) shows.state.control
+      on refl woke))
+
+-- a test holds or not
+pub either : (b : Bool) → (b ≡ true) ⊎ (b ≡ false)
+either true = inl refl
+either false = inr refl

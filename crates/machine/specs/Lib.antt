@@ -1,2 +1,3 @@
+pub mod Touches
 pub mod Refinement
 pub mod inner

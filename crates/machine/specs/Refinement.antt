@@ -17,6 +17,8 @@ use Rattle.semantics.specs.Reachable.{IsOf}
 use Rattle.machine.specs.declared.control.Control.{Control}
 use Rattle.machine.specs.declared.control.TheConstants.{FREE}
 use Rattle.machine.specs.declared.machine.Machine.{Machine}
+use Rattle.machine.specs.declared.machine.Shape.{Shape}
+use Rattle.machine.specs.Touches.{AreTouches}
 
 -- the step takes mutex m
 abbrev pub takes_mutex : ℕ → Option Action → Bool
@@ -136,6 +138,12 @@ pub record IsState (p : Program) (fixed width : ℕ) (c : Control) (values : Lis
   pub size : length values ≡ fixed + length s.queues + length s.threads * width
   pub wide : All (λ th. All (LocalsBelow width) th.code) p.threads
 
+-- and the shape is the program's
+pub record IsShown (p : Program) (shape : Shape) (c : Control) (values : List ℤ) (s : Snapshot)
+    : Type 0 where
+  pub state : IsState p shape.fixed shape.width c values s
+  pub touches : AreTouches p shape.touches
+
 -- the machine shows the state
 abbrev pub Shows : Program → Machine → Snapshot → Type 0
-Shows p m s = IsState p m.fixed m.width m.control m.values.items s
+Shows p m s = IsShown p m.shape m.control m.values.items s

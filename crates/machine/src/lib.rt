@@ -4,7 +4,8 @@
 //! one list, and all else, of a fixed size, in a [`Control`]. Beside the places of the threads, the
 //! owners and the counts that is which threads can take a step, which haven't ended and which
 //! stopped, and which are about to take each mutex and semaphore; so a step asks no thread anew but
-//! its own and those that it wakes. It knows no schedule.
+//! its own and those that it wakes. What each step of the program touches is made once, as two sets
+//! of bits, by which two steps are seen to be independent. It knows no schedule.
 //!
 //! Each public contract speaks of the state that is shown (`Shows` in `specs/Refinement.antt`):
 //!
@@ -23,6 +24,7 @@
 
 mod control;
 mod machine;
+mod touch;
 
 pub use crate::control::Control;
-pub use crate::machine::{Machine, Run};
+pub use crate::machine::{Machine, Run, Shape};

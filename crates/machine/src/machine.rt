@@ -8,15 +8,16 @@ ghost use Rattle.semantics.specs.Ends.{final_kind};
 ghost use Rattle.schedules.specs.Schedules.{state_after};
 ghost use Rattle.schedules.specs.Sleep.{next_sleep_set};
 ghost use Rattle.semantics.specs.Reachable.{IsOf};
-ghost use Rattle.semantics.specs.Machine.{Snapshot, start, step, is_enabled};
+ghost use Rattle.semantics.specs.Machine.{Snapshot, start, step, is_enabled, next_of};
 ghost use Rattle.machine.specs.declared.machine.Machine.{Machine};
+ghost use Rattle.machine.specs.Touches.{touch_of, AreBefore};
 ghost use Rattle.machine.specs.Refinement.{Shows};
 ghost use Rattle.machine.specs.inner.Opening.{IsOpening};
 
-use crate::control::{Control, threads_below};
+use crate::control::Control;
+use crate::touch::{Touch, Touches};
 use guest_code::limits::{LOCALS, OBJECTS, THREADS, VARIABLES};
 use guest_code::program::Program;
-use schedules::independence::next_apart;
 use semantics::Landing;
 use semantics::mask::Mask;
 use semantics::state::State;
@@ -35,10 +36,19 @@ pub struct Machine {
     /// The values of the variables, a queue for each condition, and then for each thread the same
     /// number of locals.
     pub values: Vec<i64>,
+    /// What doesn't change.
+    pub(crate) shape: Shape,
+}
+
+/// What of a machine no step changes.
+#[derive(Drop)]
+pub struct Shape {
     /// How many variables there are.
     pub(crate) fixed: usize,
     /// How many locals are kept for each thread: the most that one has.
     pub(crate) width: usize,
+    /// What each step touches.
+    pub(crate) touches: Touches,
 }
 
 /// What a run of a thread came to.
@@ -79,14 +89,14 @@ impl Machine {
         requires state { state.now ≡ start program.now }
         requires of { IsOf program.now state.now }
         requires thread { thread < length program.now.threads }
-        requires width { self.old.width ≤ LOCALS }
+        requires width { self.old.shape.width ≤ LOCALS }
         requires opening { IsOpening program.now state.now thread self.old }
-        ensures width { OnOk result (self.new.width ≡ self.old.width) }
+        ensures shape { OnOk result (self.new.shape ≡ self.old.shape) }
         ensures opening { OnOk result (IsOpening program.now state.now (thread + 1) self.new) }
     {
         program.keeps_limits();
         self.values
-            .extend_from_slice(&state.locals(thread)[..self.width])?;
+            .extend_from_slice(&state.locals(thread)[..self.shape.width])?;
         let at = Landing {
             pc: state.pc(thread),
             status: state.status(thread),
@@ -110,11 +120,15 @@ impl Machine {
         let mut values = Vec::with_capacity(alloc, ROOM)?;
         values.extend_from_slice(state.variables())?;
         values.extend_from_slice(&[0; OBJECTS][..program.conditions() as usize])?;
+        let touches = Touches::of(alloc, program)?;
         let mut machine = Machine {
             control: Control::unbegun(program),
             values,
-            fixed: program.variables() as usize,
-            width: width_of(program),
+            shape: Shape {
+                fixed: program.variables() as usize,
+                width: width_of(program),
+                touches,
+            },
         };
         for t in 0..program.threads() {
             machine.admit(program, &state, t)?;
@@ -131,12 +145,10 @@ impl Machine {
             → is_enabled program.now s thread ≡ true
             → Shows program.now self.new (step program.now s thread) }
         ensures size { length self.new.values.items ≡ length self.old.values.items }
-        ensures fixed { self.new.fixed ≡ self.old.fixed }
-        ensures width { self.new.width ≡ self.old.width }
+        ensures shape { self.new.shape ≡ self.old.shape }
     {
         let values = self.values.as_mut_slice();
-        self.control
-            .advance_over(values, program, thread, self.fixed, self.width);
+        self.control.advance_over(values, program, thread, self.shape.fixed, self.shape.width);
     }
 
     /// A run of an enabled thread: a step and, where the thread is alone, further ones, while it is
@@ -160,8 +172,7 @@ impl Machine {
         ensures on { 1 < result.steps → has result.among thread ≡ true }
         ensures enabled { result.enabled ≡ self.new.control.enabled }
         ensures size { length self.new.values.items ≡ length self.old.values.items }
-        ensures fixed { self.new.fixed ≡ self.old.fixed }
-        ensures width { self.new.width ≡ self.old.width }
+        ensures shape { self.new.shape ≡ self.old.shape }
     {
         program.keeps_limits();
         self.step(program, thread);
@@ -204,39 +215,54 @@ impl Machine {
         requires { (p : Program) × (s : Snapshot) × Shows p self.now s }
         ensures { (p : Program) → (s : Snapshot) → Shows p self.now s → result.now ≡ s.vars }
     {
-        &self.values.as_slice()[..self.fixed]
+        &self.values.as_slice()[..self.shape.fixed]
+    }
+
+    // What the next step of an enabled thread touches.
+    fn touch(&self, thread: u8) -> Touch
+        requires { (p : Program) × (s : Snapshot) × Shows p self.now s
+            × (is_enabled p s thread ≡ true) }
+        ensures { (p : Program) → (s : Snapshot) → Shows p self.now s
+            → is_enabled p s thread ≡ true → result ≡ touch_of (next_of p s thread) }
+    {
+        let place = self.control.places[thread as usize] as usize;
+        let woken = self.control.woken.has(thread);
+        self.shape.touches.threads[thread as usize][place][woken as usize]
     }
 
     // The other enabled threads that sleep, where these sleep now, or come before this one.
     fn tried(&self, asleep: Mask, thread: u8) -> Mask
-        requires { thread < THREADS }
+        requires thread { thread < THREADS }
+        requires before { AreBefore self.now.shape.touches.before }
         ensures itself { has result thread ≡ false }
         ensures others { (v : ℕ) → v ≢ thread → has result v
             ≡ (has self.now.control.enabled v && (has asleep v || nat_lt v thread)) }
     {
         let others = self.control.enabled.with(thread, false);
-        others.minus(others.minus(asleep.union(threads_below(thread))))
+        let before = self.shape.touches.before[thread as usize];
+        others.minus(others.minus(asleep.union(before)))
     }
 
     /// Who sleeps after a step of an enabled thread, where these sleep now: the enabled threads
     /// that slept or come before it, and whose next steps are independent of its own. It takes no
     /// memory.
-    pub fn sleepers(&self, program: &Program, asleep: Mask, thread: u8) -> Mask
-        requires { (s : Snapshot) × Shows program.now self.now s
-            × (is_enabled program.now s thread ≡ true) }
-        ensures { (s : Snapshot) → Shows program.now self.now s
-            → is_enabled program.now s thread ≡ true
-            → result ≡ mask_of (next_sleep_set program.now s (has asleep) thread) }
+    pub fn sleepers(&self, _program: &Program, asleep: Mask, thread: u8) -> Mask
+        requires { (s : Snapshot) × Shows _program.now self.now s
+            × (is_enabled _program.now s thread ≡ true) }
+        ensures { (s : Snapshot) → Shows _program.now self.now s
+            → is_enabled _program.now s thread ≡ true
+            → result ≡ mask_of (next_sleep_set _program.now s (has asleep) thread) }
     {
         let mut sleepers = self.tried(asleep, thread);
         if is_empty(sleepers) {
             return sleepers;
         }
-        let step = self.control.next(program, thread);
+        let step = self.touch(thread);
         let mut left = sleepers;
         while let Some(other) = left.first_from(0) {
-            let sleeps = next_apart(step, self.control.next(program, other));
-            sleepers = sleepers.with(other, sleeps);
+            if !step.is_apart(self.touch(other)) {
+                sleepers = sleepers.with(other, false);
+            }
             left = left.with(other, false);
         }
         sleepers
@@ -269,11 +295,10 @@ impl Machine {
         requires { length words.now ≡ length self.old.values.items }
         ensures shows { (p : Program) → (s : Snapshot) → (m : Machine) → Shows p m s
             → control.now ≡ m.control → words.now ≡ m.values.items
-            → self.old.fixed ≡ m.fixed → self.old.width ≡ m.width → Shows p self.new s }
+            → self.old.shape ≡ m.shape → Shows p self.new s }
         ensures control { self.new.control ≡ control.now }
         ensures values { self.new.values.items ≡ words.now }
-        ensures fixed { self.new.fixed ≡ self.old.fixed }
-        ensures width { self.new.width ≡ self.old.width }
+        ensures shape { self.new.shape ≡ self.old.shape }
     {
         self.control = *control;
         self.values.as_mut_slice().copy_from_slice(words);

@@ -46,7 +46,7 @@ abbrev pub AreOn : Program → Path → Mask → Type 0
 AreOn p t e = HasEnabled e p (state_at p t.steps.items)
 
 pub of_here : (p : Program) (t : Path) → IsPath p t → IsOf p (state_at p t.steps.items)
-of_here p t h = h.shows.of
+of_here p t h = h.shows.state.of
 
 pub node_of : (p : Program) (t : Path) (e : Mask) → IsPath p t → AreOn p t e
     → IsNode p t.steps.items e t.node

@@ -13,9 +13,10 @@ use Rattle.std.proofs.Math.Seq.{take-length, get_or-append_seam}
 use Rattle.guest_code.specs.Program.{Program}
 use Rattle.semantics.specs.declared.mask.Mask.{Mask}
 use Rattle.machine.specs.declared.machine.Machine.{Machine}
+use Rattle.machine.specs.declared.machine.Shape.{Shape}
 use Rattle.semantics.specs.Machine.{Snapshot, start, step, is_enabled}
 use Rattle.semantics.specs.Mask.{HasEnabled, members_from, one_if}
-use Rattle.machine.specs.Refinement.{Shows, IsState}
+use Rattle.machine.specs.Refinement.{Shows, IsShown}
 use Rattle.schedules.specs.Schedules.{preempts}
 use Rattle.schedules.specs.Execution.{Reaches}
 use Rattle.walk.proofs.Words.{chunk_inside, Rewrites}
@@ -47,10 +48,10 @@ chunk_same size k n new old l same =
 
 -- machines of one program have as many values
 pub same_values : (p : Program) (l m : Machine) (s z : Snapshot) → Shows p l s → Shows p m z
-    → l.fixed ≡ m.fixed → l.width ≡ m.width → length l.values.items ≡ length m.values.items
-same_values p l m s z a b fixed width = a.size
-    ∙ ((λ i. fixed i + (a.of.queues ∙ sym b.of.queues) i
-    + (a.of.threads ∙ sym b.of.threads) i * width i) ∙ sym b.size)
+    → l.shape ≡ m.shape → length l.values.items ≡ length m.values.items
+same_values p l m s z a b shape = a.state.size
+    ∙ ((λ i. (shape i).fixed + (a.state.of.queues ∙ sym b.state.of.queues) i
+    + (a.state.of.threads ∙ sym b.state.of.threads) i * (shape i).width) ∙ sym b.state.size)
 
 -- what is open, for ways that share the frames
 
@@ -83,11 +84,11 @@ pub front_of : {A : Type 0} (u v : List A) (k : ℕ) → take (length u) v ≡ u
 front_of u v k front l = sym (take-take k (length u) v l) ∙ ap (take k) front
 
 -- the frames lie on a longer way, too
-pub copies_go : (p : Program) (w v : List ℕ) (fixed width size : ℕ) (fs : List Frame) (ws : List ℤ)
-    → AreCopies p w fixed width size fs ws → 0 < length fs → take (length w) v ≡ w
-    → AreCopies p v fixed width size fs ws
-copies_go p w v fixed width size fs ws h some front = record {
-  each = λ k l. subst (λ u. IsCopy p u fixed width (frame_at fs k) (words_at size ws k))
+pub copies_go : (p : Program) (w v : List ℕ) (shape : Shape) (size : ℕ) (fs : List Frame)
+    (ws : List ℤ) → AreCopies p w shape size fs ws → 0 < length fs → take (length w) v ≡ w
+    → AreCopies p v shape size fs ws
+copies_go p w v shape size fs ws h some front = record {
+  each = λ k l. subst (λ u. IsCopy p u shape (frame_at fs k) (words_at size ws k))
       (sym (front_of w v (frame_at fs k).steps front (h.within k l))) (h.each k l);
   within = λ k l. let a = h.within k l in
       let e = ap length front in let m = length-take (length w) v in omega (arith, a, e, m);
@@ -103,18 +104,17 @@ pub path_on : (p : Program) (old new : Path) → IsPath p old → 0 < length (us
     → ReachesNode p new.steps.items new.node
     → Shows p new.machine (state_at p new.steps.items)
     → length new.machine.values.items ≡ length old.machine.values.items
-    → new.machine.fixed ≡ old.machine.fixed
-    → new.machine.width ≡ old.machine.width → new.size ≡ old.size
+    → new.machine.shape ≡ old.machine.shape → new.size ≡ old.size
     → (used_frames new) ≡ (used_frames old) → new.words.items ≡ old.words.items
     → new.depth ≤ length new.frames.items → IsPath p new
-path_on p old new h some front reaches shows values fixed width size frames words room = record {
+path_on p old new h some front reaches shows values shape size frames words room = record {
   well_formed = h.well_formed;
   reaches = reaches;
   shows = shows;
   size = size ∙ (h.size ∙ sym values);
-  frames = transport (λ i. AreCopies p new.steps.items (sym fixed i) (sym width i) (sym size i)
+  frames = transport (λ i. AreCopies p new.steps.items (sym shape i) (sym size i)
       (sym frames i) (sym words i))
-      (copies_go p old.steps.items new.steps.items old.machine.fixed old.machine.width old.size
+      (copies_go p old.steps.items new.steps.items old.machine.shape old.size
       (used_frames old) old.words.items h.frames some front);
   room = room;
   count = length-take-le new.depth new.frames.items room;
@@ -129,11 +129,10 @@ pub path_gone : (p : Program) (old new : Path) (t : ℕ) → IsPath p old → 0 
     → new.steps.items ≡ old.steps.items ++ t ∷ [] → new.node.last ≡ Some t
     → Shows p new.machine (step p (state_at p old.steps.items) t)
     → length new.machine.values.items ≡ length old.machine.values.items
-    → new.machine.fixed ≡ old.machine.fixed
-    → new.machine.width ≡ old.machine.width → new.size ≡ old.size
+    → new.machine.shape ≡ old.machine.shape → new.size ≡ old.size
     → (used_frames new) ≡ (used_frames old) → new.words.items ≡ old.words.items
     → new.depth ≤ length new.frames.items → IsPath p new
-path_gone p old new t h some enabled used steps last shows values fixed width size frames words
+path_gone p old new t h some enabled used steps last shows values shape size frames words
     room = path_on p old new h some
     (front_more w w new.steps.items t (take-length w) steps)
     (transport (λ i. Reaches p (sym steps i) (record {
@@ -143,7 +142,7 @@ path_gone p old new t h some enabled used steps last shows values fixed width si
     }))
     (reaches_parts p w _ t (state_at p (w ++ t ∷ [])) new.node.used h.reaches enabled push used))
     (subst (Shows p new.machine) (sym (ap (state_at p) steps ∙ push)) shows)
-    values fixed width size frames words room
+    values shape size frames words room
   where
     w : List ℕ
     w = old.steps.items
@@ -163,14 +162,14 @@ left_goes mode p old v h above front =
 
 -- back to the last frame
 
-pub copies_leave : (p : Program) (w : List ℕ) (fixed width size : ℕ) (fs : List Frame)
-    (ws : List ℤ) (n m : ℕ) → AreCopies p w fixed width size fs ws → n < length fs → n ≤ m
-    → m ≤ n + 1 → AreCopies p (take (frame_at fs n).steps w) fixed width size (take m fs) ws
-copies_leave p w fixed width size fs ws n m h long low high = record {
+pub copies_leave : (p : Program) (w : List ℕ) (shape : Shape) (size : ℕ) (fs : List Frame)
+    (ws : List ℤ) (n m : ℕ) → AreCopies p w shape size fs ws → n < length fs → n ≤ m
+    → m ≤ n + 1 → AreCopies p (take (frame_at fs n).steps w) shape size (take m fs) ws
+copies_leave p w shape size fs ws n m h long low high = record {
   each = λ k l. let b = below k l in
-      subst (λ (g : Frame). IsCopy p (take g.steps (take (frame_at fs n).steps w)) fixed width g
+      subst (λ (g : Frame). IsCopy p (take g.steps (take (frame_at fs n).steps w)) shape g
       (words_at size ws k)) (sym (same k b))
-      (subst (λ v. IsCopy p v fixed width (frame_at fs k) (words_at size ws k))
+      (subst (λ v. IsCopy p v shape (frame_at fs k) (words_at size ws k))
       (sym (take-take (frame_at fs k).steps (frame_at fs n).steps w
       (h.rising k n (omega (arith, b, high)) (omega (arith, long)))))
       (h.each k (omega (arith, b, long, high))));
@@ -206,20 +205,19 @@ pub path_left : (p : Program) (old new : Path) (n m : ℕ) (f : Frame) → IsPat
     → f ≡ frame_at (used_frames old) n → new.steps.items ≡ take f.steps old.steps.items
     → new.node ≡ f.node → Shows p new.machine (state_at p (take f.steps old.steps.items))
     → length new.machine.values.items ≡ length old.machine.values.items
-    → new.machine.fixed ≡ old.machine.fixed
-    → new.machine.width ≡ old.machine.width → new.size ≡ old.size
+    → new.machine.shape ≡ old.machine.shape → new.size ≡ old.size
     → (used_frames new) ≡ take m (used_frames old)
     → new.words.items ≡ old.words.items → new.depth ≤ length new.frames.items → IsPath p new
-path_left p old new n m f h long low high e steps node shows values fixed width size frames words
+path_left p old new n m f h long low high e steps node shows values shape size frames words
     room = record {
       well_formed = h.well_formed;
       reaches = transport (λ i. ReachesNode p (sym here i)
           (sym (node ∙ ap (λ (g : Frame). g.node) e) i)) (h.frames.each n long).reaches;
       shows = subst (λ v. Shows p new.machine (state_at p v)) (sym steps) shows;
       size = size ∙ (h.size ∙ sym values);
-      frames = transport (λ i. AreCopies p (sym here i) (sym fixed i) (sym width i) (sym size i)
+      frames = transport (λ i. AreCopies p (sym here i) (sym shape i) (sym size i)
           (sym frames i) (sym words i))
-          (copies_leave p old.steps.items old.machine.fixed old.machine.width old.size
+          (copies_leave p old.steps.items old.machine.shape old.size
           (used_frames old) old.words.items n m h.frames long low high);
       room = room;
       count = length-take-le new.depth new.frames.items room;
@@ -277,13 +275,13 @@ left_left mode p old n f v gs h long e steps frames above =
 
 -- other words
 
-pub copies_words : (p : Program) (w : List ℕ) (fixed width size : ℕ) (fs : List Frame)
+pub copies_words : (p : Program) (w : List ℕ) (shape : Shape) (size : ℕ) (fs : List Frame)
     (ws new : List ℤ)
-    → AreCopies p w fixed width size fs ws
+    → AreCopies p w shape size fs ws
     → ((m : ℕ) → m ≤ length fs * size → take m new ≡ take m ws)
-    → length fs * size ≤ length new → AreCopies p w fixed width size fs new
-copies_words p w fixed width size fs ws new h same long = record {
-  each = λ k l. subst (λ xs. IsCopy p (take (frame_at fs k).steps w) fixed width (frame_at fs k) xs)
+    → length fs * size ≤ length new → AreCopies p w shape size fs new
+copies_words p w shape size fs ws new h same long = record {
+  each = λ k l. subst (λ xs. IsCopy p (take (frame_at fs k).steps w) shape (frame_at fs k) xs)
       (sym (chunk_same size k (length fs) new ws l same)) (h.each k l);
   within = h.within;
   rising = h.rising;
@@ -295,7 +293,7 @@ copies_words p w fixed width size fs ws new h same long = record {
 pub path_words : (p : Program) (old new : Path) → IsPath p old → new.steps.items ≡ old.steps.items
     → new.node.last ≡ old.node.last → new.node.used ≡ old.node.used → new.machine ≡ old.machine
     → new.size ≡ old.size
-    → AreCopies p old.steps.items old.machine.fixed old.machine.width old.size (used_frames new)
+    → AreCopies p old.steps.items old.machine.shape old.size (used_frames new)
     new.words.items → new.depth ≤ length new.frames.items → IsPath p new
 path_words p old new h steps last used machine size frames room = record {
   well_formed = h.well_formed;
@@ -306,7 +304,7 @@ path_words p old new h steps last used machine size frames room = record {
   })) h.reaches;
   shows = transport (λ i. Shows p (sym machine i) (state_at p (sym steps i))) h.shows;
   size = size ∙ (h.size ∙ ap (λ (m : Machine). length m.values.items) (sym machine));
-  frames = transport (λ i. AreCopies p (sym steps i) (sym machine i).fixed (sym machine i).width
+  frames = transport (λ i. AreCopies p (sym steps i) (sym machine i).shape
       (sym size i) (used_frames new) new.words.items) frames;
   room = room;
   count = length-take-le new.depth new.frames.items room;
@@ -314,21 +312,21 @@ path_words p old new h steps last used machine size frames room = record {
 
 -- one more frame
 
-pub copies_open : (p : Program) (w : List ℕ) (fixed width size : ℕ) (fs : List Frame)
+pub copies_open : (p : Program) (w : List ℕ) (shape : Shape) (size : ℕ) (fs : List Frame)
     (ws new : List ℤ) (f : Frame)
-    → AreCopies p w fixed width size fs ws → f.steps ≡ length w
-    → IsCopy p w fixed width f (words_at size new (length fs))
+    → AreCopies p w shape size fs ws → f.steps ≡ length w
+    → IsCopy p w shape f (words_at size new (length fs))
     → ((m : ℕ) → m ≤ length fs * size → take m new ≡ take m ws)
-    → length fs * size + size ≤ length new → AreCopies p w fixed width size (fs ++ f ∷ []) new
-copies_open p w fixed width size fs ws new f h steps copy same long = record {
+    → length fs * size + size ≤ length new → AreCopies p w shape size (fs ++ f ∷ []) new
+copies_open p w shape size fs ws new f h steps copy same long = record {
   each = λ k l. elim (cases_order k (length fs)) [
-    | inl e ↦ subst (λ j. IsCopy p (take (frame_at (fs ++ f ∷ []) j).steps w) fixed width
+    | inl e ↦ subst (λ j. IsCopy p (take (frame_at (fs ++ f ∷ []) j).steps w) shape
         (frame_at (fs ++ f ∷ []) j) (words_at size new j)) (sym e)
-        (subst (λ (g : Frame). IsCopy p (take g.steps w) fixed width g
+        (subst (λ (g : Frame). IsCopy p (take g.steps w) shape g
         (words_at size new (length fs))) (sym last)
-        (subst (λ v. IsCopy p v fixed width f (words_at size new (length fs)))
+        (subst (λ v. IsCopy p v shape f (words_at size new (length fs)))
         (sym (ap (λ j. take j w) steps ∙ take-length w)) copy))
-    | inr (inl a) ↦ transport (λ i. IsCopy p (take (sym (before k a) i).steps w) fixed width
+    | inr (inl a) ↦ transport (λ i. IsCopy p (take (sym (before k a) i).steps w) shape
         (sym (before k a) i) (sym (chunk_same size k (length fs) new ws a same) i)) (h.each k a)
     | inr (inr a) ↦ absurd (omega (arith, l, a, many))
   ];
@@ -428,13 +426,13 @@ pub copies_opened : (p : Program) (old : Path) (f : Frame) (new : List ℤ) → 
     → ((m : ℕ) → m ≤ length (used_frames old) * old.size → take m new ≡ take m old.words.items)
     → length (used_frames old) * old.size + old.size ≤ length new
     → words_at old.size new (length (used_frames old)) ≡ old.machine.values.items
-    → AreCopies p old.steps.items old.machine.fixed old.machine.width old.size
+    → AreCopies p old.steps.items old.machine.shape old.size
     ((used_frames old) ++ f ∷ []) new
 copies_opened p old f new h steps node control same long words =
-    copies_open p old.steps.items old.machine.fixed old.machine.width old.size (used_frames old)
+    copies_open p old.steps.items old.machine.shape old.size (used_frames old)
     old.words.items new f h.frames steps (record {
       reaches = subst (λ m. ReachesNode p old.steps.items m) (sym node) h.reaches;
-      shows = transport (λ i. IsState p old.machine.fixed old.machine.width (sym control i)
+      shows = transport (λ i. IsShown p old.machine.shape (sym control i)
           (sym words i) (state_at p old.steps.items)) h.shows;
     }) same long
 
@@ -452,7 +450,7 @@ path_opened p old new f q I mine h steps node machine size frames fs fn fc here 
     same own room =
     path_words p old new h steps (ap (λ (m : Node). m.last) node) (ap (λ (m : Node). m.used) node)
     machine size
-    (subst (λ (gs : List Frame). AreCopies p old.steps.items old.machine.fixed old.machine.width
+    (subst (λ (gs : List Frame). AreCopies p old.steps.items old.machine.shape
     old.size gs new.words.items) (sym frames)
     (copies_opened p old f new.words.items h fs fn fc
     (λ m l. wrote.before m (subst (λ n. m ≤ n * old.size) (sym here) l)
@@ -476,7 +474,7 @@ pub path_same : (p : Program) (old new : Path) → IsPath p old → new.steps.it
     → new.depth ≤ length new.frames.items → IsPath p new
 path_same p old new h steps last used machine size frames words room = path_words p old new h steps
     last used machine size
-    (transport (λ i. AreCopies p old.steps.items old.machine.fixed old.machine.width old.size
+    (transport (λ i. AreCopies p old.steps.items old.machine.shape old.size
     (sym frames i) (sym words i)) h.frames) room
 
 -- nothing is to be tried at the node

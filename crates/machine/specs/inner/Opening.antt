@@ -5,6 +5,7 @@ use Rattle.semantics.specs.Machine.{Snapshot, thread_at}
 use Rattle.machine.specs.declared.control.Control.{Control}
 use Rattle.machine.specs.declared.machine.Machine.{Machine}
 use Rattle.machine.specs.Refinement.{HasObjects, HasThreadAt, locals_at}
+use Rattle.machine.specs.Touches.{AreTouches}
 use Rattle.machine.specs.inner.Parts.{IsIdle}
 
 -- the first k threads are those of the state, and the rest are idle
@@ -17,10 +18,11 @@ pub record IsOpenedTo (p : Program) (s : Snapshot) (k : ℕ) (c : Control) : Typ
 -- and their locals are there
 pub record IsOpening (p : Program) (s : Snapshot) (k : ℕ) (m : Machine) : Type 0 where
   pub control : IsOpenedTo p s k m.control
-  pub fixed : m.fixed ≡ length s.vars
-  pub variables : take m.fixed m.values.items ≡ s.vars
+  pub fixed : m.shape.fixed ≡ length s.vars
+  pub variables : take m.shape.fixed m.values.items ≡ s.vars
   pub locals : (t : ℕ) → t < k
-      → locals_at m.width (drop (m.fixed + length s.queues) m.values.items) t
-      ≡ take m.width (thread_at s t).locals
-  pub size : length m.values.items ≡ m.fixed + length s.queues + k * m.width
-  pub wide : All (λ th. All (LocalsBelow m.width) th.code) p.threads
+      → locals_at m.shape.width (drop (m.shape.fixed + length s.queues) m.values.items) t
+      ≡ take m.shape.width (thread_at s t).locals
+  pub size : length m.values.items ≡ m.shape.fixed + length s.queues + k * m.shape.width
+  pub wide : All (λ th. All (LocalsBelow m.shape.width) th.code) p.threads
+  pub touches : AreTouches p m.shape.touches

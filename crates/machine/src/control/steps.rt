@@ -18,8 +18,8 @@ use crate::control::Control;
 use guest_code::limits::{COUNT, THREADS};
 use guest_code::program::{Instruction, Program};
 use semantics::state::VariableAction::{Add as Adds, Cas as Swaps, Load as Loads, Store as Stores};
-use semantics::state::{Action, Status, Stop, VariableAction};
-use semantics::{Landing, access, action_at, run_local};
+use semantics::state::{Status, Stop, VariableAction};
+use semantics::{Landing, access, run_local};
 
 // What a thread does with a variable. It runs on then.
 #[inline(always)]
@@ -286,25 +286,5 @@ impl Control {
         let (shared, locals) = values.split_at_mut(fixed + program.conditions() as usize);
         let from = thread as usize * width;
         self.advance(program, thread, shared, &mut locals[from..from + width]);
-    }
-
-    /// What an enabled thread does next.
-    pub(crate) fn next(&self, program: &Program, thread: u8) -> Option<Action>
-        requires { (s : Snapshot) × IsOf program.now s × IsControl program.now self.now s
-            × (is_enabled program.now s thread ≡ true) }
-        ensures { (s : Snapshot) → IsOf program.now s → IsControl program.now self.now s
-            → is_enabled program.now s thread ≡ true → result ≡ next_of program.now s thread }
-    {
-        program.keeps_limits();
-        let instruction = &program.code(thread)[self.places[thread as usize] as usize];
-        let woken = self.woken.has(thread);
-        action_at(
-            if woken {
-                Status::Woken
-            } else {
-                Status::Running
-            },
-            instruction,
-        )
     }
 }

@@ -3,7 +3,8 @@ use Rattle.std.specs.Prelude.{◌≡◌, ℕ, ◌*◌, ◌≤◌, ◌<◌, ℤ, 
 use Rattle.std.specs.Prelude.{[], length, take, drop, get_or, Option, Some, None}
 use Rattle.guest_code.specs.Program.{Program, IsWellFormed}
 use Rattle.semantics.specs.Machine.{Snapshot, start}
-use Rattle.machine.specs.Refinement.{Shows, IsState}
+use Rattle.machine.specs.declared.machine.Shape.{Shape}
+use Rattle.machine.specs.Refinement.{Shows, IsShown}
 use Rattle.semantics.specs.declared.mask.Mask.{Mask}
 use Rattle.semantics.specs.Mask.{has, no_threads, HasEnabled}
 use Rattle.schedules.specs.Schedules.{state_after}
@@ -62,16 +63,16 @@ abbrev pub words_at : ℕ → List ℤ → ℕ → List ℤ
 words_at size ws k = take size (drop (k * size) ws)
 
 -- the frame and its words are a copy of the state of the node to which these steps lead
-pub record IsCopy (p : Program) (w : List ℕ) (fixed width : ℕ) (f : Frame) (ws : List ℤ)
+pub record IsCopy (p : Program) (w : List ℕ) (shape : Shape) (f : Frame) (ws : List ℤ)
     : Type 0 where
   pub reaches : ReachesNode p w f.node
-  pub shows : IsState p fixed width f.control ws (state_at p w)
+  pub shows : IsShown p shape f.control ws (state_at p w)
 
 -- and so all frames, on the way of these steps
-pub record AreCopies (p : Program) (w : List ℕ) (fixed width size : ℕ) (fs : List Frame)
+pub record AreCopies (p : Program) (w : List ℕ) (shape : Shape) (size : ℕ) (fs : List Frame)
     (ws : List ℤ) : Type 0 where
   pub each : (k : ℕ) → k < length fs
-      → IsCopy p (take (frame_at fs k).steps w) fixed width (frame_at fs k) (words_at size ws k)
+      → IsCopy p (take (frame_at fs k).steps w) shape (frame_at fs k) (words_at size ws k)
   pub within : (k : ℕ) → k < length fs → (frame_at fs k).steps ≤ length w
   pub rising : (j k : ℕ) → j ≤ k → k < length fs → (frame_at fs j).steps ≤ (frame_at fs k).steps
   pub first : 0 < length fs → (frame_at fs 0).steps ≡ 0
@@ -88,7 +89,7 @@ pub record IsPath (p : Program) (t : Path) : Type 0 where
   pub reaches : ReachesNode p t.steps.items t.node
   pub shows : Shows p t.machine (state_at p t.steps.items)
   pub size : t.size ≡ length t.machine.values.items
-  pub frames : AreCopies p t.steps.items t.machine.fixed t.machine.width t.size (used_frames t)
+  pub frames : AreCopies p t.steps.items t.machine.shape t.size (used_frames t)
       t.words.items
   pub room : t.depth ≤ length t.frames.items
   pub count : length (used_frames t) ≡ t.depth

@@ -1,7 +1,4 @@
-use Rattle.std.proofs.Common.{arith, ◌≡◌, length, true}
-use Rattle.semantics.specs.Machine.{Snapshot, is_enabled}
-use Rattle.machine.specs.Refinement.{IsState}
-use Rattle.machine.specs.inner.Steps.{IsStepped}
+use Rattle.std.proofs.Common.{arith, ◌≡◌, length}
 use Rattle.machine.proofs.Values.{begins, all_inside, ready, slice_is, slice_length, slice_written, shows_after, size_after}
 use Rattle.machine.proofs.control.Control.advance_over.Goals as goal
 

@@ -23,12 +23,12 @@ returns-clause-opening c =
     let p = c.args.program.now in
     let s = c.args.state.now in
     let k = c.args.thread in
-    let w = c.args.self.now.width in
+    let w = c.args.self.now.shape.width in
     let there : c.args.thread < length c.args.state.now.threads =
     omega (arith, c.requires.thread, c.requires.of.threads) in
-    let own : take c.args.self.now.width c.locals.result.now
-    ≡ take c.args.self.now.width (thread_at c.args.state.now c.args.thread).locals =
-    ap (take c.args.self.now.width) c.locals.ensures in
+    let own : take c.args.self.now.shape.width c.locals.result.now
+    ≡ take c.args.self.now.shape.width (thread_at c.args.state.now c.args.thread).locals =
+    ap (take c.args.self.now.shape.width) c.locals.ensures in
     opening_more p s k c.args.self.now _ (take w c.locals.result.now) there c.requires.opening
     (c.arrive.ensures.lands p s (thread_at s k) c.requires.opening.control.objects
     (c.requires.opening.control.idle k (omega arith) there)
@@ -38,4 +38,4 @@ returns-clause-opening c =
     ap (λ (x : List ℤ). length x) c.locals.ensures
     ∙ (ap (λ (x : Snapshot). length (thread_at x c.args.thread).locals) c.requires.state
     ∙ opening_room c.args.program.now c.args.thread c.requires.thread) in
-    omega (arith, c.requires.width, i))) own refl refl
+    omega (arith, c.requires.width, i))) own refl

@@ -17,8 +17,7 @@ loop-among-init c = record {
   one = search rules;
   on = search rules;
   size = search rules;
-  fixed = search rules;
-  width = search rules;
+  shape = search rules;
 }
 
 pub step-requires-in-loop-among : goal.step-requires-in-loop-among
@@ -40,13 +39,12 @@ loop-among-preserved c = record {
   run = more;
   some = search rules;
   few = let left = (more c.requires.0 c.requires.1 c.requires.2).left in
-      let most = left_few p c.requires.0 t c.keeps_limits.ensures c.requires.1.of c.requires.2 in
+      let most = left_few p c.requires.0 t c.keeps_limits.ensures c.requires.1.state.of c.requires.2 in
       omega (arith, left, most);
   one = search rules;
   on = search rules;
   size = search rules;
-  fixed = search rules;
-  width = search rules;
+  shape = search rules;
 }
   where
     p : Program
@@ -84,7 +82,7 @@ loop-among-smaller c =
     ∙ (sym c.has.ensures ∙ c.if-has.true)) in
     let falls = left_falls p (run_to p s t n) t go in
     let left = r.left in
-    let most = left_few p s t c.keeps_limits.ensures c.requires.1.of c.requires.2 in
+    let most = left_few p s t c.keeps_limits.ensures c.requires.1.state.of c.requires.2 in
     omega (arith, falls, left, most)
 
 pub returns-clause-among : goal.returns-clause-among

@@ -15,8 +15,7 @@ invariant-loop-among l = record {
   one : l.alone ≡ false → l.steps ≡ 1;
   on : 1 < l.steps → has l.among l.thread ≡ true;
   size : length l.self.values.items ≡ length l.fn.self.values.items;
-  fixed : l.self.fixed ≡ l.fn.self.fixed;
-  width : l.self.width ≡ l.fn.self.width;
+  shape : l.self.shape ≡ l.fn.self.shape;
 }
 
 abbrev pub decreases-loop-among : goal.decreases-loop-among

@@ -10,9 +10,10 @@ invariant-loop-other l = record {
   fits : l.sleepers.bits < 2 ^ 16;
   tried : (v : ℕ) → has l.left v ≡ true → (l.thread ≢ v)
       × ((has l.self.control.enabled v && (has l.fn.asleep v || nat_lt v l.thread)) ≡ true);
-  over : (s : Snapshot) → Shows l.program l.self s → is_enabled l.program s l.thread ≡ true
+  kept : (v : ℕ) → has l.left v ≡ true → has l.sleepers v ≡ true;
+  over : (s : Snapshot) → Shows l._program l.self s → is_enabled l._program s l.thread ≡ true
       → (v : ℕ) → has l.left v ≡ false
-      → has l.sleepers v ≡ next_sleep_set l.program s (has l.fn.asleep) l.thread v;
+      → has l.sleepers v ≡ next_sleep_set l._program s (has l.fn.asleep) l.thread v;
 }
 
 abbrev pub decreases-loop-other : goal.decreases-loop-other

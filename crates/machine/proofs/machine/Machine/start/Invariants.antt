@@ -6,6 +6,6 @@ use Rattle.machine.proofs.machine.Machine.start.Given as goal
 
 abbrev pub invariant-loop-t : goal.invariant-loop-t
 invariant-loop-t l = record {
-  few : l.machine.width ≤ LOCALS;
+  few : l.machine.shape.width ≤ LOCALS;
   opening : IsOpening l.program (start l.program) l.t l.machine;
 }

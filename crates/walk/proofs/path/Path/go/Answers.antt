@@ -26,7 +26,7 @@ returns-clause-path c =
     (c.enabled-enabled.ensures p (state_at p t.steps.items) c.requires.path.shows)))
     c.in_ok-push.ensures.items c.step.ensures.last
     (c.step-2.ensures.shows (state_at p t.steps.items) c.requires.path.shows c.requires.enabled)
-    c.step-2.ensures.size c.step-2.ensures.fixed c.step-2.ensures.width refl refl refl
+    c.step-2.ensures.size c.step-2.ensures.shape refl refl refl
     c.requires.path.room
 
 pub returns-clause-gone : goal.returns-clause-gone

@@ -17,7 +17,7 @@ with-requires c =
     (sym (c.enabled-enabled.ensures p (state_at p t.steps.items) path.shows c.args.thread)
     ∙ (and_right (at_bound c.args.mode t.node) (has c.enabled-enabled.result c.args.thread)
     (sym c.is_alone.ensures ∙ c.if-not-is_alone.false))) in
-    let few = path.shows.of.few in
+    let few = path.shows.state.of.few in
     omega (arith, below, few)
 
 pub returns-clause-search : goal.returns-clause-search

@@ -2,7 +2,7 @@ use Rattle.std.proofs.Common.{arith, ◌≡◌, ◌∙◌, ◌+◌, ◌-◌, ◌
 use Rattle.std.proofs.Common.{subst, take, drop}
 use Rattle.std.proofs.Math.Path.{transport}
 use Rattle.std.proofs.lemmas.List.{get_or_default, take-take, get_or-take}
-use Rattle.machine.specs.Refinement.{Shows, IsState}
+use Rattle.machine.specs.Refinement.{Shows, IsShown}
 use Rattle.walk.specs.declared.path.Frame.{Frame}
 use Rattle.walk.specs.inner.Paths.{used_frames, words_at, state_at, frame_at, no_frame}
 use Rattle.walk.proofs.PathSteps.{path_left, left_left, same_values}
@@ -35,8 +35,8 @@ shows c =
     let s = state_at c.args._program.now
     (take (frame_at (used_frames y) n).steps y.steps.items) in
     let back = sym (c.restore.ensures.control ∙ ap (λ (g : Frame). g.control) (frame_is c)) in
-    transport (λ i. IsState c.args._program.now (sym c.restore.ensures.fixed i)
-    (sym c.restore.ensures.width i) (back i) (sym (c.restore.ensures.values ∙ words) i) s)
+    transport (λ i. IsShown c.args._program.now (sym c.restore.ensures.shape i) (back i)
+    (sym (c.restore.ensures.values ∙ words) i) s)
     (c.requires.path.frames.each n (there c)).shows
 
 pub returns-clause-path : goal.returns-clause-path
@@ -48,8 +48,8 @@ returns-clause-path c =
     (subst (λ (g : Frame). Shows c.args._program.now c.restore.new.self
     (state_at c.args._program.now (take g.steps y.steps.items))) (sym (frame_is c)) (shows c))
     (same_values c.args._program.now c.restore.new.self y.machine _ _ (shows c)
-    c.requires.path.shows c.restore.ensures.fixed c.restore.ensures.width)
-    c.restore.ensures.fixed c.restore.ensures.width refl
+    c.requires.path.shows c.restore.ensures.shape)
+    c.restore.ensures.shape refl
     (sym (take-take n y.depth y.frames.items (omega (arith, c.requires.frame)))) refl
     (omega (arith, inside c))
 
@@ -62,8 +62,8 @@ returns-clause-again c =
     (subst (λ (g : Frame). Shows c.args._program.now c.restore.new.self
     (state_at c.args._program.now (take g.steps y.steps.items))) (sym (frame_is c)) (shows c))
     (same_values c.args._program.now c.restore.new.self y.machine _ _ (shows c)
-    c.requires.path.shows c.restore.ensures.fixed c.restore.ensures.width)
-    c.restore.ensures.fixed c.restore.ensures.width refl
+    c.requires.path.shows c.restore.ensures.shape)
+    c.restore.ensures.shape refl
     (sym (take-take (n + 1) y.depth y.frames.items (omega (arith, c.requires.frame)))) refl
     (omega (arith, inside c))
 

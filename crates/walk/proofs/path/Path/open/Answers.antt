@@ -13,7 +13,7 @@ returns-in_err-make_words-clause-path c =
     let y = c.args.self.now in
     let room = c.requires.frames.room in
     path_words c.args._program.now y _ c.requires refl refl refl refl refl
-    (copies_words c.args._program.now y.steps.items y.machine.fixed y.machine.width y.size
+    (copies_words c.args._program.now y.steps.items y.machine.shape y.size
     (used_frames y) y.words.items
     c.make_words.new.words.items c.requires.frames
     (λ m l. c.make_words.ensures.same m (omega (arith, l, room)))
@@ -24,10 +24,10 @@ returns-in_err-make_frame-clause-path c =
     let y = c.args.self.now in
     let room = c.requires.frames.room in
     path_words c.args._program.now y _ c.requires refl refl refl refl refl
-    (subst (λ (fs : List Frame). AreCopies c.args._program.now y.steps.items y.machine.fixed
-    y.machine.width y.size fs c.make_words.new.words.items)
+    (subst (λ (fs : List Frame). AreCopies c.args._program.now y.steps.items y.machine.shape
+    y.size fs c.make_words.new.words.items)
     (sym c.make_frame.ensures.same)
-    (copies_words c.args._program.now y.steps.items y.machine.fixed y.machine.width y.size
+    (copies_words c.args._program.now y.steps.items y.machine.shape y.size
     (used_frames y) y.words.items
     c.make_words.new.words.items c.requires.frames
     (λ m l. c.make_words.ensures.same m (omega (arith, l, room)))
