@@ -7,7 +7,7 @@ use Rattle.walk.specs.inner.Paths.{state_at}
 use Rattle.walk.specs.inner.WalkerInvariant.{is_kept_at}
 use Rattle.walk.proofs.WalkTurns.{members_chosen}
 use Rattle.walk.proofs.Expansions.{turned_here, expanded_node, expanded_leaf, falls_node, falls_leaf}
-use Rattle.walk.proofs.Expansions.{tried_added}
+use Rattle.walk.proofs.Expansions.{tried_added, place_turned}
 use Rattle.walk.proofs.path.Path.expand.Goals as goal
 
 pub open-requires : goal.open-requires
@@ -80,3 +80,17 @@ returns-in_ok-add-in-None-clause-more c =
     c.open.ensures.kept ∙ ap (filter (is_kept_at c.args.mode c.enabled-enabled.result t.node))
     c.in-None.ensures.list in
     λ more. absurd (false≢true (sym more ∙ ap is_empty over))
+
+pub returns-in_err-add-in-None-clause-place : goal.returns-in_err-add-in-None-clause-place
+returns-in_err-add-in-None-clause-place c =
+    let t = c.args.self.now in
+    let place = c.requires.search.1.place in
+    place_turned c.args.item.now.program t _ place
+    (turned_here t _ refl c.open.ensures.same refl refl refl refl refl) place.path.room
+
+pub returns-in_ok-add-in-None-clause-place : goal.returns-in_ok-add-in-None-clause-place
+returns-in_ok-add-in-None-clause-place c =
+    let t = c.args.self.now in
+    let place = c.requires.search.1.place in
+    place_turned c.args.item.now.program t _ place
+    (turned_here t _ refl c.open.ensures.same refl refl refl refl refl) place.path.room
