@@ -21,17 +21,17 @@ use Rattle.items.specs.Items.{ItemView, IsItem}
 use Rattle.items.specs.Walks.{IsWalked, items_at}
 use Rattle.items.specs.Children.{state_of, IsWithin, is_kept_step, kept_steps, past_steps}
 use Rattle.items.specs.Children.{passes_bound, child_of, children_of, children}
-use Rattle.items.specs.Children.{mask_after, cost_of, costs}
+use Rattle.items.specs.Children.{cost_of, costs}
 use Rattle.walk.specs.inner.Paths.{used_frames, IsNode, IsPath, state_at}
 use Rattle.walk.specs.inner.WalkerInvariant.{item_of, here, left_above, still_open, turns_left}
 use Rattle.walk.specs.inner.WalkerInvariant.{turns_from, turns_into, is_kept_at, is_past_at}
 use Rattle.walk.specs.inner.WalkerInvariant.{IsWithinAt, open_from, IsPlace}
 use Rattle.walk.proofs.Puts.{put_none, put_same, put_more}
-use Rattle.walk.specs.inner.WalkerInvariant.{HasPut, IsWalkedOn, IsSearch, IsGone, IsKept, IsOpened}
+use Rattle.walk.specs.inner.WalkerInvariant.{HasPut, IsWalkedOn, IsSearch, IsKept, IsOpened}
 use Rattle.walk.specs.inner.WalkerInvariant.{open_here, open_below, open_next}
 use Rattle.std.proofs.Math.Bool.{or-false}
 use Rattle.semantics.proofs.Masks.{empty_has, members_over}
-use Rattle.walk.proofs.SharedSteps.{shared_same, shared_kept, shared_entered, shared_back}
+use Rattle.walk.proofs.SharedSteps.{shared_same, shared_kept, shared_back}
 use Rattle.walk.proofs.PathSteps.{path_same}
 use Rattle.walk.proofs.WalkTurns.{step_enabled, kept_members, past_members, node_enabled}
 use Rattle.walk.proofs.WalkTurns.{deferred_are}
@@ -304,53 +304,7 @@ pub next_enabled : {b : Found} (mode : Mode) (i : ItemView) (t : Path) (f : Foun
 next_enabled mode i t f u on e h =
     search_enabled mode i t f u (left_above mode i.program t) (next_is mode i t f u on true e h)
 
--- the walk stands at it then
-here_gone : (mode : Mode) (p : Program) (old new : Path) (u : ℕ) (asleep : Mask)
-    → IsGone p old new u asleep
-    → asleep ≡ mask_after mode (here p old) u → here p new ≡ child_of mode (here p old) u
-here_gone mode p old new u asleep e mask =
-    λ k. record { program = p; prefix = e.steps k; mask = (e.asleep ∙ mask) k }
-
-gone_search : {b : Found} (mode : Mode) (i : ItemView) (old new : Path) (f : Found) (u : ℕ)
-    (asleep : Mask) → IsSearch b mode i old f (open_below mode i.program old u) →
-    IsPath i.program new → IsGone i.program old new u asleep
-    → asleep ≡ mask_after mode (here i.program old) u →
-    IsSearch b mode i new f (open_here mode i.program new)
-gone_search {b} mode i old new f u asleep h path e mask =
-    let p : Program = i.program in
-    record {
-      place = record {
-        path = path;
-        some = let s = h.place.some in let k = e.base in omega (arith, s, k);
-        base = let b = h.place.base in let k = e.base in let d = ap (λ fs. length fs) e.frames in
-            omega (arith, b, k, d);
-      };
-      walked = subst (IsWalkedOn b mode i f)
-          (λ k. sym (here_gone mode p old new u asleep e mask) k
-          ∷ sym (e.left mode h.place.base) k) h.walked;
-      shared = shared_entered old.steps.items new.steps.items u f h.shared e.steps;
-    }
-
-pub gone_into : {b : Found} (mode : Mode) (i : ItemView) (old new : Path) (f : Found) (u : ℕ)
-    (asleep : Mask) (q : Program) → q ≡ i.program
-    → IsSearch b mode i old f (open_below mode i.program old u)
-    → IsPath q new → IsGone q old new u asleep → asleep ≡ mask_after mode (here q old) u
-    → IsSearch b mode i new f (open_here mode i.program new)
-gone_into mode i old new f u asleep q is h path gone mask =
-    gone_search mode i old new f u asleep h (subst (λ (r : Program). IsPath r new) is path)
-    (subst (λ (r : Program). IsGone r old new u asleep) is gone)
-    (mask ∙ ap (λ (r : Program). mask_after mode (here r old) u) is)
-
--- how far there is to go from there
-pub gone_turns : (mode : Mode) (p : Program) (old new : Path) (u : ℕ) (asleep : Mask) →
-    IsGone p old new u asleep → asleep ≡ mask_after mode (here p old) u →
-    old.base ≤ length (used_frames old) → turns_from mode p new ≡ turns_into mode p old u
-unfolding turns_from turns_into
-gone_turns mode p old new u asleep e mask within =
-    λ k. cost_of (here_gone mode p old new u asleep e mask k) + costs (e.left mode within k)
-    + length (e.frames k)
-
--- and where the step of an enabled thread is the next one
+-- how far there is to go where the step of an enabled thread is the next one
 pub below_turns : (mode : Mode) (p : Program) (old new : Path) (u : ℕ) → IsTurned old new
     → is_enabled p (state_at p old.steps.items) u ≡ true
     → turns_into mode p new u ≤ turns_from mode p old

@@ -2,8 +2,10 @@ pub mod SharedSteps
 pub mod Puts
 pub mod Words
 pub mod PathSteps
+pub mod RunSteps
 pub mod WalkTurns
 pub mod WalkSteps
 pub mod Expansions
 pub mod LoneSteps
+pub mod RunWalks
 pub mod Walks

@@ -154,7 +154,7 @@ at_bound_is (Bounded bound) n h = grind (arith, nat_tests, h)
 at_bound_is Reduced n h = absurd (false≢true h)
 
 -- it gives way to it, and the steps of the others are put off
-lone_walked : {b : Found} (bound : ℕ) (i : ItemView) (w : List ℕ) (n : Node) (f g : Found)
+pub lone_walked : {b : Found} (bound : ℕ) (i : ItemView) (w : List ℕ) (n : Node) (f g : Found)
     (e past : Mask) (t : ℕ) (above : List ItemView) →
     IsWalkedOn b (Bounded bound) i f (item_of i.program w n ∷ above) → IsNode i.program w e n →
     IsOf i.program (state_at i.program w) → n.last ≡ Some t → n.used ≡ bound → has e t ≡ true →

@@ -1,6 +1,6 @@
 -- The way from the start of a program to where a walk stands, as it opens a frame, goes back to
 -- one and takes a step.
-use Rattle.std.proofs.Common.{◌≡◌, ℕ, ℤ, zero, suc, ◌+◌, ◌-◌, ◌*◌, ◌<◌, ◌≤◌, true}
+use Rattle.std.proofs.Common.{◌≡◌, ℕ, ℤ, zero, suc, ◌+◌, ◌-◌, ◌*◌, ◌<◌, ◌≤◌}
 use Rattle.std.proofs.Common.{not, ◌&&◌, nat_eq, List, [], ◌∷◌, ◌++◌, length, take, drop}
 use Rattle.std.proofs.Common.{Some, None, Option, refl, ap, ◌∙◌, sym, subst}
 use Rattle.std.proofs.Common.{arith, inl, inr}
@@ -14,14 +14,12 @@ use Rattle.guest_code.specs.Program.{Program}
 use Rattle.semantics.specs.declared.mask.Mask.{Mask}
 use Rattle.machine.specs.declared.machine.Machine.{Machine}
 use Rattle.machine.specs.declared.machine.Shape.{Shape}
-use Rattle.semantics.specs.Machine.{Snapshot, start, step, is_enabled}
-use Rattle.semantics.specs.Mask.{HasEnabled, members_from, one_if}
+use Rattle.semantics.specs.Machine.{Snapshot, start, step}
+use Rattle.semantics.specs.Mask.{HasEnabled, members_from}
 use Rattle.machine.specs.Refinement.{Shows, IsShown}
 use Rattle.schedules.specs.Schedules.{preempts}
 use Rattle.schedules.specs.Execution.{Reaches}
 use Rattle.walk.proofs.Words.{chunk_inside, Rewrites}
-use Rattle.schedules.proofs.Executions.{reaches_parts}
-use Rattle.schedules.proofs.UnfoldingUnderPrefix.{state_after-push}
 use Rattle.walk.specs.declared.path.Frame.{Frame}
 use Rattle.walk.specs.declared.path.Path.{Path}
 use Rattle.walk.specs.declared.path.Node.{Node}
@@ -119,36 +117,6 @@ path_on p old new h some front reaches shows values shape size frames words room
   room = room;
   count = length-take-le new.depth new.frames.items room;
 }
-
--- a step
-
-pub path_gone : (p : Program) (old new : Path) (t : ℕ) → IsPath p old → 0 < length (used_frames old)
-    → is_enabled p (state_at p old.steps.items) t ≡ true
-    → new.node.used ≡ old.node.used
-    + one_if (preempts p (state_at p old.steps.items) old.node.last t)
-    → new.steps.items ≡ old.steps.items ++ t ∷ [] → new.node.last ≡ Some t
-    → Shows p new.machine (step p (state_at p old.steps.items) t)
-    → length new.machine.values.items ≡ length old.machine.values.items
-    → new.machine.shape ≡ old.machine.shape → new.size ≡ old.size
-    → (used_frames new) ≡ (used_frames old) → new.words.items ≡ old.words.items
-    → new.depth ≤ length new.frames.items → IsPath p new
-path_gone p old new t h some enabled used steps last shows values shape size frames words
-    room = path_on p old new h some
-    (front_more w w new.steps.items t (take-length w) steps)
-    (transport (λ i. Reaches p (sym steps i) (record {
-      state = state_at p (sym steps i);
-      last = sym last i;
-      preemptions = new.node.used;
-    }))
-    (reaches_parts p w _ t (state_at p (w ++ t ∷ [])) new.node.used h.reaches enabled push used))
-    (subst (Shows p new.machine) (sym (ap (state_at p) steps ∙ push)) shows)
-    values shape size frames words room
-  where
-    w : List ℕ
-    w = old.steps.items
-
-    push : state_at p (w ++ t ∷ []) ≡ step p (state_at p w) t
-    push = state_after-push p (start p) w t
 
 pub left_goes : (mode : Mode) (p : Program) (old : Path) (v : List ℕ) → IsPath p old
     → old.base ≤ length (used_frames old) → take (length old.steps.items) v ≡ old.steps.items

@@ -1,17 +1,19 @@
 //! The way from the start of a program to where a walk stands, with copies of the states of nodes
 //! on it.
 
-ghost use Rattle.std.specs.Prelude.{◌≡◌, ◌+◌, ◌*◌, ◌-◌, ◌<◌, ◌≤◌, ◌^◌, ℕ, true, None, IfOk, OnOk, length, take};
+ghost use Rattle.std.specs.Prelude.{◌≡◌, ◌+◌, ◌*◌, ◌-◌, ◌<◌, ◌≤◌, ◌^◌, ◌++◌, ℕ, true, None, IfOk, OnOk, length, take, replicate, vec_len, vec_capacity};
 ghost use Rattle.semantics.specs.Machine.{start, is_enabled};
 ghost use Rattle.schedules.specs.Schedules.{runs};
 ghost use Rattle.semantics.specs.Mask.{one_if};
 ghost use Rattle.walk.specs.inner.Paths.{IsPath, used_frames, frame_at, is_preempting, state_at};
 ghost use Rattle.items.specs.declared.mode.Mode.{Mode};
-ghost use Rattle.walk.specs.inner.WalkerInvariant.{IsOpened, IsGone, left_above, still_open};
+ghost use Rattle.walk.specs.inner.WalkerInvariant.{IsOpened, IsGone, left_above, still_open, at_bound};
 
 use guest_code::laws::programs_are_well_formed;
+use guest_code::limits::INSTRUCTIONS;
 use guest_code::program::Program;
-use machine::{Control, Machine};
+use items::mode::Mode;
+use machine::{Control, Machine, Run};
 use prefix_list::shared_length;
 use semantics::mask::Mask;
 use std::alloc::{AllocError, Global};
@@ -94,6 +96,16 @@ impl Node {
             None => self.last = Some(thread),
         }
     }
+
+    // Whether the node's preemptions have reached the bound.
+    pub(crate) fn is_at_bound(&self, mode: Mode) -> bool
+        ensures { result ≡ at_bound mode self.now }
+    {
+        match mode {
+            Mode::Bounded(bound) => self.used == bound,
+            Mode::Reduced => false,
+        }
+    }
 }
 
 // Makes words until there are as many as this.
@@ -107,6 +119,19 @@ fn make_words(words: &mut Vec<i64>, count: usize) -> Result<(), AllocError>
         words.push(0)?;
     }
     Ok(())
+}
+
+// Takes so many steps of a thread down, where there is room.
+#[inline(always)]
+fn push_run(steps: &mut Vec<u8>, thread: u8, count: u32)
+    requires some { 1 ≤ count }
+    requires room { vec_len steps.old + count ≤ vec_capacity steps.old }
+    ensures { steps.new.items ≡ steps.old.items ++ replicate count thread }
+{
+    steps.push_reserved(thread);
+    for _ in 1..count {
+        steps.push_reserved(thread);
+    }
 }
 
 // Makes a frame at this depth, unless there is one.
@@ -203,25 +228,34 @@ impl Path {
         self.depth = depth;
     }
 
-    /// A step of an enabled thread, after which these threads sleep.
+    /// A run of an enabled thread, after whose first step these threads sleep: one step, or more
+    /// where the node is at the mode's bound then.
     ///
     /// # Errors
     ///
     /// `AllocError` where memory runs out; no step is taken then.
     #[inline(always)]
-    pub fn go(&mut self, program: &Program, thread: u8, asleep: Mask) -> Result<(), AllocError>
+    pub fn go(
+        &mut self,
+        program: &Program,
+        mode: Mode,
+        thread: u8,
+        asleep: Mask,
+    ) -> Result<Run, AllocError>
         requires path { IsPath program.now self.old }
         requires frames { 0 < length (used_frames self.old) }
         requires enabled { is_enabled program.now
             (state_at program.now self.old.steps.items) thread ≡ true }
         ensures path { IsPath program.now self.new }
-        ensures gone { OnOk result (IsGone program.now self.old self.new thread asleep) }
+        ensures gone { IfOk result (IsGone program.now mode self.old self.new thread asleep) }
     {
-        self.steps.push(thread)?;
+        self.steps.reserve(2 * INSTRUCTIONS)?;
         let enabled = self.machine.enabled();
         self.node.step(enabled, thread, asleep);
-        self.machine.step(program, thread);
-        Ok(())
+        let alone = self.node.is_at_bound(mode);
+        let run = self.machine.run(program, thread, alone);
+        push_run(&mut self.steps, thread, run.steps);
+        Ok(run)
     }
 
     // Goes back to the node of the last frame at most this many steps from the start. It keeps the
@@ -246,8 +280,9 @@ impl Path {
         self.depth = depth + 1;
     }
 
-    // Takes the step of a schedule at this place. Every second node on the way gets a frame, but
-    // the last: so half the copies are saved, and to go back takes a step or two again.
+    // Takes the step of a schedule at this place, and no more: without a bound nobody is alone.
+    // Every second node on the way gets a frame, but the last: so half the copies are saved, and to
+    // go back takes a step or two again.
     fn go_along(
         &mut self,
         program: &Program,
@@ -263,7 +298,7 @@ impl Path {
         ensures frames { OnOk result (0 < self.new.depth) }
         ensures steps { OnOk result (self.new.steps.items ≡ take (place + 1) schedule.now) }
     {
-        self.go(program, schedule[place], Mask::empty())?;
+        self.go(program, Mode::Reduced, schedule[place], Mask::empty())?;
         if place + 1 < schedule.len() && place % 2 == 1 {
             self.open(program)
         } else {

@@ -21,37 +21,41 @@ use semantics::mask::Mask;
 use std::alloc::{AllocError, Global};
 
 impl Found {
-    // Defers the step of a thread.
+    // Defers the step of a thread, beside the one that was taken at this place of the steps.
     #[inline(always)]
-    fn defer_one(&mut self, steps: &mut Vec<u8>, thread: u8) -> Result<(), AllocError>
-        requires { IsShared steps.old.items self.old }
+    fn defer_one(&mut self, steps: &mut Vec<u8>, place: usize, thread: u8) -> Result<(), AllocError>
+        requires place { place < length steps.old.items }
+        requires shared { IsShared (take place steps.old.items) self.old }
         ensures steps { steps.new.items ≡ steps.old.items }
         ensures rest { self.new.rest ≡ self.old.rest }
         ensures part { OnOk result (self.new.part ≡ with_beyond self.old.part true) }
         ensures lists { self.new.lists ≡ self.old.lists }
         ensures deferred { OnOk result (self.new.deferred
-            ≡ self.old.deferred ++ (steps.old.items ++ thread ∷ []) ∷ []) }
-        ensures shared { OnOk result (IsShared steps.old.items self.new) }
-        ensures here { OnOk result (self.new.shared ≡ length steps.old.items) }
+            ≡ self.old.deferred ++ (take place steps.old.items ++ thread ∷ []) ∷ []) }
+        ensures shared { OnOk result (IsShared (take place steps.old.items) self.new) }
+        ensures here { OnOk result (self.new.shared ≡ place) }
     {
-        steps.push(thread)?;
-        let pushed = self.deferred.push_after(self.shared, &steps[self.shared..]);
-        steps.pop();
+        let taken = steps[place];
+        steps[place] = thread;
+        let pushed = self
+            .deferred
+            .push_after(self.shared, &steps[self.shared..place + 1]);
+        steps[place] = taken;
         pushed?;
         self.part.set_beyond();
-        self.shared = steps.len();
+        self.shared = place;
         Ok(())
     }
 
     // Defers the steps of these threads, after one of the same node.
     #[inline(always)]
-    fn defer_beside(&mut self, _steps: &Vec<u8>, past: Mask) -> Result<(), AllocError>
-        requires shared { IsShared _steps.now.items self.old }
-        requires here { self.old.shared ≡ length _steps.now.items }
+    fn defer_beside(&mut self, _steps: &[u8], past: Mask) -> Result<(), AllocError>
+        requires shared { IsShared _steps.now self.old }
+        requires here { self.old.shared ≡ length _steps.now }
         ensures same { self.new ≡ record self.old { deferred = self.new.deferred } }
         ensures deferred { OnOk result (self.new.deferred ≡ self.old.deferred
-            ++ map (λ t. _steps.now.items ++ t ∷ []) (members_from past 0)) }
-        ensures shared { OnOk result (IsShared _steps.now.items self.new) }
+            ++ map (λ t. _steps.now ++ t ∷ []) (members_from past 0)) }
+        ensures shared { OnOk result (IsShared _steps.now self.new) }
     {
         let mut left = past;
         while let Some(thread) = left.first_from(0) {
@@ -63,8 +67,15 @@ impl Found {
 
     // Defers the steps of these threads, of which this one is the first.
     #[inline(always)]
-    fn defer_all(&mut self, steps: &mut Vec<u8>, past: Mask, first: u8) -> Result<(), AllocError>
-        requires shared { IsShared steps.old.items self.old }
+    fn defer_all(
+        &mut self,
+        steps: &mut Vec<u8>,
+        place: usize,
+        past: Mask,
+        first: u8,
+    ) -> Result<(), AllocError>
+        requires place { place < length steps.old.items }
+        requires shared { IsShared (take place steps.old.items) self.old }
         requires first { members_from past 0 ≡ first ∷ members_from past (first + 1) }
         requires least { (u : ℕ) → u < first → has past u ≡ false }
         requires fits { first < THREADS }
@@ -73,24 +84,31 @@ impl Found {
         ensures part { OnOk result (self.new.part ≡ with_beyond self.old.part true) }
         ensures lists { self.new.lists ≡ self.old.lists }
         ensures deferred { OnOk result (self.new.deferred ≡ self.old.deferred
-            ++ map (λ t. steps.old.items ++ t ∷ []) (members_from past 0)) }
-        ensures shared { OnOk result (IsShared steps.old.items self.new) }
+            ++ map (λ t. take place steps.old.items ++ t ∷ []) (members_from past 0)) }
+        ensures shared { OnOk result (IsShared (take place steps.old.items) self.new) }
     {
-        self.defer_one(steps, first)?;
-        self.defer_beside(steps, without_first(past, first))
+        self.defer_one(steps, place, first)?;
+        self.defer_beside(&steps[..place], without_first(past, first))
     }
 
-    // Defers the steps of these threads; they are listed or only noted. Often there is none.
+    // Defers the steps of these threads, beside the one that was taken at this place of the steps;
+    // they are listed or only noted. Often there is none.
     #[inline(always)]
-    pub(crate) fn defer(&mut self, steps: &mut Vec<u8>, past: Mask) -> Result<(), AllocError>
-        requires { IsShared steps.old.items self.old }
+    pub(crate) fn defer(
+        &mut self,
+        steps: &mut Vec<u8>,
+        place: usize,
+        past: Mask,
+    ) -> Result<(), AllocError>
+        requires place { place < length steps.old.items }
+        requires shared { IsShared (take place steps.old.items) self.old }
         ensures steps { steps.new.items ≡ steps.old.items }
         ensures rest { self.new.rest ≡ self.old.rest }
         ensures part { OnOk result (self.new.part ≡ with_beyond self.old.part
             (self.old.part.beyond || not (is_empty (members_from past 0)))) }
         ensures put { OnOk result (HasPut self.old
-            (map (λ t. steps.old.items ++ t ∷ []) (members_from past 0)) self.new) }
-        ensures shared { OnOk result (IsShared steps.old.items self.new) }
+            (map (λ t. take place steps.old.items ++ t ∷ []) (members_from past 0)) self.new) }
+        ensures shared { OnOk result (IsShared (take place steps.old.items) self.new) }
     {
         let Some(first) = past.first_from(0) else {
             return Ok(());
@@ -99,7 +117,7 @@ impl Found {
             self.part.set_beyond();
             return Ok(());
         }
-        self.defer_all(steps, past, first)
+        self.defer_all(steps, place, past, first)
     }
 
     // Whether fewer schedules were tried than the limit.
@@ -129,16 +147,6 @@ fn without_first(set: Mask, first: u8) -> Mask
 }
 
 impl Node {
-    // Whether the node's preemptions have reached the bound.
-    fn is_at_bound(&self, mode: Mode) -> bool
-        ensures { result ≡ at_bound mode self.now }
-    {
-        match mode {
-            Mode::Bounded(bound) => self.used == bound,
-            Mode::Reduced => false,
-        }
-    }
-
     // The steps that are kept are still to be tried. None passes the bound.
     fn open(&mut self, enabled: Mask, mode: Mode)
         requires { (t : ℕ) → (has enabled t && is_past_at mode enabled self.old t) ≡ false }
@@ -242,8 +250,46 @@ impl Path {
         if !self.node.is_alone(enabled, mode, thread) {
             return Ok(false);
         }
-        found.defer(&mut self.steps, enabled.with(thread, false))?;
+        let place = self.steps.len();
+        self.steps.push(thread)?;
+        let others = enabled.with(thread, false);
+        let deferred = found.defer(&mut self.steps, place, others);
+        self.steps.pop();
+        deferred?;
         Ok(true)
+    }
+
+    // Takes a run into an open child. Steps of the others are deferred at the nodes between.
+    #[inline(always)]
+    fn run_once(
+        &mut self,
+        found: &mut Found,
+        item: &Item,
+        mode: Mode,
+        thread: u8,
+    ) -> Result<(), AllocError>
+        requires search { Searches mode item.now self.old found.old
+            (open_below mode item.now.program self.old thread) }
+        ensures path { IsPath item.now.program self.new }
+        ensures last { OnOk result (self.new.node.last ≡ Some thread) }
+        ensures further { OnOk result
+            (length self.old.steps.items < length self.new.steps.items) }
+        ensures search { let p = item.now.program in OnOk result (GoesOn mode item.now
+            self.old found.old (open_below mode p self.old thread)
+            self.new found.new (open_here mode p self.new)) }
+        ensures falls { OnOk result (turns_from mode item.now.program self.new
+            ≤ turns_into mode item.now.program self.old thread) }
+        ensures tried { OnOk result (found.new.part.tried ≡ found.old.part.tried) }
+    {
+        let program = item.program();
+        let asleep = self.sleepers(program, mode, thread);
+        let from = self.steps.len();
+        let run = self.go(program, mode, thread, asleep)?;
+        let others = run.among.with(thread, false);
+        for place in from + 1..self.steps.len() {
+            found.defer(&mut self.steps, place, others)?;
+        }
+        Ok(())
     }
 
     // Takes a step into an open child, and goes on while its thread alone may.
@@ -266,11 +312,9 @@ impl Path {
             ≤ turns_into mode item.now.program self.old thread) }
         ensures tried { OnOk result (found.new.part.tried ≡ found.old.part.tried) }
     {
-        let program = item.program();
         let mut going = true;
         while going {
-            let asleep = self.sleepers(program, mode, thread);
-            self.go(program, thread, asleep)?;
+            self.run_once(found, item, mode, thread)?;
             going = self.goes_on(found, item, mode, thread)?;
         }
         Ok(())

@@ -1,6 +1,7 @@
 -- What holds while a walk goes over the schedules of an item.
 use Rattle.std.specs.Prelude.{◌≡◌, ℕ, zero, suc, ◌+◌, ◌-◌, ◌<◌, ◌≤◌, Bool, true, false, not}
-use Rattle.std.specs.Prelude.{◌&&◌, nat_eq, nat_le, nat_lt, List, [], ◌∷◌, ◌++◌, length, take, Some}
+use Rattle.std.specs.Prelude.{◌&&◌, nat_eq, nat_le, nat_lt, List, [], ◌∷◌, ◌++◌, length, take, replicate, Some}
+use Rattle.machine.specs.declared.machine.Run.{Run}
 use Rattle.guest_code.specs.Program.{Program}
 use Rattle.semantics.specs.Mask.{has, HasEnabled, members_from, one_if}
 use Rattle.semantics.specs.declared.mask.Mask.{Mask}
@@ -15,7 +16,7 @@ use Rattle.prefix_list.specs.PrefixLists.{last_of}
 use Rattle.summary.specs.Summaries.{SummaryView, IsSummary, join}
 use Rattle.items.specs.Walks.{IsWalked, items_at, listed_if}
 use Rattle.items.specs.Children.{child_of, children_of, cost_of, costs}
-use Rattle.walk.specs.inner.Paths.{used_frames, is_preempting, frame_at, state_at, IsPath}
+use Rattle.walk.specs.inner.Paths.{used_frames, is_preempting, frame_at, state_at, IsPath, IsNode}
 
 -- the item of a node, to which these steps lead
 abbrev pub item_of : Program → List ℕ → Node → ItemView
@@ -100,6 +101,14 @@ pub record IsSearch (before : Found) (mode : Mode) (i : ItemView) (t : Path) (f 
   pub walked : IsWalkedOn before mode i f open_items
   pub shared : IsShared t.steps.items f
 
+-- a walk of the item stands at the node to which so many of the steps lead, which but for these is
+-- the path's own
+pub record IsAlong (before : Found) (mode : Mode) (i : ItemView) (t : Path) (f : Found) (place : ℕ)
+    : Type 0 where
+  pub walked : IsWalkedOn before mode i f
+      (item_of i.program (take place t.steps.items) t.node ∷ left_above mode i.program t)
+  pub shared : IsShared (take place t.steps.items) f
+
 -- so it does, whatever was found before
 abbrev pub Searches : Mode → ItemView → Path → Found → List ItemView → Type 0
 Searches mode i t f open_items = (before : Found) × IsSearch before mode i t f open_items
@@ -180,12 +189,18 @@ pub record IsKept (p : Program) (old new : Path) : Type 0 where
   pub depth : length (used_frames new) ≤ length (used_frames old) + 1
   pub left : (mode : Mode) → left_above mode p new ≡ still_open mode p old
 
--- a step of a thread further, after which these sleep: what was open above is so
-pub record IsGone (p : Program) (old new : Path) (t : ℕ) (sleepers : Mask) : Type 0 where
-  pub steps : new.steps.items ≡ old.steps.items ++ t ∷ []
+-- a run of a thread further, after whose first step these sleep: what was open above is so. At each
+-- node between its steps the walk is at the bound and these are enabled, the thread among them
+pub record IsGone (p : Program) (mode : Mode) (old new : Path) (t : ℕ) (sleepers : Mask) (run : Run)
+    : Type 0 where
+  pub some : 1 ≤ run.steps
+  pub steps : new.steps.items ≡ old.steps.items ++ replicate run.steps t
   pub last : new.node.last ≡ Some t
   pub asleep : new.node.asleep ≡ sleepers
   pub base : new.base ≡ old.base
   pub frames : (used_frames new) ≡ (used_frames old)
-  pub left : (mode : Mode) → old.base ≤ length (used_frames old)
-      → left_above mode p new ≡ left_above mode p old
+  pub left : (m : Mode) → old.base ≤ length (used_frames old)
+      → left_above m p new ≡ left_above m p old
+  pub between : (k : ℕ) → 1 ≤ k → k < run.steps
+      → IsNode p (old.steps.items ++ replicate k t) run.among new.node
+  pub alone : 1 < run.steps → (at_bound mode new.node && has run.among t) ≡ true

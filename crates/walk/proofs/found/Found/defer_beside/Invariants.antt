@@ -6,10 +6,10 @@ use Rattle.walk.proofs.found.Found.defer_beside.Given as goal
 abbrev pub invariant-loop-thread : goal.invariant-loop-thread
 invariant-loop-thread l = record {
   same : l.self ≡ record l.initial.self { deferred = l.self.deferred };
-  shared : IsShared l.initial._steps.items l.self;
-  deferred : (l.self.deferred ++ map (λ t. l.initial._steps.items ++ t ∷ [])
+  shared : IsShared l.initial._steps l.self;
+  deferred : (l.self.deferred ++ map (λ t. l.initial._steps ++ t ∷ [])
       (members_from l.left 0))
-      ≡ (l.initial.self.deferred ++ map (λ t. l.initial._steps.items ++ t ∷ [])
+      ≡ (l.initial.self.deferred ++ map (λ t. l.initial._steps ++ t ∷ [])
       (members_from l.initial.left 0));
 }
 

@@ -1,6 +1,6 @@
-use Rattle.std.proofs.Common.{◌≡◌, ◌≤◌, false}
-use Rattle.semantics.specs.Work.{work}
-use Rattle.walk.specs.inner.Paths.{IsPath, state_at}
+use Rattle.std.proofs.Common.{◌≡◌, ◌≤◌, ◌-◌, false, length}
+use Rattle.schedules.specs.declared.limits.TheConstants.{STEPS}
+use Rattle.walk.specs.inner.Paths.{IsPath}
 use Rattle.walk.specs.inner.WalkerInvariant.{GoesOn, IsFree, open_below, open_next}
 use Rattle.walk.specs.inner.WalkerInvariant.{turns_into, turns_next}
 use Rattle.walk.proofs.path.Path.run.Given as goal
@@ -18,4 +18,4 @@ invariant-loop-going l = record {
 }
 
 abbrev pub decreases-loop-going : goal.decreases-loop-going
-decreases-loop-going l = work l.item.program (state_at l.item.program l.self.steps.items)
+decreases-loop-going l = STEPS - length l.self.steps.items

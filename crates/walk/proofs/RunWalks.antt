@@ -1,0 +1,242 @@
+-- A walk along a run: at each node between its steps those of the other threads are put off.
+use Rattle.std.proofs.Common.{◌≡◌, ◌≢◌, ℕ, ◌+◌, ◌-◌, ◌<◌, ◌≤◌, true, false, ◌&&◌, ◌||◌, not}
+use Rattle.std.proofs.Common.{List, [], ◌∷◌, ◌++◌, length, take, map, replicate, Some}
+use Rattle.std.proofs.Common.{get_or, ap, ◌∙◌, sym, subst, arith, ◌⊎◌, inl, inr}
+use Rattle.std.proofs.lemmas.Bool.{false≢true, cases_lt}
+use Rattle.std.proofs.lemmas.List.{take_all, take_more, length-append}
+use Rattle.std.proofs.lemmas.List.{length-replicate}
+use Rattle.std.specs.declared.alloc.Global.{Global}
+use Rattle.std.specs.declared.vec.Vec.{Vec}
+use Rattle.guest_code.specs.Program.{Program}
+use Rattle.semantics.specs.declared.mask.Mask.{Mask}
+use Rattle.semantics.specs.Ends.{is_empty}
+use Rattle.semantics.specs.Machine.{Snapshot, start}
+use Rattle.semantics.specs.Mask.{has, members_from}
+use Rattle.semantics.specs.Reachable.{IsOf}
+use Rattle.semantics.specs.Work.{work}
+use Rattle.semantics.proofs.WorkFalls.{work-step}
+use Rattle.schedules.proofs.UnfoldingUnderPrefix.{state_after-push}
+use Rattle.machine.specs.declared.machine.Run.{Run}
+use Rattle.summary.specs.Summaries.{with_beyond}
+use Rattle.items.specs.declared.mode.Mode.{Mode}
+use Rattle.items.specs.declared.mode.Mode.TheVariants.{Bounded, Reduced}
+use Rattle.items.specs.Items.{ItemView}
+use Rattle.items.specs.Children.{child_of, mask_after, cost_of, costs}
+use Rattle.items.proofs.Turns.{turns_more}
+use Rattle.walk.specs.declared.found.Found.{Found}
+use Rattle.walk.specs.declared.path.Path.{Path}
+use Rattle.walk.specs.inner.Paths.{used_frames, state_at, IsNode, IsPath}
+use Rattle.walk.specs.inner.WalkerInvariant.{item_of, here, left_above, at_bound, open_here}
+use Rattle.walk.specs.inner.WalkerInvariant.{open_below, turns_from, turns_into, IsPlace, IsShared}
+use Rattle.walk.specs.inner.WalkerInvariant.{HasPut, IsWalkedOn, IsSearch, IsAlong, IsGone}
+use Rattle.walk.proofs.SharedSteps.{shared_entered}
+use Rattle.walk.proofs.PathSteps.{path_same}
+use Rattle.walk.proofs.RunSteps.{run_take, run_push, reached_of}
+use Rattle.walk.proofs.Expansions.{IsTurned, search_turned, here_turned, left_turned}
+use Rattle.walk.proofs.LoneSteps.{and_left, and_right, at_bound_is, lone_walked}
+
+-- the node after the first step is the child that was entered
+
+first_step : (p : Program) (mode : Mode) (old new : Path) (u : ℕ) (asleep : Mask) (run : Run)
+    → IsGone p mode old new u asleep run
+    → take (length old.steps.items + 1) new.steps.items ≡ old.steps.items ++ u ∷ []
+first_step p mode old new u asleep run h =
+    run_take old.steps.items new.steps.items u run.steps 1 h.steps h.some
+
+first_item : (p : Program) (mode : Mode) (old new : Path) (u : ℕ) (asleep : Mask) (run : Run)
+    → IsGone p mode old new u asleep run → asleep ≡ mask_after mode (here p old) u
+    → item_of p (take (length old.steps.items + 1) new.steps.items) new.node
+    ≡ child_of mode (here p old) u
+first_item p mode old new u asleep run h mask = λ k. record {
+  program = p;
+  prefix = first_step p mode old new u asleep run h k;
+  mask = (h.asleep ∙ mask) k;
+}
+
+pub along_begun : {b : Found} (mode : Mode) (i : ItemView) (old new : Path) (f : Found) (u : ℕ)
+    (asleep : Mask) (run : Run) → IsSearch b mode i old f (open_below mode i.program old u)
+    → IsGone i.program mode old new u asleep run
+    → asleep ≡ mask_after mode (here i.program old) u
+    → IsAlong b mode i new f (length old.steps.items + 1)
+along_begun {b} mode i old new f u asleep run h gone mask = record {
+  walked = subst (IsWalkedOn b mode i f)
+      (λ k. sym (first_item i.program mode old new u asleep run gone mask) k
+      ∷ sym (gone.left mode h.place.base) k) h.walked;
+  shared = shared_entered old.steps.items _ u f h.shared
+      (first_step i.program mode old new u asleep run gone);
+}
+
+-- at a node between, the steps of the others are put off, and it gives way to the next
+pub along_next : {b : Found} (mode : Mode) (i c : ItemView) (t : Path) (f g : Found)
+    (e past : Mask) (u place : ℕ) → IsAlong b mode i t f place
+    → take (place + 1) t.steps.items ≡ take place t.steps.items ++ u ∷ []
+    → IsNode i.program (take place t.steps.items) e t.node
+    → IsOf i.program (state_at i.program (take place t.steps.items))
+    → t.node.last ≡ Some u → t.node.asleep ≡ mask_after mode c u
+    → (at_bound mode t.node && has e u) ≡ true → has past u ≡ false
+    → ((v : ℕ) → v ≢ u → has past v ≡ has e v)
+    → g.part ≡ with_beyond f.part (f.part.beyond || not (is_empty (members_from past 0)))
+    → g.rest ≡ f.rest
+    → HasPut f (map (λ v. take place t.steps.items ++ v ∷ []) (members_from past 0)) g
+    → IsShared (take place t.steps.items) g → IsAlong b mode i t g (place + 1)
+along_next Reduced i c t f g e past u place h more node of last asleep alone out others part rest
+    put shared = absurd (at_bound_is Reduced t.node (and_left false (has e u) alone))
+along_next {b} (Bounded bound) i c t f g e past u place h more node of last asleep alone out others
+    part rest put shared = record {
+      walked = subst (λ (j : ItemView). IsWalkedOn b (Bounded bound) i g
+          (j ∷ left_above (Bounded bound) i.program t))
+          (λ k. record {
+            program = i.program;
+            prefix = sym more k;
+            mask = sym asleep k;
+          })
+          (lone_walked bound i (take place t.steps.items) t.node f g e past u
+          (left_above (Bounded bound) i.program t) h.walked node of last
+          (at_bound_is (Bounded bound) t.node (and_left _ (has e u) alone))
+          (and_right (at_bound (Bounded bound) t.node) (has e u) alone) out others part rest put);
+      shared = shared_entered (take place t.steps.items) _ u g shared more;
+    }
+
+-- there is less to do at the next
+pub along_falls : (p : Program) (t : Path) (e : Mask) (u place : ℕ)
+    → take (place + 1) t.steps.items ≡ take place t.steps.items ++ u ∷ []
+    → IsNode p (take place t.steps.items) e t.node → has e u ≡ true
+    → cost_of (item_of p (take (place + 1) t.steps.items) t.node)
+    ≤ cost_of (item_of p (take place t.steps.items) t.node)
+along_falls p t e u place more node on =
+    let w = take place t.steps.items in
+    let falls : work p (state_at p (take (place + 1) t.steps.items)) < work p (state_at p w) =
+    subst (λ (s : Snapshot). work p s < work p (state_at p w))
+    (sym (ap (state_at p) more ∙ state_after-push p (start p) w u))
+    (work-step p (state_at p w) u (sym (node.enabled u) ∙ on)) in
+    turns_more (work p (state_at p (take (place + 1) t.steps.items))) (work p (state_at p w))
+    (omega (arith, falls))
+
+-- where it ends the walk stands
+pub along_done : {b : Found} (mode : Mode) (i : ItemView) (t new : Path) (f : Found) (place : ℕ)
+    → IsAlong b mode i t f place → place ≡ length t.steps.items → IsPlace i.program t
+    → IsTurned t new → new.depth ≤ length new.frames.items
+    → IsSearch b mode i new f (open_here mode i.program new)
+along_done {b} mode i t new f place h long at o room =
+    search_turned mode i t new f (open_here mode i.program t) _ (record {
+      place = at;
+      walked = subst (λ (w : List ℕ). IsWalkedOn b mode i f
+          (item_of i.program w t.node ∷ left_above mode i.program t)) all h.walked;
+      shared = subst (λ (w : List ℕ). IsShared w f) all h.shared;
+    }) o room (λ k. sym (here_turned i.program t new o) k
+    ∷ sym (left_turned mode i.program t new o) k)
+  where
+    all : take place t.steps.items ≡ t.steps.items
+    all = take_all place t.steps.items (omega (arith, long))
+
+pub along_turns : (mode : Mode) (p : Program) (old t new : Path) (u : ℕ) (asleep : Mask)
+    (run : Run) (place : ℕ) → IsGone p mode old t u asleep run
+    → asleep ≡ mask_after mode (here p old) u → old.base ≤ length (used_frames old)
+    → cost_of (item_of p (take place t.steps.items) t.node)
+    ≤ cost_of (item_of p (take (length old.steps.items + 1) t.steps.items) t.node)
+    → place ≡ length t.steps.items → IsTurned t new
+    → turns_from mode p new ≤ turns_into mode p old u
+unfolding turns_from turns_into
+along_turns mode p old t new u asleep run place gone mask within falls long o =
+    let all : take place t.steps.items ≡ t.steps.items =
+    take_all place t.steps.items (omega (arith, long)) in
+    let first = ap cost_of (first_item p mode old t u asleep run gone mask) in
+    let last = ap cost_of (here_turned p t new o) in
+    let same = ap (λ (w : List ℕ). cost_of (item_of p w t.node)) all in
+    let left = ap costs (left_turned mode p t new o ∙ gone.left mode within) in
+    let frames = ap (λ fs. length fs) (o.frames ∙ gone.frames) in
+    omega (arith, falls, first, last, same, left, frames)
+
+-- the way is longer by then
+pub run_further : (p : Program) (mode : Mode) (old new : Path) (u : ℕ) (asleep : Mask) (run : Run)
+    → IsGone p mode old new u asleep run
+    → length new.steps.items ≡ length old.steps.items + run.steps
+run_further p mode old new u asleep run h =
+    let a = ap (λ (w : List ℕ). length w) h.steps in
+    let b = length-append old.steps.items (replicate run.steps u) in
+    let d = length-replicate run.steps u in
+    omega (arith, a, b, d)
+
+-- at a place between its steps
+module _ (p : Program) (mode : Mode) (old t : Path) (u : ℕ) (asleep : Mask) (run : Run)
+    (place : ℕ) (path : IsPath p t) (h : IsGone p mode old t u asleep run)
+    (from : length old.steps.items + 1 ≤ place) (inside : place < length t.steps.items) where
+  abbrev gap : ℕ
+  gap = place - length old.steps.items
+
+  some : 1 ≤ gap
+  some = omega (arith, from)
+
+  few : gap < run.steps
+  few = let more = run_further p mode old t u asleep run h in omega (arith, from, inside, more)
+
+  steps_at : take place t.steps.items ≡ old.steps.items ++ replicate gap u
+  steps_at = ap (λ n. take n t.steps.items)
+      (let e : place ≡ length old.steps.items + gap = omega (arith, from) in e)
+      ∙ run_take old.steps.items t.steps.items u run.steps gap h.steps (omega (arith, few))
+
+  pub more_at : take (place + 1) t.steps.items ≡ take place t.steps.items ++ u ∷ []
+  more_at = ap (λ n. take n t.steps.items)
+      (let e : place + 1 ≡ length old.steps.items + (gap + 1) = omega (arith, from) in e)
+      ∙ (run_take old.steps.items t.steps.items u run.steps (gap + 1) h.steps (omega (arith, few))
+      ∙ (run_push old.steps.items u gap ∙ sym (ap (λ (w : List ℕ). w ++ u ∷ []) steps_at)))
+
+  pub node_at : IsNode p (take place t.steps.items) run.among t.node
+  node_at = subst (λ (w : List ℕ). IsNode p w run.among t.node) (sym steps_at)
+      (h.between gap some few)
+
+  pub of_at : IsOf p (state_at p (take place t.steps.items))
+  of_at = reached_of p (take place t.steps.items) path.well_formed node_at.reaches.runs
+
+  pub alone_at : (at_bound mode t.node && has run.among u) ≡ true
+  alone_at = h.alone (omega (arith, some, few))
+
+-- the path where but for its steps nothing changed, and they are the same
+pub same_turned : (t l : Path) (steps : Vec ℕ Global) → l ≡ record t { steps = l.steps }
+    → steps.items ≡ t.steps.items → IsTurned t (record l { steps = steps })
+same_turned t l steps same items = record {
+  steps = items;
+  last = ap (λ (x : Path). x.node.last) same;
+  used = ap (λ (x : Path). x.node.used) same;
+  asleep = ap (λ (x : Path). x.node.asleep) same;
+  machine = ap (λ (x : Path). x.machine) same;
+  size = ap (λ (x : Path). x.size) same;
+  frames = ap (λ (x : Path). used_frames x) same;
+  words = ap (λ (x : Path). x.words.items) same;
+  base = ap (λ (x : Path). x.base) same;
+}
+
+pub same_room : (p : Program) (t l : Path) → l ≡ record t { steps = l.steps } → IsPath p t
+    → l.depth ≤ length l.frames.items
+same_room p t l same h = subst (λ (x : Path). x.depth ≤ length x.frames.items) (sym same) h.room
+
+pub same_path : (p : Program) (t l : Path) (steps : Vec ℕ Global)
+    → l ≡ record t { steps = l.steps } → steps.items ≡ t.steps.items → IsPath p t
+    → IsPath p (record l { steps = steps })
+same_path p t l steps same items h =
+    let o = same_turned t l steps same items in
+    path_same p t (record l { steps = steps }) h o.steps o.last o.used o.machine o.size o.frames
+    o.words (same_room p t l same h)
+
+-- where the walk stands on from its place
+pub gone_place : (p : Program) (mode : Mode) (old new : Path) (u : ℕ) (asleep : Mask) (run : Run)
+    → IsPlace p old → IsPath p new → IsGone p mode old new u asleep run → IsPlace p new
+gone_place p mode old new u asleep run h path e = record {
+  path = path;
+  some = let s = h.some in let k = e.base in omega (arith, s, k);
+  base = let b = h.base in let k = e.base in let d = ap (λ fs. length fs) e.frames in
+      omega (arith, b, k, d);
+}
+
+-- without a bound it is one step
+
+pub way_more : (p : Program) (old new : Path) (w : List ℕ) (place : ℕ) (asleep : Mask) (run : Run)
+    → IsGone p Reduced old new (get_or w place 0) asleep run → old.steps.items ≡ take place w
+    → place < length w → new.steps.items ≡ take (place + 1) w
+way_more p old new w place asleep run h same inside =
+    h.steps ∙ ((λ k. same k ++ replicate (one (cases_lt 1 run.steps) k) (get_or w place 0))
+    ∙ sym (take_more w place 0 inside))
+  where
+    one : (1 < run.steps) ⊎ (run.steps ≤ 1) → run.steps ≡ 1
+    one (inl more) = absurd (false≢true (h.alone more))
+    one (inr few) = let some = h.some in omega (arith, some, few)
