@@ -39,7 +39,7 @@ with-others-requires c =
     let below = enabled_below p (state_at p t.steps.items) c.args.thread
     (search_enabled c.args.mode c.args.item.now t c.args.found.now c.args.thread
     (left_above c.args.mode p t) c.requires.search.1) in
-    let few = c.requires.search.1.place.path.shows.of.few in
+    let few = c.requires.search.1.place.path.shows.state.of.few in
     omega (arith, below, few)
 
 pub loop-place-init : goal.loop-place-init
