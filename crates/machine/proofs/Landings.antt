@@ -25,6 +25,8 @@ use Rattle.semantics.specs.declared.local.Landing.{Landing}
 use Rattle.machine.specs.Refinement.{thread_or_none, takes_mutex, takes_semaphore, is_woken, at_mutex, at_semaphore, held, next_at, HasObjects, HasThreadAt, IsControl}
 use Rattle.machine.specs.inner.LocalRuns.{IsLandingOf}
 use Rattle.machine.specs.inner.Parts.{IsIdle, IsApart, IsControlBut, LeavesOthers, IsMarked, Stands, Lands, IsTaking, IsPlain, IsFreeIn}
+use Rattle.machine.specs.inner.Steps.{Faces}
+use Rattle.machine.proofs.Objects.{can_held}
 use Rattle.machine.proofs.Lists.{set_has, set_there}
 
 and_true : (b : Bool) → (b && true) ≡ b
@@ -173,6 +175,14 @@ free_there code at known free =
     subst (λ w. IsPlain (action_at w (slice_get code at.pc)) true) (sym h.status)
     (subst (λ i. IsPlain (action_at Running i) true) (there_first code at.pc)
     (plain_there at.pc h.locals (drop at.pc code) h.turn))
+
+-- what a thread comes to that never waits is let by the objects
+pub faces_visible : (c : Control) (code : List Instruction) (at : ℕ) (locals : List ℤ)
+    → turn_of at locals (drop at code) ≡ Visible → Faces c (slice_get code at)
+faces_visible c code at locals turn i here s objects =
+    sym ((plain_there at locals (drop at code) turn).0 s
+    ∙ (ap (λ o. can_do (held s) (action_at Running o)) (there_first code at ∙ here)
+    ∙ can_held s (action_of i)))
 
 -- all together
 

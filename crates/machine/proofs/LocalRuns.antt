@@ -26,7 +26,10 @@ use Rattle.machine.specs.declared.control.Control.{Control}
 use Rattle.semantics.specs.declared.local.Landing.{Landing}
 use Rattle.semantics.specs.Turns.{own_thread, IsAccessBelow}
 use Rattle.machine.specs.inner.LocalRuns.{narrow, IsLandingOf}
-use Rattle.machine.specs.inner.Steps.{settled, IsPerformed}
+use Rattle.semantics.specs.declared.local.Turn.TheVariants.{Runs}
+use Rattle.semantics.specs.Turns.{turn_of, locals_after}
+use Rattle.semantics.proofs.LocalRuns.{turn_run}
+use Rattle.machine.specs.inner.Steps.{settled, going_on, place_after, IsPerformed, IsPassed}
 
 narrow_value : (n : ℕ) (L : List ℤ) (a : Value) → IsValueBelow n a
     → value_of_operand (take n L) a ≡ value_of_operand L a
@@ -106,44 +109,89 @@ narrow_run n (i ∷ is) zero th below = refl
 
 -- after what was performed
 
-pub ran_on : (p : Program) (s : Snapshot) (t : ℕ) (c : Control) (cells mine mine' : List ℤ)
-    (at : Landing) (pc : ℕ)
-    (code : List Instruction) (q : IsPerformed p s t c cells mine Running) → pc
-    ≡ (thread_at s t).pc → code ≡ code_of p t
-    → All (LocalsBelow (length mine)) code
-    → own_thread at mine' ≡ run_from code
-    (own_thread (record { pc = pc + 1; status = Running; free = false }) mine)
-    → own_thread at mine' ≡ narrow (length mine) (settled (code_of p t) Running q.th)
-ran_on p s t c cells mine mine' at pc code q here same below ran =
-    ran ∙ ((λ i. local_run (drop (place i + 1) code) 0
+ran_on : (p : Program) (s : Snapshot) (t : ℕ) (c : Control) (cells mine : List ℤ) (pc : ℕ)
+    (q : IsPerformed p s t c cells mine Running) → pc ≡ (thread_at s t).pc
+    → All (LocalsBelow (length mine)) (code_of p t)
+    → going_on (code_of p t) Running (pc + 1) mine
+    ≡ narrow (length mine) (settled (code_of p t) Running q.th)
+ran_on p s t c cells mine pc q here below =
+    (λ i. local_run (drop (place i + 1) (code_of p t)) 0
     (record { pc = place i + 1; locals = q.own i; status = Running }))
-    ∙ (narrow_run (length mine) (drop (q.th.pc + 1) code) 0
+    ∙ narrow_run (length mine) (drop (q.th.pc + 1) (code_of p t)) 0
     (record q.th { pc = q.th.pc + 1; status = Running })
-    (All-drop (LocalsBelow (length mine)) (q.th.pc + 1) code below)
-    ∙ ap (λ is. narrow (length mine) (resumed is q.th)) same))
+    (All-drop (LocalsBelow (length mine)) (q.th.pc + 1) (code_of p t) below)
   where
     place : pc ≡ q.th.pc
     place = here ∙ sym q.pc
 
-pub stayed : (p : Program) (s : Snapshot) (t : ℕ) (c : Control) (cells mine : List ℤ) (pc : ℕ)
-    (status : Status)
-    (q : IsPerformed p s t c cells mine status) → pc ≡ (thread_at s t).pc → (status ≡ Running → ⊥)
-    → own_thread (record { pc = pc; status = status; free = false }) mine
-    ≡ narrow (length mine) (settled (code_of p t) status q.th)
-stayed p s t c cells mine pc status q here stops = of status stops
-  where
-    same : (w : Status) → own_thread (record { pc = pc; status = w; free = false }) mine
-        ≡ narrow (length mine) (with_status q.th w)
-    same w = λ i. record { pc = (here ∙ sym q.pc) i; locals = q.own i; status = w }
+stayed : (p : Program) (s : Snapshot) (t : ℕ) (c : Control) (cells mine : List ℤ) (pc : ℕ)
+    (status : Status) (q : IsPerformed p s t c cells mine status) → pc ≡ (thread_at s t).pc
+    → (w : Status) → record { pc = pc; locals = mine; status = w }
+    ≡ narrow (length mine) (with_status q.th w)
+stayed p s t c cells mine pc status q here w =
+    λ i. record { pc = (here ∙ sym q.pc) i; locals = q.own i; status = w }
 
-    of : (w : Status) → (w ≡ Running → ⊥)
-        → own_thread (record { pc = pc; status = w; free = false }) mine
-        ≡ narrow (length mine) (settled (code_of p t) w q.th)
-    of Running halts = absurd (halts refl)
-    of Ended halts = same Ended
-    of Woken halts = same Woken
-    of (Waiting d) halts = same (Waiting d)
-    of (Stopped why) halts = same (Stopped why)
+goes_on : (p : Program) (s : Snapshot) (t : ℕ) (c : Control) (cells mine : List ℤ) (pc : ℕ)
+    (status : Status) (q : IsPerformed p s t c cells mine status) → pc ≡ (thread_at s t).pc
+    → All (LocalsBelow (length mine)) (code_of p t)
+    → going_on (code_of p t) status (place_after status pc) mine
+    ≡ narrow (length mine) (settled (code_of p t) status q.th)
+goes_on p s t c cells mine pc Running q here below = ran_on p s t c cells mine pc q here below
+goes_on p s t c cells mine pc Ended q here below =
+    stayed p s t c cells mine pc Ended q here Ended
+goes_on p s t c cells mine pc Woken q here below =
+    stayed p s t c cells mine pc Woken q here Woken
+goes_on p s t c cells mine pc (Waiting d) q here below =
+    stayed p s t c cells mine pc (Waiting d) q here (Waiting d)
+goes_on p s t c cells mine pc (Stopped why) q here below =
+    stayed p s t c cells mine pc (Stopped why) q here (Stopped why)
+
+pub passed : (p : Program) (s : Snapshot) (t : ℕ) (c : Control) (cells mine : List ℤ) (pc : ℕ)
+    (status : Status) → IsPerformed p s t c cells mine status → pc ≡ (thread_at s t).pc
+    → All (LocalsBelow (length mine)) (code_of p t)
+    → IsPassed p s t c cells mine (place_after status pc) status
+passed p s t c cells mine pc status q here below = record {
+  before = mine;
+  performed = q;
+  many = refl;
+  goes_on = goes_on p s t c cells mine pc status q here below;
+}
+
+-- a thread that doesn't run stays
+pub stays : (code : List Instruction) (status : Status) (pc : ℕ) (mine : List ℤ)
+    → (status ≡ Running → ⊥)
+    → own_thread (record { pc = pc; status = status; free = false }) mine
+    ≡ going_on code status pc mine
+stays code Running pc mine stops = absurd (stops refl)
+stays code Ended pc mine stops = refl
+stays code Woken pc mine stops = refl
+stays code (Waiting d) pc mine stops = refl
+stays code (Stopped why) pc mine stops = refl
+
+-- one instruction more, that it does by itself
+pub turned_on : (p : Program) (s : Snapshot) (t : ℕ) (c : Control) (cells mine mine' : List ℤ)
+    (place next : ℕ) (code : List Instruction)
+    → IsPassed p s t c cells mine place Running → code ≡ code_of p t
+    → Runs next ≡ turn_of place mine (drop place code)
+    → mine' ≡ locals_after mine (drop place code) → length mine' ≡ length mine
+    → IsPassed p s t c cells mine' next Running
+turned_on p s t c cells mine mine' place next code h same turn made long = record {
+  before = h.before;
+  performed = h.performed;
+  many = long ∙ h.many;
+  goes_on = ap (λ is. run_from is (record { pc = next; locals = mine'; status = Running })) (sym same)
+      ∙ (turn_run code (record { pc = place; locals = mine; status = Running }) mine' (Runs next)
+      turn made
+      ∙ (ap (λ is. run_from is (record { pc = place; locals = mine; status = Running })) same
+      ∙ h.goes_on));
+}
+
+-- what leaves a thread where it is leaves its locals
+pub kept : (at : ℕ) (locals : List ℤ) (is : List Instruction)
+    → ((n : ℕ) → turn_of at locals is ≡ Runs n → ⊥) → locals_after locals is ≡ locals
+kept at locals [] stays = refl
+kept at locals (Set r e ∷ is) stays = absurd (stays (at + 1) refl)
+kept at locals (i ∷ is) stays = refl
 
 -- the thread is where the local run left it
 pub lands_there : (n : ℕ) (at : Landing) (mine : List ℤ) (th : Thread)

@@ -1,8 +1,8 @@
 -- Who may go on after a change of an object, and the sets of those who are at it.
-use Rattle.std.proofs.Common.{◌≡◌, ◌≢◌, ℕ, zero, suc, ◌+◌, ◌-◌, ◌<◌, Bool, true, false, cond, not, ◌&&◌, ◌||◌, nat_eq, nat_lt, length, Option, Some, None, get_or, set, refl, ap, ◌∙◌, sym, arith, get_or-set_same, get_or-set_other}
+use Rattle.std.proofs.Common.{◌≡◌, ◌≢◌, ℕ, zero, suc, ◌+◌, ◌-◌, ◌<◌, Bool, true, false, cond, not, ◌&&◌, ◌||◌, nat_eq, nat_lt, length, Option, Some, None, slice_get, get_or, set, refl, ap, ◌∙◌, sym, arith, get_or-set_same, get_or-set_other}
 use Rattle.std.specs.Prelude.{if◌then◌else◌}
 use Rattle.std.proofs.lemmas.Bool.Decides.{nat_tests}
-use Rattle.guest_code.specs.Program.{Program}
+use Rattle.guest_code.specs.Program.{Program, code_of}
 use Rattle.guest_code.specs.declared.program.Instruction.{Instruction}
 use Rattle.guest_code.specs.declared.program.Instruction.TheVariants.{Wait}
 use Rattle.semantics.specs.declared.mask.Mask.{Mask}
@@ -13,13 +13,13 @@ use Rattle.semantics.specs.declared.state.MutexAction.TheVariants.{Lock as Locks
 use Rattle.semantics.specs.declared.state.SemaphoreAction.TheVariants.{Acquire as Acquires, Release as Releases}
 use Rattle.semantics.specs.declared.state.Action.{Action}
 use Rattle.semantics.specs.declared.state.Action.TheVariants.{OnVariable, OnMutex, Wait as Waits, OnCondition, OnSemaphore}
-use Rattle.semantics.specs.Machine.{Snapshot, thread_at, owner_of, count_of, next_of, can_do, action_at, is_free}
+use Rattle.semantics.specs.Machine.{Snapshot, thread_at, owner_of, count_of, next_of, is_enabled, can_do, action_at, is_free}
 use Rattle.semantics.specs.Mask.{has}
 use Rattle.semantics.specs.Ends.{is_stopped, is_ended}
 use Rattle.machine.specs.declared.control.Control.{Control}
 use Rattle.machine.specs.declared.control.TheConstants.{FREE}
 use Rattle.machine.specs.Refinement.{takes_mutex, takes_semaphore, is_woken, at_mutex, at_semaphore, held, thread_or_none, HasObjects, HasThreadAt, IsControl}
-use Rattle.machine.specs.inner.Parts.{IsControlBut, IsTaking}
+use Rattle.machine.specs.inner.Parts.{IsControlBut, IsLeaving, IsTaking}
 use Rattle.machine.proofs.Lists.{by_place, same_set, set_has, set_there, test_set}
 
 and_true : (b : Bool) → (b && true) ≡ b
@@ -136,24 +136,32 @@ still s k zero a l z h = absurd (omega arith)
 still s k (suc n) a l z h = let_through s k n a l ∙ may_acquire s k a h
 
 -- a thread that is about to do something is not over
-not_over : (status : Status) (o : Option Instruction) (d : Action) → action_at status o ≡ Some d
+not_over : (s : Snapshot) (status : Status) (o : Option Instruction)
+    → can_do s (action_at status o) ≡ true
     → (is_ended status ≡ false) × (is_stopped status ≡ false)
-not_over Running o d e = (refl, refl)
-not_over Woken o d e = (refl, refl)
-not_over (Waiting c) o d e = (refl, refl)
-not_over Ended o d e = cc
-not_over (Stopped why) o d e = cc
+not_over s Running o e = (refl, refl)
+not_over s Woken o e = (refl, refl)
+not_over s (Waiting c) o e = (refl, refl)
+not_over s Ended o e = cc
+not_over s (Stopped why) o e = cc
 
--- one that is about to acquire a semaphore wasn't called
-not_called : (status : Status) (o : Option Instruction) (k : ℕ)
-    → action_at status o ≡ Some (OnSemaphore k Acquires) → is_woken status ≡ false
-not_called Running o k e = refl
-not_called (Waiting c) o k e = refl
-not_called Ended o k e = refl
-not_called (Stopped why) o k e = refl
-not_called Woken None k e = cc
-not_called Woken (Some (Wait c m)) k e = cc
-not_called Woken (Some x) k e = cc
+-- a thread that is about to take a step
+pub leaving : (p : Program) (s : Snapshot) (t : ℕ) (c : Control) (a : Option Action)
+    → IsControl p c s → is_enabled p s t ≡ true → next_of p s t ≡ a → IsLeaving p c s t a
+leaving p s t c a shows on next = record {
+  objects = shows.objects;
+  threads = λ u ne. shows.threads u;
+  unended = mine.unended ∙ ap not over.0;
+  stopped = mine.stopped ∙ over.1;
+  mutexes = λ m e. mine.mutexes m ∙ (ap (takes_mutex m) next ∙ e);
+  semaphores = λ k e. mine.semaphores k ∙ (ap (takes_semaphore k) next ∙ e);
+}
+  where
+    mine : HasThreadAt p c s t (thread_at s t)
+    mine = shows.threads t
+
+    over : (is_ended (thread_at s t).status ≡ false) × (is_stopped (thread_at s t).status ≡ false)
+    over = not_over s (thread_at s t).status (slice_get (code_of p t) (thread_at s t).pc) on
 
 -- the number of a thread stands for it
 pub its_number : (t : ℕ) → t < 16 → thread_or_none t ≡ Some t
@@ -177,8 +185,8 @@ owned c s m n o objects inside room e =
 -- a thread takes a mutex
 pub took : (p : Program) (s : Snapshot) (t m : ℕ) (d : MutexAction) (c : Control)
     (near up less : Mask)
-    → IsControl p c s → m < length s.owners → m < length c.mutexes → m < length c.owners
-    → t < 16 → next_of p s t ≡ Some (OnMutex m d) → IsTaking d
+    → IsLeaving p c s t (Some (OnMutex m d)) → m < length s.owners → m < length c.mutexes
+    → m < length c.owners → t < 16 → IsTaking d
     → has near t ≡ false → ((u : ℕ) → u ≢ t → has near u ≡ has (at_mutex c m) u)
     → has up t ≡ false → ((u : ℕ) → u ≢ t → has up u ≡ has c.woken u)
     → ((u : ℕ) → has less u ≡ (has c.enabled u && not (has near u)))
@@ -188,14 +196,14 @@ pub took : (p : Program) (s : Snapshot) (t m : ℕ) (d : MutexAction) (c : Contr
       woken = up;
       enabled = less;
     }) (record s { owners = set s.owners m (Some t) }) t
-took p s t m d c near up less shows inside few room small next taking out others awake sleep left =
+took p s t m d c near up less shows inside few room small taking out others awake sleep left =
     record {
       objects = record {
         owners_are = owned c s m t (Some t) shows.objects inside room (its_number t small);
         counts_are = shows.objects.counts_are;
         lengths_are = shows.objects.lengths_are;
       };
-      threads = λ u ne. let h = shows.threads u in record {
+      threads = λ u ne. let h = shows.threads u ne in record {
         place = h.place;
         unended = h.unended;
         stopped = h.stopped;
@@ -206,23 +214,17 @@ took p s t m d c near up less shows inside few room small next taking out others
         semaphores = h.semaphores;
       };
       idle = record {
-        unended = mine.unended ∙ ap not over.0;
-        stopped = mine.stopped ∙ over.1;
+        unended = shows.unended;
+        stopped = shows.stopped;
         woken = awake;
         apart = record {
           mutexes = λ n. set_there c.mutexes m t near false few out
-              (λ k e. mine.mutexes k ∙ (ap (takes_mutex k) next ∙ (takes d m k taking ∙ e))) n
+              (λ k e. shows.mutexes k (takes d m k taking ∙ e)) n
               ∙ and_false (nat_eq m n);
-          semaphores = λ k. mine.semaphores k ∙ ap (takes_semaphore k) next;
+          semaphores = λ k. shows.semaphores k refl;
         };
       };
     }
-  where
-    mine : HasThreadAt p c s t (thread_at s t)
-    mine = shows.threads t
-
-    over : (is_ended (thread_at s t).status ≡ false) × (is_stopped (thread_at s t).status ≡ false)
-    over = not_over (thread_at s t).status _ _ next
 
 -- a mutex gets free
 pub gave : (p : Program) (s : Snapshot) (t m : ℕ) (c : Control) (more : Mask)
@@ -251,8 +253,8 @@ gave p s t m c more shows inside room more_is = record {
 
 -- a thread acquires a semaphore; `less` are those enabled after it
 pub acquired : (p : Program) (s : Snapshot) (t k : ℕ) (c : Control) (near less : Mask)
-    → IsControl p c s → k < length s.counts → k < length c.semaphores → k < length c.counts
-    → next_of p s t ≡ Some (OnSemaphore k Acquires)
+    → IsLeaving p c s t (Some (OnSemaphore k Acquires)) → has c.woken t ≡ false
+    → k < length s.counts → k < length c.semaphores → k < length c.counts
     → has near t ≡ false → ((u : ℕ) → u ≢ t → has near u ≡ has (at_semaphore c k) u)
     → ((u : ℕ) → u ≢ t → has less u
     ≡ can_do (held (record s { counts = set s.counts k (count_of s k - 1) })) (next_of p s u))
@@ -261,14 +263,14 @@ pub acquired : (p : Program) (s : Snapshot) (t k : ℕ) (c : Control) (near less
       counts = set c.counts k (get_or c.counts k 0 - 1);
       enabled = less;
     }) (record s { counts = set s.counts k (count_of s k - 1) }) t
-acquired p s t k c near less shows inside few room next out others left = record {
+acquired p s t k c near less shows asleep inside few room out others left = record {
   objects = record {
     owners_are = shows.objects.owners_are;
     counts_are = λ j. ap (λ n. get_or (set c.counts k (n - 1)) j 0) (shows.objects.counts_are k)
         ∙ same_set c.counts s.counts k (count_of s k - 1) 0 shows.objects.counts_are room inside j;
     lengths_are = shows.objects.lengths_are;
   };
-  threads = λ u ne. let h = shows.threads u in record {
+  threads = λ u ne. let h = shows.threads u ne in record {
     place = h.place;
     unended = h.unended;
     stopped = h.stopped;
@@ -278,33 +280,27 @@ acquired p s t k c near less shows inside few room next out others left = record
     semaphores = λ n. set_has c.semaphores k u near few (others u ne) n ∙ h.semaphores n;
   };
   idle = record {
-    unended = mine.unended ∙ ap not over.0;
-    stopped = mine.stopped ∙ over.1;
-    woken = mine.woken ∙ not_called (thread_at s t).status _ k next;
+    unended = shows.unended;
+    stopped = shows.stopped;
+    woken = asleep;
     apart = record {
-      mutexes = λ m. mine.mutexes m ∙ ap (takes_mutex m) next;
+      mutexes = λ m. shows.mutexes m refl;
       semaphores = λ n. set_there c.semaphores k t near false few out
-          (λ j e. mine.semaphores j ∙ (ap (takes_semaphore j) next ∙ e)) n
+          (λ j e. shows.semaphores j e) n
           ∙ and_false (nat_eq k n);
     };
   };
 }
-  where
-    mine : HasThreadAt p c s t (thread_at s t)
-    mine = shows.threads t
-
-    over : (is_ended (thread_at s t).status ≡ false) × (is_stopped (thread_at s t).status ≡ false)
-    over = not_over (thread_at s t).status _ _ next
 
 -- whom it leaves enabled: at count 0 nobody who is at the semaphore
 pub left_empty : (p : Program) (s : Snapshot) (t k : ℕ) (c : Control) (near less : Mask)
-    → IsControl p c s → k < length s.counts → get_or c.counts k 0 - 1 ≡ 0
+    → IsLeaving p c s t (Some (OnSemaphore k Acquires)) → k < length s.counts → get_or c.counts k 0 - 1 ≡ 0
     → ((u : ℕ) → u ≢ t → has near u ≡ has (at_semaphore c k) u)
     → ((u : ℕ) → has less u ≡ (has c.enabled u && not (has near u)))
     → (u : ℕ) → u ≢ t → has less u
     ≡ can_do (held (record s { counts = set s.counts k (count_of s k - 1) })) (next_of p s u)
 left_empty p s t k c near less shows inside none others left u ne =
-    let h = shows.threads u in
+    let h = shows.threads u ne in
     let z : count_of s k - 1 ≡ 0 = ap (λ n. n - 1) (sym (shows.objects.counts_are k)) ∙ none in
     left u ∙ ((λ i. h.enabled i && not ((others u ne ∙ h.semaphores k) i))
     ∙ (sym (run_out (held s) k (next_of p s u) inside)
@@ -312,11 +308,11 @@ left_empty p s t k c near less shows inside none others left u ne =
 
 -- above it all as before
 pub left_some : (p : Program) (s : Snapshot) (t k : ℕ) (c : Control)
-    → IsControl p c s → k < length s.counts → (get_or c.counts k 0 - 1 ≡ 0 → ⊥)
+    → IsLeaving p c s t (Some (OnSemaphore k Acquires)) → k < length s.counts → (get_or c.counts k 0 - 1 ≡ 0 → ⊥)
     → (u : ℕ) → u ≢ t → has c.enabled u
     ≡ can_do (held (record s { counts = set s.counts k (count_of s k - 1) })) (next_of p s u)
 left_some p s t k c shows inside some u ne =
-    let h = shows.threads u in
+    let h = shows.threads u ne in
     let e = shows.objects.counts_are k in
     let l : 0 < count_of s k - 1 = omega (arith, some, e) in
     let g : nat_lt 0 (count_of s k) ≡ true = grind (arith, nat_tests, l) in

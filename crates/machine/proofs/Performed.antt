@@ -15,12 +15,12 @@ use Rattle.semantics.specs.declared.state.VariableAction.{VariableAction}
 use Rattle.semantics.specs.declared.state.Thread.{Thread}
 use Rattle.semantics.specs.declared.state.Status.{Status}
 use Rattle.semantics.specs.declared.state.Status.TheVariants.{Running, Waiting, Woken, Ended, Stopped}
-use Rattle.semantics.specs.declared.state.MutexAction.TheVariants.{Lock as Locks, Unlock as Unlocks}
+use Rattle.semantics.specs.declared.state.MutexAction.TheVariants.{Lock as Locks, Unlock as Unlocks, Retake as Retakes}
 use Rattle.semantics.specs.declared.state.ConditionAction.TheVariants.{Signal as Signals, Broadcast as Broadcasts}
 use Rattle.semantics.specs.declared.state.SemaphoreAction.TheVariants.{Acquire as Acquires, Release as Releases}
 use Rattle.semantics.specs.declared.state.Action.{Action}
 use Rattle.semantics.specs.declared.state.Action.TheVariants.{OnVariable, OnMutex, Wait as Waits, OnCondition, OnSemaphore}
-use Rattle.semantics.specs.Machine.{Snapshot, thread_at, owner_of, queue_of, count_of, value_of, action_of, missing_thread, var_after, reader_after, acts, owns, is_full, resumed, with_status, wake, woken, woken_status}
+use Rattle.semantics.specs.Machine.{Snapshot, thread_at, owner_of, queue_of, count_of, value_of, action_of, missing_thread, next_of, var_after, reader_after, acts, owns, is_full, resumed, with_status, wake, woken, woken_status}
 use Rattle.semantics.specs.Ends.{is_stopped, is_ended}
 use Rattle.semantics.specs.Waiters.{In, Once}
 use Rattle.semantics.proofs.StepsKeepStates.{room_in_queue}
@@ -41,20 +41,17 @@ pub leaves : (p : Program) (s : Snapshot) (t : ℕ) (i : Instruction) (c : Contr
     → ((k : ℕ) → takes_semaphore k (Some a) ≡ false) → IsControlBut p c s t
 leaves p s t i c cells mine a poised is mutex semaphore = record {
   objects = poised.control.objects;
-  threads = λ u ne. poised.control.threads u;
+  threads = poised.control.threads;
   idle = record {
-    unended = h.unended ∙ ap (λ x. not (is_ended x)) poised.status;
-    stopped = h.stopped ∙ ap is_stopped poised.status;
-    woken = h.woken ∙ ap is_woken poised.status;
+    unended = poised.control.unended;
+    stopped = poised.control.stopped;
+    woken = poised.woken;
     apart = record {
-      mutexes = λ m. h.mutexes m ∙ (ap (takes_mutex m) (poised.next ∙ is) ∙ mutex m);
-      semaphores = λ k. h.semaphores k ∙ (ap (takes_semaphore k) (poised.next ∙ is) ∙ semaphore k);
+      mutexes = λ m. poised.control.mutexes m (ap (takes_mutex m) is ∙ mutex m);
+      semaphores = λ k. poised.control.semaphores k (ap (takes_semaphore k) is ∙ semaphore k);
     };
   };
 }
-  where
-    h : HasThreadAt p c s t (thread_at s t)
-    h = poised.control.threads t
 
 -- variables
 
@@ -164,6 +161,23 @@ pub locks : (p : Program) (s : Snapshot) (t : ℕ) (i : Instruction) (c d : Cont
 locks p s t i c d cells mine m poised is same control =
     moved_on p s t i c d cells mine cells (OnMutex m Locks) _ Running poised is control
     (still p s t i c d cells mine poised same) refl refl
+
+pub retakes : (p : Program) (s : Snapshot) (t : ℕ) (c d : Control) (cells mine : List ℤ) (m : ℕ)
+    → HasShared c cells s → mine ≡ take (length mine) (thread_at s t).locals
+    → next_of p s t ≡ Some (OnMutex m Retakes) → d.lengths ≡ c.lengths
+    → IsControlBut p d (record s { owners = set s.owners m (Some t) }) t
+    → IsPerformed p s t d cells mine Running
+retakes p s t c d cells mine m shared own next same control = record {
+  after = record s { owners = set s.owners m (Some t) };
+  th = thread_at s t;
+  control = control;
+  shared = subst (λ ls. AreShared ls cells s.vars s.queues) (sym same) shared;
+  own = own;
+  pc = refl;
+  threads = refl;
+  others = λ u ne. refl;
+  step = ap (acts p s t (thread_at s t)) next;
+}
 
 pub unlocks : (p : Program) (s : Snapshot) (t : ℕ) (i : Instruction) (c d : Control)
     (cells mine : List ℤ) (m : ℕ)

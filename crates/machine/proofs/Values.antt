@@ -11,10 +11,11 @@ use Rattle.guest_code.specs.Program.{Program, LocalsBelow, code_of, no_thread}
 use Rattle.semantics.specs.Machine.{Snapshot, thread_at, is_enabled, step}
 use Rattle.semantics.specs.Reachable.{IsOf}
 use Rattle.semantics.proofs.WorkFalls.{enabled_below}
-use Rattle.semantics.proofs.StepsKeepStates.{step_is_of}
 use Rattle.machine.specs.declared.control.Control.{Control}
 use Rattle.machine.specs.Refinement.{IsState, AreQueues, queued, locals_at}
-use Rattle.machine.specs.inner.Steps.{AreShared, HasShared, IsReadyIn, IsStepped}
+use Rattle.machine.specs.inner.Steps.{AreShared, HasShared, IsReadyIn}
+use Rattle.machine.specs.inner.Runs.{run_to, IsRunTo}
+use Rattle.machine.specs.declared.control.Run.{Run}
 
 -- thread t's part is in the list
 pub chunk_inside : (t n w L : ℕ) → t < n → L ≡ n * w → t * w + w ≤ L
@@ -132,18 +133,6 @@ module _ (p : Program) (f w : ℕ) (c : Control) (values : List ℤ) (s : Snapsh
   abbrev old : List ℤ
   old = drop begin values
 
-  of_after : IsOf p (step p s t)
-  of_after = step_is_of p s t shows.of enabled
-
-  many_after : length (step p s t).threads ≡ length s.threads
-  many_after = of_after.threads ∙ sym shows.of.threads
-
-  queues_after : length (step p s t).queues ≡ length s.queues
-  queues_after = of_after.queues ∙ sym shows.of.queues
-
-  vars_after : length (step p s t).vars ≡ length s.vars
-  vars_after = of_after.variables ∙ sym shows.of.variables
-
   pub old_inside : t * w + w ≤ length old
   old_inside = chunk_inside t (length s.threads) w (length old) there
       (omega (arith, shows.size, length-drop begin values))
@@ -181,25 +170,34 @@ module _ (p : Program) (f w : ℕ) (c : Control) (values : List ℤ) (s : Snapsh
         subst (λ x. Rewrites w t x (put_mid (t * w) (t * w + w - t * w) all ys) ys) same
         (rewrites w t all all_inside ys long)
 
-  module _ (d : Control) (cells new mine : List ℤ) (st : IsStepped p s t d cells mine)
+  module _ (r : Run) (d : Control) (cells new mine : List ℤ) (st : IsRunTo p s t r d cells mine)
       (long : length mine ≡ w) (wrote : Rewrites w t old new mine) where
+    abbrev after : Snapshot
+    after = run_to p s t r.steps
+
+    many_after : length after.threads ≡ length s.threads
+    many_after = st.of.threads ∙ sym shows.of.threads
+
+    queues_after : length after.queues ≡ length s.queues
+    queues_after = st.of.queues ∙ sym shows.of.queues
+
     locals_after : (u : ℕ) → u < length s.threads → (u ≡ t) ⊎ ((u < t) ⊎ (t < u))
-        → locals_at w new u ≡ take w (thread_at (step p s t) u).locals
+        → locals_at w new u ≡ take w (thread_at after u).locals
     locals_after u h (inl e) = rw e (wrote.chunk
-        ∙ (st.own ∙ ap (λ n. take n (thread_at (step p s t) t).locals) long))
+        ∙ (st.own ∙ ap (λ n. take n (thread_at after t).locals) long))
     locals_after u h (inr side) = other_chunk w old new mine t u wrote ne
         ∙ (shows.locals u h ∙ ap (take w) (sym (st.others u ne)))
       where
         ne : u ≢ t
         ne = elim side [ inl l ↦ omega (arith, l) | inr l ↦ omega (arith, l) ]
 
-    fixed_after : f ≡ length (step p s t).vars
-    fixed_after = shows.fixed_are ∙ sym vars_after
+    fixed_after : f ≡ length after.vars
+    fixed_after = shows.fixed_are ∙ sym (st.of.variables ∙ sym shows.of.variables)
 
-    few : length cells ≡ f + length (step p s t).queues
-    few = st.shared.size ∙ ap (λ n. n + length (step p s t).queues) (sym fixed_after)
+    few : length cells ≡ f + length after.queues
+    few = st.shared.size ∙ ap (λ n. n + length after.queues) (sym fixed_after)
 
-    rest : drop (f + length (step p s t).queues) (cells ++ new) ≡ new
+    rest : drop (f + length after.queues) (cells ++ new) ≡ new
     rest = ap (λ n. drop n (cells ++ new)) (sym few) ∙ drop-append_seam cells new
 
     pub size_after : length (cells ++ new) ≡ length values
@@ -207,14 +205,14 @@ module _ (p : Program) (f w : ℕ) (c : Control) (values : List ℤ) (s : Snapsh
         ∙ (let e = same_length w t old new mine wrote long old_inside in
         omega (arith, e, few, queues_after, shows.size, length-drop begin values))
 
-    pub shows_after : IsState p f w d (cells ++ new) (step p s t)
+    pub shows_after : IsState p f w d (cells ++ new) after
     shows_after = record {
-      of = of_after;
+      of = st.of;
       control = st.control;
       fixed_are = fixed_after;
-      variables = shared_variables d.lengths cells (step p s t).vars new (step p s t).queues f
+      variables = shared_variables d.lengths cells after.vars new after.queues f
           st.shared fixed_after;
-      queues = shared_queues d.lengths cells (step p s t).vars new (step p s t).queues f st.shared
+      queues = shared_queues d.lengths cells after.vars new after.queues f st.shared
           fixed_after;
       locals = λ u h. ap (λ x. locals_at w x u) rest
           ∙ locals_after u (omega (arith, h, many_after)) (cases_order u t);

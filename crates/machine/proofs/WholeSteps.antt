@@ -18,6 +18,7 @@ use Rattle.semantics.specs.Turns.{own_thread}
 use Rattle.machine.specs.inner.LocalRuns.{narrow}
 use Rattle.machine.specs.inner.Steps.{AreShared, IsPoised, IsPerformed, IsStepped, IsReadyIn, settled}
 use Rattle.machine.proofs.Lists.{read_at}
+use Rattle.machine.proofs.Objects.{leaving}
 
 -- where an enabled thread is
 
@@ -73,7 +74,8 @@ module _ (p : Program) (s : Snapshot) (t : ℕ) (c : Control) (code : List Instr
   poised_here cells mine ready valid asleep = record {
     of = ready.of;
     thread = enabled_below p s t enabled;
-    control = shows;
+    control = leaving p s t c (action_of here) shows enabled (here_next asleep);
+    woken = asleep;
     shared = ready.shared;
     own = ready.own;
     status = here_runs asleep;
@@ -83,6 +85,24 @@ module _ (p : Program) (s : Snapshot) (t : ℕ) (c : Control) (code : List Instr
     below = subst (λ is. All (LocalsBelow (length mine)) is) (sym same) ready.below
         (get_or c.places t 0) d here_inside;
   }
+
+-- the same, for an instruction that is said to be there
+module _ (p : Program) (s : Snapshot) (t : ℕ) (c : Control) (d : Instruction)
+    (cells mine : List ℤ) (ready : IsReadyIn p s t c cells mine)
+    (is : d ≡ get_or (code_of p t) (get_or c.places t 0) d) where
+  pub poised_at : All (IsValid p) (code_of p t) → has c.woken t ≡ false
+      → IsPoised p s t d c cells mine
+  poised_at valid asleep = subst (λ i. IsPoised p s t i c cells mine) (sym is)
+      (poised_here p s t c (code_of p t) d ready.control ready.enabled refl cells mine ready valid
+      asleep)
+
+  pub retakes_at : has c.woken t ≡ true → next_of p s t ≡ retake_of d
+  retakes_at woke = here_retakes p s t c (code_of p t) d ready.control ready.enabled refl woke
+      ∙ ap retake_of (sym is)
+
+  pub valid_at : All (IsValid p) (code_of p t) → IsValid p d
+  valid_at valid = subst (IsValid p) (sym is) (valid (get_or c.places t 0) d
+      (here_inside p s t c (code_of p t) d ready.control ready.enabled refl))
 
 -- the whole step: what was performed, and what the thread did after it
 pub finished : (p : Program) (s : Snapshot) (t : ℕ) (c e : Control) (cells mine mine' : List ℤ)

@@ -4,3 +4,4 @@ pub mod LocalRuns
 pub mod Parts
 pub mod Steps
 pub mod Opening
+pub mod Runs

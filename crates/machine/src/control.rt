@@ -1,17 +1,17 @@
 //! A state but for its values, and the parts of a step.
 
-ghost use Rattle.std.specs.Prelude.{◌≡◌, ◌≢◌, ◌^◌, ◌<◌, ◌≤◌, ◌∷◌, [], ◌+◌, ◌-◌, ℕ, ◌++◌, drop, nat_lt, length, slice_get, slice_index_or, slice_set, Some, None};
+ghost use Rattle.std.specs.Prelude.{◌≡◌, ◌≢◌, ◌^◌, ◌<◌, ◌≤◌, ◌∷◌, [], ◌+◌, ◌-◌, ℕ, ◌++◌, drop, nat_lt, false, length, slice_get, slice_index_or, slice_set, Some, None};
 ghost use Rattle.guest_code.specs.Program.{Program, IsValid, IsValidCode, IsWellFormed, code_of};
 ghost use Rattle.semantics.specs.declared.state.Thread.{Thread};
 ghost use Rattle.semantics.specs.declared.state.Status.TheVariants.{Waiting, Woken};
 ghost use Rattle.semantics.specs.declared.state.Action.TheVariants.{OnMutex, OnSemaphore};
 ghost use Rattle.semantics.specs.declared.state.MutexAction.{MutexAction};
 ghost use Rattle.semantics.specs.declared.state.SemaphoreAction.TheVariants.{Acquire as Acquires};
-ghost use Rattle.semantics.specs.Machine.{Snapshot, queue_of, count_of, next_of, thread_at, start, action_of, action_at, retake_of, with_status};
+ghost use Rattle.semantics.specs.Machine.{Snapshot, queue_of, count_of, thread_at, start, action_of, action_at, retake_of, with_status};
 ghost use Rattle.semantics.specs.Mask.{has, HasEnabled};
 ghost use Rattle.machine.specs.Refinement.{queued, IsControl, HasObjects};
 ghost use Rattle.machine.specs.inner.LocalRuns.{IsLandingOf};
-ghost use Rattle.machine.specs.inner.Parts.{IsFreeIn, IsIdle, IsApart, IsControlBut, IsMarked, Stands, Lands, IsTaking};
+ghost use Rattle.machine.specs.inner.Parts.{IsLeaving, IsFreeIn, IsIdle, IsApart, IsControlBut, IsMarked, Stands, Lands, IsTaking};
 ghost use Rattle.machine.specs.inner.Opening.{IsOpenedTo};
 
 mod steps;
@@ -46,6 +46,17 @@ pub struct Control {
     pub(crate) semaphores: [Mask; OBJECTS],
     /// How many threads are in each queue.
     pub(crate) lengths: [u8; OBJECTS],
+}
+
+/// What a run of a thread came to.
+#[derive(Clone, Copy, Debug)]
+pub struct Run {
+    /// How many steps were taken, at least one.
+    pub steps: u32,
+    /// The threads that were enabled after each step but the last.
+    pub among: Mask,
+    /// The threads that are enabled now.
+    pub enabled: Mask,
 }
 
 /// In place of the owner of a mutex that is free.
@@ -133,8 +144,8 @@ impl Control {
         requires thread { thread < THREADS }
         requires m { m < OBJECTS }
         ensures lengths { self.new.lengths ≡ self.old.lengths }
-        ensures takes { (p : Program) → (s : Snapshot) → (d : MutexAction) → IsControl p self.old s
-            → m < length s.owners → next_of p s thread ≡ Some (OnMutex m d) → IsTaking d
+        ensures takes { (p : Program) → (s : Snapshot) → (d : MutexAction)
+            → IsLeaving p self.old s thread (Some (OnMutex m d)) → m < length s.owners → IsTaking d
             → IsControlBut p self.new
             (record s { owners = slice_set s.owners m (Some thread) }) thread }
     {
@@ -163,8 +174,9 @@ impl Control {
         requires k { k < OBJECTS }
         requires count { 0 < slice_index_or self.old.counts k 0 }
         ensures lengths { self.new.lengths ≡ self.old.lengths }
-        ensures acquires { (p : Program) → (s : Snapshot) → IsControl p self.old s → k < length s.counts
-            → next_of p s thread ≡ Some (OnSemaphore k Acquires)
+        ensures acquires { (p : Program) → (s : Snapshot)
+            → IsLeaving p self.old s thread (Some (OnSemaphore k Acquires))
+            → has self.old.woken thread ≡ false → k < length s.counts
             → IsControlBut p self.new
             (record s { counts = slice_set s.counts k (count_of s k - 1) }) thread }
     {

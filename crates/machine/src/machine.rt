@@ -14,7 +14,7 @@ ghost use Rattle.machine.specs.Touches.{touch_of, AreBefore};
 ghost use Rattle.machine.specs.Refinement.{Shows};
 ghost use Rattle.machine.specs.inner.Opening.{IsOpening};
 
-use crate::control::Control;
+use crate::control::{Control, Run};
 use crate::touch::{Touch, Touches};
 use guest_code::limits::{LOCALS, OBJECTS, THREADS, VARIABLES};
 use guest_code::program::Program;
@@ -49,17 +49,6 @@ pub struct Shape {
     pub(crate) width: usize,
     /// What each step touches.
     pub(crate) touches: Touches,
-}
-
-/// What a run of a thread came to.
-#[derive(Clone, Copy, Debug)]
-pub struct Run {
-    /// How many steps were taken, at least one.
-    pub steps: u32,
-    /// The threads that were enabled after each step but the last.
-    pub among: Mask,
-    /// The threads that are enabled now.
-    pub enabled: Mask,
 }
 
 // The most locals that a thread has.
@@ -136,21 +125,6 @@ impl Machine {
         Ok(machine)
     }
 
-    // A step of an enabled thread.
-    #[inline(always)]
-    fn step(&mut self, program: &Program, thread: u8)
-        requires { (s : Snapshot) × Shows program.now self.old s
-            × (is_enabled program.now s thread ≡ true) }
-        ensures shows { (s : Snapshot) → Shows program.now self.old s
-            → is_enabled program.now s thread ≡ true
-            → Shows program.now self.new (step program.now s thread) }
-        ensures size { length self.new.values.items ≡ length self.old.values.items }
-        ensures shape { self.new.shape ≡ self.old.shape }
-    {
-        let values = self.values.as_mut_slice();
-        self.control.advance_over(values, program, thread, self.shape.fixed, self.shape.width);
-    }
-
     /// A run of an enabled thread: a step and, where the thread is alone, further ones, while it is
     /// enabled and the set of the enabled threads is what it was after the first. It takes no
     /// memory.
@@ -174,19 +148,9 @@ impl Machine {
         ensures size { length self.new.values.items ≡ length self.old.values.items }
         ensures shape { self.new.shape ≡ self.old.shape }
     {
-        program.keeps_limits();
-        self.step(program, thread);
-        let among = self.control.enabled;
-        let mut steps = 1;
-        while alone && among.has(thread) && self.control.enabled == among {
-            self.step(program, thread);
-            steps += 1;
-        }
-        Run {
-            steps,
-            among,
-            enabled: self.control.enabled,
-        }
+        let values = self.values.as_mut_slice();
+        self.control
+            .run_over(values, program, thread, alone, &self.shape)
     }
 
     /// The set of the enabled threads.

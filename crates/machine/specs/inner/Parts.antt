@@ -41,6 +41,17 @@ pub record IsControlBut (p : Program) (c : Control) (s : Snapshot) (t : ℕ) : T
   pub threads : (u : ℕ) → u ≢ t → HasThreadAt p c s u (thread_at s u)
   pub idle : IsIdle c t
 
+-- all is that of the state but for thread t, which is about to take this step: it is at no mutex
+-- and no semaphore but what the step takes
+pub record IsLeaving (p : Program) (c : Control) (s : Snapshot) (t : ℕ) (next : Option Action)
+    : Type 0 where
+  pub objects : HasObjects c s
+  pub threads : (u : ℕ) → u ≢ t → HasThreadAt p c s u (thread_at s u)
+  pub unended : has c.unended t ≡ true
+  pub stopped : has c.stopped t ≡ false
+  pub mutexes : (m : ℕ) → takes_mutex m next ≡ false → has (at_mutex c m) t ≡ false
+  pub semaphores : (k : ℕ) → takes_semaphore k next ≡ false → has (at_semaphore c k) t ≡ false
+
 -- but for thread t, the second has the places and the sets of the first
 pub record LeavesOthers (t : ℕ) (c d : Control) : Type 0 where
   pub places : (u : ℕ) → u ≢ t → slice_index_or d.places u 0 ≡ slice_index_or c.places u 0

@@ -1,16 +1,18 @@
 -- A step, from the thread that may take it to what it made of the state.
-use Rattle.std.specs.Prelude.{◌≡◌, ◌≢◌, ℕ, ◌+◌, ◌<◌, ℤ, true, List, length, take, slice_index_or, slice_set, All}
+use Rattle.std.specs.Prelude.{◌≡◌, ◌≢◌, ℕ, ◌+◌, ◌<◌, ℤ, true, false, List, length, take, slice_index_or, slice_set, All, Option, Some}
+use Rattle.semantics.specs.Mask.{has}
 use Rattle.guest_code.specs.Program.{Program, code_of, IsValid, LocalsBelow}
 use Rattle.guest_code.specs.declared.program.Instruction.{Instruction}
 use Rattle.semantics.specs.declared.state.Thread.{Thread}
 use Rattle.semantics.specs.declared.state.Status.{Status}
 use Rattle.semantics.specs.declared.state.Status.TheVariants.{Running, Waiting, Woken, Ended, Stopped}
-use Rattle.semantics.specs.Machine.{Snapshot, thread_at, queue_of, next_of, is_enabled, can_do, action_of, step, resumed, with_status, wake, missing_thread}
+use Rattle.semantics.specs.Machine.{Snapshot, thread_at, queue_of, next_of, is_enabled, can_do, action_of, step, resumed, run_from, with_status, wake, missing_thread}
 use Rattle.semantics.specs.Reachable.{IsOf}
 use Rattle.semantics.specs.Waiters.{In, Once}
 use Rattle.machine.specs.declared.control.Control.{Control}
-use Rattle.machine.specs.Refinement.{IsControl, AreQueues}
-use Rattle.machine.specs.inner.Parts.{IsControlBut}
+use Rattle.machine.specs.Refinement.{IsControl, AreQueues, HasObjects}
+use Rattle.machine.specs.inner.Parts.{IsControlBut, IsLeaving}
+use Rattle.machine.specs.inner.LocalRuns.{narrow}
 
 -- the cells are those of these variables, and of these queues behind them
 pub record AreShared (lengths : List ℕ) (cells vars : List ℤ) (queues : List (List ℕ))
@@ -37,7 +39,8 @@ pub record IsPoised (p : Program) (s : Snapshot) (t : ℕ) (i : Instruction) (c 
     (cells mine : List ℤ) : Type 0 where
   pub of : IsOf p s
   pub thread : t < length s.threads
-  pub control : IsControl p c s
+  pub control : IsLeaving p c s t (action_of i)
+  pub woken : has c.woken t ≡ false
   pub shared : HasShared c cells s
   pub own : mine ≡ take (length mine) (thread_at s t).locals
   pub status : (thread_at s t).status ≡ Running
@@ -67,6 +70,38 @@ pub record IsPerformed (p : Program) (s : Snapshot) (t : ℕ) (c : Control) (cel
   pub others : (u : ℕ) → u ≢ t → (thread_at after u).locals ≡ (thread_at s u).locals
   pub step : step p s t
       ≡ record after { threads = slice_set after.threads t (settled (code_of p t) status th) }
+
+-- where a thread goes on that got this status by the step of the instruction here
+abbrev pub place_after : Status → ℕ → ℕ
+place_after Running pc = pc + 1
+place_after Ended pc = pc
+place_after Woken pc = pc
+place_after (Waiting c) pc = pc
+place_after (Stopped why) pc = pc
+
+-- the thread that goes on here, after what it does by itself
+abbrev pub going_on : List Instruction → Status → ℕ → List ℤ → Thread
+going_on code Running pc locals =
+    run_from code (record { pc = pc; locals = locals; status = Running })
+going_on code Ended pc locals = record { pc = pc; locals = locals; status = Ended }
+going_on code Woken pc locals = record { pc = pc; locals = locals; status = Woken }
+going_on code (Waiting c) pc locals = record { pc = pc; locals = locals; status = Waiting c }
+going_on code (Stopped why) pc locals =
+    record { pc = pc; locals = locals; status = Stopped why }
+
+-- thread t took its step at s, and goes on at this place, with these locals
+pub record IsPassed (p : Program) (s : Snapshot) (t : ℕ) (c : Control) (cells mine : List ℤ)
+    (place : ℕ) (status : Status) : Type 0 where
+  pub before : List ℤ
+  pub performed : IsPerformed p s t c cells before status
+  pub many : length mine ≡ length before
+  pub goes_on : going_on (code_of p t) status place mine
+      ≡ narrow (length before) (settled (code_of p t) status performed.th)
+
+-- the objects let the step of this instruction be taken
+abbrev pub Faces : Control → Option Instruction → Type 0
+Faces c o = (i : Instruction) → o ≡ Some i → (s : Snapshot) → HasObjects c s
+    → can_do s (action_of i) ≡ true
 
 -- a step of thread t led from s to this
 pub record IsStepped (p : Program) (s : Snapshot) (t : ℕ) (c : Control) (cells mine : List ℤ)

@@ -1,7 +1,8 @@
-use Rattle.std.proofs.Common.{arith, ◌∙◌, ap, subst}
+use Rattle.std.proofs.Common.{arith, ap, subst}
 use Rattle.guest_code.specs.Program.{IsValid}
 use Rattle.semantics.specs.declared.state.MutexAction.TheVariants.{Lock as Locks}
 use Rattle.semantics.specs.Machine.{action_of}
+use Rattle.machine.specs.inner.Parts.{IsLeaving}
 use Rattle.machine.proofs.Performed.{locks, acquires}
 use Rattle.machine.proofs.control.Control.perform.Goals as goal
 
@@ -12,9 +13,10 @@ returns-in-Lock c = λ s poised.
     locks p s c.args.thread c.args.instruction.now c.args.self.now c.take.new.self
     c.args.shared.now c.args.own.now c.in-Lock.m poised is
     c.take.ensures.lengths
-    (c.take.ensures.takes p s Locks poised.control
+    (c.take.ensures.takes p s Locks
+    (subst (IsLeaving p c.args.self.now s c.args.thread) is poised.control)
     (let v = subst (IsValid c.args.program.now) c.in-Lock.is poised.fine in
-    omega (arith, v, poised.of.owners)) (poised.next ∙ is) tt)
+    omega (arith, v, poised.of.owners)) tt)
 
 pub returns-in-Acquire : goal.returns-in-Acquire
 returns-in-Acquire c = λ s poised.
@@ -23,6 +25,7 @@ returns-in-Acquire c = λ s poised.
     acquires p s c.args.thread c.args.instruction.now c.args.self.now c.acquire.new.self
     c.args.shared.now c.args.own.now c.in-Acquire.k poised is
     c.acquire.ensures.lengths
-    (c.acquire.ensures.acquires p s poised.control
+    (c.acquire.ensures.acquires p s
+    (subst (IsLeaving p c.args.self.now s c.args.thread) is poised.control) poised.woken
     (let v = subst (IsValid c.args.program.now) c.in-Acquire.is poised.fine in
-    omega (arith, v, poised.of.counts)) (poised.next ∙ is))
+    omega (arith, v, poised.of.counts)))

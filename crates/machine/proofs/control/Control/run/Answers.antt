@@ -1,0 +1,73 @@
+use Rattle.std.proofs.Common.{arith, true, false, ◌≡◌, ◌<◌, ◌∙◌, ◌*◌, ◌+◌, ◌-◌, cond, sym, subst, ap, refl, length, List}
+use Rattle.guest_code.specs.declared.program.Instruction.{Instruction}
+use Rattle.guest_code.specs.declared.program.Instruction.TheVariants.{Load}
+use Rattle.guest_code.specs.Program.{code_of}
+use Rattle.semantics.proofs.WorkFalls.{enabled_below}
+use Rattle.machine.specs.inner.Runs.{run_to, IsGoing, IsRunTo}
+use Rattle.machine.proofs.WholeSteps.{here_inside}
+use Rattle.machine.proofs.Runs.{begun, run_over, comes_further}
+use Rattle.machine.proofs.control.Control.run.Goals as goal
+
+pub loop-going-init : goal.loop-going-init
+loop-going-init c = record {
+  thread = refl;
+  running = c.goes_on-going.ensures.running;
+  one = λ e. (c.goes_on-going.ensures.alone e, refl);
+  going = λ s ready.
+      let p = c.args.program.now in
+      let t = c.args.thread in
+      begun p s t c.args.self.now c.take_step-status.new.self c.args.shared.now c.args.own.now
+      c.take_step-status.new.shared c.take_step-status.new.own _ _ ready
+      (c.take_step-status.ensures s ready) (ready.control.threads t).place
+      (here_inside p s t c.args.self.now (code_of p t) (Load 0 0) ready.control ready.enabled refl)
+      (omega arith) c.place_after.ensures refl;
+}
+
+pub loop-going-preserved : goal.loop-going-preserved
+loop-going-preserved c = record {
+  thread = c.go_on-going.ensures.thread ∙ c.loop-going.invariant.thread;
+  running = c.go_on-going.ensures.running;
+  one = λ e. (let off = (c.loop-going.invariant.one e).0 in
+      let no : true ≡ false = sym c.loop-going-test.true ∙ off in absurd (cc));
+  going = λ s ready.
+      let p = c.args.program.now in
+      let known = c.loop-going.invariant in
+      subst (λ t. IsGoing p s t c.go_on-going.new.self c.go_on-going.new.shared
+      c.go_on-going.new.own c.go_on-going.new.moving) known.thread
+      (c.go_on-going.ensures.going s
+      (subst (λ t. IsGoing p s t c.loop-going.self c.loop-going.shared c.loop-going.own
+      c.loop-going.moving) (sym known.thread) (known.going s ready)));
+}
+
+pub loop-going-smaller : goal.loop-going-smaller
+loop-going-smaller c =
+    let p = c.args.program.now in
+    let s = c.requires.0 in
+    let known = c.loop-going.invariant in
+    let more = c.go_on-going.ensures.going s
+    (subst (λ t. IsGoing p s t c.loop-going.self c.loop-going.shared c.loop-going.own
+    c.loop-going.moving) (sym known.thread) (known.going s c.requires.1)) in
+    let same = ap (λ (is : List Instruction). length is) c.code-code.ensures.code in
+    let thread = ap (λ t. length (code_of p t)) known.thread in
+    comes_further (length c.code-code.result.now) c.loop-going.moving.place
+    c.go_on-going.new.moving.place c.loop-going.going c.go_on-going.result c.loop-going-test.true
+    c.go_on-going.ensures.place (omega (arith, more.within, same, thread))
+    c.go_on-going.ensures.further
+
+pub returns-clause-runs : goal.returns-clause-runs
+returns-clause-runs c = λ s ready.
+    let p = c.args.program.now in
+    let known = c.loop-going.invariant in
+    let m = c.loop-going.moving in
+    let h = subst (λ t. IsGoing p s t c.loop-going.self c.loop-going.shared c.loop-going.own m)
+    (sym known.thread) (known.going s ready) in
+    subst (λ t. IsRunTo p s t (record {
+      steps = m.steps;
+      among = m.among;
+      enabled = c.finish.new.self.enabled;
+    }) c.finish.new.self c.loop-going.shared c.finish.new.own) known.thread
+    (run_over p s m.thread c.loop-going.self c.finish.new.self c.loop-going.shared c.loop-going.own
+    c.finish.new.own m _ h
+    (c.finish.ensures p (run_to p s m.thread h.done) c.loop-going.shared
+    (c.code-code.ensures.code ∙ ap (code_of p) (sym known.thread)) h.passed
+    (enabled_below p (run_to p s m.thread h.done) m.thread h.enabled)) refl refl)
