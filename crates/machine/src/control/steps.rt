@@ -20,7 +20,7 @@ ghost use Rattle.machine.specs.inner.Runs.{IsGoing, IsRunTo};
 
 use crate::control::{Control, FREE, Run};
 use crate::machine::Shape;
-use guest_code::limits::{COUNT, THREADS};
+use guest_code::limits::{COUNT, OBJECTS, THREADS};
 use guest_code::program::{Instruction, Program};
 use semantics::mask::Mask;
 use semantics::state::VariableAction::{Add as Adds, Cas as Swaps, Load as Loads, Store as Stores};
@@ -61,7 +61,15 @@ fn goes_on(alone: bool, status: Status) -> bool
 fn ends(steps: u32, among: Mask, enabled: Mask) -> bool
     ensures { IsFalse result → 1 < steps → enabled ≡ among }
 {
-    steps > 1 && among != enabled
+    among != enabled && steps > 1
+}
+
+// The cell that has the queue of a condition.
+fn queue_of(program: &Program, condition: usize) -> usize
+    requires { condition < OBJECTS }
+    ensures { result ≡ length program.now.variables + condition }
+{
+    program.variables() as usize + condition
 }
 
 // What a thread does with a variable. It runs on then.
@@ -190,7 +198,6 @@ impl Control {
             → IsPerformed program.now s thread self.new shared.new own.new result }
     {
         program.keeps_limits();
-        let queues = program.variables() as usize;
         match instruction {
             Instruction::Load { local, variable } => {
                 on_variable(shared, own, *variable, Loads(*local))
@@ -220,10 +227,18 @@ impl Control {
             }
             Instruction::Release(k) => self.release_if_room(thread, *k),
             Instruction::Wait { condition, mutex } => {
-                self.begin_wait(&mut shared[queues + *condition], thread, *condition, *mutex)
+                let queue = queue_of(program, *condition);
+                self.begin_wait(&mut shared[queue], thread, *condition, *mutex)
             }
-            Instruction::Signal(c) => self.signal(program, shared[queues + *c], thread, *c),
-            Instruction::Broadcast(c) => self.broadcast(program, shared[queues + *c], thread, *c),
+            Instruction::Signal(c) => self.signal(
+                program,
+                shared[queue_of(program, *c)],
+                thread,
+                *c,
+            ),
+            Instruction::Broadcast(c) => {
+                self.broadcast(program, shared[queue_of(program, *c)], thread, *c)
+            }
             _ => Status::Running,
         }
     }
