@@ -1,9 +1,9 @@
 -- A walk along a run: at each node between its steps those of the other threads are put off.
-use Rattle.std.proofs.Common.{◌≡◌, ◌≢◌, ℕ, ◌+◌, ◌-◌, ◌<◌, ◌≤◌, true, false, ◌&&◌, ◌||◌, not}
+use Rattle.std.proofs.Common.{◌≡◌, ◌≢◌, ℕ, zero, suc, ◌+◌, ◌-◌, ◌<◌, ◌≤◌, Bool, true, false, ◌&&◌, ◌||◌, not}
 use Rattle.std.proofs.Common.{List, [], ◌∷◌, ◌++◌, length, take, map, replicate, Some}
-use Rattle.std.proofs.Common.{get_or, ap, ◌∙◌, sym, subst, arith, ◌⊎◌, inl, inr}
+use Rattle.std.proofs.Common.{get_or, refl, ap, ◌∙◌, sym, subst, arith, ◌⊎◌, inl, inr}
 use Rattle.std.proofs.lemmas.Bool.{false≢true, cases_lt}
-use Rattle.std.proofs.lemmas.List.{take_all, take_more, length-append}
+use Rattle.std.proofs.lemmas.List.{take_all, take_more, append-nil, length-append}
 use Rattle.std.proofs.lemmas.List.{length-replicate}
 use Rattle.std.specs.declared.alloc.Global.{Global}
 use Rattle.std.specs.declared.vec.Vec.{Vec}
@@ -17,10 +17,11 @@ use Rattle.semantics.specs.Work.{work}
 use Rattle.semantics.proofs.WorkFalls.{work-step}
 use Rattle.schedules.proofs.UnfoldingUnderPrefix.{state_after-push}
 use Rattle.machine.specs.declared.machine.Run.{Run}
-use Rattle.summary.specs.Summaries.{with_beyond}
+use Rattle.summary.specs.Summaries.{SummaryView, with_beyond}
 use Rattle.items.specs.declared.mode.Mode.{Mode}
 use Rattle.items.specs.declared.mode.Mode.TheVariants.{Bounded, Reduced}
 use Rattle.items.specs.Items.{ItemView}
+use Rattle.items.specs.Walks.{listed_if}
 use Rattle.items.specs.Children.{child_of, mask_after, cost_of, costs}
 use Rattle.items.proofs.Turns.{turns_more}
 use Rattle.walk.specs.declared.found.Found.{Found}
@@ -111,6 +112,22 @@ along_falls p t e u place more node on =
     (work-step p (state_at p w) u (sym (node.enabled u) ∙ on)) in
     turns_more (work p (state_at p (take (place + 1) t.steps.items))) (work p (state_at p w))
     (omega (arith, falls))
+
+-- what is only noted is noted once
+
+pub record IsNoted (f : Found) (past : Mask) : Type 0 where
+  pub unlisted : f.lists ≡ false
+  pub beyond : (f.part.beyond || not (is_empty (members_from past 0))) ≡ f.part.beyond
+
+pub noted_once : (f g : SummaryView) (more : Bool) → g ≡ with_beyond f (f.beyond || more)
+    → (g.beyond || more) ≡ g.beyond
+noted_once f g more same = (λ k. (ap (λ (s : SummaryView). s.beyond) same k || more))
+    ∙ (twice f.beyond more ∙ sym (ap (λ (s : SummaryView). s.beyond) same))
+  where
+    twice : (a b : Bool) → ((a || b) || b) ≡ (a || b)
+    twice true b = refl
+    twice false true = refl
+    twice false false = refl
 
 -- where it ends the walk stands
 pub along_done : {b : Found} (mode : Mode) (i : ItemView) (t new : Path) (f : Found) (place : ℕ)
@@ -217,6 +234,51 @@ same_path p t l steps same items h =
     let o = same_turned t l steps same items in
     path_same p t (record l { steps = steps }) h o.steps o.last o.used o.machine o.size o.frames
     o.words (same_room p t l same h)
+
+-- from a place between, where all that is put off is noted already
+module _ (mode : Mode) (i c : ItemView) (old t : Path) (u : ℕ) (asleep : Mask) (run : Run)
+    (path : IsPath i.program t) (h : IsGone i.program mode old t u asleep run)
+    (mask : t.node.asleep ≡ mask_after mode c u) (past : Mask) (out : has past u ≡ false)
+    (others : (v : ℕ) → v ≢ u → has past v ≡ has run.among v) where
+  pub along_rest : {b : Found} (f : Found) (n place : ℕ) → length old.steps.items + 1 ≤ place
+      → place + n ≡ length t.steps.items → (0 < n → IsNoted f past) → IsAlong b mode i t f place
+      → IsAlong b mode i t f (length t.steps.items)
+  along_rest {b} f zero place from to seen along = subst (λ (k : ℕ). IsAlong b mode i t f k)
+      (let e : place ≡ length t.steps.items = omega (arith, to) in e) along
+  along_rest {b} f (suc n) place from to seen along =
+      let inside : place < length t.steps.items = omega (arith, to) in
+      let once = seen (omega arith) in
+      along_rest f n (place + 1) (omega (arith, from)) (omega (arith, to)) (λ more. once)
+      (along_next mode i c t f f run.among past u place along
+      (more_at i.program mode old t u asleep run place path h from inside)
+      (node_at i.program mode old t u asleep run place path h from inside)
+      (of_at i.program mode old t u asleep run place path h from inside) h.last mask
+      (alone_at i.program mode old t u asleep run place path h from inside) out others
+      (sym (ap (with_beyond f.part) once.beyond)) refl
+      (record {
+        lists = refl;
+        deferred = sym ((λ k. f.deferred ++ listed_if (once.unlisted k)
+            (map (λ v. take place t.steps.items ++ v ∷ []) (members_from past 0)))
+            ∙ append-nil f.deferred);
+      }) along.shared)
+
+  pub falls_rest : (n place : ℕ) → length old.steps.items + 1 ≤ place
+      → place + n ≡ length t.steps.items
+      → cost_of (item_of i.program (take (length t.steps.items) t.steps.items) t.node)
+      ≤ cost_of (item_of i.program (take place t.steps.items) t.node)
+  falls_rest zero place from to =
+      let e : length t.steps.items ≡ place = omega (arith, to) in
+      let same = ap (λ (k : ℕ). cost_of (item_of i.program (take k t.steps.items) t.node)) e in
+      omega (arith, same)
+  falls_rest (suc n) place from to =
+      let inside : place < length t.steps.items = omega (arith, to) in
+      let less = along_falls i.program t run.among u place
+      (more_at i.program mode old t u asleep run place path h from inside)
+      (node_at i.program mode old t u asleep run place path h from inside)
+      (and_right (at_bound mode t.node) (has run.among u)
+      (alone_at i.program mode old t u asleep run place path h from inside)) in
+      let rest = falls_rest n (place + 1) (omega (arith, from)) (omega (arith, to)) in
+      omega (arith, less, rest)
 
 -- where the walk stands on from its place
 pub gone_place : (p : Program) (mode : Mode) (old new : Path) (u : ℕ) (asleep : Mask) (run : Run)

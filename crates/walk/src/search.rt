@@ -120,6 +120,16 @@ impl Found {
         self.defer_all(steps, place, past, first)
     }
 
+    // Up to which place steps are to be deferred, from the one before `second` to before `end`: where
+    // they are only noted, once is enough.
+    fn last_place(&self, second: usize, end: usize) -> usize
+        ensures few { result ≤ end }
+        ensures listed { self.now.lists ≡ true → result ≡ end }
+        ensures noted { self.now.lists ≡ false → result ≡ min second end }
+    {
+        if self.lists { end } else { second.min(end) }
+    }
+
     // Whether fewer schedules were tried than the limit.
     fn is_below(&self, limit: u64) -> bool
         ensures below { IsTrue result → self.now.part.tried < limit }
@@ -286,7 +296,8 @@ impl Path {
         let from = self.steps.len();
         let run = self.go(program, mode, thread, asleep)?;
         let others = run.among.with(thread, false);
-        for place in from + 1..self.steps.len() {
+        let last = found.last_place(from + 2, self.steps.len());
+        for place in from + 1..last {
             found.defer(&mut self.steps, place, others)?;
         }
         Ok(())

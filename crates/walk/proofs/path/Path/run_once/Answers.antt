@@ -1,10 +1,16 @@
-use Rattle.std.proofs.Common.{◌≡◌, ◌<◌, ◌≤◌, ◌+◌, ◌++◌, ◌∷◌, ◌∙◌, [], ℕ, List, true, length, take}
+use Rattle.std.proofs.Common.{◌≡◌, ◌<◌, ◌≤◌, ◌+◌, ◌-◌, ◌++◌, ◌∷◌, ◌∙◌, [], ℕ, List, Bool, true}
+use Rattle.std.proofs.Common.{false, length, take}
 use Rattle.std.proofs.Common.{map, refl, ap, sym, subst, arith, rules}
 use Rattle.guest_code.specs.Program.{Program}
+use Rattle.machine.specs.declared.machine.Run.{Run}
+use Rattle.semantics.specs.declared.mask.Mask.{Mask}
 use Rattle.semantics.specs.Machine.{is_enabled}
 use Rattle.semantics.specs.Mask.{has, members_from}
 use Rattle.semantics.proofs.WorkFalls.{enabled_below}
 use Rattle.items.specs.Children.{mask_after, cost_of}
+use Rattle.items.specs.declared.mode.Mode.{Mode}
+use Rattle.items.specs.Items.{ItemView}
+use Rattle.walk.specs.declared.found.Found.{Found}
 use Rattle.walk.specs.declared.path.Path.{Path}
 use Rattle.walk.specs.inner.Paths.{state_at, IsPath}
 use Rattle.walk.specs.inner.WalkerInvariant.{left_above, here, item_of, at_bound, IsGone, IsAlong}
@@ -14,6 +20,7 @@ use Rattle.walk.proofs.LoneSteps.{and_right}
 use Rattle.walk.proofs.RunWalks.{along_begun, along_next, along_falls, along_done, along_turns}
 use Rattle.walk.proofs.RunWalks.{run_further, more_at, node_at, of_at, alone_at, same_turned}
 use Rattle.walk.proofs.RunWalks.{same_room, same_path, gone_place}
+use Rattle.walk.proofs.RunWalks.{IsNoted, noted_once, along_rest, falls_rest}
 use Rattle.walk.proofs.path.Path.run_once.Goals as goal
 
 pub sleepers-asleep-requires-clause-enabled : goal.sleepers-asleep-requires-clause-enabled
@@ -46,8 +53,15 @@ pub loop-place-init : goal.loop-place-init
 loop-place-init c = record {
   same = refl;
   steps = refl;
+  within = let further = run_further c.program-program.result.now c.args.mode c.args.self.now
+      c.go.new.self c.args.thread c.sleepers-asleep.result c.in_ok-run.run'
+      c.in_ok-run.ensures.gone in
+      let some = c.in_ok-run.ensures.gone.some in
+      omega (arith, c.len-from.ensures, c.args.self.now.steps.ok.0, further, some);
   along = λ b h. h;
   falls = omega arith;
+  lists = refl;
+  noted = λ more. absurd (omega (arith, more));
   tried = refl;
 }
 
@@ -98,7 +112,13 @@ loop-place-preserved c =
     let from : length old.steps.items + 1 ≤ place =
     omega (arith, c.len-from.ensures, old.steps.ok.0, c.loop-place.auto.place) in
     let inside : place < length new.steps.items =
-    omega (arith, c.len-place-end.ensures, new.steps.ok.0, c.loop-place-test.true) in
+    omega (
+      arith,
+      c.len.ensures,
+      new.steps.ok.0,
+      c.last_place-last.ensures.few,
+      c.loop-place-test.true,
+    ) in
     let more = more_at i.program m old new u c.sleepers-asleep.result run place path gone from
     inside in
     let node = node_at i.program m old new u c.sleepers-asleep.result run place path gone from
@@ -112,6 +132,7 @@ loop-place-preserved c =
       same = ap (λ (x : Path). record x { steps = c.defer.new.steps })
           c.loop-place.invariant.same;
       steps = c.defer.ensures.steps ∙ c.loop-place.invariant.steps;
+      within = omega (arith, inside);
       along = λ b h. along_next m i (here i.program old) new f g run.among past u place
           (c.loop-place.invariant.along b h) more node
           (of_at i.program m old new u c.sleepers-asleep.result run place path gone from inside)
@@ -122,6 +143,8 @@ loop-place-preserved c =
           (subst (λ (w : List ℕ). IsShared (take place w) g) c.loop-place.invariant.steps
           c.in_ok-defer.ensures.shared);
       falls = omega (arith, less, falls);
+      lists = c.in_ok-defer.ensures.put.lists ∙ c.loop-place.invariant.lists;
+      noted = λ _. noted_once f.part g.part _ c.in_ok-defer.ensures.part;
       tried = search rules;
     }
 
@@ -145,60 +168,148 @@ returns-clause-further c =
     omega (arith, further, some, same)
 
 pub returns-clause-search : goal.returns-clause-search
-returns-clause-search c =
-    let i = c.args.item.now in
-    let old = c.args.self.now in
-    let new = c.go.new.self in
-    let m = c.args.mode in
-    let u = c.args.thread in
-    let run = c.in_ok-run.run' in
-    let path = subst (λ (q : Program). IsPath q new) c.program-program.ensures c.go.ensures.path in
-    let gone = subst (λ (q : Program). IsGone q m old new u c.sleepers-asleep.result run)
-    c.program-program.ensures c.in_ok-run.ensures.gone in
-    let mask = c.sleepers-asleep.ensures ∙ ap (λ (q : Program). mask_after m (here q old) u)
-    c.program-program.ensures in
-    let from : length old.steps.items ≡ c.len-from.result =
-    omega (arith, c.len-from.ensures, old.steps.ok.0) in
-    let further = run_further i.program m old new u c.sleepers-asleep.result run gone in
-    let some = gone.some in
-    let long : c.loop-place.place ≡ length new.steps.items =
-    omega (arith, c.len-from.ensures, old.steps.ok.0, c.len-place-end.ensures, new.steps.ok.0,
-    c.loop-place.auto, c.loop-place-test.false, further, some) in
-    λ b h. along_done m i new c.loop-place.self c.loop-place.found c.loop-place.place
+returns-clause-search c = λ b h. along_done m i new c.loop-place.self f (length new.steps.items)
+    (along_rest m i (here i.program old) old new u c.sleepers-asleep.result run path gone
+    (gone.asleep ∙ mask) past c.with-others.ensures.same c.with-others.ensures.others f
+    (length new.steps.items - place) place from (omega (arith, to)) seen
     (c.loop-place.invariant.along b
-    (subst (λ n. IsAlong b m i new c.args.found.now (n + 1)) from
-    (along_begun m i old new c.args.found.now u c.sleepers-asleep.result run h gone mask)))
-    long (gone_place i.program m old new u c.sleepers-asleep.result run h.place path gone)
+    (subst (λ n. IsAlong b m i new c.args.found.now (n + 1)) first
+    (along_begun m i old new c.args.found.now u c.sleepers-asleep.result run h gone mask))))
+    refl (gone_place i.program m old new u c.sleepers-asleep.result run h.place path gone)
     (same_turned new c.loop-place.self c.loop-place.self.steps c.loop-place.invariant.same
     c.loop-place.invariant.steps)
     (same_room i.program new c.loop-place.self c.loop-place.invariant.same path)
+  where
+    i : ItemView
+    i = c.args.item.now
+
+    old : Path
+    old = c.args.self.now
+
+    new : Path
+    new = c.go.new.self
+
+    m : Mode
+    m = c.args.mode
+
+    u : ℕ
+    u = c.args.thread
+
+    run : Run
+    run = c.in_ok-run.run'
+
+    f : Found
+    f = c.loop-place.found
+
+    place : ℕ
+    place = c.loop-place.place
+
+    past : Mask
+    past = c.with-others.result
+
+    path : IsPath i.program new
+    path = subst (λ (q : Program). IsPath q new) c.program-program.ensures c.go.ensures.path
+
+    gone : IsGone i.program m old new u c.sleepers-asleep.result run
+    gone = subst (λ (q : Program). IsGone q m old new u c.sleepers-asleep.result run)
+        c.program-program.ensures c.in_ok-run.ensures.gone
+
+    mask : c.sleepers-asleep.result ≡ mask_after m (here i.program old) u
+    mask = c.sleepers-asleep.ensures ∙ ap (λ (q : Program). mask_after m (here q old) u)
+        c.program-program.ensures
+
+    first : length old.steps.items ≡ c.len-from.result
+    first = omega (arith, c.len-from.ensures, old.steps.ok.0)
+
+    from : length old.steps.items + 1 ≤ place
+    from = omega (arith, first, c.loop-place.auto)
+
+    to : place ≤ length new.steps.items
+    to = c.loop-place.invariant.within
+
+    off : (lists : Bool) → c.args.found.now.lists ≡ lists → place < length new.steps.items
+        → IsNoted f past
+    off true is inside =
+        let all = c.last_place-last.ensures.listed is in
+        absurd (omega (
+          arith,
+          inside,
+          all,
+          c.len.ensures,
+          new.steps.ok.0,
+          c.loop-place-test.false,
+        ))
+    off false is inside =
+        let few = c.last_place-last.ensures.noted is in
+        record {
+          unlisted = c.loop-place.invariant.lists ∙ is;
+          beyond = c.loop-place.invariant.noted (grind (
+            arith,
+            inside,
+            few,
+            c.len.ensures,
+            new.steps.ok.0,
+            c.loop-place-test.false,
+          ));
+        }
+
+    seen : 0 < length new.steps.items - place → IsNoted f past
+    seen more = off c.args.found.now.lists refl (omega (arith, more))
 
 pub returns-clause-falls : goal.returns-clause-falls
 returns-clause-falls c =
-    let i = c.args.item.now in
-    let old = c.args.self.now in
-    let new = c.go.new.self in
-    let m = c.args.mode in
-    let u = c.args.thread in
-    let run = c.in_ok-run.run' in
-    let gone = subst (λ (q : Program). IsGone q m old new u c.sleepers-asleep.result run)
-    c.program-program.ensures c.in_ok-run.ensures.gone in
-    let mask = c.sleepers-asleep.ensures ∙ ap (λ (q : Program). mask_after m (here q old) u)
-    c.program-program.ensures in
-    let from : length old.steps.items ≡ c.len-from.result =
-    omega (arith, c.len-from.ensures, old.steps.ok.0) in
-    let further = run_further i.program m old new u c.sleepers-asleep.result run gone in
-    let some = gone.some in
-    let long : c.loop-place.place ≡ length new.steps.items =
-    omega (arith, c.len-from.ensures, old.steps.ok.0, c.len-place-end.ensures, new.steps.ok.0,
-    c.loop-place.auto, c.loop-place-test.false, further, some) in
     along_turns m i.program old new c.loop-place.self u c.sleepers-asleep.result run
-    c.loop-place.place gone mask c.requires.search.1.place.base
-    (subst (λ n. cost_of (item_of i.program (take c.loop-place.place new.steps.items) new.node)
-    ≤ cost_of (item_of i.program (take (n + 1) new.steps.items) new.node)) (sym from)
-    c.loop-place.invariant.falls) long
+    (length new.steps.items) gone mask c.requires.search.1.place.base
+    (let less = falls_rest m i (here i.program old) old new u c.sleepers-asleep.result run path gone
+    (gone.asleep ∙ mask) c.with-others.result c.with-others.ensures.same
+    c.with-others.ensures.others (length new.steps.items - place) place from
+    (omega (arith, to)) in
+    let more = subst (λ n. cost_of (item_of i.program (take place new.steps.items) new.node)
+    ≤ cost_of (item_of i.program (take (n + 1) new.steps.items) new.node)) (sym first)
+    c.loop-place.invariant.falls in omega (arith, less, more)) refl
     (same_turned new c.loop-place.self c.loop-place.self.steps c.loop-place.invariant.same
     c.loop-place.invariant.steps)
+  where
+    i : ItemView
+    i = c.args.item.now
+
+    old : Path
+    old = c.args.self.now
+
+    new : Path
+    new = c.go.new.self
+
+    m : Mode
+    m = c.args.mode
+
+    u : ℕ
+    u = c.args.thread
+
+    run : Run
+    run = c.in_ok-run.run'
+
+    place : ℕ
+    place = c.loop-place.place
+
+    path : IsPath i.program new
+    path = subst (λ (q : Program). IsPath q new) c.program-program.ensures c.go.ensures.path
+
+    gone : IsGone i.program m old new u c.sleepers-asleep.result run
+    gone = subst (λ (q : Program). IsGone q m old new u c.sleepers-asleep.result run)
+        c.program-program.ensures c.in_ok-run.ensures.gone
+
+    mask : c.sleepers-asleep.result ≡ mask_after m (here i.program old) u
+    mask = c.sleepers-asleep.ensures ∙ ap (λ (q : Program). mask_after m (here q old) u)
+        c.program-program.ensures
+
+    first : length old.steps.items ≡ c.len-from.result
+    first = omega (arith, c.len-from.ensures, old.steps.ok.0)
+
+    from : length old.steps.items + 1 ≤ place
+    from = omega (arith, first, c.loop-place.auto)
+
+    to : place ≤ length new.steps.items
+    to = c.loop-place.invariant.within
 
 pub returns-clause-tried : goal.returns-clause-tried
 returns-clause-tried c = c.loop-place.invariant.tried
