@@ -159,7 +159,7 @@ children_schedules Reduced i h of more =
 -- all that begins with an item's prefix is what begins with those of its children and of what is
 -- put off
 
-past_is : (bound : ℕ) (i : ItemView) (t : ℕ) →
+pub past_is : (bound : ℕ) (i : ItemView) (t : ℕ) →
     is_past_step (Bounded bound) i t ≡ not (is_kept_step (Bounded bound) i t)
 past_is bound i t = elim (past_or_kept bound i t) [
   | inl a ↦ a.1 ∙ ap not (sym a.0)
@@ -195,7 +195,7 @@ children_all Reduced i h of more =
 
 -- each schedule of an item begins with its prefix
 
-begins_all : (mode : Mode) (i : ItemView) (v : List ℕ) → In (everything mode i) v →
+pub begins_all : (mode : Mode) (i : ItemView) (v : List ℕ) → In (everything mode i) v →
     begins_with i.prefix v ≡ true
 begins_all (Bounded bound) i v m = ((in_under i.program i.prefix v).1 (in_contains _ v m)).1
 begins_all Reduced i v m =

@@ -115,7 +115,7 @@ split_permuted mode item part xs ys deferred moved h = record {
 
 -- a walk of one of the rest is settled
 
-below_further : (item i d : ItemView) → IsBelow item i → IsBelow i d → IsBelow item d
+pub below_further : (item i d : ItemView) → IsBelow item i → IsBelow i d → IsBelow item d
 below_further item i d h k = record {
   program = k.program ∙ h.program;
   item = k.item;

@@ -203,7 +203,7 @@ nothing_of : (p : Program) → with_beyond (sum_of p []) false ≡ nothing
 unfolding sum_of
 nothing_of p = refl
 
-joined_is : (p : Program) (mode : Mode) (items : List ItemView) → AreOf p items →
+pub joined_is : (p : Program) (mode : Mode) (items : List ItemView) → AreOf p items →
     with_beyond (sum_of p (flat_map (schedules_of mode) items)) (list_any (goes_beyond mode) items)
     ≡ item_sums mode items
 joined_is p mode [] h = nothing_of p
@@ -243,7 +243,7 @@ walked_sum w h =
 
 -- the schedules of the rest
 
-bounded_has : (bound : ℕ) (above below : ItemView) → IsBelow above below →
+pub bounded_has : (bound : ℕ) (above below : ItemView) → IsBelow above below →
     HasItsOf (Bounded bound) above below
 bounded_has bound above below b =
     ap (λ (p : Program). schedules_within p below.prefix bound) b.program

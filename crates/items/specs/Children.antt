@@ -1,5 +1,5 @@
 -- What a walk puts in the place of an item: the items of one more step; and how much there is to
--- do. No public contract cites it.
+-- do.
 use Rattle.std.specs.Prelude.{ℕ, zero, suc, ◌+◌, ◌*◌, ◌≤◌, Bool, false, not, nat_le, nat_lt, List}
 use Rattle.std.specs.Prelude.{[], ◌∷◌, ◌++◌, map, filter}
 use Rattle.guest_code.specs.declared.limits.TheConstants.{THREADS}

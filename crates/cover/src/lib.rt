@@ -1,0 +1,17 @@
+//! Covers: prefixes of a program's schedules such that each complete schedule begins with exactly
+//! one of them. So a search can be cut: the sums of what is under the prefixes join to the sum of
+//! the whole.
+//!
+//! - [`prefixes`] answers the prefixes of the least length at which there are as many as asked for,
+//!   and [`prefix_lines`] prints them.
+//! - [`laws`] says what a cover is good for, and that the prefixes of a length are one.
+//!
+//! `specs/` has the definitions. Nothing is searched here: that does the crate `walk`.
+#![tactic(auto)]
+
+pub mod laws;
+pub mod limits;
+mod listing;
+mod longer;
+
+pub use crate::listing::{prefix_lines, prefixes};

@@ -1,0 +1,69 @@
+//! The prefixes of the least length at which there are as many as asked for.
+
+ghost use Rattle.std.specs.Prelude.{◌≡◌, IfOk};
+ghost use Rattle.std.specs.Arc.{arc_value};
+ghost use Rattle.std.specs.List.{flat_map};
+ghost use Rattle.items.specs.Items.{root_of};
+ghost use Rattle.cover.specs.Covers.{IsCover};
+ghost use Rattle.cover.specs.Prefixes.{IsListOf, prefix_line};
+
+use crate::longer::one_step_longer;
+use guest_code::laws::programs_are_well_formed;
+use guest_code::program::Program;
+use items::item::Item;
+use items::mode::Mode;
+use replay::schedule_text;
+use schedules::limits::STEPS;
+use std::alloc::{AllocError, Global};
+use std::sync::Arc;
+
+/// The prefixes, rising, of the least length at which there are at least so many; a complete
+/// schedule that is shorter stands for itself. Where there are never so many they are all complete
+/// schedules. With a bound there are those past it, too: the bound makes no difference. Pruned there
+/// are those that sleep sets enter, with the threads that sleep after them.
+///
+/// Beside the list it holds that of the prefixes one step shorter, and one state.
+///
+/// # Errors
+///
+/// `AllocError` where memory runs out.
+pub fn prefixes(
+    alloc: Global,
+    program: Arc<Program>,
+    mode: Mode,
+    at_least: usize,
+) -> Result<Vec<Item>, AllocError>
+    ensures list { IfOk result (λ v. IsListOf mode (arc_value program) at_least v.items) }
+    ensures cover { IfOk result (λ v. IsCover mode (root_of (arc_value program)) v.items) }
+{
+    programs_are_well_formed(&program);
+    let mut items = Vec::new(alloc);
+    items.push(Item::root(alloc, program)?)?;
+    for _ in 0..STEPS {
+        if items.len() >= at_least {
+            return Ok(items);
+        }
+        let longer = one_step_longer(alloc, mode, items.as_slice())?;
+        items = longer.items;
+        if longer.is_last {
+            return Ok(items);
+        }
+    }
+    Ok(items)
+}
+
+/// The prefixes of these items, a schedule text a line.
+///
+/// # Errors
+///
+/// `AllocError` where memory runs out.
+pub fn prefix_lines(alloc: Global, items: &[Item]) -> Result<Vec<u8>, AllocError>
+    ensures { IfOk result (λ text. text.items ≡ flat_map prefix_line items.now) }
+{
+    let mut text = Vec::new(alloc);
+    for item in items {
+        text.extend_from_slice(schedule_text(alloc, item.prefix())?.as_slice())?;
+        text.push(b'\n')?;
+    }
+    Ok(text)
+}
