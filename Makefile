@@ -184,6 +184,7 @@ shown:
 	python3 tests/check.py "$(PROGRAM)"
 	python3 tests/explain.py "$(PROGRAM)"
 	python3 tests/simulator.py "$(PROGRAM)"
+	python3 tests/prefixes.py "$(PROGRAM)"
 	python3 tests/page.py "$(PROGRAM)"
 	python3 tests/around.py "$(PROGRAM)"
 	@test ! -x crates/tools/out/tools || python3 tests/rounds.py "$(PROGRAM)" crates/tools/out/tools

@@ -236,7 +236,7 @@ REFUSED = [
     ["explore", "a", "--bound", "65"], ["explore", "a", "--bound", "x"], ["explore", "a", "--workers", "0"],
     ["explore", "a", "--workers", "17"], ["unbounded", "a", "--limit", "0"],
     ["unbounded", "a", "--limit", "9223372036854775808"], ["unbounded", "a", "--bound", "1"],
-    ["frobnicate"], ["suite"], ["verify"], ["verify", "a", "b"], ["verify", "a", "--bound", "1"],
+    ["frobnicate"], ["suite"], ["prefixes"], ["verify"], ["verify", "a", "b"], ["verify", "a", "--bound", "1"],
 ]
 # Words that would do nothing: nothing is searched where a schedule is given, JSON and a page have no columns,
 # and only a deep check goes through schedules. Each by itself is taken.
@@ -251,7 +251,7 @@ USELESS = [
 ]
 # What is said where the command is left out or misspelt.
 HINTED = [
-    ([], "[subcommands: explore, unbounded, replay, explain, check, suite, verify, help]\n"),
+    ([], "[subcommands: explore, unbounded, replay, explain, check, suite, verify, prefixes, help]\n"),
     (["relay", "a"], "tip: a similar subcommand exists: 'replay'\n"),
     (["verfy", "a"], "tip: a similar subcommand exists: 'verify'\n"),
     (["frobnicate"], "For more information, try '--help'.\n"),

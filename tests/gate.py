@@ -30,6 +30,7 @@ TRIED = {
     "refusals and warnings": [sys.executable, "tests/check.py", PROGRAM],
     "explanations": [sys.executable, "tests/explain.py", PROGRAM],
     "explanations beside a simulator": [sys.executable, "tests/simulator.py", PROGRAM],
+    "prefixes that cover": [sys.executable, "tests/prefixes.py", PROGRAM],
     "pages": [sys.executable, "tests/page.py", PROGRAM],
     "the examples as a suite": [PROGRAM, "suite", "examples"],
     "programs made at random": [sys.executable, "tests/reference.py", PROGRAM],

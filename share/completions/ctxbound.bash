@@ -1,7 +1,7 @@
 # Completion of ctxbound's command words for bash.
 _ctxbound() {
     local word=${COMP_WORDS[COMP_CWORD]} before=${COMP_WORDS[COMP_CWORD - 1]}
-    local commands='explore unbounded replay explain check suite verify help'
+    local commands='explore unbounded replay explain check suite verify prefixes help'
     local command=${COMP_WORDS[1]} words= files=0 at
     if ((COMP_CWORD == 1)); then
         mapfile -t COMPREPLY < <(compgen -W "$commands --help --version" -- "$word")
@@ -15,6 +15,7 @@ _ctxbound() {
     check) words='--strict --short --json --deep --remarks --limit --help' ;;
     suite) words='--bound --workers --limit --progress --json --help' ;;
     verify) words='--workers --limit --help' ;;
+    prefixes) words='--at-least --unbounded --help' ;;
     help)
         mapfile -t COMPREPLY < <(compgen -W "$commands" -- "$word")
         return
@@ -23,12 +24,12 @@ _ctxbound() {
     # how many words that are no options come before
     for ((at = 2; at < COMP_CWORD; at++)); do
         case ${COMP_WORDS[at - 1]} in
-        --bound | --workers | --limit | --steps | --width) continue ;;
+        --bound | --workers | --limit | --steps | --width | --at-least) continue ;;
         esac
         [[ ${COMP_WORDS[at]} == -?* ]] || ((files += 1))
     done
     case $before in
-    --bound | --workers | --limit | --steps | --width) COMPREPLY=() ;;
+    --bound | --workers | --limit | --steps | --width | --at-least) COMPREPLY=() ;;
     *)
         if [[ $word == -* ]]; then
             mapfile -t COMPREPLY < <(compgen -W "$words" -- "$word")

@@ -1,5 +1,5 @@
 # Completion of ctxbound's command words for fish.
-set -l commands explore unbounded replay explain check suite verify help
+set -l commands explore unbounded replay explain check suite verify prefixes help
 complete -c ctxbound -f
 complete -c ctxbound -n "not __fish_seen_subcommand_from $commands" -a explore -d 'Search up to a bound on preemptions'
 complete -c ctxbound -n "not __fish_seen_subcommand_from $commands" -a unbounded -d 'Search without a bound'
@@ -8,6 +8,7 @@ complete -c ctxbound -n "not __fish_seen_subcommand_from $commands" -a explain -
 complete -c ctxbound -n "not __fish_seen_subcommand_from $commands" -a check -d 'Say what is wrong or odd about guests'
 complete -c ctxbound -n "not __fish_seen_subcommand_from $commands" -a suite -d 'Search many guests'
 complete -c ctxbound -n "not __fish_seen_subcommand_from $commands" -a verify -d 'Say whether a guest is right'
+complete -c ctxbound -n "not __fish_seen_subcommand_from $commands" -a prefixes -d 'List beginnings of schedules that cover them all'
 complete -c ctxbound -n "not __fish_seen_subcommand_from $commands" -a help -d 'Print the help of a command'
 complete -c ctxbound -n "not __fish_seen_subcommand_from $commands" -l version -d 'Print the version'
 complete -c ctxbound -l help -d 'Print the help'
@@ -16,14 +17,14 @@ function __ctxbound_takes_a_guest
     set -l words (commandline -opc)
     set -l files 0
     for at in (seq 3 (count $words))
-        if not string match -q -- '-?*' $words[$at]; and not contains -- $words[(math $at - 1)] --bound --workers --limit --steps --width
+        if not string match -q -- '-?*' $words[$at]; and not contains -- $words[(math $at - 1)] --bound --workers --limit --steps --width --at-least
             set files (math $files + 1)
         end
     end
     test $files -eq 0
 end
 complete -c ctxbound -n '__fish_seen_subcommand_from check suite' -k -a '(__fish_complete_suffix .guest)'
-complete -c ctxbound -n '__fish_seen_subcommand_from explore unbounded replay explain verify; and __ctxbound_takes_a_guest' -k -a '(__fish_complete_suffix .guest)'
+complete -c ctxbound -n '__fish_seen_subcommand_from explore unbounded replay explain verify prefixes; and __ctxbound_takes_a_guest' -k -a '(__fish_complete_suffix .guest)'
 complete -c ctxbound -n '__fish_seen_subcommand_from explore explain suite' -l bound -x -d 'The most preemptions'
 complete -c ctxbound -n '__fish_seen_subcommand_from explore unbounded explain suite verify' -l workers -x -d 'How many threads work'
 complete -c ctxbound -n '__fish_seen_subcommand_from explore unbounded explain check suite verify' -l limit -x -d 'Cut the search short after this number of schedules'
@@ -32,6 +33,8 @@ complete -c ctxbound -n '__fish_seen_subcommand_from explore unbounded' -l trace
 complete -c ctxbound -n '__fish_seen_subcommand_from explore unbounded explain suite' -l progress -d 'Tell how far the search is'
 complete -c ctxbound -n '__fish_seen_subcommand_from explain check suite' -l json -d 'Print JSON'
 complete -c ctxbound -n '__fish_seen_subcommand_from explain' -l unbounded -d 'Search without a bound'
+complete -c ctxbound -n '__fish_seen_subcommand_from prefixes' -l unbounded -d 'List those that a search without a bound enters'
+complete -c ctxbound -n '__fish_seen_subcommand_from prefixes' -l at-least -x -d 'List at least so many'
 complete -c ctxbound -n '__fish_seen_subcommand_from explain' -l steps -x -d 'Show each step of at most this number'
 complete -c ctxbound -n '__fish_seen_subcommand_from explain' -l all -d 'Show each step'
 complete -c ctxbound -n '__fish_seen_subcommand_from explain' -l width -x -d 'The columns of a line'

@@ -16,6 +16,19 @@ pub enum Request {
     Verify(VerifyRequest),
     /// To check guest programs and search nothing.
     Check(CheckRequest),
+    /// To list prefixes of the schedules of a guest program.
+    Prefixes(PrefixesRequest),
+}
+
+/// To list prefixes of the schedules of the guest program in a file.
+#[derive(Debug, Drop)]
+pub struct PrefixesRequest {
+    /// The file, by the name that it is told with.
+    pub file: String,
+    /// How many prefixes there are to be at least, where there are ever so many.
+    pub at_least: u32,
+    /// Whether those alone are listed that sleep sets enter, for searches without a bound.
+    pub is_pruned: bool,
 }
 
 /// To check the guest program in each of these files, and tell what is wrong or odd.

@@ -1,10 +1,9 @@
 -- Covers: an item is one of itself, what it goes on to is one, covers of parts make one; and what
 -- a cover is good for.
-use Rattle.std.proofs.Common.{◌≡◌, ℕ, zero, suc, ◌+◌, ◌<◌, ◌≤◌, Bool, true, false, cond, not, ◌||◌}
+use Rattle.std.proofs.Common.{◌≡◌, ℕ, zero, suc, ◌+◌, ◌<◌, ◌≤◌, Bool, true, false, cond, ◌||◌}
 use Rattle.std.proofs.Common.{nat_lt, List, [], ◌∷◌, ◌++◌, refl, ap, ◌∙◌, sym, subst, arith}
-use Rattle.std.proofs.Common.{inl, inr, IsPermutation}
+use Rattle.std.proofs.Common.{IsPermutation}
 use Rattle.std.specs.List.{All, filter, flat_map, list_any, Contains}
-use Rattle.std.proofs.lemmas.Grind.{flat_map-append}
 use Rattle.std.proofs.lemmas.List.{append-nil, map-append}
 use Rattle.std.proofs.lemmas.List.Elements.{All-nil, All-cons, All-head, All-tail, All-append}
 use Rattle.std.proofs.lemmas.List.Elements.{All-weaker, All-map}
@@ -14,7 +13,7 @@ use Rattle.std.proofs.lemmas.List.Sorted.{list_any-IsPermutation, IsPermutation-
 use Rattle.std.proofs.lemmas.List.Sorted.{Contains-permutation}
 use Rattle.guest_code.specs.Program.{Program, IsWellFormed}
 use Rattle.guest_code.specs.declared.limits.TheConstants.{COUNT}
-use Rattle.semantics.specs.Mask.{has, one_if}
+use Rattle.semantics.specs.Mask.{one_if}
 use Rattle.semantics.specs.Machine.{start}
 use Rattle.semantics.specs.Ends.{is_terminal}
 use Rattle.semantics.specs.Reachable.{IsOf}
@@ -34,7 +33,7 @@ use Rattle.items.specs.declared.mode.Mode.{Mode}
 use Rattle.items.specs.declared.mode.Mode.TheVariants.{Bounded, Reduced}
 use Rattle.summary.specs.Summaries.{SummaryView, nothing, sum_of, with_beyond}
 use Rattle.summary.proofs.SumsJoin.{sum_of_none}
-use Rattle.items.specs.Items.{ItemView, AreOf, IsItem, state_of, root_of, schedules_of, everything}
+use Rattle.items.specs.Items.{ItemView, IsItem, state_of, root_of, schedules_of, everything}
 use Rattle.items.specs.Items.{goes_beyond, item_sum, item_sums, covers, is_under}
 use Rattle.items.specs.Walks.{IsBelow, HasItsOf}
 use Rattle.items.specs.Children.{next_steps, kept_steps, past_steps, is_kept_step, is_past_step}
@@ -43,11 +42,11 @@ use Rattle.items.proofs.Children.{begins_all, under_all, children_all, children_
 use Rattle.items.proofs.Children.{children_below, children_pruned, reduced_past, past_is}
 use Rattle.items.proofs.Covers.{at_most_one, covers-append}
 use Rattle.items.proofs.Filters.{filter_all, filter_longer, filter_whole}
-use Rattle.items.proofs.Permutations.{flat_map-permutation, sum_of-permutation, covers-permutation}
+use Rattle.items.proofs.Permutations.{sum_of-permutation, covers-permutation}
 use Rattle.items.proofs.Splits.{below_further}
 use Rattle.items.proofs.WalkedItems.{bounded_has, joined_is, past_none, past_beyond, root_pruned}
 use Rattle.cover.specs.Covers.{IsCover}
-use Rattle.cover.specs.Prefixes.{is_entered, longer, further, prefixes_of}
+use Rattle.cover.specs.Prefixes.{longer, further, prefixes_of}
 use Rattle.cover.proofs.Gathered.{under_item, gathered, any_gathered}
 
 -- of all that begins with an item's prefix, one below it has what begins with its own

@@ -10,7 +10,6 @@
 #![tactic(auto)]
 
 pub mod laws;
-pub mod limits;
 mod listing;
 mod longer;
 

@@ -39,7 +39,7 @@ pub fn prefixes(
     programs_are_well_formed(&program);
     let mut items = Vec::new(alloc);
     items.push(Item::root(alloc, program)?)?;
-    for _ in 0..STEPS {
+    for _n in 0..STEPS {
         if items.len() >= at_least {
             return Ok(items);
         }

@@ -1,12 +1,10 @@
 //! What a prefix goes on to: the prefixes of one more step.
 
-ghost use Rattle.std.specs.Prelude.{◌≡◌, ◌++◌, ◌&&◌, ◌<◌, not, true, length, All, IfOk, OnOk};
+ghost use Rattle.std.specs.Prelude.{◌≡◌, ◌++◌, ◌<◌, true, length, All, IfOk, OnOk};
 ghost use Rattle.std.specs.List.{flat_map};
-ghost use Rattle.guest_code.specs.Program.{Program, IsWellFormed};
-ghost use Rattle.semantics.specs.Machine.{is_enabled};
 ghost use Rattle.semantics.specs.Ends.{is_terminal};
 ghost use Rattle.semantics.specs.Reachable.{IsOf};
-ghost use Rattle.items.specs.Items.{AreOf, state_of};
+ghost use Rattle.items.specs.Items.{state_of};
 ghost use Rattle.items.specs.Children.{mask_after};
 ghost use Rattle.cover.specs.Prefixes.{is_entered, longer, further, IsComplete};
 

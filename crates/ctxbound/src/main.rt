@@ -3,13 +3,14 @@
 //! The crate `words` reads the words, `program` does what they ask for, and `main` joins both to
 //! the system. What is answered to a replay or a search is in the crate `answering`, and what an
 //! explanation answers in `explained`; `forms` has its other forms. The other commands are in
-//! `checks`, `suites` and `verified`.
+//! `checks`, `suites`, `verified` and `prefixes`.
 #![tactic(auto)]
 
 mod checks;
 mod diagnostics;
 mod files;
 mod forms;
+mod prefixes;
 mod program;
 mod suites;
 mod verified;

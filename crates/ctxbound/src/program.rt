@@ -2,6 +2,7 @@
 
 use crate::checks::{is_refused, serve_check};
 use crate::forms::{Html, Json};
+use crate::prefixes::serve_prefixes;
 use crate::suites::serve_suite;
 use crate::verified::serve_verify;
 use answering::{ExplainRequest, Form, REFUSED, Request, serve_file};
@@ -40,6 +41,11 @@ where
         Ok(Request::Check(request)) => serve_check(rt, &request, out, err),
         Ok(Request::Suite(request)) => serve_suite(rt, &request, out, err),
         Ok(Request::Verify(request)) => serve_verify(rt, &request, out, err),
+        Ok(Request::Prefixes(request)) => {
+            let status = serve_prefixes(rt, &request, out, err);
+            tell_check(rt, request.file.as_str(), is_seen && status == REFUSED, err);
+            status
+        }
         Err(fault) => fault.report(err),
     }
 }

@@ -7,7 +7,7 @@ ghost use Rattle.report.specs.Promises.{IsSearch};
 use crate::fault::WordsFault;
 use answering::{
     CheckForm, CheckRequest, DEFAULT_BOUND, ExplainRequest, Exploration, Form, GuestRequest, LIMIT,
-    Limits, Request, STEPS, SuiteRequest, VerifyRequest, WIDTH,
+    Limits, PrefixesRequest, Request, STEPS, SuiteRequest, VerifyRequest, WIDTH,
 };
 use clap::{Arg, ArgAction, ArgMatches, Command, value_parser};
 use report::limits::{BOUND, QUOTA};
@@ -21,6 +21,14 @@ pub const VERSION: &str = "0.2.0";
 
 /// How many schedules a deep check goes through at most, where no number is asked for.
 const DEFAULT_DEPTH: u64 = 100_000;
+
+/// How many prefixes are listed at least, where no number is asked for: on a machine of eight
+/// processors each gets eight, so that all are busy until near the end.
+const DEFAULT_PREFIXES: u32 = 64;
+
+/// The greatest number of prefixes that can be asked for. What is held in memory is as long as what
+/// is printed; more than this is no better balance on any number of machines.
+const PREFIXES: u32 = 1 << 20;
 
 /// What the help of each command ends with.
 pub const HELP_END: &str = "Examples:
@@ -324,6 +332,24 @@ fn verify_command<'a>(alloc: Global) -> Result<Command<'a>, AllocError> {
         .arg(each_limit_arg(alloc))
 }
 
+fn prefixes_command<'a>(alloc: Global) -> Result<Command<'a>, AllocError> {
+    let at_least = Arg::new(alloc, "at-least")
+        .long("at-least")
+        .value_name("N")
+        .value_parser(value_parser!(u32).range(1..=i64::from(PREFIXES)))
+        .help("List at least so many, where there are ever so many [default: 64]");
+    let unbounded = Arg::new(alloc, "unbounded")
+        .long("unbounded")
+        .action(ArgAction::SetTrue)
+        .help("List those that a search without a bound enters");
+    Command::new(alloc, "prefixes")
+        .about("Lists beginnings of schedules: each schedule begins with exactly one of them")
+        .after_help(HELP_END)
+        .arg(file_arg(alloc))?
+        .arg(at_least)?
+        .arg(unbounded)
+}
+
 fn command<'a>(alloc: Global) -> Result<Command<'a>, AllocError> {
     Command::new(alloc, "ctxbound")
         .about("Looks for schedules under which a guest program fails or gets stuck")
@@ -336,7 +362,8 @@ fn command<'a>(alloc: Global) -> Result<Command<'a>, AllocError> {
         .subcommand(explain_command(alloc)?)?
         .subcommand(check_command(alloc)?)?
         .subcommand(suite_command(alloc)?)?
-        .subcommand(verify_command(alloc)?)
+        .subcommand(verify_command(alloc)?)?
+        .subcommand(prefixes_command(alloc)?)
 }
 
 /// How far the search of a command goes.
@@ -494,6 +521,15 @@ fn verify_of(alloc: Global, given: &ArgMatches<'_>) -> Result<VerifyRequest, All
     })
 }
 
+/// The prefixes that the words of a command ask for.
+fn prefixes_of(alloc: Global, given: &ArgMatches<'_>) -> Result<PrefixesRequest, AllocError> {
+    Ok(PrefixesRequest {
+        file: String::from_str(alloc, given.get_str("FILE").unwrap_or(""))?,
+        at_least: given.get_one("at-least").unwrap_or(DEFAULT_PREFIXES),
+        is_pruned: given.get_flag("unbounded"),
+    })
+}
+
 /// What the command words ask for. The first word is the program's own name.
 ///
 /// # Errors
@@ -511,6 +547,9 @@ pub fn request(alloc: Global, words: &[String]) -> Result<Request, WordsFault> {
     }
     if name == "verify" {
         return Ok(Request::Verify(verify_of(alloc, given)?));
+    }
+    if name == "prefixes" {
+        return Ok(Request::Prefixes(prefixes_of(alloc, given)?));
     }
     if name == "explain" {
         return Ok(Request::Explain {

@@ -1,0 +1,25 @@
+-- What is printed of the prefixes of the schedules of a program.
+use Rattle.std.specs.Prelude.{◌≡◌, ℕ, List, Bool, true, false}
+use Rattle.std.specs.List.{flat_map}
+use Rattle.guest_code.specs.Program.{Program}
+use Rattle.report.specs.Texts.{IsProgramOf}
+use Rattle.items.specs.declared.limits.TheConstants.{BOUND}
+use Rattle.items.specs.declared.mode.Mode.{Mode}
+use Rattle.items.specs.declared.mode.Mode.TheVariants.{Bounded, Reduced}
+use Rattle.items.specs.Items.{ItemView}
+use Rattle.cover.specs.Prefixes.{IsListOf, prefix_line}
+
+-- the mode whose prefixes are listed; a prefix may have more preemptions than the bound
+abbrev pub mode_of : Bool → Mode
+mode_of true = Reduced
+mode_of false = Bounded BOUND
+
+-- a line for each prefix of the program that the text spells, of the least length at which there
+-- are so many at least
+pub record IsListingOf (text : List ℕ) (is_pruned : Bool) (at_least : ℕ) (output : List ℕ) :
+    Type 0 where
+  pub program : Program
+  pub of : IsProgramOf text program
+  pub items : List ItemView
+  pub all : IsListOf (mode_of is_pruned) program at_least items
+  pub lines : output ≡ flat_map prefix_line items
