@@ -163,14 +163,14 @@ class Tester:
         for words in ([], ["a", "b"], ["a", "--at-least", "0"], ["a", "--at-least", "1048577"], ["a", "--bound", "1"],
                       ["a", "--at-least", "x"], ["a", "--at-least"]):
             out, err, status = self.asked(*words)
-            self.expect("prefixes %s: taken" % words, status == 2 and not out and "Usage" in err + "Usage", (out, err))
+            self.expect("prefixes %s: taken" % words, (status, out) == (2, "") and err, (out, err))
         text = path.read_text()
         self.expect("standard input", self.asked("-", text=text) == self.asked(str(path)), path)
         self.expect("the count that is asked for", self.asked(str(path)) == self.asked(str(path), "--at-least", "64"))
         self.expect("the greatest count", self.asked(str(path), "--at-least", "1048576")[2] == 0)
         self.expect("no file", self.asked("no/such/file")[1:] == (
-            "ctxbound: no/such/file: no such file or directory\n", 4), self.asked("no/such/file"))
-        self.expect("a refused text", self.asked("-", text="var")[1:] == ("ctxbound: syntax S4 Unfinished at 1:4\n", 2),
+            "ctxbound: no/such/file: No such file or directory (os error 2)\n", 4), self.asked("no/such/file"))
+        self.expect("a refused text", self.asked("-", text="var")[1:] == ("ctxbound: syntax S3 Expected at 1:4\n", 2),
                     self.asked("-", text="var"))
 
     def notices(self):

@@ -1,3 +1,4 @@
 pub mod Gathered
 pub mod Covers
 pub mod Steps
+pub mod Lengths

@@ -1,18 +1,19 @@
 //! Laws of the definitions. A law is what its function ensures; the functions do nothing.
 
-ghost use Rattle.std.specs.Prelude.{◌≡◌, ◌<◌, ℕ, true, List, All};
+ghost use Rattle.std.specs.Prelude.{◌≡◌, ◌<◌, ℕ, true, List, map, All};
 ghost use Rattle.std.specs.List.{flat_map};
 ghost use Rattle.guest_code.specs.Program.{Program, IsWellFormed};
 ghost use Rattle.semantics.specs.Machine.{start};
-ghost use Rattle.schedules.specs.Schedules.{preemptions};
+ghost use Rattle.schedules.specs.Schedules.{preemptions, schedules_cut_at};
+ghost use Rattle.schedules.specs.Rising.{IsRising};
 ghost use Rattle.schedules.specs.Order.{is_complete};
 ghost use Rattle.schedules.specs.Sleep.{is_kept, none_asleep};
 ghost use Rattle.items.specs.declared.mode.Mode.{Mode};
 ghost use Rattle.items.specs.declared.mode.Mode.TheVariants.{Bounded, Reduced};
 ghost use Rattle.summary.specs.Summaries.{nothing, with_beyond};
-ghost use Rattle.items.specs.Items.{ItemView, IsItem, root_of, item_sum, item_sums, whole, covers};
+ghost use Rattle.items.specs.Items.{ItemView, IsItem, root_of, item_sum, item_sums, whole, covers, everything};
 ghost use Rattle.cover.specs.Covers.{IsCover};
-ghost use Rattle.cover.specs.Prefixes.{prefixes_of};
+ghost use Rattle.cover.specs.Prefixes.{prefixes_of, IsComplete};
 
 // Covers.
 
@@ -52,8 +53,28 @@ pub fn covers_of_parts_are_a_cover()
 
 // Prefixes of a length.
 
-/// The prefixes of a length are a cover of the program.
+/// The prefixes of a length are a cover of the program, and rise in the order of schedules.
 pub fn prefixes_of_a_length_are_a_cover()
-    ensures { (mode : Mode) (p : Program) (n : ℕ) → IsWellFormed p →
+    ensures cover { (mode : Mode) (p : Program) (n : ℕ) → IsWellFormed p →
         IsCover mode (root_of p) (prefixes_of mode p n) }
+    ensures rising { (mode : Mode) (p : Program) (n : ℕ) → IsWellFormed p →
+        IsRising (map (λ i. i.prefix) (prefixes_of mode p n)) }
+{}
+
+/// They are the schedules that are cut short at this length. Where all are complete they are all
+/// complete schedules; pruned, all that sleep sets leave.
+pub fn prefixes_are_schedules_cut_short()
+    ensures cut { (p : Program) (bound n : ℕ) → IsWellFormed p →
+        map (λ i. i.prefix) (prefixes_of (Bounded bound) p n) ≡ schedules_cut_at n p (start p) }
+    ensures all { (mode : Mode) (p : Program) (n : ℕ) → IsWellFormed p →
+        All IsComplete (prefixes_of mode p n) →
+        map (λ i. i.prefix) (prefixes_of mode p n) ≡ everything mode (root_of p) }
+{}
+
+/// The bound makes no difference: the prefixes are the same, and a cover stays one.
+pub fn one_bound_is_as_good_as_another()
+    ensures prefixes { (p : Program) (a b n : ℕ) →
+        prefixes_of (Bounded a) p n ≡ prefixes_of (Bounded b) p n }
+    ensures cover { (a b : ℕ) (item : ItemView) (items : List ItemView) →
+        IsCover (Bounded a) item items → IsCover (Bounded b) item items }
 {}
