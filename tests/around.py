@@ -95,7 +95,7 @@ class Checker:
         return re.findall(r"^  ([a-z]+)", listed, re.MULTILINE)
 
     def options(self, *command):
-        return set(re.findall(r"^ .*?(--[a-z]+)", self.help(*command).split("Options:")[1]
+        return set(re.findall(r"^ .*?(--[a-z]+(?:-[a-z]+)*)", self.help(*command).split("Options:")[1]
                               .split("\n\n")[0], re.MULTILINE))
 
     # ---- the man page
