@@ -1,9 +1,9 @@
 -- What the prefixes of a length are: whatever the bound, schedules cut short; where all are complete,
 -- all schedules; and they rise.
-use Rattle.std.proofs.Common.{◌≡◌, ◌⊎◌, inl, inr, ℕ, zero, suc, ◌+◌, ◌<◌, ◌≤◌, Bool, true, false}
+use Rattle.std.proofs.Common.{◌≡◌, inl, inr, ℕ, zero, suc, ◌<◌, ◌≤◌, Bool, true, false}
 use Rattle.std.proofs.Common.{cond, ◌&&◌, List, [], ◌∷◌, ◌++◌, length, map, refl, ap, ◌∙◌, sym}
-use Rattle.std.proofs.Common.{subst, arith, append_assoc, IsPermutation}
-use Rattle.std.specs.List.{All, filter, flat_map, Contains}
+use Rattle.std.proofs.Common.{subst, arith}
+use Rattle.std.specs.List.{All, filter, flat_map}
 use Rattle.std.proofs.lemmas.Grind.{flat_map-append}
 use Rattle.std.proofs.lemmas.List.{append-nil, map-append}
 use Rattle.std.proofs.lemmas.List.Folds.{flat_map-map}
