@@ -98,6 +98,7 @@ fn put_further(
 /// Items of one length.
 #[derive(Drop)]
 pub struct Length {
+    /// Rising.
     pub items: Vec<Item>,
     /// Whether the prefixes of all are complete schedules.
     pub is_last: bool,

@@ -39,12 +39,7 @@ where
     }
 }
 
-/// The lines of the prefixes of the program that a text spells.
-///
-/// # Errors
-///
-/// `Syntax` where the text spells no tree, `Check` with the first fault of the tree that it spells,
-/// `OutOfMemory` where memory runs out.
+// The lines of the prefixes of the program that a text spells, or what is wrong first with the text.
 fn prefixes_text(
     alloc: Global,
     text: &[u8],
