@@ -170,18 +170,18 @@ none_below i (r ∷ rs) w b off =
         absurd (cc)
     go false e rest = omega (arith, rest)
 
-module _ (mode : Mode) (item : ItemView) (parts : ItemView → List ItemView) where
-  has_further : (i d : ItemView) → IsBelow i d → HasItsOf mode item i → HasItsOf mode i d →
-      HasItsOf mode item d
-  has_further i d b own part =
-      part ∙ (ap (filter (begins_with d.prefix)) own
-      ∙ filter_longer (begins_with i.prefix) (begins_with d.prefix) (schedules_of mode item)
-      (λ v. begins_further i.prefix d.prefix v b.prefix))
+pub has_further : (mode : Mode) (item i d : ItemView) → IsBelow i d → HasItsOf mode item i → HasItsOf mode i d →
+    HasItsOf mode item d
+has_further mode item i d b own part =
+    part ∙ (ap (filter (begins_with d.prefix)) own
+    ∙ filter_longer (begins_with i.prefix) (begins_with d.prefix) (schedules_of mode item)
+    (λ v. begins_further i.prefix d.prefix v b.prefix))
 
+module _ (mode : Mode) (item : ItemView) (parts : ItemView → List ItemView) where
   has_all : (i : ItemView) (ds : List ItemView) → HasItsOf mode item i → All (IsBelow i) ds →
       All (HasItsOf mode i) ds → All (HasItsOf mode item) ds
   has_all i ds own b h =
-      λ k d l. has_further i _ (b k d l) own (h k d l)
+      λ k d l. has_further mode item i _ (b k d l) own (h k d l)
 
   counted : (items : List ItemView) (w : List ℕ) → Contains (everything mode item) w →
       All (IsBelow item) items → All (HasItsOf mode item) items →

@@ -2,3 +2,4 @@ pub mod Gathered
 pub mod Covers
 pub mod Steps
 pub mod Lengths
+pub mod Asleep

@@ -4,6 +4,8 @@
 //!
 //! - [`prefixes`] answers the prefixes of the least length at which there are as many as asked for,
 //!   and [`prefix_lines`] prints them.
+//! - [`item_under`] answers the item of the schedules that begin with a prefix, with who sleeps after
+//!   it where schedules are pruned.
 //! - [`laws`] says what a cover is good for, and that the prefixes of a length are one.
 //!
 //! `specs/` has the definitions. Nothing is searched here: that does the crate `walk`.
@@ -12,5 +14,7 @@
 pub mod laws;
 mod listing;
 mod longer;
+mod under;
 
 pub use crate::listing::{prefix_lines, prefixes};
+pub use crate::under::item_under;

@@ -1,0 +1,24 @@
+-- The item of the schedules that begin with a prefix.
+use Rattle.std.specs.Prelude.{◌≡◌, ℕ, List, [], filter}
+use Rattle.guest_code.specs.Program.{Program}
+use Rattle.semantics.specs.declared.mask.Mask.{Mask}
+use Rattle.schedules.specs.Schedules.{begins_with}
+use Rattle.items.specs.declared.mode.Mode.{Mode}
+use Rattle.items.specs.declared.mode.Mode.TheVariants.{Reduced}
+use Rattle.items.specs.Items.{ItemView, root_of, schedules_of}
+use Rattle.items.specs.Walks.{IsBelow, HasItsOf}
+
+-- the item of the program's schedules that begin with the prefix
+pub record IsUnder (mode : Mode) (p : Program) (prefix : List ℕ) (i : ItemView) : Type 0 where
+  pub is : i.prefix ≡ prefix
+  pub below : IsBelow (root_of p) i
+  pub own : HasItsOf mode (root_of p) i
+
+-- none of the program's schedules begins with the prefix
+abbrev pub HasNoneUnder : Mode → Program → List ℕ → Type 0
+HasNoneUnder mode p prefix = filter (begins_with prefix) (schedules_of mode (root_of p)) ≡ []
+
+-- these threads sleep after the prefix
+abbrev pub IsAsleepAfter : Program → List ℕ → Mask → Type 0
+IsAsleepAfter p prefix mask =
+    IsUnder Reduced p prefix (record { program = p; prefix = prefix; mask = mask })
