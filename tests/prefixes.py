@@ -6,8 +6,8 @@ Usage: tests/prefixes.py BINARY [--programs N] [--seed S]
 Guests are those of examples/, examples/real/ and tests/explain/, and N made at random (100). They are run here by the
 interpreter of tests/simulator.py, which shares no code with the program; who sleeps is worked out here.
 
-- Each complete schedule begins with exactly one line, and with `--unbounded` each that sleep sets leave: all of them where
-  there are few, else some drawn at random.
+- Each complete schedule begins with exactly one line, and with `--unbounded` each that sleep sets leave: all of them
+  where there are few, else some drawn at random.
 - The lines rise; each runs; each is as long as the longest, or a complete schedule; there are as many as asked for, or
   all are complete; and one step shorter there are fewer.
 - Words that ask for nothing are refused, a text is read from standard input, too, and a cover that lacks a line, or has

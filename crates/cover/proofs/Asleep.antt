@@ -201,5 +201,6 @@ taken_asleep p w k s m t h inside is asleep =
         subst (λ L. In L v) (sym h.asleep.own)
         (in_filter (begins_with (take k w)) all v n short) in
         let never : true ≡ false =
-        none_kept i t v h.asleep.below.item (subst (IsOf p) h.state h.of) enabled asleep kept step in
+        none_kept i t v h.asleep.below.item (subst (IsOf p) h.state h.of) enabled asleep kept
+        step in
         absurd (cc)

@@ -112,7 +112,8 @@ steps_parted (Bounded bound) i =
     subst (λ L. IsPermutation L (longer mode i))
     (map-append (child_of mode i) (kept_steps mode i) (past_steps mode i))
     (IsPermutation-map (child_of mode i) _ _
-    (subst (IsPermutation (kept_steps mode i ++ past_steps mode i)) (sym (filter_all (next_steps i)))
+    (subst (IsPermutation (kept_steps mode i ++ past_steps mode i))
+    (sym (filter_all (next_steps i)))
     (IsPermutation-sym _ _ (IsPermutation-filter_both (is_kept_step mode i) (is_past_step mode i)
     (past_is bound i) (next_steps i)))))
   where
@@ -170,8 +171,9 @@ none_below i (r ∷ rs) w b off =
         absurd (cc)
     go false e rest = omega (arith, rest)
 
-pub has_further : (mode : Mode) (item i d : ItemView) → IsBelow i d → HasItsOf mode item i → HasItsOf mode i d →
-    HasItsOf mode item d
+-- one below an item of an item
+pub has_further : (mode : Mode) (item i d : ItemView) → IsBelow i d → HasItsOf mode item i →
+    HasItsOf mode i d → HasItsOf mode item d
 has_further mode item i d b own part =
     part ∙ (ap (filter (begins_with d.prefix)) own
     ∙ filter_longer (begins_with i.prefix) (begins_with d.prefix) (schedules_of mode item)
@@ -304,7 +306,8 @@ cover_sum mode item items h =
 pub past_sum : (i : ItemView) (bound : ℕ) → IsItem i → bound < preemptions i.program i.prefix →
     item_sum (Bounded bound) i ≡ with_beyond nothing true
 past_sum i bound h past =
-    (λ k. with_beyond (sum_of i.program (past_none i bound h past k)) (past_beyond i bound h past k))
+    (λ k. with_beyond (sum_of i.program (past_none i bound h past k))
+    (past_beyond i bound h past k))
     ∙ ap (λ (t : SummaryView). with_beyond t true) (sum_of_none i.program)
 
 -- what each of a program's schedules begins with

@@ -1,5 +1,5 @@
--- What the prefixes of a length are: whatever the bound, schedules cut short; where all are complete,
--- all schedules; and they rise.
+-- What the prefixes of a length are: whatever the bound, schedules cut short; where all are
+-- complete, all schedules; and they rise.
 use Rattle.std.proofs.Common.{◌≡◌, inl, inr, ℕ, zero, suc, ◌<◌, ◌≤◌, Bool, true, false}
 use Rattle.std.proofs.Common.{cond, ◌&&◌, List, [], ◌∷◌, ◌++◌, length, map, refl, ap, ◌∙◌, sym}
 use Rattle.std.proofs.Common.{subst, arith}
@@ -258,7 +258,8 @@ steps_apart mode i test first (suc n) = go (test first) (steps_apart mode i test
     rest : List ℕ
     rest = filter test (up_from (suc first) n)
 
-    later : (r : ItemView) → In (children_of mode i rest) r → Parts (i.prefix ++ first ∷ []) r.prefix
+    later : (r : ItemView) → In (children_of mode i rest) r →
+        Parts (i.prefix ++ first ∷ []) r.prefix
     later r m =
         let from = from_map (child_of mode i) rest r m in
         let low = from_up (suc first) n from.0

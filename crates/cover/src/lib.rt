@@ -4,8 +4,8 @@
 //!
 //! - [`prefixes`] answers the prefixes of the least length at which there are as many as asked for,
 //!   and [`prefix_lines`] prints them.
-//! - [`item_under`] answers the item of the schedules that begin with a prefix, with who sleeps after
-//!   it where schedules are pruned.
+//! - [`item_under`] answers the item of the schedules that begin with a prefix: pruned, with who
+//!   sleeps after it.
 //! - [`laws`] says what a cover is good for, and that the prefixes of a length are one.
 //!
 //! `specs/` has the definitions. Nothing is searched here: that does the crate `walk`.

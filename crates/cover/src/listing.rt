@@ -19,8 +19,8 @@ use std::sync::Arc;
 
 /// The prefixes, rising, of the least length at which there are at least so many; a complete
 /// schedule that is shorter stands for itself. Where there are never so many they are all complete
-/// schedules. With a bound there are those past it, too: the bound makes no difference. Pruned there
-/// are those that sleep sets enter, with the threads that sleep after them.
+/// schedules. With a bound there are those past it, too: the bound makes no difference. Pruned
+/// there are those that sleep sets enter, with the threads that sleep after them.
 ///
 /// Beside the list it holds that of the prefixes one step shorter, and one state.
 ///

@@ -39,7 +39,7 @@ where
     }
 }
 
-// The lines of the prefixes of the program that a text spells, or what is wrong first with the text.
+// The lines of the prefixes of the program that a text spells, or what is wrong first with it.
 fn prefixes_text(
     alloc: Global,
     text: &[u8],
