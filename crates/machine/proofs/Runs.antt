@@ -24,7 +24,7 @@ use Rattle.semantics.proofs.WorkFalls.{enabled_below}
 use Rattle.schedules.specs.Schedules.{state_after}
 use Rattle.schedules.proofs.UnfoldingUnderPrefix.{state_after-push}
 use Rattle.machine.specs.declared.control.Control.{Control}
-use Rattle.machine.specs.declared.control.Run.{Run}
+use Rattle.machine.specs.declared.machine.Run.{Run}
 use Rattle.machine.specs.declared.control.steps.Moving.{Moving}
 use Rattle.machine.specs.Refinement.{HasObjects, HasThreadAt, IsControl}
 use Rattle.machine.specs.inner.LocalRuns.{narrow}

@@ -15,7 +15,7 @@ use Rattle.machine.specs.declared.control.Control.{Control}
 use Rattle.machine.specs.Refinement.{IsState, AreQueues, queued, locals_at}
 use Rattle.machine.specs.inner.Steps.{AreShared, HasShared, IsReadyIn}
 use Rattle.machine.specs.inner.Runs.{run_to, IsRunTo}
-use Rattle.machine.specs.declared.control.Run.{Run}
+use Rattle.machine.specs.declared.machine.Run.{Run}
 
 -- thread t's part is in the list
 pub chunk_inside : (t n w L : ℕ) → t < n → L ≡ n * w → t * w + w ≤ L

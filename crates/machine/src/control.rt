@@ -48,17 +48,6 @@ pub struct Control {
     pub(crate) lengths: [u8; OBJECTS],
 }
 
-/// What a run of a thread came to.
-#[derive(Clone, Copy, Debug)]
-pub struct Run {
-    /// How many steps were taken, at least one.
-    pub steps: u32,
-    /// The threads that were enabled after each step but the last.
-    pub among: Mask,
-    /// The threads that are enabled now.
-    pub enabled: Mask,
-}
-
 /// In place of the owner of a mutex that is free.
 pub(crate) const FREE: u8 = 255;
 

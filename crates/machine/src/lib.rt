@@ -26,5 +26,5 @@ mod control;
 mod machine;
 mod touch;
 
-pub use crate::control::{Control, Run};
-pub use crate::machine::{Machine, Shape};
+pub use crate::control::Control;
+pub use crate::machine::{Machine, Run, Shape};

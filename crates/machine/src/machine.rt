@@ -14,7 +14,7 @@ ghost use Rattle.machine.specs.Touches.{touch_of, AreBefore};
 ghost use Rattle.machine.specs.Refinement.{Shows};
 ghost use Rattle.machine.specs.inner.Opening.{IsOpening};
 
-use crate::control::{Control, Run};
+use crate::control::Control;
 use crate::touch::{Touch, Touches};
 use guest_code::limits::{LOCALS, OBJECTS, THREADS, VARIABLES};
 use guest_code::program::Program;
@@ -49,6 +49,17 @@ pub struct Shape {
     pub(crate) width: usize,
     /// What each step touches.
     pub(crate) touches: Touches,
+}
+
+/// What a run of a thread came to.
+#[derive(Clone, Copy, Debug)]
+pub struct Run {
+    /// How many steps were taken, at least one.
+    pub steps: u32,
+    /// The threads that were enabled after each step but the last.
+    pub among: Mask,
+    /// The threads that are enabled now.
+    pub enabled: Mask,
 }
 
 // The most locals that a thread has.

@@ -7,7 +7,7 @@ use Rattle.semantics.specs.Mask.{has, HasEnabled}
 use Rattle.semantics.specs.Reachable.{IsOf}
 use Rattle.schedules.specs.Schedules.{state_after}
 use Rattle.machine.specs.declared.control.Control.{Control}
-use Rattle.machine.specs.declared.control.Run.{Run}
+use Rattle.machine.specs.declared.machine.Run.{Run}
 use Rattle.machine.specs.declared.control.steps.Moving.{Moving}
 use Rattle.machine.specs.Refinement.{IsControl}
 use Rattle.machine.specs.inner.Steps.{HasShared, IsPassed}

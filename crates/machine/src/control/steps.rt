@@ -18,8 +18,8 @@ ghost use Rattle.semantics.specs.Turns.{IsAccessBelow};
 ghost use Rattle.machine.specs.inner.Steps.{HasShared, IsPoised, IsPerformed, IsPassed, IsStepped, IsReadyIn, Faces, place_after};
 ghost use Rattle.machine.specs.inner.Runs.{IsGoing, IsRunTo};
 
-use crate::control::{Control, FREE, Run};
-use crate::machine::Shape;
+use crate::control::{Control, FREE};
+use crate::machine::{Run, Shape};
 use guest_code::limits::{COUNT, OBJECTS, THREADS};
 use guest_code::program::{Instruction, Program};
 use semantics::mask::Mask;
