@@ -462,7 +462,8 @@ impl Control {
         alone: bool,
         shape: &Shape,
     ) -> Run
-        requires { (s : Snapshot) × IsState program.now shape.now.fixed shape.now.width self.old values.old s
+        requires { (s : Snapshot)
+            × IsState program.now shape.now.fixed shape.now.width self.old values.old s
             × (is_enabled program.now s thread ≡ true) }
         ensures shows { (s : Snapshot)
             → IsState program.now shape.now.fixed shape.now.width self.old values.old s
