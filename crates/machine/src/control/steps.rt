@@ -65,7 +65,7 @@ fn ends(steps: u32, among: Mask, enabled: Mask) -> bool
 }
 
 // The cell that has the queue of a condition.
-fn queue_of(program: &Program, condition: usize) -> usize
+fn queue(program: &Program, condition: usize) -> usize
     requires { condition < OBJECTS }
     ensures { result ≡ length program.now.variables + condition }
 {
@@ -227,17 +227,12 @@ impl Control {
             }
             Instruction::Release(k) => self.release_if_room(thread, *k),
             Instruction::Wait { condition, mutex } => {
-                let queue = queue_of(program, *condition);
-                self.begin_wait(&mut shared[queue], thread, *condition, *mutex)
+                let cell = queue(program, *condition);
+                self.begin_wait(&mut shared[cell], thread, *condition, *mutex)
             }
-            Instruction::Signal(c) => self.signal(
-                program,
-                shared[queue_of(program, *c)],
-                thread,
-                *c,
-            ),
+            Instruction::Signal(c) => self.signal(program, shared[queue(program, *c)], thread, *c),
             Instruction::Broadcast(c) => {
-                self.broadcast(program, shared[queue_of(program, *c)], thread, *c)
+                self.broadcast(program, shared[queue(program, *c)], thread, *c)
             }
             _ => Status::Running,
         }
