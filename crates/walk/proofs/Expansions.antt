@@ -298,12 +298,6 @@ pub next_is : {b : Found} (mode : Mode) (i : ItemView) (t : Path) (f : Found) (u
 next_is {b} mode i t f u on is e =
     subst (λ (x : Bool). IsSearch b mode i t f (open_next mode i.program t u x)) e
 
-pub next_enabled : {b : Found} (mode : Mode) (i : ItemView) (t : Path) (f : Found) (u : ℕ)
-    (on : Bool) → on ≡ true → IsSearch b mode i t f (open_next mode i.program t u on)
-    → is_enabled i.program (state_at i.program t.steps.items) u ≡ true
-next_enabled mode i t f u on e h =
-    search_enabled mode i t f u (left_above mode i.program t) (next_is mode i t f u on true e h)
-
 -- how far there is to go where the step of an enabled thread is the next one
 pub below_turns : (mode : Mode) (p : Program) (old new : Path) (u : ℕ) → IsTurned old new
     → is_enabled p (state_at p old.steps.items) u ≡ true

@@ -29,11 +29,6 @@ use Rattle.walk.specs.inner.Paths.{IsPath, IsCopy, AreCopies, frame_at, no_frame
 use Rattle.walk.specs.inner.WalkerInvariant.{open_at, open_from, left_above, still_open, here}
 use Rattle.items.specs.Children.{children_of}
 
-take_front : {A : Type 0} (n : ℕ) (xs ys : List A) → n ≤ length xs → take n (xs ++ ys) ≡ take n xs
-take_front zero xs ys l = refl
-take_front (suc n) [] ys l = absurd (omega arith)
-take_front (suc n) (x ∷ xs) ys l = ap (λ zs. x ∷ zs) (take_front n xs ys (omega arith))
-
 -- the words
 
 pub chunk_same : (size k n : ℕ) (new old : List ℤ) → k < n
@@ -69,13 +64,6 @@ open_same mode p v w gs fs base (suc n) same takes = (λ i. head i
         ∙ ap (λ u. open_at mode p u (frame_at fs (base + n)).node) (takes (base + n) (omega arith))
 
 -- steps
-
--- a list that goes on from another has its front
-pub front_more : {A : Type 0} (u v w : List A) (x : A) → take (length u) v ≡ u → w ≡ v ++ x ∷ []
-    → take (length u) w ≡ u
-front_more u v w x front more =
-    ap (take (length u)) more ∙ (take_front (length u) v (x ∷ [])
-    (let e = ap length front in let m = length-take (length u) v in omega (arith, e, m)) ∙ front)
 
 pub front_of : {A : Type 0} (u v : List A) (k : ℕ) → take (length u) v ≡ u → k ≤ length u
     → take k v ≡ take k u

@@ -1,6 +1,6 @@
 -- What a turn does to the walk of an item: the first open item gives way to its children, or is
 -- tried.
-use Rattle.std.proofs.Common.{◌≡◌, ℕ, ◌≤◌, Bool, true, false, ◌||◌, List, [], ◌∷◌, ◌++◌, ap, ◌∙◌}
+use Rattle.std.proofs.Common.{◌≡◌, ℕ, Bool, true, false, ◌||◌, List, [], ◌∷◌, ◌++◌, ap, ◌∙◌}
 use Rattle.std.proofs.Common.{sym, subst}
 use Rattle.std.proofs.lemmas.List.{append-nil}
 use Rattle.std.proofs.lemmas.List.Elements.{All-head}
@@ -9,13 +9,11 @@ use Rattle.semantics.specs.Reachable.{IsOf}
 use Rattle.semantics.specs.Machine.{Snapshot}
 use Rattle.semantics.specs.Ends.{is_terminal, is_empty, enabled}
 use Rattle.schedules.specs.Order.{end_of}
-use Rattle.schedules.specs.Schedules.{preemptions}
 use Rattle.items.specs.declared.mode.Mode.{Mode}
-use Rattle.items.specs.declared.mode.Mode.TheVariants.{Bounded, Reduced}
 use Rattle.summary.specs.Summaries.{SummaryView, IsSummary, nothing, sum_of, join, with_beyond}
 use Rattle.summary.specs.Summaries.{added}
 use Rattle.items.specs.Items.{ItemView, IsItem}
-use Rattle.items.specs.Walks.{WalkView, IsWalked, IsBelow, IsCut}
+use Rattle.items.specs.Walks.{WalkView, IsWalked, IsBelow}
 use Rattle.items.specs.Children.{state_of, IsWithin, passes_bound, children, past_children}
 use Rattle.walk.specs.declared.found.Found.{Found}
 use Rattle.items.specs.Walks.{items_at}
