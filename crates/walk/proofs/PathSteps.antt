@@ -14,7 +14,7 @@ use Rattle.guest_code.specs.Program.{Program}
 use Rattle.semantics.specs.declared.mask.Mask.{Mask}
 use Rattle.machine.specs.declared.machine.Machine.{Machine}
 use Rattle.machine.specs.declared.machine.Shape.{Shape}
-use Rattle.semantics.specs.Machine.{Snapshot, start, step}
+use Rattle.semantics.specs.Machine.{Snapshot}
 use Rattle.semantics.specs.Mask.{HasEnabled, members_from}
 use Rattle.machine.specs.Refinement.{Shows, IsShown}
 use Rattle.schedules.specs.Schedules.{preempts}
