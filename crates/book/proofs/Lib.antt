@@ -13,3 +13,5 @@ pub mod Rounds
 pub mod Gathered
 pub mod Kept
 pub mod InOrder
+pub mod LendingFields
+pub mod Lent

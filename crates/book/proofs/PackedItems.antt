@@ -4,7 +4,7 @@ use Rattle.std.specs.List.{All}
 use Rattle.std.proofs.lemmas.List.Elements.{All-nil, All-cons, All-append, All-head, All-tail, All-weaker}
 use Rattle.std.proofs.Math.Seq.{take-suc}
 use Rattle.std.proofs.lemmas.Bool.{cases_lt}
-use Rattle.std.proofs.lemmas.List.{reverse-append, take_all, drop_at, drop_all, drop-drop, drop-append-le, length-map, take-append-drop, get_or-take}
+use Rattle.std.proofs.lemmas.List.{reverse-append, drop-map, take_all, drop_at, drop_all, drop-drop, drop-append-le, length-map, take-append-drop, get_or-take}
 use Rattle.guest_code.specs.Program.{Program}
 use Rattle.semantics.specs.Mask.{no_threads}
 use Rattle.items.specs.Items.{ItemView, AreOf, IsItem, item_at}
@@ -12,52 +12,7 @@ use Rattle.prefix_list.specs.PrefixLists.{last_of}
 use Rattle.items.specs.Walks.{IsBelow, items_at}
 use Rattle.items.proofs.ListParts.{all_left, all_right}
 use Rattle.book.specs.ItemLists.{ListView, all_of}
-
-pub got : (r : List (List ℕ)) (k : ℕ) (w : List ℕ) → slice_get r k ≡ Some w → get_or r k [] ≡ w
-got [] k w e = cc
-got (x ∷ xs) zero w e = cc
-got (x ∷ xs) (suc k) w e = got xs k w e
-
-last_apart : (r : List (List ℕ)) → 0 < length r → r ≡ take (length r - 1) r ++ last_of r ∷ []
-last_apart r some =
-    let e : length r ≡ suc (length r - 1) = omega (arith, some) in
-    sym (take_all (length r) r (omega arith))
-    ∙ (ap (λ n. take n r) e ∙ take-suc r (length r - 1) [] (omega (arith, some)))
-
-items_of_both : (p : Program) (xs ys : List (List ℕ)) →
-    items_at p (xs ++ ys) ≡ items_at p xs ++ items_at p ys
-items_of_both p [] ys = refl
-items_of_both p (x ∷ xs) ys = ap (λ is. item_at p x ∷ is) (items_of_both p xs ys)
-
-last_runs : (p : Program) (r : List (List ℕ)) → 0 < length r → All IsItem (items_at p r) →
-    IsItem (item_at p (last_of r))
-last_runs p r some h =
-    All-head IsItem (item_at p (last_of r)) []
-    (all_right IsItem (items_at p (take (length r - 1) r)) (item_at p (last_of r) ∷ [])
-    (subst (All IsItem)
-    (ap (items_at p) (last_apart r some)
-    ∙ items_of_both p (take (length r - 1) r) (last_of r ∷ []))
-    h))
-
--- the item of an equal program and of a prefix that is the last of these
-pub last_is : (p q : Program) (r : List (List ℕ)) (w : List ℕ) → q ≡ p →
-    Some w ≡ slice_get r (length r - 1) → item_at q w ≡ item_at p (last_of r)
-last_is p q r w same e = λ k. item_at (same k) (sym (got r (length r - 1) w (sym e)) k)
-
-has_last : (r : List (List ℕ)) (w : List ℕ) → Some w ≡ slice_get r (length r - 1) → 0 < length r
-has_last [] w e = cc
-has_last (x ∷ r) w e = omega arith
-
-pub last_item_runs : {p q : Program} {w : List ℕ} (r : List (List ℕ)) → q ≡ p →
-    Some w ≡ slice_get r (length r - 1) → All IsItem (items_at p r) → IsItem (item_at q w)
-last_item_runs {p} {q} {w} r same e h =
-    subst IsItem (sym (last_is p q r w same e)) (last_runs p r (has_last r w e) h)
-
-pub last_item_made : {p q : Program} {w : List ℕ} {X : Type 0} (r : List (List ℕ))
-    (made : Result ItemView X) → q ≡ p → Some w ≡ slice_get r (length r - 1) →
-    IfOk made (λ i. i ≡ item_at q w) → IfOk made (λ i. i ≡ item_at p (last_of r))
-last_item_made {p} {q} {w} r made same e is =
-    subst (λ (x : ItemView). IfOk made (λ i. i ≡ x)) (last_is p q r w same e) is
+use Rattle.packed_items.proofs.LastItems.{items_of_both}
 
 -- items that lie under another run
 pub below_run : (above : ItemView) (items : List ItemView) → All (IsBelow above) items →
@@ -139,6 +94,55 @@ cut-both p (w ∷ ws) unpacked (suc n) =
     let e : suc n - suc (length ws) ≡ n - length ws = omega arith in
     ap (λ is. item_at p w ∷ is)
     (ap (λ m. items_at p (take n ws) ++ take m unpacked) e ∙ cut-both p ws unpacked n)
+
+-- a list without its last items, and these, where they aren't packed
+pub kept_unpacked : (p : Program) (l : ListView) (most : ℕ) → most ≤ length l.unpacked →
+    items_at p l.packed ++ take (length l.unpacked - most) l.unpacked
+    ≡ take (length (all_of p l) - most) (all_of p l)
+kept_unpacked p l most h =
+    let n = length-all p l in
+    let m : ℕ = length (all_of p l) - most in
+    let e : length l.unpacked - most ≡ m - length l.packed = omega (arith, n, h) in
+    ap (λ i. items_at p l.packed ++ take i l.unpacked) e
+    ∙ (sym (ap (λ ws. items_at p ws ++ take (m - length l.packed) l.unpacked)
+    (take_all m l.packed (omega (arith, n, h)))) ∙ cut-both p l.packed l.unpacked m)
+
+pub moved_unpacked : (p : Program) (l : ListView) (most : ℕ) → most ≤ length l.unpacked →
+    drop (length l.unpacked - most) l.unpacked
+    ≡ drop (length (all_of p l) - most) (all_of p l)
+moved_unpacked p l most h =
+    let packed : List ItemView = items_at p l.packed in
+    let n = length-append packed l.unpacked in
+    let e : length packed + (length l.unpacked - most) ≡ length (all_of p l) - most =
+    omega (arith, n, h) in
+    sym (ap (drop (length l.unpacked - most)) (drop_at packed l.unpacked (length packed) refl))
+    ∙ (drop-drop (length l.unpacked - most) (length packed) (all_of p l)
+    ∙ ap (λ i. drop i (all_of p l)) e)
+
+-- and where some are packed, and all that aren't are among them
+pub kept_packed : (p : Program) (l : ListView) (most : ℕ) → length l.unpacked ≤ most →
+    items_at p (take (length l.packed - (most - length l.unpacked)) l.packed) ++ []
+    ≡ take (length (all_of p l) - most) (all_of p l)
+kept_packed p l most h =
+    let n = length-all p l in
+    let m : ℕ = length (all_of p l) - most in
+    let e : length l.packed - (most - length l.unpacked) ≡ m = omega (arith, n, h) in
+    let none : 0 ≡ m - length l.packed = omega (arith, n, h) in
+    (λ k. items_at p (take (e k) l.packed) ++ take (none k) l.unpacked)
+    ∙ cut-both p l.packed l.unpacked m
+
+pub moved_packed : (p : Program) (l : ListView) (most : ℕ) → length l.unpacked ≤ most →
+    items_at p (drop (length l.packed - (most - length l.unpacked)) l.packed) ++ l.unpacked
+    ≡ drop (length (all_of p l) - most) (all_of p l)
+moved_packed p l most h =
+    let n = length-all p l in
+    let packed : List ItemView = items_at p l.packed in
+    let m = length-map l.packed (item_at p) in
+    let j : ℕ = length l.packed - (most - length l.unpacked) in
+    let e : j ≡ length (all_of p l) - most = omega (arith, n, h) in
+    ap (λ is. is ++ l.unpacked) (sym (drop-map (item_at p) j l.packed))
+    ∙ (sym (drop-append-le j packed l.unpacked (omega (arith, m)))
+    ∙ ap (λ i. drop i (all_of p l)) e)
 
 pub got-or : {X : Type 0} (xs : List X) (k : ℕ) (d : X) → k < length xs →
     slice_get xs k ≡ Some (get_or xs k d)

@@ -82,7 +82,7 @@ at_end first place end start most over =
     let m = most (omega (arith, start)) in omega (arith, m, over)
 
 -- the items from a place on stand there one after another, each at that place without those before
-open_from : (whole front ys : List ItemView) (n k first : ℕ) → k ≡ length whole →
+pub open_from : (whole front ys : List ItemView) (n k first : ℕ) → k ≡ length whole →
     first ≡ length front → n ≤ length ys →
     AreOpenAt (front ++ ys) (whole ++ ys) (places_from k n) (replicate n first)
 open_from whole front ys zero k first e f few = tt

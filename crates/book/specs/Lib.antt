@@ -1,5 +1,6 @@
 pub mod ItemLists
 pub mod Quick
 pub mod Books
+pub mod Lending
 pub mod Progress
 pub mod ErrorTexts

@@ -38,19 +38,19 @@ use walk::walker::Walker;
 /// the bound puts off: the type keeps that there is such a list.
 #[derive(Drop)]
 pub struct Book {
-    program: Arc<Program>,
-    mode: Mode,
-    finished: Summary,
-    open_items: ItemList,
-    deferred: ItemList,
+    pub(crate) program: Arc<Program>,
+    pub(crate) mode: Mode,
+    pub(crate) finished: Summary,
+    pub(crate) open_items: ItemList,
+    pub(crate) deferred: ItemList,
     // Whether what the bound puts off is listed.
-    lists: bool,
-    quick: bool,
-    dropped: bool,
+    pub(crate) lists: bool,
+    pub(crate) quick: bool,
+    pub(crate) dropped: bool,
     // Nothing that is open is to be dropped.
-    swept: bool,
+    pub(crate) swept: bool,
     // Where end views were found in the finished summary, for the next look-up.
-    hints: Box<EndHints>,
+    pub(crate) hints: Box<EndHints>,
 }
 
 impl Model for Book {
@@ -497,7 +497,7 @@ impl Book {
 }
 
 // The prefixes, where they are listed, or none.
-fn listed_of<'a>(lists: bool, prefixes: &'a Prefixes, none: &'a Prefixes) -> &'a Prefixes
+pub(crate) fn listed_of<'a>(lists: bool, prefixes: &'a Prefixes, none: &'a Prefixes) -> &'a Prefixes
     requires { none.now ≡ [] }
     ensures { result.now ≡ listed_if lists prefixes.now }
 {
@@ -531,7 +531,7 @@ fn next_mode(mode: Mode) -> Option<Mode>
 
 // Whether a book packs prefixes after a walk: not where a quick one has found a bad schedule, since
 // it drops items in place.
-fn is_packed(quick: bool, finished: &Summary, part: &Summary) -> bool
+pub(crate) fn is_packed(quick: bool, finished: &Summary, part: &Summary) -> bool
     ensures { IsTrue result → quick ≡ true →
         (finished.now.first_bad ≡ None) × (part.now.first_bad ≡ None) }
 {
@@ -539,7 +539,7 @@ fn is_packed(quick: bool, finished: &Summary, part: &Summary) -> bool
 }
 
 // The place from which on items are not packed: this one, where any are packed at all.
-fn first_unpacked(packs: bool, place: usize) -> usize
+pub(crate) fn first_unpacked(packs: bool, place: usize) -> usize
     ensures place { result ≤ place }
     ensures none { packs ≡ false → result ≡ 0 }
 {

@@ -11,9 +11,9 @@ ghost use Rattle.std.specs.List.{remove_range};
 ghost use Rattle.book.specs.Books.{remove_each, AreWithin, AreOpenAt, StandInOrder};
 
 use crate::limits::ROUND;
-use crate::packed::{last_item, last_items, last_packed};
 use guest_code::program::Program;
 use items::item::{Item, same_masks};
+use packed_items::{last_item, last_items, last_packed};
 use prefix_list::Prefixes;
 use semantics::mask::Mask;
 use std::alloc::{AllocError, Global};
@@ -360,6 +360,111 @@ impl ItemList {
         Ok(())
     }
 
+    // Puts the items of another list after the others, none of them packed.
+    //
+    // # Errors
+    //
+    // `AllocError` where memory runs out; both lists have what they had then.
+    pub(crate) fn append_list(
+        &mut self,
+        alloc: Global,
+        program: &Arc<Program>,
+        other: &mut ItemList,
+    ) -> Result<(), AllocError>
+        requires { All IsItem (items_at (arc_value program.now) other.old.packed) }
+        ensures all { OnOk result (all_of (arc_value program.now) self.new ≡
+            all_of (arc_value program.now) self.old ++ all_of (arc_value program.now) other.old) }
+        ensures packed { self.new.packed ≡ self.old.packed }
+    {
+        other.unpack_from(alloc, program, 0)?;
+        self.make_room(other.unpacked.len())?;
+        let _ = self.unpacked.append(&mut other.unpacked);
+        Ok(())
+    }
+
+    // Moves the last items, at most `most` of them, into another list, in place of what that one
+    // has.
+    //
+    // # Errors
+    //
+    // `AllocError` where memory runs out; this list is then as before, and the other one is empty.
+    pub(crate) fn split_last(&mut self, most: usize, other: &mut ItemList) -> Result<(), AllocError>
+        ensures kept { (p : Program) → all_of p self.new ≡ (if is_ok result
+            then take (length (all_of p self.old) - most) (all_of p self.old)
+            else all_of p self.old) }
+        ensures moved { (p : Program) → all_of p other.new ≡ (if is_ok result
+            then drop (length (all_of p self.old) - most) (all_of p self.old) else []) }
+    {
+        other.clear();
+        self.hint = 0;
+        let unpacked = self.unpacked.len();
+        if most <= unpacked {
+            other.unpacked = self.unpacked.split_off(unpacked - most)?;
+            return Ok(());
+        }
+        self.packed.split_last(most - unpacked, &mut other.packed)?;
+        mem::swap(&mut self.unpacked, &mut other.unpacked);
+        Ok(())
+    }
+
+    // Becomes an equal list, in the memory that it has.
+    //
+    // # Errors
+    //
+    // `AllocError` where memory runs out; it has some items of the other list then.
+    pub(crate) fn copy_from(&mut self, alloc: Global, other: &ItemList) -> Result<(), AllocError>
+        ensures packed { OnOk result (self.new.packed ≡ other.now.packed) }
+        ensures unpacked { OnOk result (self.new.unpacked ≡ other.now.unpacked) }
+    {
+        self.clear();
+        self.packed.copy_from(&other.packed)?;
+        for place in 0..other.unpacked.len() {
+            self.unpacked
+                .push_back(other.unpacked[place].try_clone(alloc)?)?;
+        }
+        Ok(())
+    }
+
+    // Whether another list has the same items, of this program. Mostly the bytes tell.
+    //
+    // # Errors
+    //
+    // `AllocError` where memory runs out.
+    pub(crate) fn is_same(
+        &self,
+        alloc: Global,
+        program: &Arc<Program>,
+        other: &ItemList,
+    ) -> Result<bool, AllocError>
+        requires run { All IsItem (items_at (arc_value program.now) self.now.packed) }
+        requires unpacked { AreOf (arc_value program.now) self.now.unpacked }
+        requires other_runs { All IsItem (items_at (arc_value program.now) other.now.packed) }
+        requires other_unpacked { AreOf (arc_value program.now) other.now.unpacked }
+        ensures { IfOk result (λ same. IsTrue same ↔
+            (all_of (arc_value program.now) self.now ≡ all_of (arc_value program.now) other.now)) }
+    {
+        if self.packed.has_same_bytes(&other.packed)
+            && same_items(&self.unpacked, &other.unpacked)
+        {
+            return Ok(true);
+        }
+        let mut items = Vec::new(alloc);
+        self.copy_last(alloc, program, self.length(), &mut items)?;
+        let mut others = Vec::new(alloc);
+        other.copy_last(alloc, program, other.length(), &mut others)?;
+        Ok(same_items(&VecDeque::from_vec(items), &VecDeque::from_vec(others)))
+    }
+
+    // Takes all items out.
+    pub(crate) fn clear(&mut self)
+        ensures packed { self.new.packed ≡ [] }
+        ensures unpacked { self.new.unpacked ≡ [] }
+    {
+        self.packed.clear();
+        self.unpacked.clear();
+        self.hint = 0;
+    }
+
     // Keeps the first items, at most `length` of them.
     pub(crate) fn truncate(&mut self, length: usize)
         ensures items { (p : Program) → all_of p self.new ≡ take length (all_of p self.old) }
@@ -442,6 +547,22 @@ fn is_at(items: &VecDeque<Item>, place: usize, item: &Item) -> bool
 {
     let other = &items[place];
     same_steps(other.prefix(), item.prefix()) && same_masks(other.mask(), item.mask())
+}
+
+// Whether two lists of items of one program are the same. Their programs aren't compared.
+fn same_items(first: &VecDeque<Item>, second: &VecDeque<Item>) -> bool
+    requires { (p : Program) × AreOf p first.now.items × AreOf p second.now.items }
+    ensures { IsTrue result ↔ (first.now.items ≡ second.now.items) }
+{
+    if first.len() != second.len() {
+        return false;
+    }
+    for place in 0..first.len() {
+        if !is_at(first, place, &second[place]) {
+            return false;
+        }
+    }
+    true
 }
 
 // Whether the steps are the same.

@@ -6,17 +6,19 @@
 //!   not tried, and that no schedule lies under two items.
 //! - [`books::Book::settle`] takes a walk of an open item, [`books::Book::raise`] goes to the next
 //!   bound, [`books::Book::closed`] answers the summary where nothing is left to walk.
+//! - A [`lending::LendingBook`] lends open items to workers, each of which has a [`loan::Loan`]: they
+//!   walk these in rounds of their own, without the book.
 //! - [`progress::Progress`] is how far the search is that has a book.
 //! - A quick book may drop open items that can't hold the first bad schedule; what it finds is
 //!   bounded by the program's summary, and has the same first bad schedule.
 //!
-//! [`laws`] says what a book's type means for the schedules of its program.
+//! The crate `book_laws` says what a book's type means for the schedules of its program.
 #![tactic(auto)]
 
 pub mod books;
 pub mod errors;
 mod item_list;
-pub mod laws;
+pub mod lending;
 pub mod limits;
-mod packed;
+pub mod loan;
 pub mod progress;

@@ -1,4 +1,5 @@
 pub mod CommonSteps
 pub mod WayBytes
 pub mod PackedPrefixes
+pub mod GoingBack
 pub mod ListFields

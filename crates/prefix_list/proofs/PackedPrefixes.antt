@@ -40,7 +40,7 @@ listed_push n b t d last next fits short leads =
       leads,
     ) refl
 
-more_room : (ws : List Way) (last : List ℕ) (l m : ℕ) → AreWays ws last l → l ≤ m
+pub more_room : (ws : List Way) (last : List ℕ) (l m : ℕ) → AreWays ws last l → l ≤ m
     → AreWays ws last m
 unfolding AreWays
 more_room [] last l m a le = omega arith
@@ -51,7 +51,7 @@ more_room (w ∷ ws) last l m a le = (
   more_room ws (back w last) l m a.3 le,
 )
 
-last_short : (ws : List Way) (last : List ℕ) (l : ℕ) → AreWays ws last l → length last ≤ l
+pub last_short : (ws : List Way) (last : List ℕ) (l : ℕ) → AreWays ws last l → length last ≤ l
 unfolding AreWays
 last_short [] last l a = a
 last_short (w ∷ ws) last l a = a.2
@@ -135,19 +135,19 @@ pub stack_count : (n : ℕ) (b last first : List ℕ) (l : ℕ) → IsStack n b 
     → n ≤ length b + 1
 stack_count n b last first l s = omega (arith, count_ways s.ways, s.counted, ap length s.spelt)
 
-ways_bytes-append : (us ws : List Way) → ways_bytes (us ++ ws) ≡ ways_bytes ws ++ ways_bytes us
+pub ways_bytes-append : (us ws : List Way) → ways_bytes (us ++ ws) ≡ ways_bytes ws ++ ways_bytes us
 unfolding ways_bytes
 ways_bytes-append [] ws = sym (append-nil (ways_bytes ws))
 ways_bytes-append (u ∷ us) ws = rw (ways_bytes-append us ws)
     (append_assoc (ways_bytes ws) (ways_bytes us) (way_bytes u.0 u.1))
 
-first_by-append : (us ws : List Way) (last : List ℕ)
+pub first_by-append : (us ws : List Way) (last : List ℕ)
     → first_by (us ++ ws) last ≡ first_by ws (first_by us last)
 unfolding first_by
 first_by-append [] ws last = refl
 first_by-append (u ∷ us) ws last = first_by-append us ws (back u last)
 
-AreWays-append : (us ws : List Way) (last : List ℕ) (l : ℕ) → AreWays us last l
+pub AreWays-append : (us ws : List Way) (last : List ℕ) (l : ℕ) → AreWays us last l
     → AreWays ws (first_by us last) l → AreWays (us ++ ws) last l
 unfolding AreWays first_by
 AreWays-append [] ws last l a c = c
@@ -181,7 +181,7 @@ stack_append n k b c last first end start l j m t d s r le je fits fit leads =
           ));
     }
 
-listed_over : (us : List Way) (n : ℕ) (b last : List ℕ) (l : ℕ) (x : List (List ℕ))
+pub listed_over : (us : List Way) (n : ℕ) (b last : List ℕ) (l : ℕ) (x : List (List ℕ))
     → AreWays us last l → listed n (below_of b) (before b (first_by us last)) ≡ x
     → listed (n + length us + 1) (b ++ ways_bytes us) last
     ≡ x ++ listed (length us + 1) (ways_bytes us) last

@@ -1,6 +1,7 @@
 //! The packed list, and a reader of it from the last prefix on.
 
-ghost use Rattle.std.specs.Prelude.{◌≡◌, ℕ, ◌-◌, ◌^◌, ◌<◌, ◌≤◌, ◌==◌, List, [], ◌∷◌, ◌++◌, length, take, is_ok, IfOk, IfSome, IfNone, All, Some, if◌then◌else◌, option_copied, slice_get, vec_capacity};
+ghost use Rattle.std.specs.Prelude.{◌≡◌, ℕ, ◌-◌, ◌^◌, ◌<◌, ◌≤◌, ◌==◌, ◌↔◌, List, [], ◌∷◌, ◌++◌, length, take, drop, is_ok, IfOk, OnOk, IfSome, IfNone, IsTrue, All, Some, if◌then◌else◌, option_copied, slice_get, vec_capacity};
+ghost use Rattle.prefix_list.specs.inner.Packed.{AreWaysOn, WentBack};
 ghost use Rattle.prefix_list.specs.PrefixLists.{last_of};
 
 use crate::bytes::{
@@ -231,6 +232,90 @@ impl Prefixes {
         Ok(())
     }
 
+    /// Moves the last prefixes, at most `count` of them, into another list, in place of what that one
+    /// has. The memory of both lists serves both.
+    ///
+    /// # Errors
+    ///
+    /// `AllocError` where memory runs out; this list is then as before, and the other one is empty.
+    pub fn split_last(&mut self, count: usize, other: &mut Prefixes) -> Result<(), AllocError>
+        ensures kept { self.new ≡ (if is_ok result
+            then take (length self.old - count) self.old else self.old) }
+        ensures moved { other.new ≡ (if is_ok result
+            then drop (length self.old - count) self.old else []) }
+    {
+        if count == 0 {
+            other.clear();
+            return Ok(());
+        }
+        if self.length() <= count {
+            other.clear();
+            mem::swap(self, other);
+            return Ok(());
+        }
+        self.split_some(count, other)
+    }
+
+    // Moves some of the last prefixes, not all, into another list.
+    fn split_some(&mut self, count: usize, other: &mut Prefixes) -> Result<(), AllocError>
+        requires some { 0 < count }
+        requires few { count < length self.old }
+        ensures kept { self.new ≡ (if is_ok result
+            then take (length self.old - count) self.old else self.old) }
+        ensures moved { other.new ≡ (if is_ok result
+            then drop (length self.old - count) self.old else []) }
+    {
+        other.count = 0;
+        other.front = 0;
+        other.last.clear();
+        other.last.reserve(self.last.capacity())?;
+        let _ = other.last.extend_from_slice(self.last.as_slice());
+        let ways = &self.bytes[self.front..];
+        let at = go_back(ways, count - 1, &mut self.last);
+        if let Err(error) = put_first(&mut other.bytes, self.last.as_slice(), &ways[at..]) {
+            self.last.clear();
+            let _ = self.last.extend_from_slice(other.last.as_slice());
+            return Err(error);
+        }
+        other.front = self.last.len();
+        other.count = count;
+        let end = go_back(&ways[..at], 1, &mut self.last);
+        self.bytes.truncate(self.front + end);
+        self.count -= count;
+        Ok(())
+    }
+
+    /// Becomes an equal list, in the memory that it has.
+    ///
+    /// # Errors
+    ///
+    /// `AllocError` where memory runs out; it has no prefix then.
+    pub fn copy_from(&mut self, other: &Prefixes) -> Result<(), AllocError>
+        ensures { self.new ≡ (if is_ok result then other.now else []) }
+    {
+        self.count = 0;
+        self.front = 0;
+        self.bytes.clear();
+        self.bytes.extend_from_slice(other.bytes.as_slice())?;
+        self.last.clear();
+        self.last.reserve(other.last.capacity())?;
+        let _ = self.last.extend_from_slice(other.last.as_slice());
+        self.front = other.front;
+        self.count = other.count;
+        Ok(())
+    }
+
+    /// Whether another list has the same bytes. Then it has the same prefixes; two lists of the same
+    /// prefixes may have other bytes.
+    pub fn has_same_bytes(&self, other: &Prefixes) -> bool
+        ensures { IsTrue result → self.now ≡ other.now }
+    {
+        self.count == other.count
+            && self.front == other.front
+            && same_bytes(self.last.as_slice(), other.last.as_slice())
+            && same_bytes(self.bytes.as_slice(), other.bytes.as_slice())
+    }
+
     /// An equal list.
     ///
     /// # Errors
@@ -265,6 +350,43 @@ impl Prefixes {
             first: &self.bytes[..self.front],
         })
     }
+}
+
+// Goes back from the last prefix by this many ways, and answers where those end that are left.
+fn go_back(ways: &[u8], count: usize, last: &mut Vec<u8>) -> usize
+    requires { AreWaysOn ways.now count last.old.items (vec_capacity last.old) }
+    ensures back { (w : AreWaysOn ways.now count last.old.items (vec_capacity last.old)) →
+        WentBack w.ways ways.now count last.old.items result last.new.items
+        (vec_capacity last.old) }
+    ensures room { vec_capacity last.old ≤ vec_capacity last.new }
+{
+    let mut at = ways.len();
+    for _ in 0..count {
+        let top = top(&ways[..at]);
+        let _ = step_back(&ways[..at], top, last);
+        at = top.start;
+    }
+    at
+}
+
+// Writes a first prefix and the ways back to it in place of some bytes.
+//
+// # Errors
+//
+// `AllocError` where memory runs out.
+fn put_first(bytes: &mut Vec<u8>, first: &[u8], ways: &[u8]) -> Result<(), AllocError>
+    ensures { OnOk result (bytes.new.items ≡ first.now ++ ways.now) }
+{
+    bytes.clear();
+    bytes.extend_from_slice(first)?;
+    bytes.extend_from_slice(ways)
+}
+
+// Whether the bytes are the same.
+fn same_bytes(first: &[u8], second: &[u8]) -> bool
+    ensures { IsTrue result ↔ (first.now ≡ second.now) }
+{
+    first == second
 }
 
 // A copy of a prefix, with room for one of `longest` steps.

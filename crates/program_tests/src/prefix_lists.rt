@@ -1,7 +1,7 @@
 ghost use Rattle.std.specs.Prelude.{◌<◌, length, IfOk};
 
 use prefix_list::{Prefixes, shared_length};
-use std::alloc::{AllocError, Global};
+use std::alloc::{Alloc, AllocError, Global};
 use std::io;
 use std::process::Abort;
 use std::test::*;
@@ -49,6 +49,37 @@ fn copied(alloc: Global) -> Result<Prefixes, AllocError> {
 #[test]
 fn prefixes_are_copied(rt: HostRuntime) -> io::Result<()> {
     ends_in(&rt, &copied(rt.alloc())?, 1, &[0, 3]);
+    Ok(())
+}
+
+/// Moves the last of two prefixes to a list that has another.
+fn split(rt: &(impl Abort + Alloc<A = Global>), list: &mut Prefixes) -> Result<(), AllocError> {
+    let mut other = copied(rt.alloc())?;
+    list.split_last(1, &mut other)?;
+    ends_in(rt, &other, 1, &[0, 2]);
+    Ok(())
+}
+
+#[test]
+fn prefixes_are_split_off(rt: HostRuntime) -> io::Result<()> {
+    let mut list = two(rt.alloc())?;
+    split(&rt, &mut list)?;
+    ends_in(&rt, &list, 1, &[0, 0, 1]);
+    Ok(())
+}
+
+/// Whether a list has the same bytes as a copy of it, and others than a list that it was not copied to.
+fn is_like_its_copy(alloc: Global, list: &Prefixes) -> Result<bool, AllocError> {
+    let mut copy = copied(alloc)?;
+    let other = !list.has_same_bytes(&copy);
+    copy.copy_from(list)?;
+    Ok(other && list.has_same_bytes(&copy))
+}
+
+#[test]
+fn a_copy_has_the_same_bytes(rt: HostRuntime) -> io::Result<()> {
+    let list = two(rt.alloc())?;
+    assert!(rt; is_like_its_copy(rt.alloc(), &list)?);
     Ok(())
 }
 

@@ -1,7 +1,10 @@
-ghost use Rattle.std.specs.Prelude.{◌≤◌};
+ghost use Rattle.std.specs.Prelude.{◌≡◌, ◌≤◌, false};
+ghost use Rattle.std.specs.Arc.{arc_value};
 
 use crate::walks::program_of;
 use book::books::Book;
+use book::lending::LendingBook;
+use book::loan::Loan;
 use guest_code::program::Program;
 use items::item::Item;
 use items::mode::Mode;
@@ -419,4 +422,50 @@ fn check_drops(rt: &(impl Abort + Alloc<A = Global>), book: &mut Book) -> Result
 fn a_quick_book_drops_what_comes_later(rt: HostRuntime) -> Result<(), Fail> {
     let mut book = quick_book(rt.alloc())?;
     check_drops(&rt, &mut book)
+}
+
+/// The items that a worker is lent, at most two, and whether it is lent more then, in one line.
+fn lent(
+    alloc: Global,
+    book: &mut LendingBook,
+    program: &Arc<Program>,
+    worker: usize,
+) -> Result<String, AllocError>
+    requires { book.old.program ≡ arc_value program.now }
+{
+    let (mut loan, mut items) = (Loan::new(alloc), Vec::new(alloc));
+    if book.lend(alloc, worker, 2, &mut loan)? {
+        loan.write_items(alloc, program, &mut items)?;
+    }
+    let mut line = format!(in alloc; "{}", book.lend(alloc, worker, 2, &mut loan)?)?;
+    for item in &items {
+        add_prefix(alloc, &mut line, "lent", item)?;
+    }
+    Ok(line)
+}
+
+/// Lends two of three open items to the second of two workers, and takes them back.
+fn check_lending(rt: &(impl Abort + Alloc<A = Global>), book: Book) -> Result<(), Fail>
+    requires { book.dropped ≡ false }
+{
+    let program = Arc::try_clone(book.program())?;
+    let mut lending = LendingBook::new(rt.alloc(), book, 2)?;
+    let line = lent(rt.alloc(), &mut lending, &program, 1)?;
+    assert_eq!(rt; line.as_str(), "false lent [1] lent [2]");
+    assert_eq!(rt;
+        (lending.free_length(), lending.progress().open_items),
+        (1, 3)
+    );
+    let book = lending.into_book(rt.alloc())?;
+    shows(rt, &book, "1 false open [0, 2] open [1] open [2]")?;
+    Ok(())
+}
+
+#[test]
+fn a_worker_is_lent_what_is_open(rt: HostRuntime) -> Result<(), Fail> {
+    let mut book = book_of(rt.alloc(), WRITERS, FIRST)?;
+    start(rt.alloc(), &mut book)?;
+    let whole = !book.has_dropped();
+    assert!(rt; whole);
+    check_lending(&rt, book)
 }

@@ -87,3 +87,25 @@ pub record IsStack (count : ℕ) (bytes last first : List ℕ) (longest : ℕ) :
 -- a stack, or no schedule
 abbrev pub IsPacked : ℕ → List ℕ → List ℕ → List ℕ → ℕ → Type 0
 IsPacked count bytes last first longest = (count ≡ 0) ⊎ IsStack count bytes last first longest
+
+-- the bytes are those of more ways from a schedule than this many, all within a bound
+pub record AreWaysOn (bytes : List ℕ) (count : ℕ) (last : List ℕ) (longest : ℕ) : Type 0 where
+  pub ways : List Way
+  pub more : count ≤ length ways
+  pub spelt : bytes ≡ ways_bytes ways
+  pub sound : AreWays ways last longest
+
+-- this many of these ways lead back from a schedule to another, and the bytes below a place are those
+-- of the others
+pub record WentBack (ways : List Way) (bytes : List ℕ) (count : ℕ) (last : List ℕ) (at : ℕ)
+    (left : List ℕ) (longest : ℕ) : Type 0 where
+  pub taken : List Way
+  pub others : List Way
+  pub all : ways ≡ taken ++ others
+  pub counted : length taken ≡ count
+  pub within : at ≤ length bytes
+  pub below : take at bytes ≡ ways_bytes others
+  pub above : drop at bytes ≡ ways_bytes taken
+  pub leads : left ≡ first_by taken last
+  pub sound : AreWays taken last longest
+  pub rest : AreWays others left longest

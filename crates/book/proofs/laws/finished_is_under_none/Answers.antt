@@ -1,8 +1,0 @@
-use Rattle.items.specs.Items.{root_of}
-use Rattle.items.proofs.Splits.{root_within, split_part}
-use Rattle.book.proofs.laws.finished_is_under_none.Goals as goal
-
-pub returns : goal.returns
-returns c = λ b h.
-    split_part b.mode (root_of b.program) b.finished b.open_items b.deferred
-    (root_within b.mode b.program) h

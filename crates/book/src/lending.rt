@@ -1,0 +1,256 @@
+//! Books of which workers have some open items each.
+
+ghost use Rattle.std.specs.Prelude.{◌≡◌, ◌≤◌, [], true, false, Ok, IfOk, length, set};
+ghost use Rattle.summary.specs.Summaries.{cut};
+ghost use Rattle.book.specs.ItemLists.{all_of};
+ghost use Rattle.book.specs.Books.{Keeps, HaveFound, HaveSettled, places_from};
+ghost use Rattle.book.specs.Lending.{as_book, lending, Reorders, IsLoanOf, Has, Lends, IsNotSettled};
+ghost use Rattle.book.specs.Progress.{IsProgressOf};
+
+use crate::books::{Book, first_unpacked, is_packed, listed_of};
+use crate::item_list::ItemList;
+use crate::loan::Loan;
+use crate::progress::{Progress, mode_bound};
+use guest_code::program::Program;
+use items::mode::Mode;
+use prefix_list::Prefixes;
+use std::alloc::{AllocError, Global};
+use std::marker::Model;
+use std::sync::Arc;
+use summary::{EndHints, Summary};
+use walk::found::Found;
+
+/// A book of whose open items each worker may have some, in rounds of its own. Nothing was dropped
+/// from it. What a worker has is still open, and is listed before what nobody has.
+///
+/// The type keeps what that of a [`Book`] keeps.
+#[derive(Drop)]
+pub struct LendingBook {
+    program: Arc<Program>,
+    mode: Mode,
+    finished: Summary,
+    // The open items that nobody has, and those that each worker has.
+    free: ItemList,
+    lent: Vec<ItemList>,
+    deferred: ItemList,
+    // Whether what the bound puts off is listed.
+    lists: bool,
+    quick: bool,
+    // Where end views were found in the finished summary, for the next look-up.
+    hints: Box<EndHints>,
+}
+
+impl Model for LendingBook {
+    ghost use Rattle.book.specs.Books.{Keeps};
+    ghost use Rattle.book.specs.Lending.{LendingView, lending_view, as_book};
+
+    ghost Value = { LendingView };
+
+    ghost view = { λ b. lending_view b.program b.mode b.finished b.free b.lent.items b.deferred
+        b.lists b.quick };
+
+    ghost invariant = { λ b. Keeps (as_book (lending_view b.program b.mode b.finished b.free
+        b.lent.items b.deferred b.lists b.quick)) };
+}
+
+impl LendingBook {
+    /// The book, for so many workers, of which none has an item yet.
+    ///
+    /// # Errors
+    ///
+    /// `AllocError` where memory runs out; the book is given up then.
+    pub fn new(alloc: Global, book: Book, workers: usize) -> Result<LendingBook, AllocError>
+        requires all { book.dropped ≡ false }
+        ensures lending { IfOk result (λ b. b ≡ lending book workers) }
+        ensures book { IfOk result (λ b. as_book b ≡ book) }
+    {
+        let mut lent = Vec::new(alloc);
+        for _ in 0..workers {
+            lent.push(ItemList::new(alloc))?;
+        }
+        let Book {
+            program,
+            mode,
+            finished,
+            open_items,
+            deferred,
+            lists,
+            quick,
+            hints,
+            ..
+        } = book;
+        Ok(LendingBook {
+            program,
+            mode,
+            finished,
+            free: open_items,
+            lent,
+            deferred,
+            lists,
+            quick,
+            hints,
+        })
+    }
+
+    /// The book again: what workers have is open.
+    ///
+    /// # Errors
+    ///
+    /// `AllocError` where memory runs out; the book is given up then.
+    pub fn into_book(self, alloc: Global) -> Result<Book, AllocError>
+        ensures { IfOk result (λ b. Reorders (as_book self) b) }
+    {
+        let LendingBook {
+            program,
+            mode,
+            finished,
+            mut free,
+            mut lent,
+            mut deferred,
+            lists,
+            quick,
+            hints,
+        } = self;
+        while let Some(mut list) = lent.pop() {
+            free.append_list(alloc, &program, &mut list)?;
+        }
+        let packs = is_packed(quick, &finished, &finished);
+        let first = first_unpacked(packs, free.length());
+        free.unpack_from(alloc, &program, first)?;
+        let first = first_unpacked(packs, deferred.length());
+        deferred.unpack_from(alloc, &program, first)?;
+        Ok(Book {
+            program,
+            mode,
+            finished,
+            open_items: free,
+            deferred,
+            lists,
+            quick,
+            dropped: false,
+            swept: false,
+            hints,
+        })
+    }
+
+    /// The summary of what is finished.
+    pub fn finished(&self) -> &Summary
+        ensures finished { result.now ≡ self.now.finished }
+        ensures kept { Keeps (as_book self.now) }
+    {
+        &self.finished
+    }
+
+    /// How many open items nobody has.
+    pub fn free_length(&self) -> usize
+        ensures { result ≡ length self.now.free }
+    {
+        self.free.length()
+    }
+
+    /// How far the search is. Its open items are counted up to 2^64 - 1.
+    pub fn progress(&self) -> Progress
+        ensures progress { let b = as_book self.now in
+            IsProgressOf b (record result { open_items = length b.open_items }) }
+        ensures open_items { result.open_items ≡ cut (length (as_book self.now).open_items) }
+    {
+        let mut open_items = self.free.length();
+        for list in &self.lent {
+            open_items = open_items.saturating_add(list.length());
+        }
+        Progress {
+            bound: mode_bound(self.mode),
+            tried: self.finished.tried(),
+            bad: self.finished.failed().saturating_add(self.finished.stuck()),
+            open_items,
+            deferred: self.deferred.length(),
+            lists: self.lists,
+        }
+    }
+
+    /// Lends the last of the free items, at most so many, to a worker that has none, and copies them
+    /// into a loan. Answers whether it did: it doesn't only where there is no such worker, or it has
+    /// items.
+    ///
+    /// # Errors
+    ///
+    /// `AllocError` where memory runs out; the worker may have the items then, and no copies.
+    pub fn lend(
+        &mut self,
+        alloc: Global,
+        worker: usize,
+        most: usize,
+        loan: &mut Loan,
+    ) -> Result<bool, AllocError>
+        ensures book { Reorders (as_book self.old) (as_book self.new) }
+        ensures loan { result ≡ Ok true → IsLoanOf self.old.program loan.new }
+        ensures few { result ≡ Ok true → length (all_of self.old.program loan.new) ≤ most }
+        ensures lent { result ≡ Ok true → Lends self.old worker most loan.new self.new }
+        ensures not_lent { result ≡ Ok false → Has self.old worker [] → ⊥ }
+        ensures same { result ≡ Ok false → (self.new ≡ self.old) × (loan.new ≡ loan.old) }
+    {
+        let Some(lent) = self.lent.get_mut(worker) else {
+            return Ok(false);
+        };
+        if lent.length() > 0 {
+            return Ok(false);
+        }
+        self.free.split_last(most, lent)?;
+        loan.list.copy_from(alloc, lent)?;
+        Ok(true)
+    }
+
+    /// Settles at once what walks of all items of a worker's loan found, in their order: what they
+    /// left is free. Answers whether it took them: it doesn't only where the worker hasn't these
+    /// items, or what the walks put off isn't listed and the book lists it. The memory of what was
+    /// found serves later walks.
+    ///
+    /// # Errors
+    ///
+    /// `AllocError` where memory runs out. Book and what was found are as before then, as where it
+    /// didn't take the walks.
+    pub fn settle(
+        &mut self,
+        alloc: Global,
+        worker: usize,
+        loan: &Loan,
+        found: &mut Found,
+    ) -> Result<bool, AllocError>
+        requires loan { IsLoanOf self.old.program loan.now }
+        requires walked { let items = all_of self.old.program loan.now in
+            HaveFound self.old.program self.old.mode items (places_from 0 (length items))
+            found.old }
+        ensures taken { let items = all_of self.old.program loan.now in
+            (f : HaveFound self.old.program self.old.mode items (places_from 0 (length items))
+            found.old) → result ≡ Ok true →
+            HaveSettled (as_book self.old) f.walks (as_book self.new) }
+        ensures lent { result ≡ Ok true → self.new.lent ≡ set self.old.lent worker [] }
+        ensures not_taken { result ≡ Ok false →
+            IsNotSettled self.old worker (all_of self.old.program loan.now) found.old.lists }
+        ensures same { (result ≡ Ok true → ⊥) → self.new ≡ self.old }
+        ensures found { (result ≡ Ok true → ⊥) → found.new ≡ found.old }
+    {
+        if self.lists && !found.lists {
+            return Ok(false);
+        }
+        let Some(lent) = self.lent.get_mut(worker) else {
+            return Ok(false);
+        };
+        if !lent.is_same(alloc, &self.program, &loan.list)? {
+            return Ok(false);
+        }
+        self.free.make_room(found.rest.len())?;
+        let deferred_length = self.deferred.length();
+        let none = Prefixes::new(alloc);
+        let listed = listed_of(self.lists, &found.deferred, &none);
+        self.deferred
+            .append_prefixes(alloc, &self.program, listed, true)?;
+        if let Err(error) = self.finished.join_in_by(&mut self.hints, &mut found.part) {
+            self.deferred.truncate(deferred_length);
+            return Err(error);
+        }
+        self.free.append(alloc, &mut found.rest);
+        lent.clear();
+        Ok(true)
+    }
+}

@@ -1,0 +1,60 @@
+//! Loans.
+
+ghost use Rattle.std.specs.Prelude.{◌≡◌, [], length, OnOk};
+ghost use Rattle.std.specs.Arc.{arc_value};
+ghost use Rattle.items.specs.Items.{AreOf};
+ghost use Rattle.book.specs.ItemLists.{all_of};
+ghost use Rattle.book.specs.Lending.{IsLoanOf};
+
+use crate::item_list::ItemList;
+use guest_code::program::Program;
+use items::item::Item;
+use std::alloc::{AllocError, Global};
+use std::marker::Model;
+use std::sync::Arc;
+
+/// Copies of the open items that a book has lent to a worker: a round of its own.
+#[derive(Drop)]
+pub struct Loan {
+    pub(crate) list: ItemList,
+}
+
+impl Model for Loan {
+    ghost use Rattle.book.specs.ItemLists.{ListView};
+
+    ghost Value = { ListView };
+
+    ghost view = { λ l. l.list };
+}
+
+impl Loan {
+    /// A loan of none.
+    pub fn new(alloc: Global) -> Loan
+        ensures packed { result.packed ≡ [] }
+        ensures unpacked { result.unpacked ≡ [] }
+    {
+        Loan {
+            list: ItemList::new(alloc),
+        }
+    }
+
+    /// Writes the items over others of their program, in their order.
+    ///
+    /// # Errors
+    ///
+    /// `AllocError` where memory runs out.
+    pub fn write_items(
+        &self,
+        alloc: Global,
+        program: &Arc<Program>,
+        items: &mut Vec<Item>,
+    ) -> Result<(), AllocError>
+        requires of { IsLoanOf (arc_value program.now) self.now }
+        requires program { AreOf (arc_value program.now) items.old.items }
+        ensures items { OnOk result (items.new.items ≡ all_of (arc_value program.now) self.now) }
+        ensures program { AreOf (arc_value program.now) items.new.items }
+    {
+        let most = self.list.length();
+        self.list.copy_last(alloc, program, most, items)
+    }
+}

@@ -1,0 +1,146 @@
+//! What a book's type keeps, said of the schedules of its program. A law is what its function
+//! ensures; the functions do nothing.
+#![tactic(auto)]
+
+ghost use Rattle.std.specs.Prelude.{◌≡◌, ◌≤◌, ◌<◌, ℕ, [], false, true, List, Some, Contains, All, length, slice_index_or};
+ghost use Rattle.semantics.specs.Machine.{start};
+ghost use Rattle.semantics.specs.View.{is_bad};
+ghost use Rattle.schedules.specs.Schedules.{complete_schedules, begins_with, preemptions};
+ghost use Rattle.items.specs.declared.mode.Mode.TheVariants.{Bounded, Reduced};
+ghost use Rattle.summary.specs.Summaries.{sum_of, join, with_beyond, end_kind, IsBoundedBy};
+ghost use Rattle.items.specs.FullSums.{full_sum, full_sums};
+ghost use Rattle.items.specs.Items.{ItemView, root_of, item_sums, is_under, whole};
+ghost use Rattle.items.specs.Walks.{IsBelow, IsDeferred, clear_of};
+ghost use Rattle.book.specs.declared.limits.TheConstants.{ROUND};
+ghost use Rattle.book.specs.Books.{BookView, Keeps, KeepsWhere, IsBook, IsThinned, book_schedules, items_left, HasItsSchedules};
+
+use book::limits::ROUND;
+
+// All books.
+
+/// A book that lists what its bound puts off has all of it among the deferred items: without a drop
+/// it is a book as the next laws want it, else a thinned one.
+pub fn what_is_listed_is_all()
+    ensures { (b : BookView) → Keeps b → b.lists ≡ true → KeepsWhere b.dropped b }
+{}
+
+/// Also where the bound was made the last one, and so nothing is listed of what it puts off: the
+/// program's summary is what is finished joined with the sums of the open items, where no item was
+/// dropped. Where one was, the join is bounded by the program's summary.
+pub fn every_book_joins()
+    ensures whole { (b : BookView) → Keeps b → b.dropped ≡ false →
+        whole b.program b.mode ≡ join b.finished (item_sums b.mode b.open_items) }
+    ensures bounded { (b : BookView) → Keeps b → b.dropped ≡ true →
+        IsBoundedBy (join b.finished (item_sums b.mode b.open_items)) (whole b.program b.mode) }
+{}
+
+/// Where the bound was made the last one, too, no schedule begins with the prefixes of two of the
+/// open and the deferred items, at different places.
+pub fn no_book_has_a_schedule_twice()
+    ensures { (b : BookView) (v : List ℕ) (i j : ℕ) (d : ItemView) → Keeps b →
+        i < j → j < length (items_left b) →
+        begins_with (slice_index_or (items_left b) i d).prefix v ≡ true →
+        begins_with (slice_index_or (items_left b) j d).prefix v ≡ false }
+{}
+
+/// Where the bound was made the last one, too, each open item is of the book's program, and has
+/// those of its schedules that begin with the item's prefix; and where no item was dropped, what is
+/// finished, `beyond` aside, is the sum of the book's schedules that lie under no open item.
+pub fn every_book_splits()
+    ensures below { (b : BookView) → Keeps b → All (IsBelow (root_of b.program)) b.open_items }
+    ensures schedules { (b : BookView) → Keeps b → All (HasItsSchedules b) b.open_items }
+    ensures finished { (b : BookView) → Keeps b → b.dropped ≡ false → b.finished ≡ with_beyond
+        (sum_of b.program (clear_of b.open_items (book_schedules b))) b.finished.beyond }
+{}
+
+// Books from which nothing was dropped.
+
+/// The program's summary is what is finished joined with the sums of the open items.
+pub fn finished_and_open_join()
+    ensures { (b : BookView) → IsBook b →
+        whole b.program b.mode ≡ join b.finished (item_sums b.mode b.open_items) }
+{}
+
+/// What is finished, `beyond` aside, is the sum of the book's schedules that lie under no open
+/// item.
+pub fn finished_is_under_none()
+    ensures { (b : BookView) → IsBook b → b.finished ≡ with_beyond
+        (sum_of b.program (clear_of b.open_items (book_schedules b))) b.finished.beyond }
+{}
+
+/// Each open item is of the book's program, and has those of its schedules that begin with the
+/// item's prefix.
+pub fn open_have_their_schedules()
+    ensures below { (b : BookView) → IsBook b → All (IsBelow (root_of b.program)) b.open_items }
+    ensures schedules { (b : BookView) → IsBook b → All (HasItsSchedules b) b.open_items }
+{}
+
+/// No schedule begins with the prefixes of two of the open and the deferred items, at different
+/// places.
+pub fn none_is_under_two()
+    ensures { (b : BookView) (v : List ℕ) (i j : ℕ) (d : ItemView) → IsBook b →
+        i < j → j < length (items_left b) →
+        begins_with (slice_index_or (items_left b) i d).prefix v ≡ true →
+        begins_with (slice_index_or (items_left b) j d).prefix v ≡ false }
+{}
+
+/// At a bound all complete schedules of the program, whatever their preemptions, are what is
+/// finished, `beyond` aside, and those of the open and the deferred items. So of the parts that
+/// were settled no two are of one schedule, at whatever bounds they were walked.
+pub fn nothing_is_walked_twice()
+    ensures { (b : BookView) (bound : ℕ) → b.mode ≡ Bounded bound → IsBook b →
+        full_sum (root_of b.program) ≡
+        join (with_beyond b.finished false) (full_sums (items_left b)) }
+{}
+
+/// Each complete schedule past the bound lies under an open or a deferred item. The open items are
+/// within the bound, and the deferred ones of the program and past the bound by their last step
+/// alone.
+pub fn what_is_past_is_kept()
+    ensures all { (b : BookView) (bound : ℕ) (v : List ℕ) → b.mode ≡ Bounded bound → IsBook b →
+        Contains (complete_schedules b.program (start b.program)) v →
+        bound < preemptions b.program v → is_under (items_left b) v ≡ true }
+    ensures within { (b : BookView) (bound : ℕ) → b.mode ≡ Bounded bound → IsBook b →
+        All (λ i. preemptions i.program i.prefix ≤ bound) b.open_items }
+    ensures below { (b : BookView) → IsBook b → All (IsBelow (root_of b.program)) b.deferred }
+    ensures past { (b : BookView) (bound : ℕ) → b.mode ≡ Bounded bound → IsBook b →
+        All (IsDeferred bound) b.deferred }
+{}
+
+/// Where schedules are pruned nothing is deferred.
+pub fn pruned_books_defer_nothing()
+    ensures { (b : BookView) → b.mode ≡ Reduced → IsBook b → b.deferred ≡ [] }
+{}
+
+// Quick books from which an item was dropped.
+
+/// What is finished joined with the sums of the open items is bounded by the program's summary.
+pub fn dropping_is_bounded()
+    ensures { (b : BookView) → IsThinned b →
+        IsBoundedBy (join b.finished (item_sums b.mode b.open_items)) (whole b.program b.mode) }
+{}
+
+/// What is finished has a first bad schedule, a bad one of the book's schedules.
+pub fn dropping_needs_a_bad_one()
+    ensures { (b : BookView) → IsThinned b → (w : List ℕ) × (b.finished.first_bad ≡ Some w) ×
+        Contains (book_schedules b) w × (is_bad (end_kind b.program w) ≡ true) }
+{}
+
+/// The open items keep what they keep without a drop, and no schedule begins with the prefixes of
+/// two of the open and the deferred ones.
+pub fn dropping_keeps_the_open()
+    ensures below { (b : BookView) → IsThinned b →
+        All (IsBelow (root_of b.program)) b.open_items }
+    ensures schedules { (b : BookView) → IsThinned b → All (HasItsSchedules b) b.open_items }
+    ensures apart { (b : BookView) (v : List ℕ) (i j : ℕ) (d : ItemView) → IsThinned b →
+        i < j → j < length (items_left b) →
+        begins_with (slice_index_or (items_left b) i d).prefix v ≡ true →
+        begins_with (slice_index_or (items_left b) j d).prefix v ≡ false }
+{}
+
+// Limits.
+
+/// The greatest number of items of a round.
+pub fn greatest_round_is()
+    ensures { ROUND ≡ 64 }
+{}

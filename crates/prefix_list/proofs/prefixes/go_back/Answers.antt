@@ -1,0 +1,48 @@
+use Rattle.std.proofs.Common.{◌≡◌, refl, arith, take, length-take}
+use Rattle.prefix_list.specs.inner.Packed.{before}
+use Rattle.prefix_list.proofs.PackedPrefixes.{went_well}
+use Rattle.prefix_list.proofs.GoingBack.{goes_none, goes_on, next_short}
+use Rattle.prefix_list.proofs.prefixes.go_back.Goals as goal
+
+pub loop-init : goal.loop-init
+loop-init c = record {
+  goes = λ w. goes_none c.args.ways.now c.args.count _ _ _ w refl;
+  room = omega arith;
+}
+
+pub loop-preserved : goal.loop-preserved
+loop-preserved c =
+    let ways = c.args.ways.now in
+    let given = c.requires in
+    let g = c.loop.invariant.goes in
+    let short = next_short given.ways ways _ _ c.loop.counter c.loop.at c.loop.last.items (g given)
+    (omega (arith, given.more, c.loop-test.true)) in
+    let last : c.step_back.new.last.items ≡ before (take c.loop.at ways) c.loop.last.items =
+    went_well c.step_back.result _ _
+    (c.step_back.ensures.succeeds (omega (arith, short, c.loop.invariant.room)))
+    c.step_back.ensures.done in
+    record {
+      goes = λ w. goes_on w.ways ways _ _ c.loop.counter c.loop.at c.loop.last.items (g w)
+          (omega (arith, w.more, c.loop-test.true)) _ _ c.top-top.ensures.start last
+          (omega (
+            arith,
+            c.top-top.ensures.ordered,
+            c.top-top.ensures.within,
+            length-take c.loop.at ways,
+          ));
+      room = omega (arith, c.loop.invariant.room, c.step_back.ensures.room);
+    }
+
+pub slice_bounds-top-end : goal.slice_bounds-top-end
+slice_bounds-top-end c = omega (
+  arith,
+  length-take c.loop.at c.args.ways.now,
+  (c.loop.invariant.goes c.requires).within,
+)
+
+pub slice_bounds-step_back-end : goal.slice_bounds-step_back-end
+slice_bounds-step_back-end c = omega (
+  arith,
+  length-take c.loop.at c.args.ways.now,
+  (c.loop.invariant.goes c.requires).within,
+)
