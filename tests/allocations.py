@@ -52,6 +52,8 @@ PROGRAMS = {
     "long": "var x; thread A { repeat 50 { store x 1; } } thread B { store x 2; } thread C { store x 3; }",
     # Some rounds of several items.
     "six": stores("abcdef"), "five": stores("abcde"),
+    # 288 items are open where bound 1 begins: as many as four workers need to have rounds of their own.
+    "wide": "var x; " + " ".join("thread %s { repeat 3 { load r x; } }" % name for name in "ABCD"),
     # All fail that have Y before X.
     "bad": "var x; " + stores("cdef").replace("thread C", "thread X { load r x; assert r == 0; } "
                                               "thread Y { store x 1; } thread C"),
@@ -80,6 +82,8 @@ RUNS = [
     ("explore", "late", "--quick --workers 2", 1), ("unbounded", "locks", "--quick --workers 2", 1),
     ("explore", "six", "--bound 0 --workers 2", 0), ("explore", "six", "--bound 0 --limit 100 --workers 2", 3),
     ("explore", "six", "--bound 0 --limit 100", 3), ("explore", "bad", "--bound 0 --quick", 1),
+    ("explore", "wide", "--bound 1 --workers 2", 0), ("explore", "wide", "--bound 1 --workers 4", 0),
+    ("explore", "wide", "--bound 1 --workers 4 --quick", 0),
     ("explore", "race", "--trace", 1), ("explain", "locks", "0,1", 1), ("explain", "race", "", 1),
     ("explain", "race", "1,1,1", 2), ("explain", "waits", "--json", 1), ("explain", "race", "0,1,0 --html", 1),
     ("explain", "race", "0,1,0 --json", 1), ("explain", "updates", "--json", 0),
@@ -90,6 +94,7 @@ LASTING = [
     ("explore", "updates", "--workers 1", 0), ("explore", "updates", "--workers 2", 0),
     ("explore", "six", "--bound 0 --workers 2", 0), ("explore", "bad", "--bound 0 --workers 2", 1),
     ("unbounded", "locks", "--workers 3", 1), ("replay", "race", "0,1,0", 1),
+    ("explore", "wide", "--bound 1 --workers 4", 0),
 ]
 # A suite of a folder with these guests, further words, and the status with ample memory.
 SUITES = [("race updates", "", 1), ("late locks", "--json --workers 2", 1)]
@@ -102,7 +107,7 @@ THREADED = [("explore", "--bound 0"), ("explore", "--bound 0 --trace"), ("explor
 # The same as RUNS, where each request of one of these sizes fails.
 OF_SIZE = [
     ("explore", "six", "--bound 0 --workers 2", 0), ("explore", "updates", "--workers 2", 0),
-    ("explore", "bad", "--bound 0 --quick --workers 2", 1),
+    ("explore", "bad", "--bound 0 --quick --workers 2", 1), ("explore", "wide", "--bound 1 --workers 4", 0),
 ]
 SIZES = range(8, 4097, 8)
 # A guest and a mode: the walk ends with status 0.

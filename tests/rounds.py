@@ -43,6 +43,10 @@ GUESTS = {
     **{"threads%d" % count: stores(count) for count in range(2, 13)},
     "first": "var x; thread A { store x 1; assert 0; } thread B { store x 1; } thread C { store x 1; }",
     "late": writers(7, 2), "later": writers(11, 2),
+    # Of the values that the first thread finds one sum in twelve is bad.
+    "rare": "var x; var y; var z; thread A { load r x; load s y; load t z; set r r + s; set r r + t; assert r != 213; } "
+    "thread B { store x 100; } thread C { store x 200; } thread D { store y 10; } thread E { store y 20; } "
+    "thread F { store z 3; } thread G { store z 1; }",
     # The load fails at one place among the four stores. The bound puts off three prefixes: the bad one is the
     # last of all in the order of schedules, and its item is the first of its round in one of the two.
     "moment": "var x; thread A { load r x; assert r != 3; } "
@@ -272,6 +276,75 @@ def by_one(rounds):
                for events, _ in rounds)
 
 
+def own_events(rounds, workers):
+    """What was heard in rounds of the workers' own, in a search of one bound: they begin where a round of items is open
+    for each worker."""
+    for place, (_, left) in enumerate(rounds):
+        if left >= FULL * workers:
+            return [event for events, _ in rounds[place + 1:] for event in events]
+    return []
+
+
+def last_bound(rounds):
+    """What was heard at the last bound of a search."""
+    ends = [place for place, (_, left) in enumerate(rounds) if left == 0]
+    return [event for events, _ in rounds[ends[-2] + 1:] for event in events]
+
+
+def own_sizes(events, worker):
+    """How many items each round of a worker has, where it asks for each by its number in its own round, from 0 on, and
+    says of each that it was walked before it goes on."""
+    sizes, told = [], [(kind, item) for kind, who, item in events if who == worker]
+    for (asks, asked), (says, walked) in zip(told[::2], told[1::2]):
+        if (asks, says) != ("go", "walked") or asked != walked or asked not in (0, sizes[-1] if sizes else 0):
+            return []
+        sizes = sizes + [1] if asked == 0 else sizes[:-1] + [asked + 1]
+    return sizes if len(told) % 2 == 0 else []
+
+
+def own_rounds(trial):
+    """Rounds of the workers' own, where the gate may not stop: each item is asked about once, and told as walked by who
+    asked."""
+    for workers in (2, 4, 16):
+        for quick in (False, True):
+            rounds, report = trial.heard("threads8", 0, workers, quick=quick, does=("never", 0))
+            every = [event for events, _ in rounds for event in events]
+            own = own_events(rounds, workers)
+            sizes = [own_sizes(own, worker) for worker in {worker for _, worker, _ in own}]
+            trial.check(all(sizes), "a round of a worker's own isn't walked in its order")
+            trial.check(sum(map(sum, sizes)) == len(items(own, "go")) > 10000, "few items in rounds of the workers' own")
+            trial.check(len(items(every, "go")) == len(items(every, "walked")) == math.factorial(8),
+                        workers, "workers walk", len(items(every, "walked")), "items")
+            trial.check(report == dict(clean(8, math.factorial(8)), **({"quick": True} if quick else {})), report)
+            # What is out where the limit is reached is settled, too.
+            _, report = trial.heard("threads8", 0, workers, limit=10000, quick=quick, does=("never", 0))
+            trial.check(report.get("cause") == "limit" and 10000 <= report["tried"] < 10000 + FULL * workers,
+                        workers, "workers, limit 10000:", report)
+            # Thousands of items are open where the last of these bounds begins.
+            rounds, report = trial.heard("steps", 4, workers, quick=quick, does=("never", 0))
+            own = last_bound(rounds)
+            sizes = [own_sizes(own, worker) for worker in {worker for _, worker, _ in own}]
+            trial.check(all(sizes) and sum(map(sum, sizes)) == len(items(own, "go")), "a full round isn't walked in order")
+            trial.check(max(map(max, sizes), default=0) == FULL, "no round of a worker's own is full:", sizes)
+
+
+def wide(trial):
+    """Guests with many open items at once: one report, whatever the workers and the quota, or for a quick search one
+    first bad schedule."""
+    for guest, search in (("threads8", 0), ("threads8", 9), ("shared", "unbounded"), ("steps", 2), ("rare", 0),
+                          ("rare", "unbounded")):
+        for quick in (False, True):
+            for quota in (1, 3, 256):
+                _, alone = trial.heard(guest, search, 1, quota, quick=quick)
+                for workers in (2, 3, 4, 7, 16):
+                    rounds, report = trial.heard(guest, search, workers, quota, quick=quick, does=("never", 0))
+                    keys = KEPT if quick and alone["verdict"] == "bad" else alone
+                    trial.check({key: report.get(key) for key in keys} == {key: alone.get(key) for key in keys},
+                                guest, search, workers, "workers, quota", quota, report, alone)
+                    if quota == 1 and workers == 2 and search == 0:
+                        trial.check(own_events(rounds, workers), guest, "has no rounds of the workers' own")
+
+
 def without_board(trial):
     """Where no board can be made the first worker walks, and asks the gate. Which requests a board makes isn't said
     anywhere: those of some size are its own, so where all of that size are refused there is never a board, and the
@@ -439,7 +512,7 @@ def main(program, tools):
         subprocess.run([os.environ.get("CC", "cc"), "-shared", "-fPIC", "-O1", "-o", folder + "/fail_alloc.so",
                         os.path.join(HERE, "fail_alloc.c"), "-ldl"], check=True)
         trial = Trial(os.path.abspath(program), os.path.abspath(tools), folder)
-        for part in (full_rounds, side_by_side, every_size, stops, without_board, hints, limits, bounds, worked,
+        for part in (full_rounds, own_rounds, wide, side_by_side, every_size, stops, without_board, hints, limits, bounds, worked,
                      words, examples):
             part(trial)
     print("%d passed, %d failed" % (trial.passed, trial.failed))

@@ -62,11 +62,13 @@ fn after_round(
 ///
 /// The search goes by rounds. The workers draw the items of a round one by one; each asks the gate,
 /// walks the item while it holds no lock, and settles some walks at a time in the one book that all
-/// share. They go from round to round in the threads that they have, until the round after which
+/// share. Where the gate may not stop and many items are open, each worker has rounds of its own
+/// instead. They go from round to round in the threads that they have, until the round after which
 /// something has to be judged: the last of a bound, one in which the limit was reached or the gate
 /// stopped a worker, and in a quick search one in which a bad schedule was found. The report is
 /// that of [`explore_alone`], whatever the workers and the quota, but for the numbers of an
-/// incomplete one, and for what a quick search leaves out.
+/// incomplete one, and for what a quick search leaves out. A limit may be passed by what the rounds
+/// try that are walked when it is reached.
 ///
 /// A worker that the gate stops walks no more in its round. Where the search has no answer then, it
 /// is cut short. A single worker asks no gate, and tells it after each round how far the search is,

@@ -23,6 +23,8 @@ const MORE: u64 = 500;
 pub enum Does {
     /// It stops nobody and holds nobody.
     Open,
+    /// The same, and it is known that it never stops anybody.
+    Never,
     /// It lets this many calls pass, and stops each later one.
     Pass(u64),
     /// It stops this worker alone.
@@ -134,7 +136,7 @@ impl Listening {
             Does::Pass(most) => before >= most,
             Does::StopWorker(number) => u64::from(worker) == number,
             Does::StopFrom(first) => item >= first,
-            Does::Open | Does::Together(_) | Does::After(_) => false,
+            Does::Open | Does::Never | Does::Together(_) | Does::After(_) => false,
         }
     }
 
@@ -216,5 +218,32 @@ impl Gate for Listening {
         self.open
             .store(progress.open_items as u64, Ordering::SeqCst);
         self.walked.store(0, Ordering::SeqCst);
+    }
+}
+
+/// The gate where it never stops anybody.
+#[derive(Clone, Copy)]
+pub struct Never<'a>(pub &'a Listening);
+
+impl Gate for Never<'_> {
+    ghost use Rattle.std.specs.Prelude.{false};
+
+    ghost stops = { λ _. false };
+
+    fn may_stop(&self) -> bool {
+        false
+    }
+
+    fn before(&self, worker: u32, item: u64) -> Answer {
+        self.0.hear(Heard::Go, worker, item);
+        Answer::Go
+    }
+
+    fn walked(&self, worker: u32, item: u64) {
+        self.0.walked(worker, item);
+    }
+
+    fn round_ended(&self, progress: Progress) {
+        self.0.round_ended(progress);
     }
 }

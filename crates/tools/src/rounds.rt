@@ -7,9 +7,9 @@
 //! the schedules tried so far and the items that are open then, at most 65,535, `late` where a
 //! worker was held too long. The report is last.
 
-use crate::gate::Listening;
+use crate::gate::{Does, Listening, Never};
 use crate::words::{Request, request_of};
-use runner::{explore_text, report_text};
+use runner::{Gate, explore_text, report_text};
 use std::alloc::{Alloc, Global};
 use std::fs::Files;
 use std::io::Print;
@@ -19,10 +19,10 @@ use std::thread::Threads;
 use std::{fs, io};
 
 /// The text of the report of a search that this gate listens to, if there is one.
-fn searched(
+fn searched<G: Gate>(
     rt: &(impl Threads + Wait + Sync + Files + Alloc<A = Global>),
     request: &Request,
-    gate: &Listening,
+    gate: &G,
 ) -> Option<Vec<u8>> {
     let alloc = rt.alloc();
     let text = fs::read(rt, request.file.as_str()).ok()?;
@@ -58,7 +58,11 @@ where
     let Some(gate) = Listening::new(rt.alloc(), request.does) else {
         return Some(ExitCode::FAILURE);
     };
-    let Some(report) = searched(rt, &request, &gate) else {
+    let report = match request.does {
+        Does::Never => searched(rt, &request, &Never(&gate)),
+        _ => searched(rt, &request, &gate),
+    };
+    let Some(report) = report else {
         return Some(ExitCode::FAILURE);
     };
     match print(rt, &gate, report.as_slice()) {

@@ -68,6 +68,7 @@ fn does(words: &[String]) -> Option<Does> {
     let number: u64 = words.get(8)?.as_str().parse().ok()?;
     match words.get(7)?.as_str() {
         "open" => Some(Does::Open),
+        "never" => Some(Does::Never),
         "pass" => Some(Does::Pass(number)),
         "worker" => Some(Does::StopWorker(number)),
         "item" => Some(Does::StopFrom(number)),

@@ -1,2 +1,3 @@
 pub mod Teams
 pub mod Kept
+pub mod Lent

@@ -6,7 +6,7 @@ ghost use Rattle.workers.specs.declared.limits.TheConstants.{KEPT_WALKS};
 ghost use Rattle.workers.specs.declared.round.Round.{Round};
 ghost use Rattle.workers.specs.inner.Rounds.{IsRoundOf, AreKept};
 
-use crate::limits::{KEPT_WALKS, SETTLED_WALKS};
+use crate::limits::{APART, KEPT_WALKS, SETTLED_WALKS};
 use crate::round::Round;
 use guest_code::program::Program;
 use std::alloc::{AllocError, Global};
@@ -15,23 +15,28 @@ use walk::found::Found;
 use walk::walker::Walker;
 
 /// A worker's walker, the places in a round of the items that it walked and that aren't settled
-/// yet, and what all these walks found.
+/// yet, and what all these walks found. Items are lent to its number.
 #[derive(Drop)]
 pub(crate) struct Batch {
     pub walker: Walker,
     pub places: Vec<usize>,
     pub found: Found,
+    pub number: u32,
+    /// What follows in memory is another worker's.
+    pub apart: [u64; APART],
 }
 
 impl Batch {
     /// A batch that keeps no walk, for a program.
-    pub fn new(alloc: Global, program: Arc<Program>) -> Result<Batch, AllocError>
+    pub fn new(alloc: Global, program: Arc<Program>, number: u32) -> Result<Batch, AllocError>
         ensures { IfOk result (λ b. b.walker ≡ arc_value program) }
     {
         Ok(Batch {
             walker: Walker::new(alloc, program)?,
             places: Vec::new(alloc),
             found: Found::new(alloc),
+            number,
+            apart: [0; APART],
         })
     }
 

@@ -1,6 +1,6 @@
 //! Books that are known to be of one search.
 
-ghost use Rattle.std.specs.Prelude.{◌≡◌, ◌-◌, ◌⊎◌, ◌↔◌, [], OnOk, OnErr, IsTrue, length, drop};
+ghost use Rattle.std.specs.Prelude.{◌≡◌, ◌≤◌, ◌-◌, ◌⊎◌, ◌↔◌, [], OnOk, OnErr, IsTrue, length, drop};
 ghost use Rattle.items.specs.Items.{AreOf};
 ghost use Rattle.book.specs.declared.limits.TheConstants.{ROUND};
 ghost use Rattle.book.specs.Books.{HaveFound, HaveSettled, AreNotTaken, thinned};
@@ -129,14 +129,15 @@ impl<N: SearchBrand> BrandedBook<N> {
     }
 
     /// Goes from a round to the next where the search does so whatever the round found: some items
-    /// are open then, and the limit is not reached. A quick book first drops what can't hold the
-    /// first bad schedule any more.
-    pub fn goes_on(&mut self, limit: Option<u64>) -> bool
+    /// are open, fewer than those from which on workers have rounds of their own, and no limit is
+    /// reached. A quick book first drops what can't hold the first bad schedule any more.
+    pub fn goes_on(&mut self, limit: Option<u64>, own_from: usize) -> bool
         ensures book { self.new ≡ thinned self.old }
-        ensures answer { IsTrue result ↔ GoesOn limit self.new }
+        ensures answer { IsTrue result ↔ GoesOn limit own_from self.new }
     {
         let _number = self.book.drop_later();
-        if self.book.open_length() == 0 {
+        let open = self.book.open_length();
+        if open == 0 || open >= own_from {
             return false;
         }
         match limit {

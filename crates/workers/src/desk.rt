@@ -28,6 +28,8 @@ pub(crate) struct Desk<N: SearchBrand> {
     apart: [u64; APART],
     pub book: BrandedBook<N>,
     limit: Option<u64>,
+    /// From how many open items on workers have rounds of their own.
+    own_from: usize,
     round: Arc<Round>,
     /// The round before, whose memory serves the next one.
     last: Option<Arc<Round>>,
@@ -47,7 +49,12 @@ impl<N: SearchBrand> Desk<N> {
     /// # Errors
     ///
     /// `AllocError` where memory runs out.
-    pub fn new(alloc: Global, book: Book, options: Options) -> Result<Desk<N>, AllocError>
+    pub fn new(
+        alloc: Global,
+        book: Book,
+        options: Options,
+        own_from: usize,
+    ) -> Result<Desk<N>, AllocError>
         requires book { IsOf book N.program N.mode N.quick N.lists }
         requires quota { 1 ≤ options.quota }
     {
@@ -65,6 +72,7 @@ impl<N: SearchBrand> Desk<N> {
             apart: [0; APART],
             book: BrandedBook::new(book),
             limit: options.limit,
+            own_from,
             round: Arc::new(alloc, none)?,
             last: None,
             left: 0,
@@ -97,6 +105,7 @@ impl<N: SearchBrand> Desk<N> {
         ensures items { AreOf N.program result.items }
         ensures same { (self.new.book ≡ self.old.book) × (self.new.round ≡ self.old.round)
             × (self.new.left ≡ self.old.left) × (self.new.limit ≡ self.old.limit)
+            × (self.new.own_from ≡ self.old.own_from)
             × (self.new.ends ≡ self.old.ends) × (self.new.is_over ≡ self.old.is_over) }
     {
         match self.last.take() {
@@ -121,7 +130,7 @@ impl<N: SearchBrand> Desk<N> {
         ensures refused { OnErr result ((self.new.round ≡ self.old.round)
             × (self.new.left ≡ self.old.left) × (self.new.is_over ≡ self.old.is_over)) }
         ensures same { (self.new.book ≡ self.old.book) × (self.new.limit ≡ self.old.limit)
-            × (self.new.ends ≡ self.old.ends) }
+            × (self.new.own_from ≡ self.old.own_from) × (self.new.ends ≡ self.old.ends) }
     {
         let mut items = self.spare_items(alloc);
         self.book.next_round(alloc, &mut items)?;
@@ -150,15 +159,16 @@ impl<N: SearchBrand> Desk<N> {
         ensures left { self.new.left ≡ self.old.left - done }
         ensures ends { self.new.ends ≡ self.old.ends || ends }
         ensures same { (self.new.book ≡ self.old.book) × (self.new.round ≡ self.old.round)
-            × (self.new.limit ≡ self.old.limit) × (self.new.is_over ≡ self.old.is_over) }
+            × (self.new.limit ≡ self.old.limit) × (self.new.own_from ≡ self.old.own_from)
+            × (self.new.is_over ≡ self.old.is_over) }
     {
         self.ends |= ends;
         self.left = self.left.saturating_sub(done);
         self.left == 0
     }
 
-    /// Ends the round, where all its items are done: another one begins, or the stretch is over.
-    /// The gate is told how far the search is where another one begins.
+    /// Ends the round, where all its items are done: another one begins, and the gate is told so,
+    /// or the stretch is over, as it is where workers may have rounds of their own.
     ///
     /// # Errors
     ///
@@ -167,16 +177,16 @@ impl<N: SearchBrand> Desk<N> {
         ensures book { self.new.book
             ≡ (if self.old.ends then self.old.book else thinned self.old.book) }
         ensures over { OnOk result (self.new.is_over ≡ false
-            ↔ (self.old.ends ≡ false) × GoesOn self.old.limit self.new.book) }
+            ↔ (self.old.ends ≡ false) × GoesOn self.old.limit self.old.own_from self.new.book) }
         ensures round { OnOk result (self.new.is_over ≡ false →
             Follows self.new.book (arc_value self.old.round) (arc_value self.new.round)) }
         ensures left { OnOk result (self.new.is_over ≡ false →
             self.new.left ≡ vec_len (arc_value self.new.round).items) }
         ensures refused { OnErr result (self.new.is_over ≡ true) }
-        ensures limit { self.new.limit ≡ self.old.limit }
+        ensures same { (self.new.limit ≡ self.old.limit) × (self.new.own_from ≡ self.old.own_from) }
     {
         self.is_over = true;
-        if !self.ends && self.book.goes_on(self.limit) {
+        if !self.ends && self.book.goes_on(self.limit, self.own_from) {
             gate.round_ended(Progress::of(self.book.book()));
             self.next_round(alloc)?;
         }

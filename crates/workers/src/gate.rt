@@ -26,8 +26,8 @@ pub trait Gate: Sync {
     fn may_stop(&self) -> bool
         ensures { result ≡ stops self.now };
 
-    /// Whether a worker goes on to an item, which has this number in its round. Workers and items
-    /// are counted from 0. A gate that doesn't say lets each worker go on.
+    /// Whether a worker goes on to an item, which has this number in its round. Workers and items,
+    /// those of a worker's own round, too, are counted from 0. A gate that doesn't say lets all go.
     fn before(&self, _worker: u32, _item: u64) -> Answer
         ensures { result ≡ Stop → stops self.now ≡ true }
     {
@@ -37,9 +37,9 @@ pub trait Gate: Sync {
     /// Is told that a worker has walked an item. The walk is not settled yet.
     fn walked(&self, _worker: u32, _item: u64) {}
 
-    /// Is told how far the search is after a round, when all its items are done and before another
-    /// one begins. No worker is at an item then, so none may be waited for. This is told by a
-    /// single worker, too.
+    /// Is told how far the search is after a round, when all its items are done and, where all
+    /// share it, before another one begins. Where the gate may not stop, workers may have rounds of
+    /// their own, and others be at theirs. No worker may be waited for. A single one tells, too.
     fn round_ended(&self, _progress: Progress) {}
 }
 

@@ -3,6 +3,7 @@
 //! - A [`Team`] is a book and its workers. It walks a stretch of rounds and settles the walks,
 //!   until what follows has to be judged. Its contract says that the book is of the same search
 //!   then; all else that is known of the book is in its type.
+//! - Workers share each round, or, where many items are open, each is lent rounds of its own.
 //! - Each worker asks a [`Gate`] before it walks an item, and stops where it says so.
 //! - [`Ending`] is how the workers ended.
 #![tactic(auto)]
@@ -11,9 +12,11 @@ mod batch;
 mod branded;
 mod desk;
 mod gate;
+mod lender;
 pub mod limits;
+mod lock;
+mod own;
 mod round;
-mod shared;
 mod stretch;
 mod team;
 mod worker;

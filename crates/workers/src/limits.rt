@@ -20,3 +20,6 @@ pub const APART: usize = 16;
 
 /// How many walks a worker keeps at most. It waits for the book where it keeps that many.
 pub const KEPT_WALKS: usize = 32;
+
+/// How many parts of what is free there are for each worker: it is lent one, at most a round.
+pub const SHARES: usize = 2;

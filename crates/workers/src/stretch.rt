@@ -10,10 +10,9 @@ use crate::batch::Batch;
 use crate::branded::SearchBrand;
 use crate::desk::Desk;
 use crate::gate::Gate;
-use crate::limits::APART;
-use crate::shared::Shared;
+use crate::lock::Lock;
 use crate::team::Team;
-use crate::worker::{Ending, Worker, ending_of, work_all};
+use crate::worker::{Ending, Shared, Worker, ending_of, work_all};
 use board::{Board, Seat};
 use book::books::Book;
 use guest_code::program::Program;
@@ -57,7 +56,6 @@ fn assign_seats(
             ahead: None,
             drawn: 0,
             ending: Ending::Drawn,
-            apart: [0; APART],
         })?;
         number = number.wrapping_add(1);
     }
@@ -119,6 +117,7 @@ impl Stretch {
         alloc: Global,
         gate: &G,
         options: Options,
+        own_from: usize,
     ) -> Result<(Team, Ending), AllocError>
         requires quota { 1 ≤ options.quota }
         requires stretch { IsStretch N.program self }
@@ -132,14 +131,19 @@ impl Stretch {
             board,
             mut workers,
         } = self;
-        let desk = Desk::<N>::new(alloc, book, options)?;
-        let shared = Shared::new(alloc, gate, board, desk);
+        let desk = Desk::<N>::new(alloc, book, options, own_from)?;
+        let shared = Shared {
+            alloc,
+            gate,
+            board,
+            lock: Lock::new(desk),
+        };
         work_all(rt, &shared, &mut workers);
         let ending = ending_of(workers.as_slice());
-        let (board, desk) = shared.into_parts();
+        let Shared { board, lock, .. } = shared;
         let (seats, batches) = collect_seats::<N>(alloc, &board, workers)?;
         let _claims = board.gather(seats);
-        let book = desk.into_book();
+        let book = lock.mutex.into_inner().into_book();
         Ok((Team { book, batches }, ending))
     }
 }

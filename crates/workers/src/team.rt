@@ -1,6 +1,6 @@
 //! The search of several workers, between the stretches of rounds that they walk together.
 
-ghost use Rattle.std.specs.Prelude.{◌≡◌, ◌<◌, ◌≤◌, true, IfOk, IfErr};
+ghost use Rattle.std.specs.Prelude.{◌≡◌, ◌<◌, ◌≤◌, true, false, IfOk, IfErr, IfSome};
 ghost use Rattle.workers.specs.declared.limits.TheConstants.{WORKERS};
 ghost use Rattle.report.specs.declared.error.ExploreError.TheVariants.{OutOfMemory};
 ghost use Rattle.workers.specs.declared.worker.Ending.TheVariants.{Stopped};
@@ -8,11 +8,13 @@ ghost use Rattle.workers.specs.Teams.{IsOf, IsTeam};
 
 use crate::batch::Batch;
 use crate::gate::{Answer, Gate};
+use crate::own::walk_own_rounds;
 use crate::stretch::Stretch;
 use crate::worker::Ending;
 use board::Board;
 use book::books::Book;
 use book::errors::SettleError;
+use book::limits::ROUND;
 use report::{ExploreError, Options};
 use std::alloc::{AllocError, Global};
 use std::marker::Brand;
@@ -59,6 +61,18 @@ fn walk_in_order<G: Gate>(
     Ok(Ending::Drawn)
 }
 
+// From how many open items on each worker has rounds of its own, if they may have any.
+fn own_from<G: Gate>(gate: &G, book: &Book, workers: usize) -> Option<usize>
+    ensures open { IfSome result (λ _. G.stops gate.now ≡ false) }
+    ensures all { IfSome result (λ _. book.now.dropped ≡ false) }
+{
+    let has_found = book.is_quick() && book.finished().first_bad().is_some();
+    if gate.may_stop() || book.has_dropped() || has_found {
+        return None;
+    }
+    workers.checked_mul(ROUND)
+}
+
 impl Team {
     /// A team of workers for the search of a book.
     pub fn new(alloc: Global, book: Book, workers: u32) -> Result<Team, AllocError>
@@ -67,16 +81,19 @@ impl Team {
         ensures team { IfOk result (IsTeam book.program) }
     {
         let mut batches = Vec::new(alloc);
-        for _ in 0..workers {
-            batches.push(Batch::new(alloc, Arc::try_clone(book.program())?)?)?;
+        for number in 0..workers {
+            let program = Arc::try_clone(book.program())?;
+            batches.push(Batch::new(alloc, program, number)?)?;
         }
         Ok(Team { book, batches })
     }
 
     /// Walks a stretch of rounds, at least one, and settles the walks, until what follows the last
-    /// one has to be judged. It is known of the book then that it is of the same search, and what
-    /// its type keeps. Where there is memory for no board, the stretch is a round that the first
-    /// worker walks.
+    /// one has to be judged, or workers may have rounds of their own from there on. It is known of
+    /// the book then that it is of the same search, and what its type keeps.
+    /// Where the gate may not stop, a round of items is open for each worker and a quick search has
+    /// found no bad schedule, rounds are the workers' own, lent by the book. Else all share each
+    /// round; where there is memory for no board, the stretch is one that the first worker walks.
     pub fn walk_rounds<G: Gate, R: Threads + Wait + Sync>(
         mut self,
         rt: &R,
@@ -92,11 +109,19 @@ impl Team {
         ensures stopped { IfOk result (λ r. r.1 ≡ Stopped → G.stops gate.now ≡ true) }
         ensures error { IfErr result (λ e. e ≡ OutOfMemory) }
     {
+        let own_from = match own_from(gate, &self.book, self.batches.len()) {
+            Some(from) if self.book.open_length() >= from => {
+                let team = walk_own_rounds::<Brand, G, R>(self, rt, alloc, gate, options)?;
+                return Ok((team, Ending::Drawn));
+            }
+            Some(from) => from,
+            None => usize::MAX,
+        };
         let Ok((board, seats)) = Board::new(alloc, u32::MAX, self.batches.len() as u32) else {
             let ending = walk_in_order(alloc, gate, &mut self.book, options.quota)?;
             return Ok((self, ending));
         };
         let stretch = Stretch::new(alloc, self, board, seats)?;
-        Ok(stretch.walk::<Brand, G, R>(rt, alloc, gate, options)?)
+        Ok(stretch.walk::<Brand, G, R>(rt, alloc, gate, options, own_from)?)
     }
 }

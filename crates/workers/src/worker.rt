@@ -12,13 +12,13 @@ use crate::batch::Batch;
 use crate::branded::SearchBrand;
 use crate::desk::Desk;
 use crate::gate::{Answer, Gate};
-use crate::limits::{APART, WORKERS};
+use crate::limits::WORKERS;
+use crate::lock::Lock;
 use crate::round::Round;
-use crate::shared::Shared;
 use board::{Board, Seat};
 use items::item::Item;
 use report::ExploreError;
-use std::alloc::AllocError;
+use std::alloc::{AllocError, Global};
 use std::sync::{MutexGuard, Wait};
 use std::thread::Threads;
 use std::{mem, thread};
@@ -55,19 +55,26 @@ impl Ending {
     }
 }
 
+/// What the workers share: a gate, the board that numbers of items are drawn from, and the desk.
+#[derive(Drop)]
+pub(crate) struct Shared<'a, N: SearchBrand, G> {
+    pub alloc: Global,
+    pub gate: &'a G,
+    pub board: Board,
+    pub lock: Lock<Desk<N>>,
+}
+
 /// A worker of a stretch of rounds.
 #[derive(Drop)]
 pub(crate) struct Worker {
     pub number: u32,
     pub seat: Seat,
-    pub batch: Batch,
     /// The number that it drew last, where the item is of a later round.
     pub ahead: Option<u64>,
     /// How many items of the round it drew of which the desk has not taken note yet.
     pub drawn: usize,
     pub ending: Ending,
-    /// What follows in memory is another worker's.
-    pub apart: [u64; APART],
+    pub batch: Batch,
 }
 
 impl Worker {
@@ -124,13 +131,13 @@ impl Worker {
         ensures stopped { result ≡ Stopped → G.stops shared.now.gate.now ≡ true }
     {
         for _ in rt.forever() {
-            let Some(round) = shared.desk(rt).round() else {
+            let Some(round) = shared.lock.desk(rt).round() else {
                 return Ending::Drawn;
             };
             if let Some(ending) = self.work_round(rt, shared, &round) {
                 return ending;
             }
-            shared.wait_for_end(rt, round.turn);
+            shared.lock.wait_for_end(rt, round.turn);
         }
         unreachable!()
     }
@@ -153,7 +160,7 @@ impl Worker {
         if self.drawn == 0 {
             return ending;
         }
-        let desk = shared.desk(rt);
+        let desk = shared.lock.desk(rt);
         match self.settle(shared, round, desk, ending.is_some()) {
             Ok(()) => ending,
             Err(AllocError) => Some(Ending::OutOfMemory),
@@ -187,7 +194,7 @@ impl Worker {
         }
         let ended = desk.end_round(shared.alloc, shared.gate);
         drop(desk);
-        shared.tell_end(round.turn);
+        shared.lock.tell_end(round.turn);
         settled?;
         ended
     }
@@ -203,9 +210,9 @@ impl Worker {
         ensures { IfNone result (vec_len self.now.batch.places < KEPT_WALKS) }
     {
         if ends || self.batch.is_full() {
-            Some(shared.desk(rt))
+            Some(shared.lock.desk(rt))
         } else if self.batch.is_worth_a_lock() {
-            shared.desk_if_free()
+            shared.lock.desk_if_free()
         } else {
             None
         }

@@ -24,10 +24,12 @@ pub record IsRoundOf (p : Program) (m : Mode) (r : Round) : Type 0 where
 abbrev pub rank : List ItemView → ItemView → ℕ
 rank items i = count_by (λ j. precedes j.prefix i.prefix) items
 
--- a search with this limit goes on from a book to another round, whatever the last one found: items
--- are open, and the limit is not reached
-abbrev pub GoesOn : Option ℕ → BookView → Type 0
-GoesOn limit b = (b.open_items ≡ [] → ⊥) × (IsReached limit b.finished → ⊥)
+-- a search with this limit goes on from a book to another round that all share, whatever the last one
+-- found: items are open, fewer than those from which on workers have rounds of their own, and the limit
+-- is not reached
+abbrev pub GoesOn : Option ℕ → ℕ → BookView → Type 0
+GoesOn limit own_from b = (b.open_items ≡ [] → ⊥) × (length b.open_items < own_from)
+    × (IsReached limit b.finished → ⊥)
 
 -- the round of a book's last open items, which follows another one of the stretch
 pub record Follows (b : BookView) (last round : Round) : Type 0 where

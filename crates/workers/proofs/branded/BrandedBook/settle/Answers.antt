@@ -1,6 +1,6 @@
-use Rattle.std.proofs.Common.{◌≡◌, ◌⊎◌, ◌∙◌, ℕ, true, false, List, Ok, inl, inr, sym, subst}
-use Rattle.items.specs.Items.{ItemView, AreOf}
-use Rattle.book.specs.Books.{BookView, HaveFound, HaveSettled, AreNotTaken}
+use Rattle.std.proofs.Common.{◌≡◌, ◌⊎◌, ◌∙◌, true, false, Ok, inl, inr, sym, subst}
+use Rattle.items.specs.Items.{AreOf}
+use Rattle.book.specs.Books.{HaveSettled, AreNotTaken}
 use Rattle.workers.proofs.Kept.{found_in, kept_of}
 use Rattle.workers.proofs.branded.BrandedBook.settle.Goals as goal
 

@@ -3,9 +3,9 @@ use Rattle.std.proofs.lemmas.List.Elements.{All-push, All-same}
 use Rattle.workers.specs.declared.batch.Batch.{Batch}
 use Rattle.workers.proofs.team.Team.new.Goals as goal
 
-pub loop-preserved : goal.loop-preserved
-loop-preserved c =
-    let i = c.loop.invariant in
+pub loop-number-preserved : goal.loop-number-preserved
+loop-number-preserved c =
+    let i = c.loop-number.invariant in
     let B : Batch → Type 0 = λ b. b.walker ≡ c.args.book.program in
     record {
       of = All-same B _ _ c.in_ok-push.ensures.items (All-push B _ _ i.of (search rules));

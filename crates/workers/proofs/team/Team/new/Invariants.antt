@@ -2,8 +2,8 @@ use Rattle.std.proofs.Common.{◌≡◌, vec_len}
 use Rattle.std.specs.List.{All}
 use Rattle.workers.proofs.team.Team.new.Given as goal
 
-abbrev pub invariant-loop : goal.invariant-loop
-invariant-loop l = record {
+abbrev pub invariant-loop-number : goal.invariant-loop-number
+invariant-loop-number l = record {
   of : All (λ b. b.walker ≡ l.fn.book.program) l.batches.items;
-  many : vec_len l.batches ≡ l.counter;
+  many : vec_len l.batches ≡ l.number;
 }

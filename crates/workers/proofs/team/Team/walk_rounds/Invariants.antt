@@ -8,3 +8,12 @@ ghosts-walk g a = record {
   quick = a.self.book.quick;
   lists = a.self.book.lists;
 }
+
+-- and that the workers' own rounds are of
+abbrev pub ghosts-walk_own_rounds : goal.ghosts-walk_own_rounds
+ghosts-walk_own_rounds g a = record {
+  program = a.team.book.program;
+  mode = a.team.book.mode;
+  quick = a.team.book.quick;
+  lists = a.team.book.lists;
+}

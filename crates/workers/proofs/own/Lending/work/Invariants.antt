@@ -1,0 +1,11 @@
+use Rattle.std.proofs.Common.{◌≡◌}
+use Rattle.items.specs.Items.{AreOf}
+use Rattle.workers.specs.declared.lender.Next.TheVariants.{Walk}
+use Rattle.workers.specs.inner.Loans.{IsLent}
+use Rattle.workers.proofs.own.Lending.work.Given as goal
+
+abbrev pub invariant-loop : goal.invariant-loop
+invariant-loop g l =
+    (goal.iterator-loop g).can_next l.iterator' × (goal.iterator-loop g).is_finite l.iterator'
+    × (l.worker.walker ≡ g.N.SearchBrand.program) × AreOf g.N.SearchBrand.program l.items.items
+    × (l.next ≡ Walk → IsLent g.N.SearchBrand.program l.loan)

@@ -1,0 +1,195 @@
+//! What workers with rounds of their own share under a lock.
+
+ghost use Rattle.std.specs.Prelude.{◌≡◌, ◌≤◌, ◌⊎◌, ◌↔◌, ◌<◌, true, false, IfOk, IfNone, IsTrue, length};
+ghost use Rattle.book.specs.declared.limits.TheConstants.{ROUND};
+ghost use Rattle.book.specs.ItemLists.{all_of};
+ghost use Rattle.book.specs.Books.{HaveFound, HaveSettled, places_from};
+ghost use Rattle.book.specs.Lending.{as_book, IsLoanOf};
+ghost use Rattle.workers.specs.Teams.{IsOf};
+ghost use Rattle.workers.specs.declared.lender.Next.TheVariants.{Walk, Leave};
+ghost use Rattle.workers.specs.inner.Loans.{IsLent, MayLend};
+
+use crate::batch::Batch;
+use crate::branded::SearchBrand;
+use crate::gate::Gate;
+use crate::limits::{APART, SHARES};
+use book::books::Book;
+use book::lending::LendingBook;
+use book::limits::ROUND;
+use book::loan::Loan;
+use std::alloc::{AllocError, Global};
+use std::marker::PhantomData;
+
+/// What a worker does next.
+#[derive(Clone, Copy)]
+pub(crate) enum Next {
+    /// It walks what it was lent.
+    Walk,
+    /// It waits for this turn to end.
+    Wait(u64),
+    /// It leaves: nothing more is lent in this stretch.
+    Leave,
+}
+
+/// A book that lends each worker rounds of its own.
+#[derive(Drop)]
+pub(crate) struct Lender<N: SearchBrand> {
+    apart: [u64; APART],
+    book: LendingBook,
+    workers: usize,
+    limit: Option<u64>,
+    quick: bool,
+    /// How many workers walk what they were lent.
+    walking: usize,
+    /// Whether nothing more is lent in this stretch.
+    ends: bool,
+    /// Whether memory was refused to a worker.
+    refused: bool,
+    /// Whether a worker waits for what those leave who walk.
+    waits: bool,
+    /// The turn that ended last.
+    turn: u64,
+    search: PhantomData<N>,
+    ghost of: { IsOf (as_book book) N.program N.mode N.quick N.lists },
+}
+
+impl<N: SearchBrand> Lender<N> {
+    /// A lender of a book's open items, to so many workers.
+    ///
+    /// # Errors
+    ///
+    /// `AllocError` where memory runs out.
+    pub fn new(
+        alloc: Global,
+        book: Book,
+        workers: usize,
+        limit: Option<u64>,
+    ) -> Result<Lender<N>, AllocError>
+        requires book { IsOf book N.program N.mode N.quick N.lists }
+        requires all { book.dropped ≡ false }
+    {
+        Ok(Lender {
+            apart: [0; APART],
+            quick: book.is_quick(),
+            book: LendingBook::new(alloc, book, workers)?,
+            workers,
+            limit,
+            walking: 0,
+            ends: false,
+            refused: false,
+            waits: false,
+            turn: 0,
+            search: PhantomData,
+        })
+    }
+
+    /// The book. What is lent is open.
+    ///
+    /// # Errors
+    ///
+    /// `AllocError` where memory runs out or was refused to a worker.
+    pub fn into_book(self, alloc: Global) -> Result<Book, AllocError>
+        ensures { IfOk result (λ b. IsOf b N.program N.mode N.quick N.lists) }
+    {
+        if self.refused {
+            return Err(AllocError);
+        }
+        self.book.into_book(alloc)
+    }
+
+    // How many items a worker is lent now: few where few are free, so that nobody waits long.
+    fn share(&self) -> usize
+        ensures { result ≤ ROUND }
+    {
+        let shares = self.workers.saturating_mul(SHARES);
+        let share = self.book.free_length().checked_div(shares);
+        share.unwrap_or(1).max(1).min(ROUND)
+    }
+
+    /// Lends a worker a round of its own, if anything is free. Answers what it does next.
+    pub fn lend(&mut self, alloc: Global, worker: u32, loan: &mut Loan) -> Next
+        ensures walk { result ≡ Walk → (self.old.ends ≡ false) × IsLent N.program loan.new }
+        ensures leave { result ≡ Leave → (self.new.ends ≡ true)
+            ⊎ ((self.old.walking ≡ 0) × (length self.old.book.free ≡ 0)) }
+    {
+        let is_free = self.book.free_length() > 0;
+        if self.ends || (!is_free && self.walking == 0) {
+            return Next::Leave;
+        }
+        if !is_free {
+            self.waits = true;
+            return Next::Wait(self.turn.wrapping_add(1));
+        }
+        let most = self.share();
+        let lent = self.book.lend(alloc, worker as usize, most, loan);
+        if lent == Ok(true) {
+            self.walking = self.walking.saturating_add(1);
+            return Next::Walk;
+        }
+        self.refused = self.refused || lent.is_err();
+        self.ends = true;
+        Next::Leave
+    }
+
+    // Whether more is lent: the limit isn't reached, and a quick search found no bad schedule.
+    fn goes_on(&self) -> bool
+        ensures { IsTrue result ↔ MayLend self.now.limit self.now.quick self.now.book.finished }
+    {
+        let finished = self.book.finished();
+        if self.quick && finished.first_bad().is_some() {
+            return false;
+        }
+        match self.limit {
+            Some(limit) => finished.tried() < limit,
+            None => true,
+        }
+    }
+
+    /// Settles what a worker's walks of all that it was lent found. The gate is told how far the
+    /// search is where it goes on: else nothing more is lent.
+    pub fn settle<G: Gate>(&mut self, alloc: Global, worker: &mut Batch, loan: &Loan, gate: &G)
+        requires loan { IsLoanOf N.program loan.now }
+        requires walked { let items = all_of N.program loan.now in
+            HaveFound N.program N.mode items (places_from 0 (length items)) worker.old.found }
+        ensures walker { worker.new.walker ≡ worker.old.walker }
+        ensures settled { let b = self.old.book in let items = all_of b.program loan.now in
+            (f : HaveFound b.program b.mode items (places_from 0 (length items)) worker.old.found) →
+            self.new.ends ≡ false → HaveSettled (as_book b) f.walks (as_book self.new.book) }
+        ensures goes_on { self.new.ends ≡ false →
+            MayLend self.old.limit self.old.quick self.new.book.finished }
+    {
+        self.walking = self.walking.saturating_sub(1);
+        let (number, found) = (worker.number as usize, &mut worker.found);
+        let settled = self.book.settle(alloc, number, loan, found);
+        self.refused = self.refused || settled.is_err();
+        if settled != Ok(true) || !self.goes_on() {
+            self.ends = true;
+        }
+        if !self.ends && (self.walking > 0 || self.book.free_length() > 0) {
+            gate.round_ended(self.book.progress());
+        }
+    }
+
+    /// Gives up what a worker was lent to whom memory was refused: it stays open. No more is lent.
+    pub fn give_up(&mut self)
+        ensures { (self.new.ends ≡ true) × (self.new.refused ≡ true) }
+    {
+        self.walking = self.walking.saturating_sub(1);
+        self.refused = true;
+        self.ends = true;
+    }
+
+    /// The turn that ends now, if a worker waits that has something to do.
+    pub fn end_turn(&mut self) -> Option<u64>
+        ensures { IfNone result (self.old.waits ≡ true → (0 < self.old.walking)
+            × (self.old.ends ≡ false) × (length self.old.book.free ≡ 0)) }
+    {
+        let goes_on = self.walking > 0 && !self.ends && self.book.free_length() == 0;
+        if !self.waits || goes_on {
+            return None;
+        }
+        self.waits = false;
+        self.turn = self.turn.wrapping_add(1);
+        Some(self.turn)
+    }
+}

@@ -1,0 +1,181 @@
+//! A stretch of rounds of which each is one worker's own.
+
+ghost use Rattle.std.specs.Prelude.{◌≡◌, ◌≤◌, false, IfOk, OnOk, length, vec_len};
+ghost use Rattle.std.specs.Arc.{arc_value};
+ghost use Rattle.std.specs.List.{All};
+ghost use Rattle.items.specs.Items.{AreOf};
+ghost use Rattle.book.specs.ItemLists.{all_of};
+ghost use Rattle.book.specs.Books.{HaveFound, places_from};
+ghost use Rattle.workers.specs.declared.lender.Next.TheVariants.{Walk};
+ghost use Rattle.workers.specs.Teams.{IsOf, IsTeam};
+ghost use Rattle.workers.specs.inner.Loans.{IsLent};
+
+use crate::batch::Batch;
+use crate::branded::SearchBrand;
+use crate::gate::{Answer, Gate};
+use crate::lender::{Lender, Next};
+use crate::limits::WORKERS;
+use crate::lock::Lock;
+use crate::team::Team;
+use book::loan::Loan;
+use guest_code::program::Program;
+use items::item::Item;
+use items::mode::Mode;
+use report::Options;
+use std::alloc::{AllocError, Global};
+use std::sync::{Arc, Wait};
+use std::thread;
+use std::thread::Threads;
+
+/// What the workers share: how items are walked, a gate that may not stop, and the lender.
+#[derive(Drop)]
+pub(crate) struct Lending<'a, N: SearchBrand, G: Gate> {
+    pub alloc: Global,
+    pub program: Arc<Program>,
+    pub mode: Mode,
+    pub lists: bool,
+    pub quota: u32,
+    pub gate: &'a G,
+    pub lock: Lock<Lender<N>>,
+    ghost of: { (arc_value program ≡ N.program) × (mode ≡ N.mode) × (1 ≤ quota) },
+    ghost open: { G.stops gate.now ≡ false },
+}
+
+impl<N: SearchBrand, G: Gate> Lending<'_, N, G> {
+    // Walks what a worker was lent, in its order, written over other items, if it gets memory.
+    fn walk_loan(
+        &self,
+        worker: &mut Batch,
+        loan: &Loan,
+        items: &mut Vec<Item>,
+    ) -> Result<(), AllocError>
+        requires walker { worker.old.walker ≡ N.program }
+        requires lent { IsLent N.program loan.now }
+        requires items { AreOf N.program items.old.items }
+        ensures walker { worker.new.walker ≡ N.program }
+        ensures items { AreOf N.program items.new.items }
+        ensures walked { let items = all_of N.program loan.now in OnOk result
+            (HaveFound N.program N.mode items (places_from 0 (length items)) worker.new.found) }
+    {
+        worker.walker.clear(&mut worker.found, self.lists);
+        loan.write_items(self.alloc, &self.program, items)?;
+        for place in 0..items.len() {
+            if self.gate.before(worker.number, place as u64) == Answer::Stop {
+                unreachable!()
+            }
+            let (item, found) = (&items[place], &mut worker.found);
+            worker
+                .walker
+                .walk_on(self.alloc, found, item, self.mode, self.quota)?;
+            self.gate.walked(worker.number, place as u64);
+        }
+        Ok(())
+    }
+
+    // A worker walks what it was lent. Then, in one hold of the lock, it settles what it found, is
+    // lent more, and ends the turn of those who wait. Answers what it does next.
+    fn walk_round<R: Wait>(
+        &self,
+        rt: &R,
+        worker: &mut Batch,
+        loan: &mut Loan,
+        items: &mut Vec<Item>,
+    ) -> Next
+        requires walker { worker.old.walker ≡ N.program }
+        requires lent { IsLent N.program loan.old }
+        requires items { AreOf N.program items.old.items }
+        ensures walker { worker.new.walker ≡ N.program }
+        ensures items { AreOf N.program items.new.items }
+        ensures lent { result ≡ Walk → IsLent N.program loan.new }
+    {
+        let walked = self.walk_loan(worker, loan, items);
+        let mut lender = self.lock.desk(rt);
+        match walked {
+            Ok(()) => lender.settle(self.alloc, worker, loan, self.gate),
+            Err(AllocError) => lender.give_up(),
+        }
+        let next = lender.lend(self.alloc, worker.number, loan);
+        let ended = lender.end_turn();
+        drop(lender);
+        if let Some(turn) = ended {
+            self.lock.tell_end(turn);
+        }
+        next
+    }
+
+    // A worker walks rounds of its own, until nothing more is lent.
+    fn work<R: Wait>(&self, rt: &R, worker: &mut Batch)
+        requires { worker.old.walker ≡ N.program }
+        ensures { worker.new.walker ≡ N.program }
+    {
+        let mut loan = Loan::new(self.alloc);
+        let mut items = Vec::new(self.alloc);
+        // That turn has ended before there is any.
+        let mut next = Next::Wait(0);
+        for _ in rt.forever() {
+            next = match next {
+                Next::Walk => self.walk_round(rt, worker, &mut loan, &mut items),
+                Next::Wait(turn) => {
+                    self.lock.wait_for_end(rt, turn);
+                    let mut lender = self.lock.desk(rt);
+                    lender.lend(self.alloc, worker.number, &mut loan)
+                }
+                Next::Leave => return,
+            };
+        }
+        unreachable!()
+    }
+}
+
+// Lets all workers work, each in a thread. Those for which none can be made work one after another.
+fn work_all<N: SearchBrand + Send + Sync, G: Gate, R: Threads + Wait + Sync>(
+    rt: &R,
+    lending: &Lending<N, G>,
+    workers: &mut Vec<Batch>,
+)
+    requires { All (λ b. b.walker ≡ N.program) workers.old.items }
+    ensures walkers { All (λ b. b.walker ≡ N.program) workers.new.items }
+    ensures count { vec_len workers.new ≡ vec_len workers.old }
+{
+    let one = |_: usize, w: &mut Batch|
+        requires { w.old.walker ≡ N.program }
+        ensures { w.new.walker ≡ N.program }
+    { lending.work(rt, w) };
+    thread::for_each_mut(rt, workers.as_mut_slice(), WORKERS as usize, &one);
+}
+
+/// Walks a stretch of rounds of a team's workers' own, and settles the walks.
+///
+/// # Errors
+///
+/// `AllocError` where memory runs out.
+pub(crate) fn walk_own_rounds<N: SearchBrand + Send + Sync, G: Gate, R: Threads + Wait + Sync>(
+    team: Team,
+    rt: &R,
+    alloc: Global,
+    gate: &G,
+    options: Options,
+) -> Result<Team, AllocError>
+    requires quota { 1 ≤ options.quota }
+    requires team { IsTeam N.program team }
+    requires book { IsOf team.book N.program N.mode N.quick N.lists }
+    requires all { team.book.dropped ≡ false }
+    requires open { G.stops gate.now ≡ false }
+    ensures book { IfOk result (λ t. IsOf t.book N.program N.mode N.quick N.lists) }
+    ensures team { IfOk result (IsTeam N.program) }
+{
+    let Team { book, mut batches } = team;
+    let lending = Lending {
+        alloc,
+        program: Arc::try_clone(book.program())?,
+        mode: book.mode(),
+        lists: book.lists(),
+        quota: options.quota,
+        gate,
+        lock: Lock::new(Lender::<N>::new(alloc, book, batches.len(), options.limit)?),
+    };
+    work_all(rt, &lending, &mut batches);
+    let Lending { lock, .. } = lending;
+    let book = lock.mutex.into_inner().into_book(alloc)?;
+    Ok(Team { book, batches })
+}
