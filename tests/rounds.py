@@ -325,7 +325,7 @@ def own_rounds(trial):
             own = last_bound(rounds)
             sizes = [own_sizes(own, worker) for worker in {worker for _, worker, _ in own}]
             trial.check(all(sizes) and sum(map(sum, sizes)) == len(items(own, "go")), "a full round isn't walked in order")
-            trial.check(max(map(max, sizes), default=0) == FULL, "no round of a worker's own is full:", sizes)
+            trial.check(max(sum(sizes, []), default=0) == FULL, "no round of a worker's own is full:", sizes)
 
 
 def wide(trial):
