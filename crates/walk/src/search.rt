@@ -120,8 +120,8 @@ impl Found {
         self.defer_all(steps, place, past, first)
     }
 
-    // Up to which place steps are to be deferred, from the one before `second` to before `end`: where
-    // they are only noted, once is enough.
+    // Before which place to stop, where steps are to be deferred at each place from the one before
+    // `second` to before `end`: where they are only noted, once is enough.
     fn last_place(&self, second: usize, end: usize) -> usize
         ensures few { result ≤ end }
         ensures listed { self.now.lists ≡ true → result ≡ end }
