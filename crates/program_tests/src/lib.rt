@@ -11,8 +11,6 @@ mod explanations;
 #[cfg(test)]
 mod in_cause;
 #[cfg(test)]
-mod prefix_lists;
-#[cfg(test)]
 mod replays;
 #[cfg(test)]
 mod runs;
