@@ -305,7 +305,8 @@ def own_sizes(events, worker):
 def own_rounds(trial):
     """Rounds of the workers' own, where the gate may not stop: each item is asked about once, and told as walked by who
     asked."""
-    for workers in (2, 4, 16):
+    # Of this guest 900 items are open at once, whatever the order in which workers settle: enough for eight.
+    for workers in (2, 4, 8):
         for quick in (False, True):
             rounds, report = trial.heard("threads8", 0, workers, quick=quick, does=("never", 0))
             every = [event for events, _ in rounds for event in events]
@@ -349,7 +350,7 @@ def without_board(trial):
     """Where no board can be made the first worker walks, and asks the gate. Which requests a board makes isn't said
     anywhere: those of some size are its own, so where all of that size are refused there is never a board, and the
     search has its answer."""
-    sizes = []
+    sizes, stopped = [], []
     for size in range(8, 513, 8):
         rounds, report = trial.heard("threads7", 0, 2, size=size)
         # Where there is a board, a thread is made for one of the two, but where its own requests are refused: then
@@ -359,12 +360,15 @@ def without_board(trial):
             trial.check(is_whole(rounds, 1), "without a board something isn't walked")
             trial.check(report == clean(7, 5040), "another report without a board:", report)
             rounds, report = trial.heard("threads7", 0, 2, does=("pass", 50), size=size)
-            trial.check(by_one(rounds) and report.get("cause") == "stopped" and report["tried"] == 50,
-                        "a stop without a board:", report)
-            # A walk tries so many schedules there, too. Other walks may have requests of this size of their own.
+            # Where it is stopped, it may have a request of this size of its own, and so may other walks below.
+            if rounds:
+                stopped.append(size)
+                trial.check(by_one(rounds) and report.get("cause") == "stopped" and report["tried"] == 50,
+                            "a stop without a board:", report)
+            # A walk tries so many schedules there, too.
             rounds, report = trial.heard("threads7", 0, 2, 3, 1, size=size)
             trial.check(not rounds or report["tried"] == 3, "a walk without a board:", report)
-    trial.check(sizes, "no board was refused")
+    trial.check(sizes and stopped, "no board was refused")
 
 
 def asked_after(events, item):
