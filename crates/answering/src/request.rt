@@ -25,7 +25,7 @@ pub enum Request {
 pub struct PrefixesRequest {
     /// The file, by the name that it is told with.
     pub file: String,
-    /// How many prefixes there are to be at least, where there are ever so many.
+    /// How many prefixes are listed at least, where a program ever has as many.
     pub at_least: u32,
     /// Whether those alone are listed that sleep sets enter, for searches without a bound.
     pub is_pruned: bool,

@@ -16,7 +16,7 @@ use Rattle.book.proofs.Gathered.{none_found, one_more_found, settled_together}
 use Rattle.book.proofs.Lists.{at_front, open_within}
 use Rattle.book.proofs.OpenItems.{open_of, open_own}
 
--- walks of so many open items from a place on, each up to a quota, found this
+-- walks of n open items from a place on, each up to a quota, found this
 pub record IsFoundFrom (b : BookView) (first n quota : ℕ) (f : Found) : Type 0 where
   pub found : HaveFound b.program b.mode b.open_items (places_from first n) f
   pub within : All (IsWithinQuota quota) found.walks

@@ -199,7 +199,7 @@ pub objects_after : (p : Program) (z : Snapshot) (t : ℕ) (c : Control) (cells 
 objects_after p z t c cells mine place status h =
     subst (HasObjects c) (sym h.performed.step) h.performed.control.objects
 
--- the same, after so many steps
+-- in the midst of a run: the thread goes on at an instruction of its code
 module _ (p : Program) (s : Snapshot) (t : ℕ) (c : Control) (cells mine : List ℤ) (m : Moving)
     (code : List Instruction) (d : Instruction) (h : IsGoing p s t c cells mine m)
     (runs : m.status ≡ Running) (same : code ≡ code_of p t) (valid : IsValidCode p code)

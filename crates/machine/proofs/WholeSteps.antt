@@ -86,7 +86,7 @@ module _ (p : Program) (s : Snapshot) (t : ℕ) (c : Control) (code : List Instr
         (get_or c.places t 0) d here_inside;
   }
 
--- the same, for an instruction that is said to be there
+-- of a thread that is known to be at this instruction
 module _ (p : Program) (s : Snapshot) (t : ℕ) (c : Control) (d : Instruction)
     (cells mine : List ℤ) (ready : IsReadyIn p s t c cells mine)
     (is : d ≡ get_or (code_of p t) (get_or c.places t 0) d) where

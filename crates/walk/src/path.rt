@@ -121,7 +121,7 @@ fn make_words(words: &mut Vec<i64>, count: usize) -> Result<(), AllocError>
     Ok(())
 }
 
-// Takes so many steps of a thread down, where there is room.
+// Writes down that a thread took `count` steps, for which there is room.
 #[inline(always)]
 fn push_run(steps: &mut Vec<u8>, thread: u8, count: u32)
     requires some { 1 ≤ count }

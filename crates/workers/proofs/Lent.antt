@@ -14,7 +14,7 @@ use Rattle.book.proofs.Rounds.{IsFoundFrom, round_begins, round_goes_on, added_t
 abbrev pub book_of_items : Program → Mode → List ItemView → BookView
 book_of_items p mode items = record (opening p mode false) { open_items = items }
 
--- walks of the first items, so many, found this
+-- walks of the first n of these items, each up to a quota, found this
 pub record HaveWalked (p : Program) (mode : Mode) (items : List ItemView) (quota n : ℕ) (f : Found)
     : Type 0 where
   pub found : IsFoundFrom (book_of_items p mode items) 0 n quota f

@@ -1,4 +1,4 @@
--- A run of a thread: so many steps of it, one after the other.
+-- Runs: steps of one thread, with none of another between them.
 use Rattle.std.specs.Prelude.{◌≡◌, ◌≢◌, ℕ, ◌+◌, ◌<◌, ◌≤◌, ℤ, true, List, length, take, replicate, All}
 use Rattle.guest_code.specs.Program.{Program, code_of, LocalsBelow}
 use Rattle.semantics.specs.declared.state.Status.TheVariants.{Running}
@@ -32,7 +32,8 @@ pub record IsGoing (p : Program) (s : Snapshot) (t : ℕ) (c : Control) (cells m
   pub within : m.place ≤ length (code_of p t)
   pub below : All (LocalsBelow (length mine)) (code_of p t)
 
--- so many steps of thread t led from s to this, with these threads enabled between
+-- a run of thread t led from s to this, and the threads that it names were enabled between its
+-- steps
 pub record IsRunTo (p : Program) (s : Snapshot) (t : ℕ) (r : Run) (c : Control)
     (cells mine : List ℤ) : Type 0 where
   pub of : IsOf p (run_to p s t r.steps)

@@ -101,8 +101,8 @@ pub record IsSearch (before : Found) (mode : Mode) (i : ItemView) (t : Path) (f 
   pub walked : IsWalkedOn before mode i f open_items
   pub shared : IsShared t.steps.items f
 
--- a walk of the item stands at the node to which so many of the steps lead, which but for these is
--- the path's own
+-- a walk of the item has come along a run to the node after the first `place` steps of the path:
+-- that node, but for its steps, is the one at the path's end
 pub record IsAlong (before : Found) (mode : Mode) (i : ItemView) (t : Path) (f : Found) (place : ℕ)
     : Type 0 where
   pub walked : IsWalkedOn before mode i f
