@@ -11,12 +11,12 @@ use Rattle.schedules.proofs.LeastSchedule.{least_some}
 use Rattle.semantics.proofs.ListMembers.{in_contains, contains_in, from_filter}
 use Rattle.items.specs.declared.mode.Mode.{Mode}
 use Rattle.summary.specs.Summaries.{SummaryView, IsSummary, IsBoundedBy, nothing, cut, greatest_count, end_kind, sum_of, join, sorted_views}
-use Rattle.items.specs.Items.{ItemView, root_of, schedules_of, goes_beyond, item_sum, item_sums, is_under, whole}
+use Rattle.items.specs.Items.{ItemView, schedules_of, goes_beyond, item_sum, item_sums, is_under, whole}
 use Rattle.items.specs.Walks.{clear_of}
 use Rattle.items.proofs.ListParts.{all_left}
 use Rattle.summary.proofs.SumsJoin.{sum_kept, nothing_kept, join_kept, join_comm, join_assoc, join_nothing, join_first_bad, join_members}
 use Rattle.items.proofs.WalkedItems.{HasItsOf, rest_has}
-use Rattle.items.proofs.Splits.{root_within, split_sum, split_kept, split_part}
+use Rattle.items.proofs.Splits.{split_sum, split_kept, split_part}
 use Rattle.book.specs.Books.{with_deferred, BookView, ComeAfter, IsThinned, Keeps, KeepsWhere, IsClosed, book_schedules}
 use Rattle.book.proofs.Keeping.{closes}
 use Rattle.book.proofs.Later.{begins_later, IsAfter, lesser_first, lesser_after, lesser_some, after_more}
@@ -100,11 +100,11 @@ sums_after mode item w (i ∷ is) s h =
 
 -- the whole is what the book knows joined with the sums of what it dropped
 whole_is : (b : BookView) → (t : IsThinned b) →
-    whole b.program b.mode ≡
+    item_sum b.mode b.of ≡
     join (join b.finished (item_sums b.mode b.open_items)) (item_sums b.mode t.gone)
 whole_is b t =
-    split_sum b.mode (root_of b.program) b.finished (t.gone ++ b.open_items) b.deferred
-    (root_within b.mode b.program) t.split
+    split_sum b.mode b.of b.finished (t.gone ++ b.open_items) b.deferred
+    t.split.within t.split.split
     ∙ (ap (join b.finished) (sums-append b.mode t.gone b.open_items ∙ join_comm dropped still_open)
     ∙ sym (join_assoc b.finished still_open dropped))
   where
@@ -115,7 +115,7 @@ whole_is b t =
     dropped = item_sums b.mode t.gone
 
 pub thinned_bounded : (b : BookView) → IsThinned b →
-    IsBoundedBy (join b.finished (item_sums b.mode b.open_items)) (whole b.program b.mode)
+    IsBoundedBy (join b.finished (item_sums b.mode b.open_items)) (item_sum b.mode b.of)
 thinned_bounded b t =
     let known = join b.finished (item_sums b.mode b.open_items) in
     let still_open = item_sums b.mode b.open_items in
@@ -124,13 +124,13 @@ thinned_bounded b t =
     let is : known.first_bad ≡ Some l.0 =
     join_first_bad b.finished still_open ∙ (ap (λ o. lesser o still_open.first_bad) t.found ∙ l.1)
     in
-    let has : All (HasItsOf b.mode (root_of b.program)) t.gone =
-    all_left (HasItsOf b.mode (root_of b.program)) t.gone b.open_items
-    (rest_has b.mode (root_of b.program) b.finished (t.gone ++ b.open_items) b.deferred t.split)
+    let has : All (HasItsOf b.mode b.of) t.gone =
+    all_left (HasItsOf b.mode b.of) t.gone b.open_items
+    (rest_has b.mode b.of b.finished (t.gone ++ b.open_items) b.deferred t.split.split)
     in
     let after : IsAfter l.0 dropped.first_bad =
     after_more t.first l.0 dropped.first_bad l.2
-    (sums_after b.mode (root_of b.program) t.first t.gone has t.later) in
+    (sums_after b.mode b.of t.first t.gone has t.later) in
     subst (IsBoundedBy known) (sym (whole_is b t))
     (bounded_join known dropped
     (join_kept b.finished still_open (finished_kept b t) (sums_kept b.mode b.open_items))
@@ -139,20 +139,19 @@ thinned_bounded b t =
   where
     finished_kept : (b : BookView) → (t : IsThinned b) → IsSummary b.finished
     finished_kept b t =
-        split_kept b.mode (root_of b.program) b.finished (t.gone ++ b.open_items) b.deferred t.split
+        split_kept b.mode b.of b.finished (t.gone ++ b.open_items) b.deferred t.split.split
 
 -- where nothing is still_open
 closes_thinned : (b : BookView) → IsThinned b → b.open_items ≡ [] →
-    IsBoundedBy b.finished (whole b.program b.mode)
+    IsBoundedBy b.finished (item_sum b.mode b.of)
 closes_thinned b t none =
-    subst (λ x. IsBoundedBy x (whole b.program b.mode))
+    subst (λ x. IsBoundedBy x (item_sum b.mode b.of))
     (ap (λ is. join b.finished (item_sums b.mode is)) none
     ∙ join_nothing b.finished
-    (split_kept b.mode (root_of b.program) b.finished (t.gone ++ b.open_items) b.deferred
-    t.split))
+    (split_kept b.mode b.of b.finished (t.gone ++ b.open_items) b.deferred t.split.split))
     (thinned_bounded b t)
 
-bounded_itself : (x : SummaryView) → IsBoundedBy x x
+pub bounded_itself : (x : SummaryView) → IsBoundedBy x x
 bounded_itself x = record {
   first_bad = refl;
   tried = omega arith;
@@ -167,11 +166,11 @@ bad_in p L = refl
 
 -- the first bad schedule that was found is one of the book's
 pub thinned_found : (b : BookView) → (t : IsThinned b) →
-    Contains (book_schedules b) t.first × (is_bad (end_kind b.program t.first) ≡ true)
+    Contains (book_schedules b) t.first × (is_bad (end_kind b.of.program t.first) ≡ true)
 thinned_found b t =
-    let m = from_filter (λ v. is_bad (end_kind b.program v)) tried t.first
-    (contains_in (bad_ones b.program tried) t.first
-    (least_some (bad_ones b.program tried) t.first is_first).0) in
+    let m = from_filter (λ v. is_bad (end_kind b.of.program v)) tried t.first
+    (contains_in (bad_ones b.of.program tried) t.first
+    (least_some (bad_ones b.of.program tried) t.first is_first).0) in
     let n = from_filter (λ v. not (is_under (t.gone ++ b.open_items) v)) (book_schedules b) t.first
     m.0 in
     (in_contains (book_schedules b) t.first n.0, m.1)
@@ -179,11 +178,11 @@ thinned_found b t =
     tried : List (List ℕ)
     tried = clear_of (t.gone ++ b.open_items) (book_schedules b)
 
-    is_first : least (bad_ones b.program tried) ≡ Some t.first
+    is_first : least (bad_ones b.of.program tried) ≡ Some t.first
     is_first =
-        bad_in b.program tried
-        ∙ (ap (λ (x : SummaryView). x.first_bad) (sym (split_part b.mode (root_of b.program)
-        b.finished (t.gone ++ b.open_items) b.deferred (root_within b.mode b.program) t.split))
+        bad_in b.of.program tried
+        ∙ (ap (λ (x : SummaryView). x.first_bad) (sym (split_part b.mode b.of
+        b.finished (t.gone ++ b.open_items) b.deferred t.split.within t.split.split))
         ∙ t.found)
 
 -- what closed books tell
@@ -202,21 +201,24 @@ clean_kept_all b h n = go b.dropped refl h.split
     go true e t = absurd (let c : Some t.first ≡ None = sym t.found ∙ n in cc)
     go false e k = e
 
+pub closed_sum : (b : BookView) → Keeps b → b.dropped ≡ false → b.open_items ≡ [] →
+    b.finished ≡ item_sum b.mode b.of
+closed_sum b h d none =
+    let c : BookView = with_deferred b h.put in
+    closes c (subst (λ (z : Bool). KeepsWhere z c) d h.split) none
+
 pub closed_whole : (b : BookView) (p : Program) (mode : Mode) → Keeps b → b.dropped ≡ false →
     IsClosed b p mode → b.finished ≡ whole p mode
-closed_whole b p mode h d k =
-    let c : BookView = with_deferred b h.put in
-    closes c (subst (λ (z : Bool). KeepsWhere z c) d h.split) p mode k.2 k.1 k.0
+closed_whole b p mode h d k = closed_sum b h d k.0 ∙ (λ i. item_sum (k.1 i) (k.2 i))
 
 pub closed_bounded : (b : BookView) (p : Program) (mode : Mode) → Keeps b → IsClosed b p mode →
     IsBoundedBy b.finished (whole p mode)
-closed_bounded b p mode h k = go b.dropped refl h.split
+closed_bounded b p mode h k =
+    subst (IsBoundedBy b.finished) (λ i. item_sum (k.1 i) (k.2 i)) (go b.dropped h.split)
   where
     c : BookView
     c = with_deferred b h.put
 
-    go : (d : Bool) → b.dropped ≡ d → KeepsWhere d c → IsBoundedBy b.finished (whole p mode)
-    go true e t =
-        subst (IsBoundedBy b.finished) (λ j. whole (k.2 j) (k.1 j)) (closes_thinned c t k.0)
-    go false e s =
-        subst (IsBoundedBy b.finished) (closes c s p mode k.2 k.1 k.0) (bounded_itself b.finished)
+    go : (d : Bool) → KeepsWhere d c → IsBoundedBy b.finished (item_sum b.mode b.of)
+    go true t = closes_thinned c t k.0
+    go false s = subst (IsBoundedBy b.finished) (closes c s k.0) (bounded_itself b.finished)

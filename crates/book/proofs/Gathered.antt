@@ -10,7 +10,7 @@ use Rattle.std.proofs.lemmas.Grind.{flat_map-append}
 use Rattle.guest_code.specs.Program.{Program}
 use Rattle.summary.specs.Summaries.{SummaryView, IsSummary, nothing, join}
 use Rattle.summary.proofs.SumsJoin.{join_assoc, join_nothing}
-use Rattle.items.specs.Items.{ItemView, AreOf, root_of}
+use Rattle.items.specs.Items.{ItemView, AreOf}
 use Rattle.items.specs.declared.mode.Mode.{Mode}
 use Rattle.walk.specs.declared.found.Found.{Found}
 use Rattle.items.specs.Walks.{WalkView, IsWalked, items_at, listed_if}
@@ -79,8 +79,8 @@ finished_kept b h = go b.dropped h.split
   where
     go : (d : _) → KeepsWhere d (with_deferred b h.put) → IsSummary b.finished
     go true t =
-        split_kept b.mode (root_of b.program) b.finished (t.gone ++ b.open_items) h.put t.split
-    go false s = split_kept b.mode (root_of b.program) b.finished b.open_items h.put s
+        split_kept b.mode b.of b.finished (t.gone ++ b.open_items) h.put t.split.split
+    go false s = split_kept b.mode b.of b.finished b.open_items h.put s.split
 
 got_within : {X : Type 0} (xs : List X) (k : ℕ) (x : X) → slice_get xs k ≡ Some x → k < length xs
 got_within [] k x e = cc
@@ -117,7 +117,7 @@ after b left ws = record b {
 }
 
 settled_after : (items : List ItemView) (ks qs : List ℕ) (ws : List WalkView) (b : BookView)
-    (xs come : List ItemView) → AreOf b.program items → b.open_items ≡ xs ++ come → Keeps b →
+    (xs come : List ItemView) → AreOf b.of.program items → b.open_items ≡ xs ++ come → Keeps b →
     AreWalksAt b.mode items ks ws → AreOpenAt xs items ks qs →
     HaveSettled b ws (after b (remove_each xs qs ++ come) ws)
     × Keeps (after b (remove_each xs qs ++ come) ws)
@@ -137,8 +137,8 @@ settled_after items (k ∷ ks) (q ∷ qs) (x ∷ ws) b xs come own is h w o =
       subst (λ (ys : List ItemView). q < length ys) (sym is) (longer xs come q o.0),
       ap (λ ys. slice_get ys q) is ∙ (got-left xs come q o.0 ∙ (sym o.1 ∙ w.1)),
     ) in
-    let of : (b.mode ≡ x.mode) × (b.program ≡ x.item.program) =
-    (sym w.0, own_item b.program items k x.item own w.1) in
+    let of : (b.mode ≡ x.mode) × (b.of.program ≡ x.item.program) =
+    (sym w.0, own_item b.of.program items k x.item own w.1) in
     let next : BookView = settled b x q in
     let open_is : next.open_items ≡ remove xs q ++ (come ++ x.rest) =
     ap (λ ys. remove ys q ++ x.rest) is
@@ -173,8 +173,8 @@ settled_after items (k ∷ ks) (q ∷ qs) (x ∷ ws) b xs come own is h w o =
 
 -- so what they found together settles them, one after another
 pub settled_together : (items : List ItemView) (ks qs : List ℕ) (found : Found) (b : BookView) →
-    AreOf b.program items → Keeps b → AreOpenAt b.open_items items ks qs →
-    (b.lists && not found.lists) ≡ false → (f : HaveFound b.program b.mode items ks found) →
+    AreOf b.of.program items → Keeps b → AreOpenAt b.open_items items ks qs →
+    (b.lists && not found.lists) ≡ false → (f : HaveFound b.of.program b.mode items ks found) →
     HaveSettled b f.walks (taken_in b (remove_each b.open_items qs) found)
     × Keeps (taken_in b (remove_each b.open_items qs) found)
 unfolding after

@@ -1,24 +1,23 @@
 -- What the calls of a book keep where no item was dropped.
 use Rattle.std.proofs.Common.{◌≡◌, ℕ, ◌+◌, ◌<◌, ◌≤◌, Bool, true, false, List, [], ◌++◌, take, drop, suc, refl, ap, sym, ◌∙◌, subst, arith}
-use Rattle.guest_code.specs.Program.{Program}
 use Rattle.schedules.specs.Schedules.{preemptions}
 use Rattle.items.specs.declared.mode.Mode.{Mode}
 use Rattle.items.specs.declared.mode.Mode.TheVariants.{Bounded, Reduced}
 use Rattle.items.specs.declared.limits.TheConstants.{BOUND}
-use Rattle.summary.specs.Summaries.{SummaryView, with_beyond}
-use Rattle.items.specs.Items.{ItemView, root_of, whole}
-use Rattle.items.specs.Walks.{WalkView, IsWalked, IsSplit, listed_if}
+use Rattle.items.specs.Items.{ItemView, IsItem, item_sum}
+use Rattle.items.specs.Walks.{WalkView, IsWalked, IsSplit, IsWithin, listed_if}
 use Rattle.items.proofs.Listed.{listed_none}
-use Rattle.items.proofs.Splits.{root_within, split_open, split_further, split_next, split_closed}
+use Rattle.items.proofs.Splits.{split_open, split_further, split_next, split_closed}
 use Rattle.book.specs.Books.{BookView, IsBook, Keeps, KeepsWhere, with_deferred}
-use Rattle.book.specs.Books.{IsWalkOf, IsOpenAt, opening, settled, raised, bound_of}
+use Rattle.book.specs.Books.{IsWalkOf, IsOpenAt, opening_of, settled, raised, bound_of}
 use Rattle.book.proofs.Lists.{parted}
 
-pub opens : (p : Program) (mode : Mode) (quick : Bool) → Keeps (opening p mode quick)
-opens p mode quick = record {
+pub opens : (item : ItemView) (mode : Mode) (quick : Bool) → IsItem item → IsWithin mode item →
+    Keeps (opening_of item mode quick)
+opens item mode quick runs fits = record {
   put = [];
   listed = refl;
-  split = split_open mode (root_of p) refl (root_within mode p);
+  split = record { within = fits; split = split_open mode item runs fits };
 }
 
 -- where what is put off is listed, the list is all of it
@@ -29,25 +28,27 @@ all_listed b h lists =
 
 pub settles : (b : BookView) (w : WalkView) (place : ℕ) → IsBook b → IsWalked w → IsWalkOf b w →
     IsOpenAt b w.item place → IsBook (with_deferred (settled b w place) (b.deferred ++ w.deferred))
-settles b w place book walk of at =
-    split_further b.mode (root_of b.program) w.item b.finished w.part
-    (take place b.open_items) (drop (suc place) b.open_items) b.deferred w.rest w.deferred
-    (subst (λ (is : List ItemView). IsSplit b.mode (root_of b.program) b.finished is b.deferred)
-    (parted b.open_items place w.item at.0 at.1) book)
-    (subst (λ (m : Mode). IsSplit m w.item w.part w.rest w.deferred) (sym of.0) walk.split)
+settles b w place book walk of at = record {
+  within = book.within;
+  split = split_further b.mode b.of w.item b.finished w.part
+      (take place b.open_items) (drop (suc place) b.open_items) b.deferred w.rest w.deferred
+      (subst (λ (is : List ItemView). IsSplit b.mode b.of b.finished is b.deferred)
+      (parted b.open_items place w.item at.0 at.1) book.split)
+      (subst (λ (m : Mode). IsSplit m w.item w.part w.rest w.deferred) (sym of.0) walk.split);
+}
 
 raises_split : (b : BookView) → IsBook b → b.open_items ≡ [] → bound_of b.mode < BOUND →
     IsBook (raised b)
-raises_split b book none low = go b.mode b.program b.finished b.open_items b.deferred book none low
+raises_split b book none low = go b.mode book.within book.split low
   where
-    go : (mode : Mode) (p : Program) (f : SummaryView) (open_items deferred : List ItemView) →
-        IsSplit mode (root_of p) f open_items deferred → open_items ≡ [] →
-        bound_of mode < BOUND →
-        IsSplit (Bounded (bound_of mode + 1)) (root_of p) (with_beyond f false) deferred []
-    go (Bounded bound) p f open_items deferred h e l =
-        split_next bound (root_of p) f open_items deferred
-        (let z : preemptions p [] ≤ bound = omega arith in z) e h
-    go Reduced p f open_items deferred h e l = absurd (omega arith)
+    go : (mode : Mode) → IsWithin mode b.of →
+        IsSplit mode b.of b.finished b.open_items b.deferred → bound_of mode < BOUND →
+        IsBook (raised (record b { mode = mode }))
+    go (Bounded bound) fits h l = record {
+      within = let few : preemptions b.of.program b.of.prefix ≤ bound = fits in omega (arith, few);
+      split = split_next bound b.of b.finished b.open_items b.deferred fits none h;
+    }
+    go Reduced fits h l = absurd (omega (arith, l))
 
 pub raises : (b : BookView) → Keeps b → b.lists ≡ true → b.dropped ≡ false → b.open_items ≡ [] →
     bound_of b.mode < BOUND → Keeps (raised b)
@@ -58,9 +59,6 @@ raises b h lists all none low = record {
       (raises_split b (subst (λ (d : Bool). KeepsWhere d b) all (all_listed b h lists)) none low);
 }
 
-pub closes : (b : BookView) → IsBook b → (p : Program) (mode : Mode) → b.program ≡ p →
-    b.mode ≡ mode → b.open_items ≡ [] → b.finished ≡ whole p mode
-closes b book p mode e g none =
-    split_closed b.mode (root_of b.program) b.finished b.open_items b.deferred
-    (root_within b.mode b.program) book none
-    ∙ (λ i. whole (e i) (g i))
+pub closes : (b : BookView) → IsBook b → b.open_items ≡ [] → b.finished ≡ item_sum b.mode b.of
+closes b book none =
+    split_closed b.mode b.of b.finished b.open_items b.deferred book.within book.split none

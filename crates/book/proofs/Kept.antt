@@ -2,8 +2,8 @@
 use Rattle.std.proofs.Common.{◌≡◌, ℕ, ◌≤◌, ◌+◌, Bool, true, false, List, [], ◌++◌, sym, subst, arith}
 use Rattle.std.specs.List.{All}
 use Rattle.schedules.specs.Schedules.{begins_with}
-use Rattle.items.specs.Items.{root_of, covers}
-use Rattle.items.specs.Walks.{listed_if}
+use Rattle.items.specs.Items.{covers}
+use Rattle.items.specs.Walks.{IsWithin, listed_if}
 use Rattle.items.proofs.ListParts.{all_right}
 use Rattle.items.proofs.Covers.{at_most_one, covers-append}
 use Rattle.items.proofs.WalkedItems.{HasItsOf, rest_has}
@@ -19,6 +19,14 @@ pub kept_thinned : (b : BookView) → (h : Keeps b) → b.dropped ≡ true →
     IsThinned (with_deferred b h.put)
 kept_thinned b h e = subst (λ (d : Bool). KeepsWhere d (with_deferred b h.put)) e h.split
 
+-- the prefix of the book's item is within the bound
+pub kept_within : (b : BookView) → Keeps b → IsWithin b.mode b.of
+kept_within b h = go b.dropped h.split
+  where
+    go : (d : Bool) → KeepsWhere d (with_deferred b h.put) → IsWithin b.mode b.of
+    go false s = s.within
+    go true t = t.split.within
+
 -- a schedule is under one of the open and the deferred items at most
 pub kept_apart : (b : BookView) → Keeps b → (v : List ℕ) → covers v (items_left b) ≤ 1
 kept_apart b h v =
@@ -26,10 +34,13 @@ kept_apart b h v =
     (listed b.lists (put b.dropped h.split))
   where
     put : (d : Bool) → KeepsWhere d (with_deferred b h.put) → covers v (b.open_items ++ h.put) ≤ 1
-    put false s = let a = s.apart v in let c = at_most_one (begins_with [] v) in omega (arith, a, c)
+    put false s =
+        let a = s.split.apart v in
+        let c = at_most_one (begins_with b.of.prefix v) in
+        omega (arith, a, c)
     put true t =
-        let a = t.split.apart v in
-        let c = at_most_one (begins_with [] v) in
+        let a = t.split.split.apart v in
+        let c = at_most_one (begins_with b.of.prefix v) in
         let x = covers-append v (t.gone ++ b.open_items) h.put in
         let y = covers-append v t.gone b.open_items in
         let z = covers-append v b.open_items h.put in
@@ -45,12 +56,12 @@ kept_apart b h v =
 
 -- the open items have their schedules of the book's
 pub kept_schedules : (b : BookView) → Keeps b →
-    All (HasItsOf b.mode (root_of b.program)) b.open_items
+    All (HasItsOf b.mode b.of) b.open_items
 kept_schedules b h = go b.dropped h.split
   where
     go : (d : Bool) → KeepsWhere d (with_deferred b h.put) →
-        All (HasItsOf b.mode (root_of b.program)) b.open_items
-    go false s = rest_has b.mode (root_of b.program) b.finished b.open_items h.put s
+        All (HasItsOf b.mode b.of) b.open_items
+    go false s = rest_has b.mode b.of b.finished b.open_items h.put s.split
     go true t =
-        all_right (HasItsOf b.mode (root_of b.program)) t.gone b.open_items
-        (rest_has b.mode (root_of b.program) b.finished (t.gone ++ b.open_items) h.put t.split)
+        all_right (HasItsOf b.mode b.of) t.gone b.open_items
+        (rest_has b.mode b.of b.finished (t.gone ++ b.open_items) h.put t.split.split)

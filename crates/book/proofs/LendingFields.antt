@@ -1,6 +1,5 @@
 -- The book that the fields of one that lends make.
 use Rattle.std.proofs.Common.{◌≡◌, ℕ, false, List, [], ◌++◌, map, replicate, ap, sym, ◌∙◌}
-use Rattle.std.specs.Arc.{arc_value}
 use Rattle.book.specs.ItemLists.{ListView, all_of}
 use Rattle.book.specs.Lending.{LendingView, lending_view, as_book, all_lent}
 use Rattle.book.specs.declared.books.Book.TheInside as whole
@@ -10,12 +9,12 @@ use Rattle.book.proofs.Lent.{none_lent}
 
 abbrev pub lending_of : Inside → LendingView
 lending_of i =
-    lending_view i.program i.mode i.finished i.free i.lent.items i.deferred i.lists i.quick
+    lending_view i.of i.mode i.finished i.free i.lent.items i.deferred i.lists i.quick
 
 -- where nothing is lent it is the book that it was
 pub not_lent_yet : (i : whole.Inside) (lent : List ListView) (n : ℕ) → i.dropped ≡ false →
-    map (all_of (arc_value i.program)) lent ≡ replicate n [] →
-    as_book (lending_view i.program i.mode i.finished i.open_items lent i.deferred i.lists i.quick)
+    map (all_of i.of.program) lent ≡ replicate n [] →
+    as_book (lending_view i.of i.mode i.finished i.open_items lent i.deferred i.lists i.quick)
     ≡ book_of i
 not_lent_yet i lent n all none =
     let b = book_of i in

@@ -7,7 +7,7 @@ use Rattle.std.proofs.lemmas.List.Edits.{remove-append_left}
 use Rattle.std.proofs.lemmas.List.Sorted.{IsPermutation-refl, IsPermutation-append_right, IsPermutation-append_comm, IsPermutation-trans}
 use Rattle.guest_code.specs.Program.{Program}
 use Rattle.summary.specs.Summaries.{join}
-use Rattle.items.specs.Items.{ItemView, AreOf, IsItem, root_of}
+use Rattle.items.specs.Items.{ItemView, AreOf, IsItem}
 use Rattle.items.specs.Walks.{IsBelow, items_at, listed_if}
 use Rattle.items.proofs.ListParts.{all_left, all_right}
 use Rattle.items.proofs.Splits.{split_permuted}
@@ -16,7 +16,7 @@ use Rattle.book.specs.ItemLists.{ListView, all_of}
 use Rattle.book.specs.Books.{BookView, Keeps, KeepsWhere, AreOpenAt, HaveFound, HaveSettled, with_deferred, places_from, remove_each, taken_in}
 use Rattle.book.specs.Lending.{LendingView, Reorders, IsLoanOf, Has, as_book, all_lent, lent_to}
 use Rattle.book.proofs.Gathered.{settled_together}
-use Rattle.book.proofs.Kept.{kept_whole}
+use Rattle.book.proofs.Kept.{kept_whole, kept_within}
 use Rattle.book.proofs.Lists.{parted, at_front}
 use Rattle.book.proofs.OpenItems.{left_below, open_of}
 use Rattle.book.proofs.PackedItems.{below_run, got-left, got-map, got-or}
@@ -141,8 +141,11 @@ keeps_permuted b items whole moved h = record {
   listed = h.listed;
   split = subst (λ (d : Bool). KeepsWhere d (with_deferred (record b { open_items = items }) h.put))
       (sym whole)
-      (split_permuted b.mode (root_of b.program) b.finished b.open_items items h.put moved
-      (kept_whole b h whole));
+      (record {
+        within = kept_within b h;
+        split = split_permuted b.mode b.of b.finished b.open_items items h.put moved
+            (kept_whole b h whole).split;
+      });
 }
 
 pub lends : (b : LendingView) (k most : ℕ) → Has b k [] →
@@ -164,16 +167,16 @@ same_order b = record { book = refl; same = IsPermutation-refl b.open_items }
 
 pub open_runs : (b : LendingView) → Keeps (as_book b) → All IsItem (as_book b).open_items
 open_runs b h =
-    below_run (root_of b.program) (as_book b).open_items
-    (all_left (IsBelow (root_of b.program)) (as_book b).open_items b.deferred
+    below_run b.of (as_book b).open_items
+    (all_left (IsBelow b.of) (as_book b).open_items b.deferred
     (left_below (as_book b) h))
 
 -- what a worker has is of the book's program, and runs
 pub of_worker : (b : LendingView) (k : ℕ) (items : List ItemView) → Has b k items →
-    Keeps (as_book b) → All IsItem items × AreOf b.program items
+    Keeps (as_book b) → All IsItem items × AreOf b.of.program items
 of_worker b k items has h = (
   part IsItem (open_runs b h),
-  part (λ i. i.program ≡ b.program) (open_of (as_book b) h),
+  part (λ i. i.program ≡ b.of.program) (open_of (as_book b) h),
 )
   where
     part : (P : ItemView → Type 0) → All P (as_book b).open_items → All P items
@@ -202,7 +205,7 @@ came_back b k found = record b {
   finished = join b.finished found.part;
   free = b.free ++ found.rest.items;
   lent = set b.lent k [];
-  deferred = b.deferred ++ listed_if b.lists (items_at b.program found.deferred);
+  deferred = b.deferred ++ listed_if b.lists (items_at b.of.program found.deferred);
 }
 
 -- they stand among the open ones, one after another
@@ -232,7 +235,7 @@ each_out front (i ∷ items) back =
 -- so walks of all that a worker has settle them
 pub settled_loan : (b : LendingView) (k : ℕ) (items : List ItemView) (found : Found) →
     Has b k items → Keeps (as_book b) → (b.lists && not found.lists) ≡ false →
-    (f : HaveFound b.program b.mode items (places_from 0 (length items)) found) →
+    (f : HaveFound b.of.program b.mode items (places_from 0 (length items)) found) →
     HaveSettled (as_book b) f.walks (as_book (came_back b k found))
     × Keeps (as_book (came_back b k found))
 settled_loan b k items found has h lists f =

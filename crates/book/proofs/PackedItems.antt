@@ -1,10 +1,9 @@
 -- Items of packed prefixes, read from the last on.
-use Rattle.std.proofs.Common.{◌≡◌, ℕ, zero, suc, Option, Some, None, Result, Ok, Err, IfSome, IfNone, IfOk, slice_get, ◌+◌, ◌-◌, ◌<◌, ◌≤◌, List, [], ◌∷◌, ◌++◌, length, get_or, take, drop, map, min, reverse, refl, ap, sym, ◌∙◌, subst, arith, append_assoc, length-append, length-take, ⊎_elim}
+use Rattle.std.proofs.Common.{◌≡◌, ℕ, zero, suc, Option, Some, None, Result, Ok, Err, IfSome, IfNone, IfOk, slice_get, ◌+◌, ◌-◌, ◌<◌, ◌≤◌, List, [], ◌∷◌, ◌++◌, length, get_or, take, drop, map, min, refl, ap, sym, ◌∙◌, subst, arith, length-append, length-take, ⊎_elim}
 use Rattle.std.specs.List.{All}
 use Rattle.std.proofs.lemmas.List.Elements.{All-nil, All-cons, All-append, All-head, All-tail, All-weaker}
-use Rattle.std.proofs.Math.Seq.{take-suc}
 use Rattle.std.proofs.lemmas.Bool.{cases_lt}
-use Rattle.std.proofs.lemmas.List.{reverse-append, drop-map, take_all, drop_at, drop_all, drop-drop, drop-append-le, length-map, take-append-drop, get_or-take}
+use Rattle.std.proofs.lemmas.List.{drop-map, take_all, drop_at, drop_all, drop-drop, drop-append-le, length-map, take-append-drop, get_or-take}
 use Rattle.guest_code.specs.Program.{Program}
 use Rattle.semantics.specs.Mask.{no_threads}
 use Rattle.items.specs.Items.{ItemView, AreOf, IsItem, item_at}

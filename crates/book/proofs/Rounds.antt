@@ -18,7 +18,7 @@ use Rattle.book.proofs.OpenItems.{open_of, open_own}
 
 -- walks of n open items from a place on, each up to a quota, found this
 pub record IsFoundFrom (b : BookView) (first n quota : ℕ) (f : Found) : Type 0 where
-  pub found : HaveFound b.program b.mode b.open_items (places_from first n) f
+  pub found : HaveFound b.of.program b.mode b.open_items (places_from first n) f
   pub within : All (IsWithinQuota quota) found.walks
 
 one_place_more : (first n : ℕ) → places_from first n ++ (first + n) ∷ [] ≡ places_from first (suc n)
@@ -40,17 +40,17 @@ pub round_begins : (b : BookView) (first n quota : ℕ) (f : Found) → n ≡ 0 
     f.rest.items ≡ [] → f.deferred ≡ [] → IsFoundFrom b first n quota f
 round_begins b first (suc n) quota f none part rest deferred = absurd (omega (arith, none))
 round_begins b first zero quota f none part rest deferred = record {
-  found = none_found b.program b.mode b.open_items f part rest deferred;
+  found = none_found b.of.program b.mode b.open_items f part rest deferred;
   within = All-nil (IsWithinQuota quota);
 }
 
 pub round_goes_on : (b : BookView) (i : ItemView) (first place quota : ℕ) (f g : Found) →
-    first ≤ place → IsOpenAt b i place → b.program ≡ i.program → HasAdded b.mode i quota f g →
+    first ≤ place → IsOpenAt b i place → b.of.program ≡ i.program → HasAdded b.mode i quota f g →
     IsFoundFrom b first (place - first) quota f → IsFoundFrom b first (place + 1 - first) quota g
 round_goes_on b i first place quota f g from at of h before =
     let there : first + (place - first) ≡ place = omega (arith, from) in
     let count : suc (place - first) ≡ place + 1 - first = omega (arith, from) in
-    let more = one_more_found b.program b.mode b.open_items (places_from first (place - first))
+    let more = one_more_found b.of.program b.mode b.open_items (places_from first (place - first))
     (first + (place - first)) quota i f g before.found
     (ap (slice_get b.open_items) there ∙ at.1) (sym of) h in
     let at_all = found_at (one_place_more first (place - first)) more
@@ -59,16 +59,16 @@ round_goes_on b i first place quota f g from at of h before =
     subst (λ n. IsFoundFrom b first n quota g) count
     (record { found = at_all.0; within = at_all.1 })
   where
-    found_at : {ks js : List ℕ} → ks ≡ js → (h : HaveFound b.program b.mode b.open_items ks g) →
+    found_at : {ks js : List ℕ} → ks ≡ js → (h : HaveFound b.of.program b.mode b.open_items ks g) →
         All (IsWithinQuota quota) h.walks →
-        (h : HaveFound b.program b.mode b.open_items js g) × All (IsWithinQuota quota) h.walks
-    found_at {ks} {js} e h a = subst (λ js. (h : HaveFound b.program b.mode b.open_items js g)
+        (h : HaveFound b.of.program b.mode b.open_items js g) × All (IsWithinQuota quota) h.walks
+    found_at {ks} {js} e h a = subst (λ js. (h : HaveFound b.of.program b.mode b.open_items js g)
         × All (IsWithinQuota quota) h.walks) e (h, a)
 
 -- an item of a list that is the open items is an open one, of the book's program
 pub open_at : (b : BookView) (items : List ItemView) (end place : ℕ) (i : ItemView) → Keeps b →
     items ≡ b.open_items → end ≡ length b.open_items → place < end →
-    slice_get items place ≡ Some i → IsOpenAt b i place × (b.program ≡ i.program)
+    slice_get items place ≡ Some i → IsOpenAt b i place × (b.of.program ≡ i.program)
 open_at b items end place i h same count lt at =
     let inside : place < length b.open_items = omega (arith, count, lt) in
     let there : slice_get b.open_items place ≡ Some i =

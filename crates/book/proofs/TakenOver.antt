@@ -53,7 +53,7 @@ same_book b finished open_items deferred e f g =
 
 -- what a walk found settles its item
 pub settled_by_found : (b : BookView) (i : ItemView) (found : Found) (place : ℕ) →
-    b.program ≡ i.program →
+    b.of.program ≡ i.program →
     taken_in b (remove b.open_items place) found ≡ settled b (found_walk b.mode i found) place
 settled_by_found b i found place of = λ k. record (taken_in b (remove b.open_items place) found) {
   deferred = b.deferred ++ listed_if b.lists (items_at (of k) found.deferred);

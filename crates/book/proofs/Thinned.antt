@@ -6,7 +6,7 @@ use Rattle.std.proofs.lemmas.List.Sorted.{IsPermutation-append_right, IsPermutat
 use Rattle.schedules.specs.Order.{precedes, lesser}
 use Rattle.items.specs.declared.mode.Mode.{Mode}
 use Rattle.summary.specs.Summaries.{join}
-use Rattle.items.specs.Items.{ItemView, root_of}
+use Rattle.items.specs.Items.{ItemView}
 use Rattle.items.specs.Walks.{WalkView, IsWalked, IsSplit, listed_if}
 use Rattle.items.proofs.Listed.{listed_both}
 use Rattle.items.proofs.Splits.{split_further, split_permuted}
@@ -18,7 +18,7 @@ use Rattle.book.proofs.Lists.{parted}
 
 -- these are the open items of the book, besides its other parts
 abbrev pub IsBookWith : BookView → List ItemView → Type 0
-IsBookWith b items = IsSplit b.mode (root_of b.program) b.finished items b.deferred
+IsBookWith b items = IsSplit b.mode b.of b.finished items b.deferred
 
 -- the items that stay
 abbrev pub kept_items : BookView → List ItemView
@@ -63,7 +63,7 @@ thins_split b first q found h = go b.dropped refl (list_any (drops b) b.open_ite
         IsBookWith b ((gone ++ dropped_items b) ++ kept_items b)
     more gone s =
         subst (IsBookWith b) (sym (append_assoc gone (dropped_items b) (kept_items b)))
-        (split_permuted b.mode (root_of b.program) b.finished (gone ++ b.open_items)
+        (split_permuted b.mode b.of b.finished (gone ++ b.open_items)
         (gone ++ (dropped_items b ++ kept_items b)) b.deferred
         (IsPermutation-append_right gone _ _
         (IsPermutation-filter_both (drops b) (λ i. not (drops b i)) (λ i. refl) b.open_items)) s)
@@ -76,7 +76,7 @@ thins_split b first q found h = go b.dropped refl (list_any (drops b) b.open_ite
         record {
           quick = q;
           gone = t.gone ++ dropped_items b;
-          split = more t.gone t.split;
+          split = record { within = t.split.within; split = more t.gone t.split.split };
           first = first;
           found = found;
           later = All-append (λ i. precedes first i.prefix ≡ true) t.gone (dropped_items b)
@@ -85,12 +85,15 @@ thins_split b first q found h = go b.dropped refl (list_any (drops b) b.open_ite
     go false e true m s = record {
       quick = q;
       gone = dropped_items b;
-      split = more [] s;
+      split = record { within = s.within; split = more [] s.split };
       first = first;
       found = found;
       later = later;
     }
-    go false e false m s = subst (IsBookWith b) (sym (all_kept (drops b) b.open_items m)) s
+    go false e false m s = record {
+      within = s.within;
+      split = subst (IsBookWith b) (sym (all_kept (drops b) b.open_items m)) s.split;
+    }
 
 pub thins : (b : BookView) (first : List ℕ) → b.quick ≡ true → b.finished.first_bad ≡ Some first →
     Keeps b → Keeps (thinned b)
@@ -110,15 +113,17 @@ settles_thinned b w place t walk of at =
     record {
       quick = t.quick;
       gone = t.gone;
-      split = subst
-          (λ is. IsSplit b.mode (root_of b.program) (join b.finished w.part) is
-          (b.deferred ++ w.deferred))
-          after
-          (split_further b.mode (root_of b.program) w.item b.finished w.part
-          (t.gone ++ left) right b.deferred w.rest w.deferred
-          (subst (IsBookWith b) before t.split)
-          (subst (λ (m : Mode). IsSplit m w.item w.part w.rest w.deferred) (sym of.0)
-          walk.split));
+      split = record {
+        within = t.split.within;
+        split = subst
+            (λ is. IsSplit b.mode b.of (join b.finished w.part) is (b.deferred ++ w.deferred))
+            after
+            (split_further b.mode b.of w.item b.finished w.part
+            (t.gone ++ left) right b.deferred w.rest w.deferred
+            (subst (IsBookWith b) before t.split.split)
+            (subst (λ (m : Mode). IsSplit m w.item w.part w.rest w.deferred) (sym of.0)
+            walk.split));
+      };
       first = l.0;
       found = join_first_bad b.finished w.part
           ∙ (ap (λ o. lesser o w.part.first_bad) t.found ∙ l.1);

@@ -1,9 +1,6 @@
 -- What a book keeps, and what its calls do.
 use Rattle.std.specs.Prelude.{◌≡◌, ℕ, zero, suc, ◌<◌, ◌≤◌, ◌+◌, ◌-◌, min, Bool, true, false, not, ◌||◌, ◌&&◌, List, [], ◌∷◌, ◌++◌, length, filter, Option, Some, None, slice_get, All, flat_map, ◌⊎◌}
-use Rattle.std.specs.declared.alloc.Global.{Global}
-use Rattle.std.specs.declared.sync.Arc.{Arc}
-use Rattle.std.specs.Arc.{arc_value}
-use Rattle.std.specs.List.{remove, remove_range, list_any}
+use Rattle.std.specs.List.{remove, list_any}
 use Rattle.guest_code.specs.Program.{Program}
 use Rattle.schedules.specs.Order.{precedes}
 use Rattle.schedules.specs.Schedules.{begins_with}
@@ -13,8 +10,7 @@ use Rattle.items.specs.declared.mode.Mode.TheVariants.{Bounded, Reduced}
 use Rattle.summary.specs.Summaries.{SummaryView, nothing, join, with_beyond}
 use Rattle.items.specs.Items.{ItemView, root_of, schedules_of}
 use Rattle.walk.specs.declared.found.Found.{Found}
-use Rattle.items.specs.Walks.{WalkView, IsSplit, IsWalked, items_at, listed_if}
-use Rattle.walk.specs.Founds.{found_walk}
+use Rattle.items.specs.Walks.{WalkView, IsSplit, IsWalked, IsWithin, items_at, listed_if}
 use Rattle.book.specs.declared.limits.TheConstants.{ROUND}
 use Rattle.book.specs.Quick.{is_later}
 use Rattle.book.specs.ItemLists.{ListView, all_of}
@@ -23,11 +19,12 @@ use Rattle.book.specs.declared.errors.SettleError.TheVariants.{NotOpen, Stranger
 use Rattle.book.specs.declared.errors.RaiseError.{RaiseError}
 use Rattle.book.specs.declared.errors.RaiseError.TheVariants.{StillOpen, Dropped, LastBound}
 
--- what contracts see of a book: the summary of what is finished, the items that are still open,
--- those that wait for the next bound, whether these are listed (they are until the bound is made the
--- last one), whether the search is a quick one, and whether it dropped an item
+-- what contracts see of a book: the item whose schedules are searched, the summary of what is
+-- finished, the items that are still open, those that wait for the next bound, whether these are
+-- listed (they are until the bound is made the last one), whether the search is a quick one, and
+-- whether it dropped an item
 pub record BookView : Type 0 where
-  pub program : Program
+  pub of : ItemView
   pub mode : Mode
   pub finished : SummaryView
   pub open_items : List ItemView
@@ -37,23 +34,24 @@ pub record BookView : Type 0 where
   pub dropped : Bool
 
 -- what contracts see of a book of these parts
-abbrev pub book_view : Arc Program Global → Mode → SummaryView → ListView → ListView → Bool →
-    Bool → Bool → BookView
-book_view program mode finished open_items deferred lists quick dropped = record {
-  program = arc_value program;
+abbrev pub book_view : ItemView → Mode → SummaryView → ListView → ListView → Bool → Bool → Bool →
+    BookView
+book_view of mode finished open_items deferred lists quick dropped = record {
+  of = of;
   mode = mode;
   finished = finished;
-  open_items = all_of (arc_value program) open_items;
-  deferred = all_of (arc_value program) deferred;
+  open_items = all_of of.program open_items;
+  deferred = all_of of.program deferred;
   lists = lists;
   quick = quick;
   dropped = dropped;
 }
 
--- a book splits all schedules of its program: those that are finished, those of the open items, and
--- what its bound defers
-abbrev pub IsBook : BookView → Type 0
-IsBook b = IsSplit b.mode (root_of b.program) b.finished b.open_items b.deferred
+-- a book splits all schedules of its item, whose prefix is within the bound: those that are
+-- finished, those of the open items, and what the bound defers
+pub record IsBook (b : BookView) : Type 0 where
+  pub within : IsWithin b.mode b.of
+  pub split : IsSplit b.mode b.of b.finished b.open_items b.deferred
 
 -- the items come after a schedule
 abbrev pub ComeAfter : List ℕ → List ItemView → Type 0
@@ -85,18 +83,22 @@ pub record Keeps (b : BookView) : Type 0 where
   pub listed : b.deferred ≡ listed_if b.lists put
   pub split : KeepsWhere b.dropped (with_deferred b put)
 
--- the book of a program of which nothing is known
-abbrev pub opening : Program → Mode → Bool → BookView
-opening p mode quick = record {
-  program = p;
+-- the book of an item of which nothing is known
+abbrev pub opening_of : ItemView → Mode → Bool → BookView
+opening_of item mode quick = record {
+  of = item;
   mode = mode;
   finished = nothing;
-  open_items = root_of p ∷ [];
+  open_items = item ∷ [];
   deferred = [];
   lists = true;
   quick = quick;
   dropped = false;
 }
+
+-- the book of a program of which nothing is known
+abbrev pub opening : Program → Mode → Bool → BookView
+opening p mode quick = opening_of (root_of p) mode quick
 
 -- no schedule of the item is the first bad one, where this is the first bad one so far
 abbrev pub cannot_hold : Option (List ℕ) → ItemView → Bool
@@ -121,7 +123,7 @@ IsSwept true b = list_any (drops b) b.open_items ≡ false
 
 -- the walk is of the book's program and mode
 abbrev pub IsWalkOf : BookView → WalkView → Type 0
-IsWalkOf b w = (b.mode ≡ w.mode) × (b.program ≡ w.item.program)
+IsWalkOf b w = (b.mode ≡ w.mode) × (b.of.program ≡ w.item.program)
 
 -- the item is at this place among the open ones
 abbrev pub IsOpenAt : BookView → ItemView → ℕ → Type 0
@@ -148,7 +150,7 @@ abbrev pub taken_in : BookView → List ItemView → Found → BookView
 taken_in b left found = record b {
   finished = join b.finished found.part;
   open_items = left ++ found.rest.items;
-  deferred = b.deferred ++ listed_if b.lists (items_at b.program found.deferred);
+  deferred = b.deferred ++ listed_if b.lists (items_at b.of.program found.deferred);
 }
 
 -- the list without the elements at these places, each counted in what those before it leave
@@ -273,13 +275,13 @@ IsNotRaised b StillOpen = b.open_items ≡ [] → ⊥
 IsNotRaised b Dropped = (b.open_items ≡ []) × (b.dropped ≡ true)
 IsNotRaised b LastBound = (b.open_items ≡ []) × (b.dropped ≡ false) × IsAtLastBound b
 
--- the book is of this program and mode, and nothing is open
+-- the book is of all of this program, in this mode, and nothing is open
 abbrev pub IsClosed : BookView → Program → Mode → Type 0
-IsClosed b p mode = (b.open_items ≡ []) × (b.mode ≡ mode) × (b.program ≡ p)
+IsClosed b p mode = (b.open_items ≡ []) × (b.mode ≡ mode) × (b.of ≡ root_of p)
 
 -- the schedules that a book's search tries in the end
 abbrev pub book_schedules : BookView → List (List ℕ)
-book_schedules b = schedules_of b.mode (root_of b.program)
+book_schedules b = schedules_of b.mode b.of
 
 -- the items of a book that have not been walked yet, at this bound or at a later one
 abbrev pub items_left : BookView → List ItemView

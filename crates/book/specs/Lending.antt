@@ -1,9 +1,6 @@
 -- Books that lend items to workers.
 use Rattle.std.specs.Prelude.{◌≡◌, ℕ, ◌-◌, Bool, true, false, ◌⊎◌, List, [], ◌++◌, All, Some, length, take, drop, set, map, replicate, flat_map, slice_get}
-use Rattle.std.specs.Arc.{arc_value}
 use Rattle.std.specs.List.Sorted.{IsPermutation}
-use Rattle.std.specs.declared.alloc.Global.{Global}
-use Rattle.std.specs.declared.sync.Arc.{Arc}
 use Rattle.guest_code.specs.Program.{Program}
 use Rattle.summary.specs.Summaries.{SummaryView}
 use Rattle.items.specs.declared.mode.Mode.{Mode}
@@ -15,7 +12,7 @@ use Rattle.book.specs.Books.{BookView}
 -- what contracts see of a book that lends: of its open items those that nobody has and those that
 -- each worker has; nothing was dropped from it
 pub record LendingView : Type 0 where
-  pub program : Program
+  pub of : ItemView
   pub mode : Mode
   pub finished : SummaryView
   pub free : List ItemView
@@ -25,15 +22,15 @@ pub record LendingView : Type 0 where
   pub quick : Bool
 
 -- what contracts see of a book that lends, of these parts
-abbrev pub lending_view : Arc Program Global → Mode → SummaryView → ListView → List ListView →
-    ListView → Bool → Bool → LendingView
-lending_view program mode finished free lent deferred lists quick = record {
-  program = arc_value program;
+abbrev pub lending_view : ItemView → Mode → SummaryView → ListView → List ListView → ListView →
+    Bool → Bool → LendingView
+lending_view of mode finished free lent deferred lists quick = record {
+  of = of;
   mode = mode;
   finished = finished;
-  free = all_of (arc_value program) free;
-  lent = map (all_of (arc_value program)) lent;
-  deferred = all_of (arc_value program) deferred;
+  free = all_of of.program free;
+  lent = map (all_of of.program) lent;
+  deferred = all_of of.program deferred;
   lists = lists;
   quick = quick;
 }
@@ -45,7 +42,7 @@ all_lent lent = flat_map (λ items. items) lent
 -- the book: what workers have is open, list after list, and then comes what nobody has
 abbrev pub as_book : LendingView → BookView
 as_book b = record {
-  program = b.program;
+  of = b.of;
   mode = b.mode;
   finished = b.finished;
   open_items = all_lent b.lent ++ b.free;
@@ -58,7 +55,7 @@ as_book b = record {
 -- the book, of which none of so many workers has an item yet
 abbrev pub lending : BookView → ℕ → LendingView
 lending b workers = record {
-  program = b.program;
+  of = b.of;
   mode = b.mode;
   finished = b.finished;
   free = b.open_items;
@@ -97,7 +94,7 @@ lent_to b worker most = record b {
 pub record Lends (old : LendingView) (worker most : ℕ) (loan : ListView) (new : LendingView)
     : Type 0 where
   pub idle : Has old worker []
-  pub copied : all_of old.program loan ≡ last_free old most
+  pub copied : all_of old.of.program loan ≡ last_free old most
   pub book : new ≡ lent_to old worker most
 
 -- why walks of these items aren't settled: what they put off is wanted and wasn't listed, or the

@@ -5,20 +5,21 @@ ghost use Rattle.std.specs.Arc.{arc_value};
 ghost use Rattle.std.specs.List.{remove};
 ghost use Rattle.items.specs.declared.limits.TheConstants.{BOUND};
 ghost use Rattle.items.specs.declared.mode.Mode.TheVariants.{Bounded};
-ghost use Rattle.items.specs.Items.{whole, AreOf};
-ghost use Rattle.items.specs.Walks.{listed_if};
+ghost use Rattle.items.specs.Items.{whole, root_of, item_sum, AreOf};
+ghost use Rattle.items.specs.Walks.{IsWithin, listed_if};
 ghost use Rattle.book.specs.declared.limits.TheConstants.{ROUND};
 ghost use Rattle.summary.specs.Summaries.{IsBoundedBy};
-ghost use Rattle.book.specs.Books.{Keeps, drops, thinned, opening, HasWalkedRound, HaveFound, HaveSettled, AreNotTaken, taken_in, remove_each, AreWithin, Settles, IsRefused, Raises, IsNotRaised, IsClosed, bound_of, made_last};
+ghost use Rattle.book.specs.Books.{Keeps, drops, thinned, opening, opening_of, HasWalkedRound, HaveFound, HaveSettled, AreNotTaken, taken_in, remove_each, AreWithin, Settles, IsRefused, Raises, IsNotRaised, IsClosed, bound_of, made_last};
 
 use crate::errors::{RaiseError, SettleError};
 use crate::item_list::{ItemList, is_later};
 use crate::limits::ROUND;
 use guest_code::program::Program;
-use items::item::Item;
+use items::item::{Item, same_masks};
 use items::limits::BOUND;
 use items::mode::Mode;
 use prefix_list::Prefixes;
+use semantics::mask::Mask;
 use std::alloc::{AllocError, Global};
 use std::marker::Model;
 use std::mem;
@@ -28,17 +29,17 @@ use walk::found::Found;
 use walk::walked::Walked;
 use walk::walker::Walker;
 
-/// What is finished of a program's search in a mode, which items are still open, and which wait for
-/// the next bound.
+/// What is finished of the search of an item's schedules in a mode, which items are still open, and
+/// which wait for the next bound. The item of all schedules of a program is its root.
 ///
-/// The type keeps that the program's summary is what is finished joined with the sums of the open
-/// items, that nothing is counted that was not tried, that every item is of the program, and that
-/// no schedule lies under two items. Where items were dropped from a quick book, they come after
+/// The type keeps that the item's sum is what is finished joined with the sums of the open items,
+/// that nothing is counted that was not tried, that every item lies under the book's, and that no
+/// schedule lies under two items. Where items were dropped from a quick book, they come after
 /// the first bad schedule that was found. A book whose bound is made the last one doesn't list what
 /// the bound puts off: the type keeps that there is such a list.
 #[derive(Drop)]
 pub struct Book {
-    pub(crate) program: Arc<Program>,
+    pub(crate) of: Item,
     pub(crate) mode: Mode,
     pub(crate) finished: Summary,
     pub(crate) open_items: ItemList,
@@ -59,12 +60,12 @@ impl Model for Book {
 
     ghost Value = { BookView };
 
-    ghost view = { λ b. book_view b.program b.mode b.finished b.open_items b.deferred b.lists
+    ghost view = { λ b. book_view b.of b.mode b.finished b.open_items b.deferred b.lists
         b.quick b.dropped };
 
-    ghost invariant = { λ b. Keeps (book_view b.program b.mode b.finished b.open_items b.deferred
+    ghost invariant = { λ b. Keeps (book_view b.of b.mode b.finished b.open_items b.deferred
         b.lists b.quick b.dropped) × IsSwept b.swept
-        (book_view b.program b.mode b.finished b.open_items b.deferred b.lists b.quick b.dropped)
+        (book_view b.of b.mode b.finished b.open_items b.deferred b.lists b.quick b.dropped)
         × IsUnpacked b.quick b.finished.first_bad b.open_items b.deferred };
 }
 
@@ -77,7 +78,7 @@ impl Book {
     pub fn open(alloc: Global, program: Arc<Program>, mode: Mode) -> Result<Book, AllocError>
         ensures { IfOk result (λ b. b ≡ opening (arc_value program) mode false) }
     {
-        Book::open_as(alloc, program, mode, false)
+        Book::open_as(alloc, Item::root(alloc, program)?, mode, false)
     }
 
     /// A book of a quick search, which may drop open items. Its one open item is the root.
@@ -88,24 +89,32 @@ impl Book {
     pub fn open_quick(alloc: Global, program: Arc<Program>, mode: Mode) -> Result<Book, AllocError>
         ensures { IfOk result (λ b. b ≡ opening (arc_value program) mode true) }
     {
-        Book::open_as(alloc, program, mode, true)
+        Book::open_as(alloc, Item::root(alloc, program)?, mode, true)
+    }
+
+    /// The book of an item of which nothing is known: all that begins with its prefix is open. The
+    /// prefix has no more preemptions than the bound.
+    ///
+    /// # Errors
+    ///
+    /// `AllocError` where memory runs out.
+    pub fn open_under(alloc: Global, item: Item, mode: Mode) -> Result<Book, AllocError>
+        requires { IsWithin mode item }
+        ensures { IfOk result (λ b. b ≡ opening_of item mode false) }
+    {
+        Book::open_as(alloc, item, mode, false)
     }
 
     // The book where all is open.
-    fn open_as(
-        alloc: Global,
-        program: Arc<Program>,
-        mode: Mode,
-        quick: bool,
-    ) -> Result<Book, AllocError>
-        ensures { IfOk result (λ b. b ≡ opening (arc_value program) mode quick) }
+    fn open_as(alloc: Global, of: Item, mode: Mode, quick: bool) -> Result<Book, AllocError>
+        requires { IsWithin mode of }
+        ensures { IfOk result (λ b. b ≡ opening_of of mode quick) }
     {
         let hints = Box::new(alloc, EndHints::new())?;
-        let root = Item::root(alloc, Arc::try_clone(&program)?)?;
-        let open_items = ItemList::one(alloc, root)?;
+        let open_items = ItemList::one(alloc, of.try_clone(alloc)?)?;
         let deferred = ItemList::new(alloc);
         Ok(Book {
-            program,
+            of,
             mode,
             finished: Summary::empty(alloc),
             open_items,
@@ -118,11 +127,18 @@ impl Book {
         })
     }
 
+    /// The item whose schedules are searched.
+    pub fn of(&self) -> &Item
+        ensures { result.now ≡ self.now.of }
+    {
+        &self.of
+    }
+
     /// The program.
     pub fn program(&self) -> &Arc<Program>
-        ensures { arc_value result.now ≡ self.now.program }
+        ensures { arc_value result.now ≡ self.now.of.program }
     {
-        &self.program
+        self.of.shared_program()
     }
 
     /// Which of its schedules are to be tried.
@@ -157,7 +173,7 @@ impl Book {
         requires { place < length self.now.open_items }
         ensures { IfOk result (λ i. slice_get self.now.open_items place ≡ Some i) }
     {
-        self.open_items.item(alloc, &self.program, place)
+        self.open_items.item(alloc, self.of.shared_program(), place)
     }
 
     /// Whether what the bound puts off is listed, for a next bound.
@@ -183,7 +199,7 @@ impl Book {
         requires { place < length self.now.deferred }
         ensures { IfOk result (λ i. slice_get self.now.deferred place ≡ Some i) }
     {
-        self.deferred.item(alloc, &self.program, place)
+        self.deferred.item(alloc, self.of.shared_program(), place)
     }
 
     /// Whether the search is a quick one.
@@ -211,7 +227,7 @@ impl Book {
     {
         let mut items = Vec::new(alloc);
         self.open_items
-            .copy_last(alloc, &self.program, ROUND, &mut items)?;
+            .copy_last(alloc, self.of.shared_program(), ROUND, &mut items)?;
         Ok(items)
     }
 
@@ -224,20 +240,35 @@ impl Book {
     /// `AllocError` where memory runs out. The book is as before then, and these are some items of
     /// the program, not its next round.
     pub fn next_round(&mut self, alloc: Global, items: &mut Vec<Item>) -> Result<(), AllocError>
-        requires { AreOf self.old.program items.old.items }
+        requires { AreOf self.old.of.program items.old.items }
         ensures items { OnOk result (items.new.items
             ≡ drop (length self.old.open_items - ROUND) self.old.open_items) }
-        ensures program { AreOf self.old.program items.new.items }
+        ensures program { AreOf self.old.of.program items.new.items }
         ensures book { self.new ≡ self.old }
     {
         let first = self.open_items.length().saturating_sub(ROUND);
         self.open_items.look_from(first);
         self.open_items
-            .copy_last(alloc, &self.program, ROUND, items)
+            .copy_last(alloc, self.of.shared_program(), ROUND, items)
     }
 
-    /// The summary of the whole program in its mode, where nothing is open and program and mode are
-    /// equal to these by value. None of a quick book.
+    /// The sum of the item's schedules in the book's mode, where nothing is open. None of a quick
+    /// book.
+    pub fn whole(&self) -> Option<&Summary>
+        ensures some { IfSome result (λ s. (s.now ≡ self.now.finished) × (self.now.quick ≡ false) ×
+            (self.now.open_items ≡ [])) }
+        ensures none { IfNone result (self.now.quick ≡ false → self.now.open_items ≡ [] → ⊥) }
+        ensures whole { IfSome result (λ s. s.now ≡ item_sum self.now.mode self.now.of) }
+    {
+        if !self.quick && self.open_items.length() == 0 {
+            Some(&self.finished)
+        } else {
+            None
+        }
+    }
+
+    /// The summary of the whole program in its mode, where nothing is open, the book is of the root,
+    /// and program and mode are equal to these by value. None of a quick book.
     pub fn closed(&self, program: &Program, mode: Mode) -> Option<&Summary>
         ensures some { IfSome result (λ s. (s.now ≡ self.now.finished) × (self.now.quick ≡ false) ×
             IsClosed self.now program.now mode) }
@@ -245,8 +276,8 @@ impl Book {
             → ⊥) }
         ensures whole { IfSome result (λ s. s.now ≡ whole program.now mode) }
     {
-        if !self.quick && self.is_closed(program, mode) {
-            Some(&self.finished)
+        if self.is_closed(program, mode) {
+            self.whole()
         } else {
             None
         }
@@ -272,13 +303,11 @@ impl Book {
         }
     }
 
-    // Whether nothing is open and the book is of this program and mode.
+    // Whether nothing is open and the book is of the root of this program, in this mode.
     fn is_closed(&self, program: &Program, mode: Mode) -> bool
         ensures { IsTrue result ↔ IsClosed self.now program.now mode }
     {
-        self.open_items.length() == 0
-            && same_modes(self.mode, mode)
-            && self.program.is_same(program)
+        self.open_items.length() == 0 && same_modes(self.mode, mode) && is_root(&self.of, program)
     }
 
     /// Whether the book drops an item that is open: it is quick, and each schedule of the item
@@ -328,7 +357,7 @@ impl Book {
         ensures ok { OnOk result (Settles self.old walked self.new) }
         ensures err { IfErr result (λ e. (self.new ≡ self.old) × IsRefused self.old walked e) }
     {
-        if !same_modes(self.mode, walked.mode()) || !self.program.is_same(walked.program()) {
+        if !same_modes(self.mode, walked.mode()) || !self.of.program().is_same(walked.program()) {
             return Err(SettleError::Stranger);
         }
         let (item, mut found) = walked.into_parts();
@@ -358,10 +387,11 @@ impl Book {
         places: &[usize],
         found: &mut Found,
     ) -> Result<bool, AllocError>
-        requires program { AreOf self.old.program items.now }
-        requires walked { HaveFound self.old.program self.old.mode items.now places.now found.old }
+        requires program { AreOf self.old.of.program items.now }
+        requires walked { let b = self.old in
+            HaveFound b.of.program b.mode items.now places.now found.old }
         ensures taken { let b = self.old in
-            (f : HaveFound b.program b.mode items.now places.now found.old) →
+            (f : HaveFound b.of.program b.mode items.now places.now found.old) →
             result ≡ Ok true → HaveSettled b f.walks self.new }
         ensures not_taken { result ≡ Ok false →
             AreNotTaken self.old items.now places.now found.old }
@@ -373,7 +403,7 @@ impl Book {
         }
         let Some(stand) = self
             .open_items
-            .places_of(alloc, &self.program, items, places)?
+            .places_of(alloc, self.of.shared_program(), items, places)?
         else {
             return Ok(false);
         };
@@ -397,7 +427,7 @@ impl Book {
         found: &mut Found,
         quota: u32,
     ) -> Result<(), AllocError>
-        requires walker { walker.old ≡ self.old.program }
+        requires walker { walker.old ≡ self.old.of.program }
         requires quota { 1 ≤ quota }
         ensures walker { walker.new ≡ walker.old }
         ensures ok { OnOk result (HasWalkedRound self.old quota self.new) }
@@ -405,7 +435,8 @@ impl Book {
     {
         let end = self.open_items.length();
         let first = end.saturating_sub(ROUND);
-        self.open_items.unpack_from(alloc, &self.program, first)?;
+        self.open_items
+            .unpack_from(alloc, self.of.shared_program(), first)?;
         walker.clear(found, self.lists);
         for place in first..end {
             let item = self.open_items.unpacked_item(place);
@@ -434,17 +465,19 @@ impl Book {
             self.new ≡ (if is_ok result then taken_in self.old left found.old else self.old) }
         ensures found { OnErr result (found.new ≡ found.old) }
     {
+        let program = self.of.shared_program();
         let packs = is_packed(self.quick, &self.finished, &found.part);
         self.open_items
-            .unpack_from(alloc, &self.program, first_unpacked(packs, first))?;
+            .unpack_from(alloc, program, first_unpacked(packs, first))?;
         let deferred_length = self.deferred.length();
-        self.deferred.unpack_from(alloc, &self.program, first_unpacked(packs, deferred_length))?;
+        self.deferred
+            .unpack_from(alloc, program, first_unpacked(packs, deferred_length))?;
         let quiet = is_quiet(found);
         self.open_items.make_room(found.rest.len())?;
         let none = Prefixes::new(alloc);
         let listed = listed_of(self.lists, &found.deferred, &none);
         self.deferred
-            .append_prefixes(alloc, &self.program, listed, packs)?;
+            .append_prefixes(alloc, program, listed, packs)?;
         if let Err(error) = self.finished.join_in_by(&mut self.hints, &mut found.part) {
             self.deferred.truncate(deferred_length);
             return Err(error);
@@ -502,6 +535,15 @@ pub(crate) fn listed_of<'a>(lists: bool, prefixes: &'a Prefixes, none: &'a Prefi
     ensures { result.now ≡ listed_if lists prefixes.now }
 {
     if lists { prefixes } else { none }
+}
+
+// Whether the item is that of all schedules of this program.
+fn is_root(item: &Item, program: &Program) -> bool
+    ensures { IsTrue result ↔ (item.now ≡ root_of program.now) }
+{
+    item.prefix().is_empty()
+        && same_masks(item.mask(), Mask::empty())
+        && item.program().is_same(program)
 }
 
 // Whether the modes are equal.

@@ -11,12 +11,11 @@ use crate::books::{Book, first_unpacked, is_packed, listed_of};
 use crate::item_list::ItemList;
 use crate::loan::Loan;
 use crate::progress::{Progress, mode_bound};
-use guest_code::program::Program;
+use items::item::Item;
 use items::mode::Mode;
 use prefix_list::Prefixes;
 use std::alloc::{AllocError, Global};
 use std::marker::Model;
-use std::sync::Arc;
 use summary::{EndHints, Summary};
 use walk::found::Found;
 
@@ -26,7 +25,7 @@ use walk::found::Found;
 /// The type keeps what that of a [`Book`] keeps.
 #[derive(Drop)]
 pub struct LendingBook {
-    program: Arc<Program>,
+    of: Item,
     mode: Mode,
     finished: Summary,
     // The open items that nobody has, and those that each worker has.
@@ -46,10 +45,10 @@ impl Model for LendingBook {
 
     ghost Value = { LendingView };
 
-    ghost view = { λ b. lending_view b.program b.mode b.finished b.free b.lent.items b.deferred
+    ghost view = { λ b. lending_view b.of b.mode b.finished b.free b.lent.items b.deferred
         b.lists b.quick };
 
-    ghost invariant = { λ b. Keeps (as_book (lending_view b.program b.mode b.finished b.free
+    ghost invariant = { λ b. Keeps (as_book (lending_view b.of b.mode b.finished b.free
         b.lent.items b.deferred b.lists b.quick)) };
 }
 
@@ -69,7 +68,7 @@ impl LendingBook {
             lent.push(ItemList::new(alloc))?;
         }
         let Book {
-            program,
+            of,
             mode,
             finished,
             open_items,
@@ -80,7 +79,7 @@ impl LendingBook {
             ..
         } = book;
         Ok(LendingBook {
-            program,
+            of,
             mode,
             finished,
             free: open_items,
@@ -101,7 +100,7 @@ impl LendingBook {
         ensures { IfOk result (λ b. Reorders (as_book self) b) }
     {
         let LendingBook {
-            program,
+            of,
             mode,
             finished,
             mut free,
@@ -111,16 +110,17 @@ impl LendingBook {
             quick,
             hints,
         } = self;
+        let program = of.shared_program();
         while let Some(mut list) = lent.pop() {
-            free.append_list(alloc, &program, &mut list)?;
+            free.append_list(alloc, program, &mut list)?;
         }
         let packs = is_packed(quick, &finished, &finished);
         let first = first_unpacked(packs, free.length());
-        free.unpack_from(alloc, &program, first)?;
+        free.unpack_from(alloc, program, first)?;
         let first = first_unpacked(packs, deferred.length());
-        deferred.unpack_from(alloc, &program, first)?;
+        deferred.unpack_from(alloc, program, first)?;
         Ok(Book {
-            program,
+            of,
             mode,
             finished,
             open_items: free,
@@ -183,8 +183,8 @@ impl LendingBook {
         loan: &mut Loan,
     ) -> Result<bool, AllocError>
         ensures book { Reorders (as_book self.old) (as_book self.new) }
-        ensures loan { result ≡ Ok true → IsLoanOf self.old.program loan.new }
-        ensures few { result ≡ Ok true → length (all_of self.old.program loan.new) ≤ most }
+        ensures loan { result ≡ Ok true → IsLoanOf self.old.of.program loan.new }
+        ensures few { result ≡ Ok true → length (all_of self.old.of.program loan.new) ≤ most }
         ensures lent { result ≡ Ok true → Lends self.old worker most loan.new self.new }
         ensures not_lent { result ≡ Ok false → Has self.old worker [] → ⊥ }
         ensures same { result ≡ Ok false → (self.new ≡ self.old) × (loan.new ≡ loan.old) }
@@ -216,35 +216,35 @@ impl LendingBook {
         loan: &Loan,
         found: &mut Found,
     ) -> Result<bool, AllocError>
-        requires loan { IsLoanOf self.old.program loan.now }
-        requires walked { let items = all_of self.old.program loan.now in
-            HaveFound self.old.program self.old.mode items (places_from 0 (length items))
+        requires loan { IsLoanOf self.old.of.program loan.now }
+        requires walked { let items = all_of self.old.of.program loan.now in
+            HaveFound self.old.of.program self.old.mode items (places_from 0 (length items))
             found.old }
-        ensures taken { let items = all_of self.old.program loan.now in
-            (f : HaveFound self.old.program self.old.mode items (places_from 0 (length items))
+        ensures taken { let items = all_of self.old.of.program loan.now in
+            (f : HaveFound self.old.of.program self.old.mode items (places_from 0 (length items))
             found.old) → result ≡ Ok true →
             HaveSettled (as_book self.old) f.walks (as_book self.new) }
         ensures lent { result ≡ Ok true → self.new.lent ≡ set self.old.lent worker [] }
         ensures not_taken { result ≡ Ok false →
-            IsNotSettled self.old worker (all_of self.old.program loan.now) found.old.lists }
+            IsNotSettled self.old worker (all_of self.old.of.program loan.now) found.old.lists }
         ensures same { (result ≡ Ok true → ⊥) → self.new ≡ self.old }
         ensures found { (result ≡ Ok true → ⊥) → found.new ≡ found.old }
     {
         if self.lists && !found.lists {
             return Ok(false);
         }
+        let program = self.of.shared_program();
         let Some(lent) = self.lent.get_mut(worker) else {
             return Ok(false);
         };
-        if !lent.is_same(alloc, &self.program, &loan.list)? {
+        if !lent.is_same(alloc, program, &loan.list)? {
             return Ok(false);
         }
         self.free.make_room(found.rest.len())?;
         let deferred_length = self.deferred.length();
         let none = Prefixes::new(alloc);
         let listed = listed_of(self.lists, &found.deferred, &none);
-        self.deferred
-            .append_prefixes(alloc, &self.program, listed, true)?;
+        self.deferred.append_prefixes(alloc, program, listed, true)?;
         if let Err(error) = self.finished.join_in_by(&mut self.hints, &mut found.part) {
             self.deferred.truncate(deferred_length);
             return Err(error);

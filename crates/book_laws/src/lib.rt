@@ -9,7 +9,7 @@ ghost use Rattle.schedules.specs.Schedules.{complete_schedules, begins_with, pre
 ghost use Rattle.items.specs.declared.mode.Mode.TheVariants.{Bounded, Reduced};
 ghost use Rattle.summary.specs.Summaries.{sum_of, join, with_beyond, end_kind, IsBoundedBy};
 ghost use Rattle.items.specs.FullSums.{full_sum, full_sums};
-ghost use Rattle.items.specs.Items.{ItemView, root_of, item_sums, is_under, whole};
+ghost use Rattle.items.specs.Items.{ItemView, item_sum, item_sums, is_under};
 ghost use Rattle.items.specs.Walks.{IsBelow, IsDeferred, clear_of};
 ghost use Rattle.book.specs.declared.limits.TheConstants.{ROUND};
 ghost use Rattle.book.specs.Books.{BookView, Keeps, KeepsWhere, IsBook, IsThinned, book_schedules, items_left, HasItsSchedules};
@@ -25,13 +25,14 @@ pub fn what_is_listed_is_all()
 {}
 
 /// Also where the bound was made the last one, and so nothing is listed of what it puts off: the
-/// program's summary is what is finished joined with the sums of the open items, where no item was
-/// dropped. Where one was, the join is bounded by the program's summary.
+/// sum of the book's item is what is finished joined with the sums of the open items, where no item
+/// was dropped. Where one was, the join is bounded by the item's sum. The sum of a program's root is
+/// the program's summary.
 pub fn every_book_joins()
     ensures whole { (b : BookView) → Keeps b → b.dropped ≡ false →
-        whole b.program b.mode ≡ join b.finished (item_sums b.mode b.open_items) }
+        item_sum b.mode b.of ≡ join b.finished (item_sums b.mode b.open_items) }
     ensures bounded { (b : BookView) → Keeps b → b.dropped ≡ true →
-        IsBoundedBy (join b.finished (item_sums b.mode b.open_items)) (whole b.program b.mode) }
+        IsBoundedBy (join b.finished (item_sums b.mode b.open_items)) (item_sum b.mode b.of) }
 {}
 
 /// Where the bound was made the last one, too, no schedule begins with the prefixes of two of the
@@ -43,35 +44,35 @@ pub fn no_book_has_a_schedule_twice()
         begins_with (slice_index_or (items_left b) j d).prefix v ≡ false }
 {}
 
-/// Where the bound was made the last one, too, each open item is of the book's program, and has
-/// those of its schedules that begin with the item's prefix; and where no item was dropped, what is
+/// Where the bound was made the last one, too, each open item lies under the book's, and has those
+/// of the book's schedules that begin with its prefix; and where no item was dropped, what is
 /// finished, `beyond` aside, is the sum of the book's schedules that lie under no open item.
 pub fn every_book_splits()
-    ensures below { (b : BookView) → Keeps b → All (IsBelow (root_of b.program)) b.open_items }
+    ensures below { (b : BookView) → Keeps b → All (IsBelow b.of) b.open_items }
     ensures schedules { (b : BookView) → Keeps b → All (HasItsSchedules b) b.open_items }
     ensures finished { (b : BookView) → Keeps b → b.dropped ≡ false → b.finished ≡ with_beyond
-        (sum_of b.program (clear_of b.open_items (book_schedules b))) b.finished.beyond }
+        (sum_of b.of.program (clear_of b.open_items (book_schedules b))) b.finished.beyond }
 {}
 
 // Books from which nothing was dropped.
 
-/// The program's summary is what is finished joined with the sums of the open items.
+/// The sum of the book's item is what is finished joined with the sums of the open items.
 pub fn finished_and_open_join()
     ensures { (b : BookView) → IsBook b →
-        whole b.program b.mode ≡ join b.finished (item_sums b.mode b.open_items) }
+        item_sum b.mode b.of ≡ join b.finished (item_sums b.mode b.open_items) }
 {}
 
 /// What is finished, `beyond` aside, is the sum of the book's schedules that lie under no open
 /// item.
 pub fn finished_is_under_none()
     ensures { (b : BookView) → IsBook b → b.finished ≡ with_beyond
-        (sum_of b.program (clear_of b.open_items (book_schedules b))) b.finished.beyond }
+        (sum_of b.of.program (clear_of b.open_items (book_schedules b))) b.finished.beyond }
 {}
 
-/// Each open item is of the book's program, and has those of its schedules that begin with the
-/// item's prefix.
+/// Each open item lies under the book's, and has those of the book's schedules that begin with its
+/// prefix.
 pub fn open_have_their_schedules()
-    ensures below { (b : BookView) → IsBook b → All (IsBelow (root_of b.program)) b.open_items }
+    ensures below { (b : BookView) → IsBook b → All (IsBelow b.of) b.open_items }
     ensures schedules { (b : BookView) → IsBook b → All (HasItsSchedules b) b.open_items }
 {}
 
@@ -84,25 +85,26 @@ pub fn none_is_under_two()
         begins_with (slice_index_or (items_left b) j d).prefix v ≡ false }
 {}
 
-/// At a bound all complete schedules of the program, whatever their preemptions, are what is
-/// finished, `beyond` aside, and those of the open and the deferred items. So of the parts that
-/// were settled no two are of one schedule, at whatever bounds they were walked.
+/// At a bound all complete schedules that begin with the prefix of the book's item, whatever their
+/// preemptions, are what is finished, `beyond` aside, and those of the open and the deferred items.
+/// So of the parts that were settled no two are of one schedule, at whatever bounds they were walked.
 pub fn nothing_is_walked_twice()
     ensures { (b : BookView) (bound : ℕ) → b.mode ≡ Bounded bound → IsBook b →
-        full_sum (root_of b.program) ≡
+        full_sum b.of ≡
         join (with_beyond b.finished false) (full_sums (items_left b)) }
 {}
 
-/// Each complete schedule past the bound lies under an open or a deferred item. The open items are
-/// within the bound, and the deferred ones of the program and past the bound by their last step
-/// alone.
+/// Each complete schedule past the bound that begins with the prefix of the book's item lies under
+/// an open or a deferred item. The open items are within the bound, and the deferred ones lie under
+/// the book's and are past the bound by their last step alone.
 pub fn what_is_past_is_kept()
     ensures all { (b : BookView) (bound : ℕ) (v : List ℕ) → b.mode ≡ Bounded bound → IsBook b →
-        Contains (complete_schedules b.program (start b.program)) v →
-        bound < preemptions b.program v → is_under (items_left b) v ≡ true }
+        Contains (complete_schedules b.of.program (start b.of.program)) v →
+        begins_with b.of.prefix v ≡ true → bound < preemptions b.of.program v →
+        is_under (items_left b) v ≡ true }
     ensures within { (b : BookView) (bound : ℕ) → b.mode ≡ Bounded bound → IsBook b →
         All (λ i. preemptions i.program i.prefix ≤ bound) b.open_items }
-    ensures below { (b : BookView) → IsBook b → All (IsBelow (root_of b.program)) b.deferred }
+    ensures below { (b : BookView) → IsBook b → All (IsBelow b.of) b.deferred }
     ensures past { (b : BookView) (bound : ℕ) → b.mode ≡ Bounded bound → IsBook b →
         All (IsDeferred bound) b.deferred }
 {}
@@ -114,23 +116,24 @@ pub fn pruned_books_defer_nothing()
 
 // Quick books from which an item was dropped.
 
-/// What is finished joined with the sums of the open items is bounded by the program's summary.
+/// What is finished joined with the sums of the open items is bounded by the sum of the book's
+/// item.
 pub fn dropping_is_bounded()
     ensures { (b : BookView) → IsThinned b →
-        IsBoundedBy (join b.finished (item_sums b.mode b.open_items)) (whole b.program b.mode) }
+        IsBoundedBy (join b.finished (item_sums b.mode b.open_items)) (item_sum b.mode b.of) }
 {}
 
 /// What is finished has a first bad schedule, a bad one of the book's schedules.
 pub fn dropping_needs_a_bad_one()
     ensures { (b : BookView) → IsThinned b → (w : List ℕ) × (b.finished.first_bad ≡ Some w) ×
-        Contains (book_schedules b) w × (is_bad (end_kind b.program w) ≡ true) }
+        Contains (book_schedules b) w × (is_bad (end_kind b.of.program w) ≡ true) }
 {}
 
 /// The open items keep what they keep without a drop, and no schedule begins with the prefixes of
 /// two of the open and the deferred ones.
 pub fn dropping_keeps_the_open()
     ensures below { (b : BookView) → IsThinned b →
-        All (IsBelow (root_of b.program)) b.open_items }
+        All (IsBelow b.of) b.open_items }
     ensures schedules { (b : BookView) → IsThinned b → All (HasItsSchedules b) b.open_items }
     ensures apart { (b : BookView) (v : List ℕ) (i j : ℕ) (d : ItemView) → IsThinned b →
         i < j → j < length (items_left b) →

@@ -100,7 +100,8 @@ impl Item {
     ///
     /// `AllocError` where memory runs out.
     pub fn try_clone(&self, alloc: Global) -> Result<Item, AllocError>
-        ensures { IfOk result (λ i. i ≡ self.now) }
+        ensures same { IfOk result (λ i. i ≡ self.now) }
+        ensures runs { IfOk result IsItem }
     {
         let program = Arc::try_clone(&self.program)?;
         let prefix = SmallVec::from_slice(alloc, self.prefix.as_slice())?;
@@ -166,6 +167,13 @@ impl Item {
     /// The program.
     pub fn program(&self) -> &Program
         ensures { result.now ≡ self.now.program }
+    {
+        &self.program
+    }
+
+    /// The program, to share it further.
+    pub fn shared_program(&self) -> &Arc<Program>
+        ensures { arc_value result.now ≡ self.now.program }
     {
         &self.program
     }

@@ -61,15 +61,15 @@ kind_whole Done = refl
 kind_whole Failed = refl
 kind_whole Stuck = refl
 
-cause_whole : (c : Cause) → has_float (cause_data c) ≡ false
+pub cause_whole : (c : Cause) → has_float (cause_data c) ≡ false
 cause_whole Limit = refl
 cause_whole Stopped = refl
 
-bound_whole : (b : Option ℕ) → has_float (bound_data b) ≡ false
+pub bound_whole : (b : Option ℕ) → has_float (bound_data b) ≡ false
 bound_whole (Some bound) = refl
 bound_whole None = refl
 
-first_bad_whole : (w : Option (List ℕ)) → has_float (first_bad_data w) ≡ false
+pub first_bad_whole : (w : Option (List ℕ)) → has_float (first_bad_data w) ≡ false
 first_bad_whole (Some w) = refl
 first_bad_whole None = refl
 
@@ -78,7 +78,7 @@ end_whole v =
     neither (has_float (kind_data v.kind)) _ (kind_whole v.kind)
     (neither (has_float (values_data v.vars)) false (values_whole v.vars) refl)
 
-ends_whole : (vs : List View) → items_have_float (items_of (map end_data vs)) ≡ false
+pub ends_whole : (vs : List View) → items_have_float (items_of (map end_data vs)) ≡ false
 ends_whole [] = refl
 ends_whole (v ∷ vs) =
     neither (has_float (end_data v)) (items_have_float (items_of (map end_data vs)))

@@ -3,17 +3,24 @@
 //! - [`Options`] say how far a search goes, and what it may leave out.
 //! - [`Report`] is what it found. What a report means of all complete schedules of its program is
 //!   defined in `specs/Promises.antt`; the searches promise it.
+//! - [`Level`] is what a search found at one bound.
 //! - [`ExploreError`] is why there is none.
-//! - [`report_text`] prints a report: its text is the defined one, byte for byte.
+//! - [`report_text`] prints a report: its text is the defined one, byte for byte. Beside it are the
+//!   values of which its object is made.
 #![tactic(auto)]
 
 mod error;
+mod level;
 pub mod limits;
 mod options;
 mod printing;
 mod report;
 
 pub use error::ExploreError;
+pub use level::Level;
 pub use options::{Options, Search};
-pub use printing::{report_text, report_value};
+pub use printing::{
+    bound_value, cause_value, ends_value, first_bad_value, report_text, report_value,
+    schedule_value,
+};
 pub use report::{Cause, Report, Verdict};

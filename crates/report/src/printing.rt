@@ -151,8 +151,8 @@ fn put_incomplete(
     Ok(())
 }
 
-// A bound, or null where there is none.
-fn bound_value(bound: Option<u32>) -> Value
+/// A bound, or null where there is none.
+pub fn bound_value(bound: Option<u32>) -> Value
     ensures { view result ≡ bound_data bound }
 {
     match bound {
@@ -171,7 +171,12 @@ fn kind_value(alloc: Global, kind: Kind) -> Result<Value, AllocError>
     }
 }
 
-fn cause_value(alloc: Global, cause: Cause) -> Result<Value, AllocError>
+/// Why a search was cut short, in a word.
+///
+/// # Errors
+///
+/// `AllocError` where memory runs out.
+pub fn cause_value(alloc: Global, cause: Cause) -> Result<Value, AllocError>
     ensures { IfOk result (λ v. view v ≡ cause_data cause) }
 {
     match cause {
@@ -180,9 +185,13 @@ fn cause_value(alloc: Global, cause: Cause) -> Result<Value, AllocError>
     }
 }
 
-// A schedule in its printed spelling.
+/// A schedule in its printed spelling.
+///
+/// # Errors
+///
+/// `AllocError` where memory runs out.
 #[tactic(auto, using(crate::proofs::PrintedSchedules::spelling_utf8))]
-fn schedule_value(alloc: Global, schedule: &[u8]) -> Result<Value, AllocError>
+pub fn schedule_value(alloc: Global, schedule: &[u8]) -> Result<Value, AllocError>
     ensures { IfOk result (λ v. view v ≡ schedule_data schedule.now) }
 {
     match String::from_utf8(schedule_text(alloc, schedule)?) {
@@ -191,8 +200,12 @@ fn schedule_value(alloc: Global, schedule: &[u8]) -> Result<Value, AllocError>
     }
 }
 
-// The first bad schedule of a summary, or null where there is none.
-fn first_bad_value(alloc: Global, summary: &Summary) -> Result<Value, AllocError>
+/// The first bad schedule of a summary, or null where there is none.
+///
+/// # Errors
+///
+/// `AllocError` where memory runs out.
+pub fn first_bad_value(alloc: Global, summary: &Summary) -> Result<Value, AllocError>
     ensures { IfOk result (λ v. view v ≡ first_bad_data summary.now.first_bad) }
 {
     match summary.first_bad() {
@@ -201,8 +214,12 @@ fn first_bad_value(alloc: Global, summary: &Summary) -> Result<Value, AllocError
     }
 }
 
-// The end views of a summary.
-fn ends_value(alloc: Global, summary: &Summary) -> Result<Value, AllocError>
+/// The end views of a summary.
+///
+/// # Errors
+///
+/// `AllocError` where memory runs out.
+pub fn ends_value(alloc: Global, summary: &Summary) -> Result<Value, AllocError>
     ensures { IfOk result (λ v. view v ≡ ends_data summary.now.ends) }
 {
     let mut ends = Vec::new(alloc);

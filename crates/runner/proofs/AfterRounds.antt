@@ -1,85 +1,286 @@
--- What a book is after a round that several workers settled into it.
-use Rattle.std.proofs.Common.{◌≡◌, ◌∙◌, ◌+◌, ◌<◌, ◌≤◌, true, false, ap, sym, inl, inr}
-use Rattle.std.proofs.Common.{subst, arith}
+-- What is known of a book that goes on to the next bound, and of the levels that are kept.
+use Rattle.std.proofs.Common.{◌≡◌, ◌∙◌, ℕ, ◌+◌, ◌<◌, ◌≤◌, Bool, true, false, ap, sym}
+use Rattle.std.proofs.Common.{inl, inr, List, [], ◌∷◌, ◌++◌, length, length-append, Option, Some, None}
+use Rattle.std.proofs.Common.{refl, subst, arith, Vec, Global}
+use Rattle.std.proofs.lemmas.Bool.{cases_lt}
 use Rattle.std.proofs.lemmas.Bool.Decides.{nat_tests}
 use Rattle.guest_code.specs.Program.{Program}
+use Rattle.schedules.specs.Schedules.{preemptions}
 use Rattle.items.specs.declared.mode.Mode.{Mode}
 use Rattle.items.specs.declared.mode.Mode.TheVariants.{Bounded, Reduced}
 use Rattle.items.specs.declared.limits.TheConstants.{BOUND}
-use Rattle.book.specs.Books.{BookView, IsAtLastBound, Raises, thinned, bound_of}
+use Rattle.summary.specs.Summaries.{SummaryView, nothing, with_beyond, sum_of}
+use Rattle.summary.proofs.SumsJoin.{sum_of_none}
+use Rattle.items.specs.Items.{root_of}
+use Rattle.items.specs.Items.{ItemView, IsItem, item_sum}
+use Rattle.items.specs.Walks.{IsWithin}
+use Rattle.items.proofs.WalkedItems.{past_none, past_beyond}
+use Rattle.book.specs.Books.{BookView, Keeps, IsAtLastBound, Raises, bound_of}
+use Rattle.book.specs.Books.{opening_of}
+use Rattle.book.proofs.BoundedSums.{closed_sum, clean_kept_all}
+use Rattle.report.specs.declared.level.Level.{Level}
 use Rattle.report.specs.declared.options.Options.{Options}
 use Rattle.report.specs.declared.options.Search.{Search}
 use Rattle.report.specs.declared.options.Search.TheVariants.{UpTo, Unbounded}
 use Rattle.report.specs.Promises.{IsSearch}
-use Rattle.runner.specs.inner.Judging.{IsStage, IsAt, CanRaise, begun}
-use Rattle.runner.specs.inner.Judging.{lists_at, bounds_left}
-use Rattle.workers.specs.Teams.{IsOf}
-use Rattle.runner.proofs.Judgments.{next_stage, fewer_left, not_the_greatest}
+use Rattle.report.specs.declared.report.Cause.TheVariants.{Limit, Stopped}
+use Rattle.runner.specs.declared.course.Course.{Course}
+use Rattle.runner.specs.declared.judge.Ending.{Ending}
+use Rattle.runner.specs.declared.judge.Ending.TheVariants.{Whole, Cut}
+use Rattle.runner.specs.Levels.{IsModeOf, GoesOn, IsPassed, HasPassed, IsPassedLevel}
+use Rattle.runner.specs.Levels.{ArePassedFrom, AreBelow}
+use Rattle.runner.specs.inner.Judging.{IsAt, AreKept, HasKept, level_at, begun, lists_at}
+use Rattle.runner.specs.inner.Judging.{bounds_left, first_mode}
+use Rattle.runner.specs.inner.Judging.{IsCourse, HasEnded, Ends}
 
--- a book is one of the mode that it is known to have
-pub was_at : (b : BookView) (p : Program) (o : Options) (mode : Mode) → mode ≡ b.mode
-    → IsAt b p o b.mode → IsAt b p o mode
-was_at b p o mode is of = subst (IsAt b p o) (sym is) of
+-- another bound follows the mode
+abbrev pub HasNext : Search → Mode → Type 0
+HasNext (UpTo last) (Bounded bound) = bound < last
+HasNext (UpTo last) Reduced = ⊥
+HasNext Unbounded mode = ⊥
 
--- a book that drops items stays one of its search
-pub thinned_at : (old b : BookView) (p : Program) (o : Options) (mode : Mode) → b ≡ thinned old
-    → IsAt old p o mode → IsAt b p o mode
-thinned_at old b p o mode is of = subst (λ (x : BookView). IsAt x p o mode) (sym is)
-    (record { program = of.program; mode = of.mode; quick = of.quick; lists = of.lists })
+pub has_next : (search : Search) (mode : Mode) (sum : SummaryView) → IsModeOf search mode
+    → GoesOn search mode sum → HasNext search mode
+has_next (UpTo last) (Bounded bound) sum of on =
+    let le : bound ≤ last = of in
+    let ne : bound ≡ last → ⊥ = on.more in omega (arith, le, ne)
+has_next (UpTo last) Reduced sum of on = absurd of
+has_next Unbounded (Bounded bound) sum of on = absurd of
+has_next Unbounded Reduced sum of on = absurd (on.more tt)
 
--- a book that lists what it puts off is one of its search where it goes on to list it or not
-pub begun_at : (old new : BookView) (p : Program) (o : Options) (mode : Mode)
-    → IsOf old p mode o.quick true → new ≡ begun o.search old → IsAt new p o mode
-begun_at old new p o mode of is = subst (λ (x : BookView). IsAt x p o mode) (sym is) (record {
-  program = of.program;
-  mode = of.mode;
-  quick = of.quick;
-  lists = ap (lists_at o.search) of.mode;
-})
+next_listed : (search : Search) (mode : Mode) → HasNext search mode → lists_at search mode ≡ true
+next_listed (UpTo last) (Bounded bound) h = let l : bound < last = h in grind (arith, nat_tests, l)
+next_listed (UpTo last) Reduced h = absurd h
+next_listed Unbounded mode h = absurd h
 
--- where a search goes on to another bound, what is put off is listed
-pub goes_on_listing : (p : Program) (search : Search) (mode : Mode) → CanRaise p search mode
-    → lists_at search mode ≡ true
-goes_on_listing p (UpTo last) (Bounded bound) can =
-    let l = can.0 in grind (arith, nat_tests, l)
-goes_on_listing p (UpTo last) Reduced can = absurd can
-goes_on_listing p Unbounded mode can = absurd can
+next_low : (search : Search) (mode : Mode) → HasNext search mode → IsSearch search
+    → BOUND ≤ bound_of mode → ⊥
+next_low (UpTo last) (Bounded bound) h known high = omega (arith, h, known, high)
+next_low (UpTo last) Reduced h known high = absurd h
+next_low Unbounded mode h known high = absurd h
 
--- no bound of a search of which another is to come is its book's last one
-pub not_at_last : (b : BookView) (p : Program) (o : Options) (mode : Mode) → IsSearch o.search
-    → IsAt b p o mode → CanRaise p o.search mode → IsAtLastBound b → ⊥
-not_at_last b p o mode known of can (inl made) =
-    let no : true ≡ false = sym (of.lists ∙ goes_on_listing p o.search mode can) ∙ made in cc
-not_at_last b p o mode known of can (inr greatest) =
-    not_the_greatest p o.search mode known can
-    (subst (λ (m : Mode). BOUND ≤ bound_of m) of.mode greatest)
+next_of : (search : Search) (mode : Mode) → HasNext search mode
+    → IsModeOf search (Bounded (bound_of mode + 1))
+next_of (UpTo last) (Bounded bound) h = omega (arith, h)
+next_of (UpTo last) Reduced h = absurd h
+next_of Unbounded mode h = absurd h
 
--- the mode of a raised book
-raised_mode : (old new : BookView) (p : Program) (o : Options) (mode next : Mode)
-    → IsAt old p o mode → Raises old new → next ≡ new.mode → next ≡ Bounded (bound_of mode + 1)
-raised_mode old new p o mode next of raise same =
-    same ∙ ap (λ (b : BookView). b.mode) raise.book
-    ∙ ap (λ (m : Mode). Bounded (bound_of m + 1)) of.mode
+pub next_less : (search : Search) (mode : Mode) → HasNext search mode
+    → bounds_left search (Bounded (bound_of mode + 1)) < bounds_left search mode
+next_less (UpTo last) (Bounded bound) h = omega (arith, h)
+next_less (UpTo last) Reduced h = absurd h
+next_less Unbounded mode h = absurd h
 
--- it leaves fewer bounds to come
-pub raised_less : (old new : BookView) (p : Program) (o : Options) (mode next : Mode)
-    → IsAt old p o mode → CanRaise p o.search mode → Raises old new → next ≡ new.mode
-    → bounds_left o.search next < bounds_left o.search mode
-raised_less old new p o mode next of can raise same =
-    subst (λ (m : Mode). bounds_left o.search m < bounds_left o.search mode)
-    (sym (raised_mode old new p o mode next of raise same)) (fewer_left p o.search mode can)
+-- a book may be raised whose search goes on
+pub not_at_last : (i : ItemView) (o : Options) (b : BookView) → IsSearch o.search → IsAt i o b
+    → HasNext o.search b.mode → IsAtLastBound b → ⊥
+not_at_last i o b known at h (inl off) =
+    let no : true ≡ false = sym (next_listed o.search b.mode h) ∙ sym at.is.lists ∙ off in cc
+not_at_last i o b known at h (inr high) = next_low o.search b.mode h known high
 
--- the stage that a raised book is at
-pub raised_stage : (old new : BookView) (p : Program) (o : Options) (mode next : Mode)
-    → IsAt old p o mode → CanRaise p o.search mode → Raises old new → next ≡ new.mode
-    → IsStage p o.search next × IsOf new p next o.quick true
-raised_stage old new p o mode next of can raise same =
-    let is = raised_mode old new p o mode next of raise same in (
-      subst (λ (m : Mode). IsStage p o.search m) (sym is) (next_stage p o.search mode can),
-      record {
-        program = ap (λ (b : BookView). b.program) raise.book ∙ of.program;
-        mode = sym same;
-        quick = ap (λ (b : BookView). b.quick) raise.book ∙ of.quick;
-        lists = ap (λ (b : BookView). b.lists) raise.book ∙ raise.listed;
-      },
+-- where nothing is open and the search goes on, all of the bound was tried
+pub whole_here : (b : BookView) (search : Search) → Keeps b → b.open_items ≡ []
+    → GoesOn search b.mode b.finished → b.finished ≡ item_sum b.mode b.of
+whole_here b search keeps closed on =
+    closed_sum b keeps (clean_kept_all b keeps on.none) closed
+
+-- and the bound is passed
+
+passed_here : (i : ItemView) (search : Search) (bound : ℕ) (sum : SummaryView)
+    → sum ≡ item_sum (Bounded bound) i → GoesOn search (Bounded bound) sum → IsPassed i bound
+passed_here i search bound sum is on = record {
+  none = ap (λ (t : SummaryView). t.first_bad) (sym is) ∙ on.none;
+  beyond = ap (λ (t : SummaryView). t.beyond) (sym is) ∙ on.beyond;
+}
+
+next_passed : (i : ItemView) (search : Search) (mode : Mode) (sum : SummaryView)
+    → HasNext search mode → sum ≡ item_sum mode i → GoesOn search mode sum → HasPassed i mode
+    → HasPassed i (Bounded (bound_of mode + 1))
+next_passed i (UpTo last) (Bounded bound) sum h is on below =
+    λ b l. elim (cases_lt b bound) [
+      | inl lower ↦ below b lower
+      | inr le ↦ subst (IsPassed i) (omega (arith, l, le))
+          (passed_here i (UpTo last) bound sum is on)
+    ]
+next_passed i (UpTo last) Reduced sum h is on below = absurd h
+next_passed i Unbounded mode sum h is on below = absurd h
+
+-- the book at the next bound
+pub raised_at : (old new b : BookView) (o : Options) → Keeps old → IsAt old.of o old
+    → old.open_items ≡ [] → GoesOn o.search old.mode old.finished → Raises old new
+    → b ≡ begun o.search new → IsAt old.of o b
+raised_at old new b o keeps at closed on raises is =
+    subst (λ (x : BookView). IsAt old.of o x)
+    (sym (is ∙ ap (begun o.search) raises.book)) (record {
+      is = record { of = refl; mode = refl; quick = at.is.quick; lists = refl };
+      of = next_of o.search old.mode next;
+      passed = next_passed old.of o.search old.mode old.finished next
+          (whole_here old o.search keeps closed on) on at.passed;
+    })
+  where
+    next : HasNext o.search old.mode
+    next = has_next o.search old.mode old.finished at.of on
+
+-- the levels of the bounds below, and one more
+
+one_more_from : (i : ItemView) (from : ℕ) (ls : List Level) (l : Level) → ArePassedFrom i from ls
+    → IsPassedLevel i (from + length ls) l → ArePassedFrom i from (ls ++ l ∷ [])
+one_more_from i from [] l h more = (subst (λ n. IsPassedLevel i n l) (omega arith) more, tt)
+one_more_from i from (k ∷ ks) l h more = (
+  h.0,
+  one_more_from i (from + 1) ks l h.1
+      (subst (λ n. IsPassedLevel i n l) (omega arith) more),
+)
+
+pub one_more_below : (i : ItemView) (bound : ℕ) (ls : List Level) (l : Level)
+    → AreBelow i (Bounded bound) ls → IsPassedLevel i bound l
+    → AreBelow i (Bounded (bound + 1)) (ls ++ l ∷ [])
+one_more_below i bound ls l below more =
+    let n = below.0 in
+    let all = length-append ls (l ∷ []) in (
+      omega (arith, all, n),
+      one_more_from i 0 ls l below.1 (subst (λ k. IsPassedLevel i k l) (omega (arith, n)) more),
     )
+
+next_below : (i : ItemView) (search : Search) (mode : Mode) (sum : SummaryView) (ls : List Level)
+    → HasNext search mode → sum ≡ item_sum mode i → GoesOn search mode sum → AreBelow i mode ls
+    → AreBelow i (Bounded (bound_of mode + 1)) (ls ++ level_at mode sum None ∷ [])
+next_below i (UpTo last) (Bounded bound) sum ls h is on below =
+    one_more_below i bound ls (level_at (Bounded bound) sum None) below (record {
+      at = refl;
+      summary = is;
+      cause = refl;
+      passed = passed_here i (UpTo last) bound sum is on;
+    })
+next_below i (UpTo last) Reduced sum ls h is on below = absurd h
+next_below i Unbounded mode sum ls h is on below = absurd h
+
+pub level_kept : (keeps : Bool) (b : BookView) (o : Options)
+    (old new : Option (Vec Level Global)) → Keeps b → IsAt b.of o b → b.open_items ≡ []
+    → GoesOn o.search b.mode b.finished → HasKept b old new → AreKept keeps b.of b.mode old
+    → AreKept keeps b.of (Bounded (bound_of b.mode + 1)) new
+level_kept keeps b o (Some old) (Some new) book at closed on kept levels = (
+  levels.0,
+  subst (AreBelow b.of (Bounded (bound_of b.mode + 1))) (sym kept)
+      (next_below b.of o.search b.mode b.finished old.items
+      (has_next o.search b.mode b.finished at.of on) (whole_here b o.search book closed on) on
+      levels.1),
+)
+level_kept keeps b o None None book at closed on kept levels = levels
+level_kept keeps b o (Some old) None book at closed on kept levels = absurd kept
+level_kept keeps b o None (Some new) book at closed on kept levels = absurd kept
+
+-- a bound that an item's own prefix exceeds is passed
+
+past_sum : (i : ItemView) (bound : ℕ) → IsItem i → bound < preemptions i.program i.prefix
+    → item_sum (Bounded bound) i ≡ with_beyond nothing true
+past_sum i bound h past =
+    (λ k. with_beyond (sum_of i.program (past_none i bound h past k))
+    (past_beyond i bound h past k))
+    ∙ ap (λ (t : SummaryView). with_beyond t true) (sum_of_none i.program)
+
+pub past_passed : (i : ItemView) (bound : ℕ) → IsItem i → bound < preemptions i.program i.prefix
+    → IsPassed i bound
+past_passed i bound h past =
+    let is = past_sum i bound h past in
+    record {
+      none = ap (λ (t : SummaryView). t.first_bad) is;
+      beyond = ap (λ (t : SummaryView). t.beyond) is;
+    }
+
+pub past_level : (i : ItemView) (bound : ℕ) (l : Level) → IsItem i
+    → bound < preemptions i.program i.prefix
+    → l ≡ record { bound = Some bound; summary = with_beyond nothing true; cause = None }
+    → IsPassedLevel i bound l
+past_level i bound l h past is = record {
+  at = ap (λ (x : Level). x.bound) is;
+  summary = ap (λ (x : Level). x.summary) is ∙ sym (past_sum i bound h past);
+  cause = ap (λ (x : Level). x.cause) is;
+  passed = past_passed i bound h past;
+}
+
+-- where a search begins
+
+pub first_of : (search : Search) → IsModeOf search (first_mode search 0)
+first_of (UpTo last) = omega arith
+first_of Unbounded = tt
+
+pub none_passed : (i : ItemView) (search : Search) → HasPassed i (first_mode search 0)
+none_passed i (UpTo last) = λ b l. absurd (omega (arith, l))
+none_passed i Unbounded = tt
+
+pub first_within : (i : ItemView) (search : Search) (k : ℕ) → k ≡ preemptions i.program i.prefix
+    → IsWithin (first_mode search k) i
+first_within i (UpTo last) k is = omega (arith, is)
+first_within i Unbounded k is = tt
+
+pub first_passed : (i : ItemView) (search : Search) (k : ℕ) → IsItem i
+    → k ≡ preemptions i.program i.prefix → HasPassed i (first_mode search k)
+first_passed i (UpTo last) k h is = λ b l. past_passed i b h (omega (arith, is, l))
+first_passed i Unbounded k h is = tt
+
+pub opened_at : (i : ItemView) (o : Options) (mode : Mode) (old b : BookView)
+    → old ≡ opening_of i mode o.quick → IsModeOf o.search mode → HasPassed i mode
+    → b ≡ begun o.search old → IsAt i o b
+opened_at i o mode old b opened of passed is =
+    subst (λ (x : BookView). IsAt i o x) (sym (is ∙ ap (begun o.search) opened)) (record {
+      is = record { of = refl; mode = refl; quick = refl; lists = refl };
+      of = of;
+      passed = passed;
+    })
+
+-- levels that are kept, of an item and a mode that are known by other names
+pub kept_on : (keeps : Bool) (i j : ItemView) (m n : Mode) (levels : Option (Vec Level Global))
+    → j ≡ i → n ≡ m → AreKept keeps i m levels → AreKept keeps j n levels
+kept_on keeps i j m n levels of at h =
+    subst (λ (x : Mode). AreKept keeps j x levels) (sym at)
+    (subst (λ (x : ItemView). AreKept keeps x m levels) (sym of) h)
+
+-- what is known of a course where its search begins, and where it has ended
+
+pub course_at : (i : ItemView) (o : Options) (keeps : Bool) (c : Course) → IsCourse i o keeps c
+    → IsAt c.book.of c.options c.book
+course_at i o keeps c h =
+    subst (λ (x : Options). IsAt c.book.of x c.book) (sym h.options)
+    (subst (λ (x : ItemView). IsAt x o c.book) (sym h.at.is.of) h.at)
+
+pub course_itself : (i : ItemView) (o : Options) (keeps : Bool) (c : Course) → IsCourse i o keeps c
+    → IsCourse c.book.of c.options keeps c
+course_itself i o keeps c h = record {
+  options = refl;
+  at = course_at i o keeps c h;
+  levels = kept_on keeps i c.book.of c.book.mode c.book.mode c.levels h.at.is.of refl h.levels;
+}
+
+pub ended_at : (i : ItemView) (o : Options) (keeps may : Bool) (c : Course) (r : Course × Ending)
+    → IsCourse i o keeps c → HasEnded may c r → IsCourse i o keeps r.0 × Ends may o r.0.book r.1
+ended_at i o keeps may c r h ended = (
+  record {
+    options = ended.options ∙ h.options;
+    at = subst (λ (x : ItemView). IsAt x o r.0.book) h.at.is.of
+        (subst (λ (x : Options). IsAt c.book.of x r.0.book) h.options ended.at);
+    levels = subst (λ (x : ItemView). AreKept keeps x r.0.book.mode r.0.levels) h.at.is.of
+        (ended.levels keeps (subst (λ (x : ItemView). AreKept keeps x c.book.mode c.levels)
+        (sym h.at.is.of) h.levels));
+  },
+  subst (λ (x : Options). Ends may x r.0.book r.1) h.options ended.ends,
+)
+
+-- the same where the item is a program's root
+pub report_ready : (p q : Program) (o : Options) (may : Bool) (c : Course) (r : Course × Ending)
+    → q ≡ p → IsCourse (root_of p) o false c → HasEnded may c r
+    → IsAt (root_of q) o r.0.book × Ends may o r.0.book r.1
+report_ready p q o may c r same h ended =
+    let both = ended_at (root_of p) o false may c r h ended in
+    (subst (λ x. IsAt (root_of x) o r.0.book) (sym same) both.0.at, both.1)
+
+-- who may have been stopped
+pub ends_weaker : (stopped may : Bool) (o : Options) (b : BookView) (ending : Ending)
+    → (stopped ≡ true → may ≡ true) → Ends stopped o b ending → Ends may o b ending
+ends_weaker stopped may o b Whole h ends = ends
+ends_weaker stopped may o b (Cut Limit) h ends = ends
+ends_weaker stopped may o b (Cut Stopped) h ends = (h ends.0, ends.1)
+
+-- the same options, and not quick
+abbrev pub unquick : Options → Options
+unquick o = record o { quick = false }

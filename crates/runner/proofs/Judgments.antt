@@ -1,90 +1,119 @@
--- What is known after a round, by what was asked for and the mode that the search has come to.
-use Rattle.std.proofs.Common.{◌≡◌, ◌⊎◌, ℕ, ◌+◌, ◌<◌, ◌≤◌, ◌∙◌, Bool, true, false, not}
-use Rattle.std.proofs.Common.{List, [], ◌++◌, Option, Some, None, refl, ap, sym, subst, arith}
-use Rattle.std.specs.List.{Contains}
+-- What a report says, from what is known where the search has ended.
+use Rattle.std.proofs.Common.{◌≡◌, ◌⊎◌, inl, inr, ℕ, zero, suc, ◌+◌, ◌<◌, ◌≤◌, ◌∙◌, Bool, true}
+use Rattle.std.proofs.Common.{false, not, List, [], ◌∷◌, ◌++◌, Option, Some, None, refl, ap, sym, subst}
+use Rattle.std.proofs.Common.{arith}
+use mathlib.Core.Logic.{dite}
+use native.Mathlib.Decide.{ℕ_discrete}
 use Rattle.guest_code.specs.Program.{Program}
-use Rattle.semantics.specs.Machine.{start}
-use Rattle.schedules.specs.Schedules.{complete_schedules, preemptions}
-use Rattle.items.specs.declared.limits.TheConstants.{BOUND}
+use Rattle.schedules.specs.Schedules.{preemptions}
 use Rattle.items.specs.declared.mode.Mode.{Mode}
 use Rattle.items.specs.declared.mode.Mode.TheVariants.{Bounded, Reduced}
-use Rattle.summary.specs.Summaries.{SummaryView, end_kind}
-use Rattle.items.specs.Items.{whole}
-use Rattle.book.specs.Books.{BookView, Keeps, KeepsWhere, with_deferred, bound_of}
+use Rattle.summary.specs.Summaries.{SummaryView, IsBoundedBy, nothing, with_beyond, end_kind}
+use Rattle.items.specs.Items.{ItemView, IsItem, root_of, whole}
+use Rattle.book.specs.Books.{BookView, Keeps, KeepsWhere, with_deferred}
+use Rattle.book.specs.Progress.{mode_bound}
+use Rattle.book.proofs.BoundedSums.{bounded_itself, closed_sum, never_dropped}
+use Rattle.report.specs.declared.level.Level.{Level}
 use Rattle.report.specs.declared.options.Options.{Options}
 use Rattle.report.specs.declared.options.Search.{Search}
 use Rattle.report.specs.declared.options.Search.TheVariants.{UpTo, Unbounded}
-use Rattle.runner.specs.declared.judge.Decision.{Decision}
-use Rattle.runner.specs.declared.judge.Decision.TheVariants.{Answer, Raise, Again}
 use Rattle.report.specs.declared.report.Cause.{Cause}
 use Rattle.report.specs.declared.report.Verdict.{Verdict}
 use Rattle.report.specs.declared.report.Verdict.TheVariants.{Clean, Bad, Incomplete}
-use Rattle.report.specs.Reports.{IsBad, HasItems, IsReached, IsCause}
+use Rattle.report.specs.Reports.{IsBad, HasItems, IsCause}
 use Rattle.report.specs.Unbounded.{IsFirstBad}
-use Rattle.report.specs.Promises.{IsSearch, IsReportFor, IsReport}
-use Rattle.runner.specs.inner.Judging.{HasPassed, IsModeOf, IsStage, IsLast, IsFound, IsFinishedIn, IsFirstMode}
-use Rattle.book.specs.Progress.{mode_bound}
-use Rattle.runner.specs.inner.Judging.{CanRaise, IsVerdictOn, report_in, bounds_left, IsBoundBelow}
-use Rattle.runner.specs.inner.Judging.{ComesWhole, ComesOpen, Comes}
-use Rattle.runner.proofs.Promises.{passed_next, found_bad, found_none, finished_here}
-use Rattle.runner.proofs.Promises.{finished_below, passed_none, same_bad, least_within}
+use Rattle.report.specs.Promises.{IsReportFor, IsReport}
+use Rattle.runner.specs.declared.judge.Ending.{Ending}
+use Rattle.runner.specs.declared.judge.Ending.TheVariants.{Whole, Cut}
+use Rattle.runner.specs.Levels.{IsModeOf, IsLast, GoesOn, HasPassed, HasItemsOf, IsOfProgram}
+use Rattle.runner.specs.Levels.{AreBelow, IsLastSum, AreLevels, IsPassedLevel}
+use Rattle.runner.specs.inner.Judging.{HasPassedBounds, IsFound, IsFinishedIn, IsBoundBelow}
+use Rattle.runner.specs.inner.Judging.{IsVerdictOn, IsAt, Ends, ending_cause, level_at}
+use Rattle.runner.specs.inner.Judging.{report_in}
+use Rattle.runner.proofs.AfterRounds.{past_level}
+use Rattle.runner.proofs.Promises.{passed_none, none_within, some_exceeds, found_bad, found_none}
+use Rattle.runner.proofs.Promises.{finished_here, finished_below, same_bad, least_within}
 use Rattle.runner.proofs.Unbounded.{found_first, found_no_bad}
 
-pub bad_is_reported : (may : Bool) (p : Program) (o : Options) (mode : Mode) (sum : SummaryView)
-    (w : List ℕ) (v : Verdict) → IsStage p o.search mode → IsFound o.quick p mode sum
-    → sum.first_bad ≡ Some w → IsVerdictOn p w v → IsReport may p o (report_in o mode sum v)
-bad_is_reported may p o mode sum w v stage found some on =
-    (refl, go o.search mode v stage.of stage.passed found on)
+-- what is known of a program where the bounds below this one are passed
+pub program_passed : (p : Program) (bound : ℕ) → HasPassed (root_of p) (Bounded bound)
+    → HasPassedBounds p bound
+program_passed p zero h = passed_none p
+program_passed p (suc b) h = record {
+  none = let far = none_within p b (h b (omega arith)).none in
+      λ w bad. let k : b + 1 ≤ preemptions p w = far w bad in omega (arith, k);
+  past = λ c l. some_exceeds p c (h c l).beyond;
+}
+
+-- a search that doesn't go on where nothing is bad is at its last mode, or nothing is beyond
+pub ends_why : (search : Search) (mode : Mode) (sum : SummaryView) → IsModeOf search mode
+    → (GoesOn search mode sum → ⊥) → sum.first_bad ≡ None
+    → IsLast search mode ⊎ (not sum.beyond ≡ true)
+ends_why sought mode sum of ends none = go sum.beyond refl
   where
-    go : (search : Search) (m : Mode) (v : Verdict) → IsModeOf search m → HasPassed p m
-        → IsFound o.quick p m sum → IsVerdictOn p w v
+    last : (search : Search) (mode : Mode) → IsModeOf search mode
+        → IsLast search mode ⊎ (IsLast search mode → ⊥)
+    last (UpTo l) (Bounded bound) of = dite (ℕ_discrete bound l) (λ e. inl e) (λ e. inr e)
+    last (UpTo l) Reduced of = absurd of
+    last Unbounded (Bounded bound) of = absurd of
+    last Unbounded Reduced of = inl tt
+
+    go : (b : Bool) → sum.beyond ≡ b → IsLast sought mode ⊎ (not sum.beyond ≡ true)
+    go false e = inr (ap not e)
+    go true e = elim (last sought mode of) [
+      | inl l ↦ inl l
+      | inr more ↦ absurd (ends (record { none = none; beyond = e; more = more }))
+    ]
+
+-- the verdict on a sum of all is reported
+pub whole_is_reported : (may : Bool) (p : Program) (o : Options) (mode : Mode) (sum : SummaryView)
+    (v : Verdict) → IsModeOf o.search mode → HasPassed (root_of p) mode
+    → (GoesOn o.search mode sum → ⊥) → IsFound o.quick p mode sum → IsVerdictOn p sum v
+    → IsReport may p o (report_in o mode sum v)
+whole_is_reported may p o mode sum v of passed ends found on =
+    (refl, go o.search mode v of passed ends found on)
+  where
+    go : (search : Search) (m : Mode) (v : Verdict) → IsModeOf search m → HasPassed (root_of p) m
+        → (GoesOn search m sum → ⊥) → IsFound o.quick p m sum → IsVerdictOn p sum v
         → IsReportFor may p o search (report_in o m sum v)
-    go (UpTo last) (Bounded bound) (Bad k schedule kind) of passed found on = (
+    go (UpTo last) (Bounded bound) (Bad k schedule kind) of passed ends found on = (
       bound,
       refl,
-      subst (λ n. IsBad o.quick p last bound sum n schedule.items kind) (sym on.0)
-          (subst (λ s. IsBad o.quick p last bound sum (preemptions p w) s kind) (sym on.1)
-          (found_bad o.quick p last bound sum w kind of passed found.sum some on.2)),
+      subst (λ n. IsBad o.quick p last bound sum n schedule.items kind) (sym on.1)
+          (found_bad o.quick p last bound sum schedule.items kind of
+          (program_passed p bound passed) found.sum on.0 on.2),
     )
-    go Unbounded Reduced (Bad k schedule kind) of passed found on = (
+    go (UpTo last) (Bounded bound) (Clean all) of passed ends found on = (
+      bound,
       refl,
-      subst (λ n. IsFirstBad o.quick p sum n schedule.items kind) (sym on.0)
-          (subst (λ s. IsFirstBad o.quick p sum (preemptions p w) s kind) (sym on.1)
-          (found_first o.quick p sum w kind found.sum some on.2)),
+      found_none p last bound sum all of (program_passed p bound passed) (found.clean on.0) on.0
+          on.1 (elim (ends_why (UpTo last) (Bounded bound) sum of ends on.0) [
+            | inl l ↦ inl l
+            | inr e ↦ inr (on.1 ∙ e)
+          ]),
     )
-    go (UpTo last) Reduced v of passed found on = absurd of
-    go Unbounded (Bounded bound) v of passed found on = absurd of
-    go search m (Clean all) of passed found on = absurd on
-    go search m (Incomplete cause finished) of passed found on = absurd on
-
-pub clean_is_reported : (may : Bool) (p : Program) (o : Options) (mode : Mode) (sum : SummaryView)
-    (all : Bool) → IsStage p o.search mode → IsFound o.quick p mode sum → sum.first_bad ≡ None
-    → all ≡ not sum.beyond → IsLast o.search mode ⊎ (all ≡ true)
-    → IsReport may p o (report_in o mode sum (Clean all))
-clean_is_reported may p o mode sum all stage found none is last =
-    (refl, go o.search mode stage.of stage.passed found last)
-  where
-    go : (search : Search) (m : Mode) → IsModeOf search m → HasPassed p m
-        → IsFound o.quick p m sum → IsLast search m ⊎ (all ≡ true)
-        → IsReportFor may p o search (report_in o m sum (Clean all))
-    go (UpTo last) (Bounded bound) of passed found end =
-        (bound, refl, found_none p last bound sum all of passed (found.clean none) none is end)
-    go Unbounded Reduced of passed found end = (
+    go Unbounded Reduced (Bad k schedule kind) of passed ends found on = (
+      refl,
+      subst (λ n. IsFirstBad o.quick p sum n schedule.items kind) (sym on.1)
+          (found_first o.quick p sum schedule.items kind found.sum on.0 on.2),
+    )
+    go Unbounded Reduced (Clean all) of passed ends found on = (
       refl,
       (
-        is ∙ ap (λ (t : SummaryView). not t.beyond) (found.clean none),
-        found_no_bad p sum (found.clean none) none,
+        on.1 ∙ ap (λ (t : SummaryView). not t.beyond) (found.clean on.0),
+        found_no_bad p sum (found.clean on.0) on.0,
       ),
     )
-    go (UpTo last) Reduced of passed found end = absurd of
-    go Unbounded (Bounded bound) of passed found end = absurd of
+    go (UpTo last) Reduced v of passed ends found on = absurd of
+    go Unbounded (Bounded bound) v of passed ends found on = absurd of
+    go search m (Incomplete cause finished) of passed ends found on = absurd on
 
 pub cut_is_reported : (may : Bool) (p : Program) (o : Options) (mode : Mode) (sum : SummaryView)
-    (cause : Cause) (finished : Option ℕ) → IsStage p o.search mode → HasItems p mode sum
+    (cause : Cause) (finished : Option ℕ) → IsModeOf o.search mode → HasItems p mode sum
     → IsCause may o.limit sum cause → IsFinishedIn p mode finished
     → IsReport may p o (report_in o mode sum (Incomplete cause finished))
-cut_is_reported may p o mode sum cause finished stage items why done =
-    (refl, go o.search mode stage.of items done)
+cut_is_reported may p o mode sum cause finished of items why done =
+    (refl, go o.search mode of items done)
   where
     go : (search : Search) (m : Mode) → IsModeOf search m → HasItems p m sum
         → IsFinishedIn p m finished
@@ -95,121 +124,105 @@ cut_is_reported may p o mode sum cause finished stage items why done =
     go (UpTo last) Reduced of items done = absurd of
     go Unbounded (Bounded bound) of items done = absurd of
 
-pub can_raise : (p : Program) (o : Options) (mode : Mode) (sum : SummaryView)
-    → IsStage p o.search mode → IsFound o.quick p mode sum → sum.first_bad ≡ None
-    → sum.beyond ≡ true → (IsLast o.search mode → ⊥) → CanRaise p o.search mode
-can_raise p o mode sum stage found none beyond more =
-    go o.search mode stage.of stage.passed found more
-  where
-    go : (search : Search) (m : Mode) → IsModeOf search m → HasPassed p m
-        → IsFound o.quick p m sum → (IsLast search m → ⊥) → CanRaise p search m
-    go (UpTo last) (Bounded bound) of passed found more = (
-      not_last bound last of more,
-      passed_next p bound sum passed (found.clean none) none beyond,
-    )
-      where
-        not_last : (b l : ℕ) → b ≤ l → (b ≡ l → ⊥) → b < l
-        not_last b l le ne = omega (arith, le, ne)
-    go Unbounded Reduced of passed found more = absurd (more tt)
-    go (UpTo last) Reduced of passed found more = absurd of
-    go Unbounded (Bounded bound) of passed found more = absurd of
+-- a sum of all is what a search finds, a quick one or not
+pub found_of_whole : (quick : Bool) (p : Program) (mode : Mode) (sum : SummaryView)
+    → sum ≡ whole p mode → IsFound quick p mode sum
+found_of_whole true p mode sum is =
+    record { sum = subst (IsBoundedBy sum) is (bounded_itself sum); clean = λ none. is }
+found_of_whole false p mode sum is = record { sum = is; clean = λ none. is }
 
-pub whole_is_finished : (p : Program) (o : Options) (mode : Mode) (sum : SummaryView)
-    → IsFound o.quick p mode sum → sum.first_bad ≡ None → IsFinishedIn p mode (mode_bound mode)
-whole_is_finished p o (Bounded bound) sum found none =
+-- the last bound that was finished
+
+pub whole_is_finished : (quick : Bool) (p : Program) (mode : Mode) (sum : SummaryView)
+    → IsFound quick p mode sum → sum.first_bad ≡ None → IsFinishedIn p mode (mode_bound mode)
+whole_is_finished quick p (Bounded bound) sum found none =
     finished_here p bound sum (found.clean none) none
-whole_is_finished p o Reduced sum found none = refl
+whole_is_finished quick p Reduced sum found none = refl
 
-pub below_is_finished : (p : Program) (search : Search) (mode : Mode) (below : Option ℕ)
-    → IsStage p search mode → IsBoundBelow mode below → IsFinishedIn p mode below
-below_is_finished p search (Bounded bound) (Some below) stage h =
-    finished_below p bound below stage.passed h
-below_is_finished p search (Bounded bound) None stage h = h
-below_is_finished p search Reduced None stage h = refl
-below_is_finished p search Reduced (Some below) stage h = absurd h
+pub below_is_finished : (p : Program) (mode : Mode) (below : Option ℕ) → HasPassed (root_of p) mode
+    → IsBoundBelow mode below → IsFinishedIn p mode below
+below_is_finished p (Bounded bound) (Some below) passed h =
+    finished_below p bound below (program_passed p bound passed) h
+below_is_finished p (Bounded bound) None passed h = h
+below_is_finished p Reduced None passed h = refl
+below_is_finished p Reduced (Some below) passed h = absurd h
 
 -- a bad schedule of a summary is a complete one
-pub bad_is_complete : (quick : Bool) (p : Program) (mode : Mode) (sum : SummaryView) (w : List ℕ)
-    → IsFound quick p mode sum → sum.first_bad ≡ Some w
-    → Contains (complete_schedules p (start p)) w
-bad_is_complete quick p (Bounded bound) sum w found some =
+pub found_of_program : (quick : Bool) (p : Program) (mode : Mode) (sum : SummaryView)
+    → IsFound quick p mode sum → IsOfProgram p sum.first_bad
+found_of_program quick p (Bounded bound) sum found w some =
     (least_within p bound w
     (sym (same_bad quick sum (whole p (Bounded bound)) found.sum) ∙ some)).bad.0
-bad_is_complete quick p Reduced sum w found some =
+found_of_program quick p Reduced sum found w some =
     (found_first quick p sum w (end_kind p w) found.sum some refl).bad.0
 
 -- a book has its items, whether it was thinned or not
-pub book_has_items : (b : BookView) → Keeps b → HasItems b.program b.mode b.finished
+pub book_has_items : (b : BookView) → Keeps b → HasItemsOf b.mode b.of b.finished
 book_has_items b keeps = go b.dropped keeps.split
   where
     go : (dropped : Bool) → KeepsWhere dropped (with_deferred b keeps.put)
-        → HasItems b.program b.mode b.finished
-    go false book = (b.open_items, keeps.put, book)
-    go true thin = (thin.gone ++ b.open_items, keeps.put, thin.split)
+        → HasItemsOf b.mode b.of b.finished
+    go false book = (b.open_items, keeps.put, book.split)
+    go true thin = (thin.gone ++ b.open_items, keeps.put, thin.split.split)
 
--- the stage after the next raise
+pub cut_at_end : (may : Bool) (p : Program) (o : Options) (b : BookView) (mode : Mode)
+    (sum : SummaryView) (cause : Cause) (finished : Option ℕ) → mode ≡ b.mode → sum ≡ b.finished
+    → IsAt (root_of p) o b → Keeps b → IsCause may o.limit b.finished cause
+    → IsFinishedIn p b.mode finished
+    → IsReport may p o (report_in o mode sum (Incomplete cause finished))
+cut_at_end may p o b mode sum cause finished m s at keeps why done =
+    subst (λ (x : Mode). IsReport may p o (report_in o x sum (Incomplete cause finished))) (sym m)
+    (subst (λ (x : SummaryView).
+    IsReport may p o (report_in o b.mode x (Incomplete cause finished))) (sym s)
+    (cut_is_reported may p o b.mode b.finished cause finished at.of
+    (subst (λ (i : ItemView). HasItemsOf b.mode i b.finished) at.is.of (book_has_items b keeps))
+    why done))
 
-pub first_stage : (p : Program) (search : Search) (mode : Mode)
-    → IsFirstMode search mode → IsStage p search mode
-first_stage p (UpTo last) (Bounded bound) h =
-    record {
-      of = omega (arith, h);
-      passed = subst (HasPassed p) (ap Bounded (sym h))
-          (passed_none p);
-    }
-first_stage p Unbounded Reduced h = record { of = tt; passed = tt }
-first_stage p (UpTo last) Reduced h = absurd h
-first_stage p Unbounded (Bounded bound) h = absurd h
+-- the levels of a search that has ended
 
-pub next_stage : (p : Program) (search : Search) (mode : Mode) → CanRaise p search mode
-    → IsStage p search (Bounded (bound_of mode + 1))
-next_stage p (UpTo last) (Bounded bound) h = record { of = omega (arith, h.0); passed = h.1 }
-next_stage p (UpTo last) Reduced h = absurd h
-next_stage p Unbounded mode h = absurd h
+last_sum : (may : Bool) (o : Options) (b : BookView) (ending : Ending) → Keeps b
+    → b.quick ≡ false → Ends may o b ending
+    → IsLastSum may o.search o.limit b.mode b.of (ending_cause ending) b.finished
+last_sum may o b Whole keeps quick ends =
+    (closed_sum b keeps (never_dropped b keeps quick) ends.0, ends.1)
+last_sum may o b (Cut cause) keeps quick ends = (ends.0, book_has_items b keeps)
 
-pub fewer_left : (p : Program) (search : Search) (mode : Mode) → CanRaise p search mode
-    → bounds_left search (Bounded (bound_of mode + 1)) < bounds_left search mode
-fewer_left p (UpTo last) (Bounded bound) h = omega (arith, h.0)
-fewer_left p (UpTo last) Reduced h = absurd h
-fewer_left p Unbounded mode h = absurd h
+pub levels_end : (may : Bool) (o : Options) (b : BookView) (ending : Ending)
+    (below all : List Level) (last : Level) → Keeps b → IsAt b.of o b → o.quick ≡ false → AreBelow b.of b.mode below
+    → last ≡ level_at b.mode b.finished (ending_cause ending) → all ≡ below ++ last ∷ []
+    → Ends may o b ending → AreLevels may o.search o.limit b.of all
+levels_end may o b ending below all last keeps at quick levels is together ends = record {
+  passed = below;
+  last = last;
+  all = together;
+  mode = b.mode;
+  of = at.of;
+  below = levels;
+  bound = ap (λ (l : Level). l.bound) is;
+  sum = subst (λ (l : Level). IsLastSum may o.search o.limit b.mode b.of l.cause l.summary) (sym is)
+      (last_sum may o b ending keeps (at.is.quick ∙ quick) ends);
+}
 
-pub not_the_greatest : (p : Program) (search : Search) (mode : Mode) → IsSearch search
-    → CanRaise p search mode → BOUND ≤ bound_of mode → ⊥
-not_the_greatest p (UpTo last) (Bounded bound) known h le = omega (arith, known, h.0, le)
-not_the_greatest p (UpTo last) Reduced known h le = absurd h
-not_the_greatest p Unbounded mode known h le = absurd h
-
--- what comes next where items are open, from what was read of the book
-pub open_is_reported : (may : Bool) (o : Options) (b : BookView) (mode : Mode)
-    (tried sum : SummaryView) (cause : Cause) (below : Option ℕ) → mode ≡ b.mode
-    → tried ≡ b.finished → sum ≡ b.finished → IsStage b.program o.search b.mode → Keeps b
-    → IsCause may o.limit tried cause → IsBoundBelow mode below
-    → IsReport may b.program o (report_in o mode sum (Incomplete cause below))
-open_is_reported may o b mode tried sum cause below m t s stage keeps why is_below =
-    subst (λ (x : Mode). IsReport may b.program o (report_in o x sum verdict)) (sym m)
-    (subst (λ (x : SummaryView). IsReport may b.program o (report_in o b.mode x verdict)) (sym s)
-    (cut_is_reported may b.program o b.mode b.finished cause below stage (book_has_items b keeps)
-    (subst (λ (x : SummaryView). IsCause may o.limit x cause) t why)
-    (below_is_finished b.program o.search b.mode below stage
-    (subst (λ (x : Mode). IsBoundBelow x below) m is_below))))
+-- those where an item's own prefix exceeds the last bound
+pub past_levels_end : (may : Bool) (search : Search) (limit : Option ℕ) (i : ItemView) (end : ℕ)
+    (below all : List Level) (last : Level) → IsItem i → search ≡ UpTo end
+    → end < preemptions i.program i.prefix → AreBelow i (Bounded end) below
+    → last ≡ level_at (Bounded end) (with_beyond nothing true) None → all ≡ below ++ last ∷ []
+    → AreLevels may search limit i all
+past_levels_end may search limit i end below all last runs to past levels is together = record {
+  passed = below;
+  last = last;
+  all = together;
+  mode = Bounded end;
+  of = subst (λ (s : Search). IsModeOf s (Bounded end)) (sym to) (omega arith);
+  below = levels;
+  bound = here.at;
+  sum = subst (λ (c : Option Cause). IsLastSum may search limit (Bounded end) i c last.summary)
+      (sym here.cause) (
+        here.summary,
+        λ on. on.more (subst (λ (s : Search). IsLast s (Bounded end)) (sym to) refl),
+      );
+}
   where
-    verdict : Verdict
-    verdict = Incomplete cause below
-
--- what comes next, from what the summary or the open items say
-
-pub whole_comes : (may : Bool) (p : Program) (o : Options) (mode : Mode) (b : BookView)
-    (sum : SummaryView) (n : Decision) → sum ≡ b.finished → b.open_items ≡ []
-    → (sum.first_bad ≡ None → b.dropped ≡ false) → ComesWhole may p o mode sum n
-    → Comes may p o mode b n
-whole_comes may p o mode b sum (Answer r) same none all h = h
-whole_comes may p o mode b sum Raise same none all h =
-    (none, all h.0, subst (λ (x : SummaryView). IsReached o.limit x → ⊥) same h.1, h.2)
-whole_comes may p o mode b sum Again same none all h = absurd h
-
-pub open_comes : (may : Bool) (p : Program) (o : Options) (mode : Mode) (b : BookView)
-    (n : Decision) → b.program ≡ p → (b.open_items ≡ [] → ⊥) → ComesOpen may b.program o b.finished n
-    → Comes may p o mode b n
-open_comes may p o mode b (Answer r) same some h = subst (λ q. IsReport may q o r) same h
-open_comes may p o mode b Raise same some h = absurd h
-open_comes may p o mode b Again same some h = (some, h)
+    here : IsPassedLevel i end last
+    here = past_level i end last runs past is

@@ -1,5 +1,6 @@
 pub mod AfterRounds
 pub mod Agreement
+pub mod Errors
 pub mod Judgments
 pub mod Preemptions
 pub mod Promises

@@ -1,5 +1,5 @@
 -- From the sums of whole bounds to what is known of all complete schedules.
-use Rattle.std.proofs.Common.{◌≡◌, ◌⊎◌, inl, inr, ℕ, ◌+◌, ◌<◌, ◌≤◌, Bool, true, false, not, cond}
+use Rattle.std.proofs.Common.{◌≡◌, ◌⊎◌, inl, inr, ℕ, ◌+◌, ◌≤◌, Bool, true, false, not, cond}
 use Rattle.std.proofs.Common.{List, [], Some, None, refl, ap, ◌∙◌, sym, arith, subst}
 use Rattle.std.specs.List.{filter, Contains}
 use Rattle.std.proofs.lemmas.Bool.{cases_lt}
@@ -91,22 +91,10 @@ exceeding_is_beyond p bound r =
     (beyond_is p [] bound).1
     (r.0, (in_under p [] r.0).0 ((complete p (start p) r.0).1 r.1, refl), r.2)
 
--- bound after bound
+-- before the first bound
 
 pub passed_none : (p : Program) → HasPassedBounds p 0
 passed_none p = record { none = λ w bad. omega arith; past = λ b l. absurd (omega arith) }
-
-pub passed_next : (p : Program) (bound : ℕ) (sum : SummaryView) → HasPassedBounds p bound
-    → sum ≡ whole p (Bounded bound) → sum.first_bad ≡ None → sum.beyond ≡ true
-    → HasPassedBounds p (bound + 1)
-passed_next p bound sum h is none beyond = record {
-  none = none_within p bound (ap (λ (t : SummaryView). t.first_bad) (sym is) ∙ none);
-  past = λ b l. further b (some_exceeds p bound
-      (ap (λ (t : SummaryView). t.beyond) (sym is) ∙ beyond)) l;
-}
-  where
-    further : (b : ℕ) → SomeExceeds p bound → b < bound + 1 → SomeExceeds p b
-    further b r l = let k : bound < preemptions p r.0 = r.2 in (r.0, r.1, omega (arith, k, l))
 
 -- the summary has the first bad schedule of the whole
 pub same_bad : (quick : Bool) (sum all : SummaryView) → IsSummaryOf quick sum all
@@ -193,11 +181,6 @@ finished_below p bound f h e = (inr e, subst (NoBadBelow p) e h.none)
 pub runs_through : (p : Program) (w : List ℕ) → Contains (complete_schedules p (start p)) w
     → runs p (start p) w ≡ true
 runs_through p w c = ((complete_is p (start p) w).0 ((complete p (start p) w).1 c)).0
-
--- so no place of it is one that can't run
-pub runs_on : (p : Program) (w : List ℕ) → Contains (complete_schedules p (start p)) w
-    → runs p (start p) w ≡ false → ⊥
-runs_on p w c stops = let goes = runs_through p w c in cc
 
 pub ends_somehow : (p : Program) (w : List ℕ) → Contains (complete_schedules p (start p)) w
     → kind_of p (state_after p (start p) w) ≡ Some (end_kind p w)

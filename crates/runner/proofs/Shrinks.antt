@@ -8,7 +8,6 @@ use Rattle.std.proofs.lemmas.List.{get_or-drop, nil_from_length}
 use Rattle.std.proofs.lemmas.List.Elements.{All-nil, All-cons, All-head, All-tail, All-weaker}
 use mathlib.Core.Logic.{dite}
 use native.Mathlib.Decide.{ℕ_discrete}
-use Rattle.guest_code.specs.Program.{Program}
 use Rattle.items.specs.declared.mode.Mode.{Mode}
 use Rattle.summary.specs.Summaries.{cut, nothing}
 use Rattle.walk.specs.declared.found.Found.{Found}
@@ -23,7 +22,6 @@ use Rattle.book.proofs.Gathered.{none_found, one_more_found}
 use Rattle.book.proofs.DroppedCounts.{nothing_dropped}
 use Rattle.book.proofs.Lists.{parted}
 use Rattle.runner.specs.inner.Shrinking.{IsSmaller, HasLess, Went, Goes}
-use Rattle.workers.specs.Teams.{IsOf}
 
 count-append : (mode : Mode) (l r : List ItemView)
     → schedule_count mode (l ++ r) ≡ schedule_count mode l + schedule_count mode r
@@ -73,7 +71,7 @@ settled_less old new w s walk ends =
     let after = drop (suc s.place) old.open_items in
     let left = remove old.open_items s.place ++ w.rest in
     record {
-      program = ap (λ (b : BookView). b.program) s.book;
+      of = ap (λ (b : BookView). b.of) s.book;
       mode = ap (λ (b : BookView). b.mode) s.book;
       quick = ap (λ (b : BookView). b.quick) s.book;
       lists = ap (λ (b : BookView). b.lists) s.book;
@@ -93,7 +91,7 @@ smaller_again mode a b c x y =
 
 less_again : (a b c : BookView) → HasLess a b → HasLess b c → HasLess a c
 less_again a b c x y = record {
-  program = y.program ∙ x.program;
+  of = y.of ∙ x.of;
   mode = y.mode ∙ x.mode;
   quick = y.quick ∙ x.quick;
   lists = y.lists ∙ x.lists;
@@ -149,21 +147,21 @@ round_walked old new quota some h =
 
 -- one walk found this
 pub one_found : (b : BookView) (item : ItemView) (items : List ItemView) (quota : ℕ) (f g : Found)
-    → item.program ≡ b.program → items ≡ item ∷ [] → f.part ≡ nothing → f.rest.items ≡ []
+    → item.program ≡ b.of.program → items ≡ item ∷ [] → f.part ≡ nothing → f.rest.items ≡ []
     → f.deferred ≡ [] → HasAdded b.mode item quota f g
-    → (h : HaveFound b.program b.mode items (0 ∷ []) g) × All (IsWithinQuota quota) h.walks
+    → (h : HaveFound b.of.program b.mode items (0 ∷ []) g) × All (IsWithinQuota quota) h.walks
 one_found b item items quota f g of is part rest deferred added =
-    subst (λ (xs : List ItemView). (h : HaveFound b.program b.mode xs (0 ∷ []) g)
+    subst (λ (xs : List ItemView). (h : HaveFound b.of.program b.mode xs (0 ∷ []) g)
     × All (IsWithinQuota quota) h.walks) (sym is) (
-      one_more_found b.program b.mode (item ∷ []) [] 0 quota item f g
-          (none_found b.program b.mode (item ∷ []) f part rest deferred) refl of added,
+      one_more_found b.of.program b.mode (item ∷ []) [] 0 quota item f g
+          (none_found b.of.program b.mode (item ∷ []) f part rest deferred) refl of added,
       All-cons (IsWithinQuota quota) added.walk []
           (record { tried = added.few; rest = added.all }) (All-nil (IsWithinQuota quota)),
     )
 
 -- and was settled
 pub one_settled : (old new : BookView) (items : List ItemView) (quota : ℕ) (g : Found)
-    → 1 ≤ quota → (h : HaveFound old.program old.mode items (0 ∷ []) g)
+    → 1 ≤ quota → (h : HaveFound old.of.program old.mode items (0 ∷ []) g)
     → All (IsWithinQuota quota) h.walks → HaveSettled old h.walks new → HasLess old new
 one_settled old new items quota g some h within settled =
     ⊎_elim (λ l. l) (λ e. absurd (some_place 0 [] e.1))
@@ -238,7 +236,7 @@ kept_items b = filter (λ i. not (drops b i)) b.open_items
 
 pub thinned_less : (old b : BookView) → HasLess old b → HasLess old (thinned b)
 thinned_less old b l = record {
-  program = l.program;
+  of = l.of;
   mode = l.mode;
   quick = l.quick;
   lists = l.lists;
@@ -275,7 +273,7 @@ thinned_went b item d = go (list_any (drops b) b.open_items) refl
         let a = fewer_schedules b.mode (λ i. not (drops b i)) b.open_items in
         let n = one_fewer (drops b) b.open_items e in
         inl (record {
-          program = refl;
+          of = refl;
           mode = refl;
           quick = refl;
           lists = refl;
@@ -307,14 +305,3 @@ round_shrinks mode old new same (inl l) some fits =
     go (inr both) = let e = both.0 in let f = both.1 in omega (arith, e, f)
 round_shrinks mode old new same (inr none) some fits =
     absurd (some (ap (λ (b : BookView). b.open_items) none.0 ∙ none.1))
-
-pub round_keeps : (old new : BookView) (p : Program) (mode : Mode) (quick lists : Bool)
-    → IsOf old p mode quick lists → Goes old new → IsOf new p mode quick lists
-round_keeps old new p mode quick lists of (inl l) = record {
-  program = l.program ∙ of.program;
-  mode = l.mode ∙ of.mode;
-  quick = l.quick ∙ of.quick;
-  lists = l.lists ∙ of.lists;
-}
-round_keeps old new p mode quick lists of (inr none) =
-    subst (λ (b : BookView). IsOf b p mode quick lists) (sym none.0) of

@@ -4,54 +4,23 @@ ghost use Rattle.std.specs.Prelude.{◌≡◌, ◌≤◌, false, IfOk, IfErr, On
 ghost use Rattle.std.specs.Arc.{arc_value};
 ghost use Rattle.report.specs.declared.error.ExploreError.TheVariants.{OutOfMemory};
 ghost use Rattle.report.specs.Promises.{IsSearch, IsReport};
-ghost use Rattle.runner.specs.inner.Judging.{IsFirstMode, IsStage, IsAt, ComesAfter};
+ghost use Rattle.runner.specs.inner.Judging.{IsAt, ComesAfter, HasEnded};
 ghost use Rattle.runner.specs.inner.Shrinking.{Went, Goes};
 
-use crate::judge::{Decision, Stage, begin_bound, judge};
+use crate::course::{Course, begin, raise};
+use crate::judge::{Ending, Next, judge};
+use crate::reports::report_at_end;
 use book::books::Book;
-use book::errors::RaiseError;
 use book::progress::Progress;
 use guest_code::program::Program;
 use items::item::Item;
-use items::mode::Mode;
-use report::{ExploreError, Options, Report, Search};
+use report::{ExploreError, Options, Report};
 use std::alloc::Global;
 use std::slice;
 use std::sync::Arc;
 use walk::found::Found;
 use walk::walker::Walker;
 use workers::{Gate, Open};
-
-// The mode that a search begins with.
-fn first_mode(search: Search) -> Mode
-    ensures { IsFirstMode search result }
-{
-    match search {
-        Search::UpTo(_) => Mode::Bounded(0),
-        Search::Unbounded => Mode::Reduced,
-    }
-}
-
-// The book of a program of which nothing is known, where a search of it begins.
-pub(crate) fn open_book(
-    alloc: Global,
-    program: &Arc<Program>,
-    options: Options,
-) -> Result<Book, ExploreError>
-    ensures book { IfOk result (λ b. IsAt b (arc_value program.now) options b.mode) }
-    ensures stage { IfOk result (λ b. IsStage (arc_value program.now) options.search b.mode) }
-    ensures error { IfErr result (λ e. e ≡ OutOfMemory) }
-{
-    let program = Arc::try_clone(program)?;
-    let mode = first_mode(options.search);
-    let mut book = if options.quick {
-        Book::open_quick(alloc, program, mode)?
-    } else {
-        Book::open(alloc, program, mode)?
-    };
-    begin_bound(&mut book, options.search);
-    Ok(book)
-}
 
 // The only worker of a search: its walker, and memory for what a walk finds.
 #[derive(Drop)]
@@ -73,7 +42,7 @@ impl Lone {
     ) -> Result<(), ExploreError>
         requires quota { 1 ≤ quota }
         requires item { item.now.program ≡ self.old.walker }
-        requires book { book.old.program ≡ self.old.walker }
+        requires book { book.old.of.program ≡ self.old.walker }
         ensures walker { self.new.walker ≡ self.old.walker }
         ensures book { Went book.old item.now result book.new }
         ensures error { IfErr result (λ e. e ≡ OutOfMemory) }
@@ -100,7 +69,7 @@ impl Lone {
         quota: u32,
     ) -> Result<(), ExploreError>
         requires quota { 1 ≤ quota }
-        requires book { book.old.program ≡ self.old.walker }
+        requires book { book.old.of.program ≡ self.old.walker }
         ensures walker { self.new.walker ≡ self.old.walker }
         ensures book { OnOk result (Goes book.old book.new) }
         ensures error { IfErr result (λ e. e ≡ OutOfMemory) }
@@ -116,7 +85,7 @@ impl Lone {
     // Walks the items of a round in their order.
     fn walk_round(&mut self, alloc: Global, book: &mut Book, quota: u32) -> Result<(), ExploreError>
         requires quota { 1 ≤ quota }
-        requires book { book.old.program ≡ self.old.walker }
+        requires book { book.old.of.program ≡ self.old.walker }
         ensures walker { self.new.walker ≡ self.old.walker }
         ensures book { OnOk result (Goes book.old book.new) }
         ensures error { IfErr result (λ e. e ≡ OutOfMemory) }
@@ -130,31 +99,59 @@ impl Lone {
     }
 }
 
-// The rounds of a search in one mode. The gate is told how far it is, and asked nothing.
-fn search_mode<G: Gate>(
+// The rounds of a search at one bound, or without one. The gate is told how far it is, and asked
+// nothing.
+fn search_bound<G: Gate>(
     alloc: Global,
-    stage: Stage<'_>,
+    options: Options,
     book: &mut Book,
     lone: &mut Lone,
     gate: &G,
-) -> Result<Decision, ExploreError>
-    requires quota { 1 ≤ stage.options.quota }
-    requires stage { IsStage stage.program.now stage.options.search stage.mode }
-    requires of { IsAt book.old stage.program.now stage.options stage.mode }
-    requires walker { lone.old.walker ≡ stage.program.now }
+) -> Result<Option<Ending>, ExploreError>
+    requires quota { 1 ≤ options.quota }
+    requires at { IsAt book.old.of options book.old }
+    requires walker { lone.old.walker ≡ book.old.of.program }
     ensures walker { lone.new.walker ≡ lone.old.walker }
-    ensures next { let s = stage.entry in
-        IfOk result (ComesAfter s.program.now s.options s.mode book.new) }
+    ensures at { OnOk result (IsAt book.old.of options book.new × (book.new.mode ≡ book.old.mode)) }
+    ensures next { IfOk result (ComesAfter options book.new) }
     ensures error { IfErr result (λ e. e ≡ OutOfMemory) }
 {
     loop {
-        lone.walk_round(alloc, book, stage.options.quota)?;
+        lone.walk_round(alloc, book, options.quota)?;
         let _open = book.open_length();
         gate.round_ended(Progress::of(book));
-        match judge(alloc, stage, book, false)? {
-            Decision::Again => {}
-            Decision::Raise => return Ok(Decision::Raise),
-            Decision::Answer(report) => return Ok(Decision::Answer(report)),
+        match judge(options, book, false) {
+            Next::Again => {}
+            Next::Raise => return Ok(None),
+            Next::End(ending) => return Ok(Some(ending)),
+        }
+    }
+}
+
+/// A search by one thread, bound after bound, until it ends. The gate is told after each round how
+/// far it is.
+pub(crate) fn search_alone<G: Gate>(
+    alloc: Global,
+    course: Course,
+    gate: &G,
+) -> Result<(Course, Ending), ExploreError>
+    requires search { IsSearch course.options.search }
+    requires quota { 1 ≤ course.options.quota }
+    requires at { IsAt course.book.of course.options course.book }
+    ensures ended { IfOk result (HasEnded false course) }
+    ensures error { IfErr result (λ e. e ≡ OutOfMemory) }
+{
+    let mut course = course;
+    let options = course.options;
+    let program = Arc::try_clone(course.book.program())?;
+    let mut lone = Lone {
+        walker: Walker::new(alloc, program)?,
+        found: Found::new(alloc),
+    };
+    loop {
+        match search_bound(alloc, options, &mut course.book, &mut lone, gate)? {
+            Some(ending) => return Ok((course, ending)),
+            None => raise(alloc, options, &mut course.book, &mut course.levels)?,
         }
     }
 }
@@ -180,66 +177,7 @@ pub fn explore_alone(
     ensures report { IfOk result (IsReport false (arc_value program.now) options) }
     ensures error { IfErr result (λ e. e ≡ OutOfMemory) }
 {
-    search_alone(alloc, program, options, &Open)
-}
-
-/// The report of [`explore_alone`], with a gate that is told after each round how far the search
-/// is.
-pub(crate) fn search_alone<G: Gate>(
-    alloc: Global,
-    program: &Arc<Program>,
-    options: Options,
-    gate: &G,
-) -> Result<Report, ExploreError>
-    requires search { IsSearch options.search }
-    requires quota { 1 ≤ options.quota }
-    ensures report { IfOk result (IsReport false (arc_value program.now) options) }
-    ensures error { IfErr result (λ e. e ≡ OutOfMemory) }
-{
-    let mut book = open_book(alloc, program, options)?;
-    let mut lone = Lone {
-        walker: Walker::new(alloc, Arc::try_clone(program)?)?,
-        found: Found::new(alloc),
-    };
-    let stage = Stage {
-        program,
-        options,
-        mode: book.mode(),
-    };
-    search_bounds(alloc, stage, &mut book, &mut lone, gate)
-}
-
-// The search from a stage on, bound after bound.
-fn search_bounds<G: Gate>(
-    alloc: Global,
-    stage: Stage<'_>,
-    book: &mut Book,
-    lone: &mut Lone,
-    gate: &G,
-) -> Result<Report, ExploreError>
-    requires search { IsSearch stage.options.search }
-    requires quota { 1 ≤ stage.options.quota }
-    requires stage { IsStage stage.program.now stage.options.search stage.mode }
-    requires of { IsAt book.old stage.program.now stage.options stage.mode }
-    requires walker { lone.old.walker ≡ stage.program.now }
-    ensures report { let s = stage.entry in
-        IfOk result (IsReport false s.program.now s.options) }
-    ensures error { IfErr result (λ e. e ≡ OutOfMemory) }
-{
-    let mut mode = stage.mode;
-    loop {
-        match search_mode(alloc, Stage { mode, ..stage }, book, lone, gate)? {
-            Decision::Answer(report) => return Ok(report),
-            Decision::Raise => match book.raise() {
-                Ok(()) => {
-                    mode = book.mode();
-                    begin_bound(book, stage.options.search);
-                }
-                Err(RaiseError::StillOpen) => unreachable!(),
-                Err(RaiseError::Dropped) => unreachable!(),
-                Err(RaiseError::LastBound) => unreachable!(),
-            },
-            Decision::Again => unreachable!(),
-        }
-    }
+    let course = begin(alloc, program, options)?;
+    let (course, ending) = search_alone(alloc, course, &Open)?;
+    report_at_end(alloc, program, options, &course.book, ending)
 }

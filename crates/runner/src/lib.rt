@@ -6,15 +6,19 @@
 //! - [`explore`] does it by several workers, each in a thread of its own, who ask a [`Gate`]. Its
 //!   report is the same, whatever their number, unless the search was cut short; of a quick one
 //!   the counts and end views may be others.
+//! - [`explore_under`] searches what is under an item, and answers what it found at each bound.
+//!   [`report_of`] makes the report of such findings, where a search ends with them.
 //! - [`explore_text_alone`] and [`explore_text`] do the same from the bytes of a text on, or say
 //!   what is wrong with it.
 //! - [`report_text`] prints a report: its text is the defined one, byte for byte.
 #![tactic(auto)]
 
 mod alone;
+mod course;
 mod judge;
 pub mod laws;
 pub mod limits;
+mod reports;
 mod text;
 mod together;
 
@@ -22,8 +26,9 @@ pub use alone::explore_alone;
 pub use book::progress::Progress;
 pub use limits::{BOUND, QUOTA, WORKERS};
 pub use report::{
-    Cause, ExploreError, Options, Report, Search, Verdict, report_text, report_value,
+    Cause, ExploreError, Level, Options, Report, Search, Verdict, report_text, report_value,
 };
+pub use reports::report_of;
 pub use text::{explore_text, explore_text_alone};
-pub use together::explore;
+pub use together::{explore, explore_under};
 pub use workers::{Answer, Gate, Open};

@@ -1,61 +1,101 @@
 //! The search of several threads.
 
-ghost use Rattle.std.specs.Prelude.{◌≡◌, ◌≤◌, Bool, true, IfOk, IfErr};
+ghost use Rattle.std.specs.Prelude.{◌≡◌, ◌≤◌, ◌<◌, Bool, IfOk, IfErr, OnOk, IfSome, IfNone};
 ghost use Rattle.std.specs.Arc.{arc_value};
 ghost use Rattle.report.specs.declared.error.ExploreError.TheVariants.{OutOfMemory};
+ghost use Rattle.report.specs.declared.options.Search.TheVariants.{UpTo};
 ghost use Rattle.workers.specs.declared.limits.TheConstants.{WORKERS};
 ghost use Rattle.report.specs.Promises.{IsSearch, IsReport};
-ghost use Rattle.runner.specs.inner.Judging.{IsStage, IsAt, Follows};
+ghost use Rattle.runner.specs.Levels.{IsModeOf, AreLevels};
+ghost use Rattle.runner.specs.inner.Judging.{IsAt, AreKept, HasEnded, Ends, first_mode};
 
-use crate::alone::{open_book, search_alone};
-use crate::judge::{Decision, Stage, begin_bound, judge};
+use crate::alone::search_alone;
+use crate::course::{
+    Course, begin, begin_under, level_past, levels_at_end, levels_past, preemptions_of, raise,
+};
+use crate::judge::{Ending, Next, judge};
+use crate::reports::report_at_end;
 use book::books::Book;
-use book::errors::RaiseError;
 use book::progress::Progress;
 use guest_code::program::Program;
-use report::{ExploreError, Options, Report};
+use items::item::Item;
+use report::{ExploreError, Level, Options, Report, Search};
 use std::alloc::Global;
 use std::sync::{Arc, Wait};
 use std::thread::Threads;
 use workers::{Gate, Team};
 
 // What follows a round whose workers settled what they walked in this book, where one of them was
-// stopped or not: a report, or another round of the book. A quick book first drops what can't hold
-// the first bad schedule any more.
+// stopped or not: the search ends, or there is another round of the book. A quick book first drops
+// what can't hold the first bad schedule any more.
 fn after_round(
     alloc: Global,
-    program: &Program,
     options: Options,
     book: &mut Book,
+    levels: &mut Option<Vec<Level>>,
     stopped: bool,
-) -> Result<Option<Report>, ExploreError>
+) -> Result<Option<Ending>, ExploreError>
     requires search { IsSearch options.search }
-    requires stage { IsStage program.now options.search book.old.mode }
-    requires of { IsAt book.old program.now options book.old.mode }
-    ensures report { IfOk result (λ r. (may : Bool) → (stopped ≡ true → may ≡ true) →
-        Follows may program.now options book.new r) }
+    requires at { IsAt book.old.of options book.old }
+    ensures at { OnOk result (IsAt book.old.of options book.new) }
+    ensures levels { OnOk result ((keeps : Bool) →
+        AreKept keeps book.old.of book.old.mode levels.old →
+        AreKept keeps book.old.of book.new.mode levels.new) }
+    ensures ended { IfOk result (λ e. IfSome e (Ends stopped options book.new)) }
     ensures error { IfErr result (λ e. e ≡ OutOfMemory) }
 {
-    let mode = book.mode();
     let _number = book.drop_later();
-    let stage = Stage {
-        program,
-        options,
-        mode,
-    };
-    match judge(alloc, stage, book, stopped)? {
-        Decision::Answer(report) => Ok(Some(report)),
-        Decision::Again => Ok(None),
-        Decision::Raise => match book.raise() {
-            Ok(()) => {
-                begin_bound(book, options.search);
-                Ok(None)
-            }
-            Err(RaiseError::StillOpen) => unreachable!(),
-            Err(RaiseError::Dropped) => unreachable!(),
-            Err(RaiseError::LastBound) => unreachable!(),
-        },
+    match judge(options, book, stopped) {
+        Next::Again => Ok(None),
+        Next::Raise => {
+            raise(alloc, options, book, levels)?;
+            Ok(None)
+        }
+        Next::End(ending) => Ok(Some(ending)),
     }
+}
+
+// A search by several workers, from 1 to `WORKERS`, until it ends; see `explore`.
+fn search<G: Gate, R: Threads + Wait + Sync>(
+    rt: &R,
+    alloc: Global,
+    course: Course,
+    workers: u32,
+    gate: &G,
+) -> Result<(Course, Ending), ExploreError>
+    requires search { IsSearch course.options.search }
+    requires quota { 1 ≤ course.options.quota }
+    requires at { IsAt course.book.of course.options course.book }
+    requires workers { (1 ≤ workers) × (workers ≤ WORKERS) }
+    ensures ended { IfOk result (HasEnded (G.stops gate.now) course) }
+    ensures error { IfErr result (λ e. e ≡ OutOfMemory) }
+{
+    if workers == 1 {
+        return search_alone(alloc, course, gate);
+    }
+    let Course {
+        options,
+        book,
+        mut levels,
+    } = course;
+    let mut team = Team::new(alloc, book, workers)?;
+    for _ in rt.forever() {
+        let (next, stretch) = team.walk_rounds(rt, alloc, gate, options)?;
+        let stopped = stretch.is_stopped()?;
+        team = next;
+        gate.round_ended(Progress::of(&team.book));
+        let next = after_round(alloc, options, &mut team.book, &mut levels, stopped)?;
+        if let Some(ending) = next {
+            let book = team.book;
+            let course = Course {
+                options,
+                book,
+                levels,
+            };
+            return Ok((course, ending));
+        }
+    }
+    unreachable!()
 }
 
 /// The report of a search of a program by several workers, from 1 to [`WORKERS`](crate::WORKERS).
@@ -94,19 +134,60 @@ pub fn explore<G: Gate, R: Threads + Wait + Sync>(
     ensures report { IfOk result (IsReport (G.stops gate.now) (arc_value program.now) options) }
     ensures error { IfErr result (λ e. e ≡ OutOfMemory) }
 {
-    if workers == 1 {
-        return search_alone(alloc, program, options, gate);
+    let course = begin(alloc, program, options)?;
+    let (course, ending) = search(rt, alloc, course, workers, gate)?;
+    report_at_end(alloc, program, options, &course.book, ending)
+}
+
+// The last bound of a search, where a prefix with so many preemptions exceeds it.
+fn last_past(search: Search, preemptions: u32) -> Option<u32>
+    ensures past { IfSome result (λ last. (search ≡ UpTo last) × (last < preemptions)) }
+    ensures within { IfNone result (IsModeOf search (first_mode search preemptions)) }
+{
+    match search {
+        Search::UpTo(last) if last < preemptions => Some(last),
+        _ => None,
     }
-    let book = open_book(alloc, program, options)?;
-    let mut team = Team::new(alloc, book, workers)?;
-    for _ in rt.forever() {
-        let (next, ending) = team.walk_rounds(rt, alloc, gate, options)?;
-        let stopped = ending.is_stopped()?;
-        team = next;
-        gate.round_ended(Progress::of(&team.book));
-        if let Some(report) = after_round(alloc, program, options, &mut team.book, stopped)? {
-            return Ok(report);
-        }
+}
+
+/// What a search under an item finds by several workers, as [`explore`] does under the root of a
+/// program: the levels of the bounds from 0 on, up to the first at which something under the item
+/// is bad or nothing under it is beyond, or to the bound that was asked for; one level, where the
+/// search is unbounded. At a bound that the item's own prefix exceeds nothing is tried, and all is
+/// beyond. Where the search is cut short, the last level has the cause. It isn't a quick one,
+/// whatever the options say.
+///
+/// As that of [`explore`], the contract holds if the call returns.
+///
+/// # Errors
+///
+/// `OutOfMemory` where memory runs out.
+pub fn explore_under<G: Gate, R: Threads + Wait + Sync>(
+    rt: &R,
+    alloc: Global,
+    item: Item,
+    options: Options,
+    workers: u32,
+    gate: &G,
+) -> Result<Vec<Level>, ExploreError>
+    requires search { IsSearch options.search }
+    requires quota { 1 ≤ options.quota }
+    requires workers { (1 ≤ workers) × (workers ≤ WORKERS) }
+    ensures levels { IfOk result (λ v.
+        AreLevels (G.stops gate.now) options.search options.limit item v.items) }
+    ensures error { IfErr result (λ e. e ≡ OutOfMemory) }
+{
+    let preemptions = preemptions_of(alloc, &item)?;
+    if let Some(last) = last_past(options.search, preemptions) {
+        let mut levels = levels_past(alloc, last)?;
+        levels.push(level_past(alloc, last))?;
+        return Ok(levels);
     }
-    unreachable!()
+    let options = Options {
+        quick: false,
+        ..options
+    };
+    let course = begin_under(alloc, item, preemptions, options)?;
+    let (course, ending) = search(rt, alloc, course, workers, gate)?;
+    levels_at_end(alloc, course, ending)
 }

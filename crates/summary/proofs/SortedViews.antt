@@ -1,14 +1,15 @@
 -- End views, sorted by their order, each once.
-use Rattle.std.proofs.Common.{◌≡◌, ◌↔◌, ◌⊎◌, inl, inr, ℕ, zero, suc, Bool, true, false, cond, ◌||◌, List, [], ◌∷◌, ◌++◌, length, map, Option, Some, None, is_some, refl, ap, ◌∙◌, sym, arith, ◌+◌, ◌<◌, take, get_or}
+use Rattle.std.proofs.Common.{◌≡◌, true≢false, subst, ◌↔◌, ◌⊎◌, inl, inr, ℕ, zero, suc, Bool, true, false, cond, ◌||◌, List, [], ◌∷◌, ◌++◌, length, map, Option, Some, None, is_some, refl, ap, ◌∙◌, sym, arith, ◌+◌, ◌<◌, take, get_or}
 use Rattle.std.proofs.lemmas.List.{append_assoc, append-nil, take_more}
 use Rattle.std.proofs.lemmas.List.Elements.{Contains-append_left, Contains-append_right, Contains-append_cases}
 use Rattle.std.proofs.lemmas.List.Folds.{list_any-append, Any-from_list_any, list_any-from_Any}
 use Rattle.std.proofs.Math.Bool.{or_comm, or_assoc, or-false}
-use Rattle.std.specs.List.{list_any, Any, Contains, AllByRecursion}
+use Rattle.std.specs.List.{list_any, Any, Contains, AllByRecursion, AllAdjacentBelow, IsAllAdjacentAnswer}
+use Rattle.std.specs.Prelude.{IsTrue}
 use Rattle.std.specs.List.Sorted.{IsStrictlySortedBy}
 use Rattle.std.specs.declared.cmp.Ordering.{Ordering}
 use Rattle.std.specs.declared.cmp.Ordering.TheVariants.{Less, Equal, Greater}
-use Rattle.std.specs.Ordering.{nat_cmp, int_cmp, is_eq, eq_by_cmp, ordering_then, ordering_reverse}
+use Rattle.std.specs.Ordering.{nat_cmp, int_cmp, is_eq, is_lt, eq_by_cmp, ordering_then, ordering_reverse}
 use Rattle.std.specs.Cmp.{IsTotalOrder, then_total, on_total, nat_cmp_total, int_cmp_total}
 use Rattle.std.proofs.lemmas.Cmp.{tied_itself}
 use Rattle.std.specs.Cmp.Lexicographic.{slice_cmp, lists_total}
@@ -91,6 +92,50 @@ pub sorted_views-sorted : (vs : List View) → IsStrictlySortedBy view_cmp (sort
 unfolding IsStrictlySortedBy
 sorted_views-sorted [] = tt
 sorted_views-sorted (v ∷ vs) = with_view-sorted v (sorted_views vs) (sorted_views-sorted vs)
+
+-- where each view comes before the next
+pub sorted_from_neighbours : (vs : List View)
+    → AllAdjacentBelow (λ v w. view_cmp v w ≡ Less) vs (length vs) → IsStrictlySortedBy view_cmp vs
+unfolding IsStrictlySortedBy After
+sorted_from_neighbours [] h = tt
+sorted_from_neighbours (v ∷ []) h = (tt, tt)
+sorted_from_neighbours (v ∷ w ∷ ws) h =
+    let rest = sorted_from_neighbours (w ∷ ws) (λ k d lt.
+    let next : suc k + 1 ≡ suc (k + 1) = omega arith in
+    subst (λ n. view_cmp (get_or (w ∷ ws) k d) (get_or (v ∷ w ∷ ws) n d) ≡ Less) next
+    (h (suc k) d (omega arith))) in
+    let first : view_cmp v w ≡ Less = h 0 v (omega arith) in
+    ((first, after_later v w ws first rest.0), rest)
+
+pub neighbours_of_sorted : (vs : List View) → IsStrictlySortedBy view_cmp vs
+    → AllAdjacentBelow (λ v w. view_cmp v w ≡ Less) vs (length vs)
+unfolding IsStrictlySortedBy
+neighbours_of_sorted [] h k d lt = absurd (omega arith)
+neighbours_of_sorted (v ∷ []) h k d lt = absurd (omega arith)
+neighbours_of_sorted (v ∷ w ∷ ws) h zero d lt = h.0.0
+neighbours_of_sorted (v ∷ w ∷ ws) h (suc k) d lt =
+    let next : suc (k + 1) ≡ suc k + 1 = omega arith in
+    subst (λ n. view_cmp (get_or (w ∷ ws) k d) (get_or (v ∷ w ∷ ws) n d) ≡ Less) next
+    (neighbours_of_sorted (w ∷ ws) h.1 k d (omega arith))
+
+is_less : (o : Ordering) → is_lt o ≡ true → o ≡ Less
+is_less Less h = refl
+is_less Equal h = cc
+is_less Greater h = cc
+
+-- what `is_sorted_by` answers
+pub sorted_answer : (vs : List View) (sorted : Bool)
+    → IsAllAdjacentAnswer (λ v w b. b ≡ is_lt (view_cmp v w)) vs sorted
+    → IsTrue sorted ↔ IsStrictlySortedBy view_cmp vs
+sorted_answer vs true h =
+    (λ yes. sorted_from_neighbours vs (λ k d lt. is_less _ (sym (h k d lt))), λ s. refl)
+sorted_answer vs false h =
+    let none : View = record { kind = Done; vars = [] } in (
+      λ no. absurd (true≢false (sym no)),
+      λ s.
+          absurd (true≢false (sym (ap is_lt (neighbours_of_sorted vs s h.0 none h.1))
+          ∙ sym (h.2 none))),
+    )
 
 -- a sorted list is what sorting makes of it
 pub sorted_already : (vs : List View) → IsStrictlySortedBy view_cmp vs → sorted_views vs ≡ vs

@@ -10,6 +10,7 @@ use Rattle.semantics.specs.declared.view.Kind.TheVariants.{Done, Failed, Stuck}
 use Rattle.guest_code.specs.Program.{Program}
 use Rattle.semantics.specs.View.{View, view_cmp, is_bad}
 use Rattle.schedules.specs.Order.{end_of, lesser, least}
+use Rattle.summary.specs.declared.summary.Counts.{Counts}
 
 -- what contracts see of a summary: how many schedules were tried, how many of them failed and how
 -- many got stuck, whether some schedule is beyond the bound, the least bad schedule, the end views
@@ -35,6 +36,11 @@ summary_view tried failed stuck beyond first_bad ends = record {
   first_bad = schedule_view first_bad;
   ends = ends.items;
 }
+
+-- the same, of counts that are together
+abbrev pub summary_of : Counts → Bool → Option (Vec ℕ Global) → Vec View Global → SummaryView
+summary_of counts beyond first_bad ends =
+    summary_view counts.tried counts.failed counts.stuck beyond first_bad ends
 
 -- the greatest count
 abbrev pub greatest_count : ℕ

@@ -8,6 +8,7 @@
 //!
 //! - Its type keeps that counts stop at the greatest `u64`, that the end views are strictly sorted,
 //!   and that there is a first bad schedule exactly where one failed or got stuck.
+//! - [`Summary::from_parts`] makes one exactly where its parts fit.
 //! - [`Summary::add`] counts one schedule more, [`Summary::join`] joins two summaries as their
 //!   lists would be, and [`Summary::join_in_by`] does so in place. Where memory runs out, the
 //!   summary is as before.
@@ -24,4 +25,4 @@ pub mod laws;
 mod summary;
 
 pub use crate::hints::{EndHints, EndMemory};
-pub use crate::summary::Summary;
+pub use crate::summary::{Counts, Summary};

@@ -1,11 +1,11 @@
 //! Summaries of schedules: how many were tried, how they ended, and the first bad one.
 
-ghost use Rattle.std.specs.Prelude.{◌≡◌, ◌+◌, ◌<◌, ◌≤◌, IfOk, OnErr, IsOk, IsTrue, MatchOption, Some, None, true, false, ◌++◌, ◌⊎◌, [], length, is_ok, if◌then◌else◌, vec_len, vec_capacity};
+ghost use Rattle.std.specs.Prelude.{◌≡◌, ◌+◌, ◌<◌, ◌≤◌, IfOk, OnErr, IsOk, IsTrue, MatchOption, Some, None, true, false, ◌++◌, ◌⊎◌, [], length, is_ok, ◌↔◌, if◌then◌else◌, vec_len, vec_capacity};
 ghost use Rattle.std.specs.List.Sorted.{IsStrictlySortedBy};
 ghost use Rattle.std.specs.Option.{option_or};
 ghost use Rattle.schedules.specs.Order.{precedes, lesser};
 ghost use Rattle.semantics.specs.View.{is_bad, view_cmp};
-ghost use Rattle.summary.specs.Summaries.{SummaryView, IsSummary, schedule_view, cut, nothing, is_failed, is_stuck, with_view, sorted_views, join, with_beyond, added, counted_if, first_bad_with, end_with};
+ghost use Rattle.summary.specs.Summaries.{SummaryView, IsSummary, summary_of, schedule_view, cut, nothing, is_failed, is_stuck, with_view, sorted_views, join, with_beyond, added, counted_if, first_bad_with, end_with};
 ghost use Rattle.summary.specs.inner.EndPlaces.{IsPlaceOf};
 
 use crate::hints::{EndHints, EndMemory};
@@ -26,6 +26,17 @@ pub struct Summary {
     beyond: bool,
     first_bad: Option<Vec<u8>>,
     ends: Vec<EndView>,
+}
+
+/// How many schedules were counted.
+#[derive(Clone, Copy, Debug, PartialEq, Eq)]
+pub struct Counts {
+    /// How many were tried.
+    pub tried: u64,
+    /// How many of them failed.
+    pub failed: u64,
+    /// How many of them got stuck.
+    pub stuck: u64,
 }
 
 impl Model for Summary {
@@ -52,6 +63,32 @@ impl Summary {
             first_bad: None,
             ends: Vec::new(alloc),
         }
+    }
+
+    /// The summary of these parts, where a summary may have them: the end views are strictly sorted,
+    /// and there is a first bad schedule exactly where one failed or got stuck.
+    pub fn from_parts(
+        counts: Counts,
+        beyond: bool,
+        first_bad: Option<Vec<u8>>,
+        ends: Vec<EndView>,
+    ) -> Option<Summary>
+        ensures { MatchOption result
+            (¬ (IsSummary (summary_of counts beyond first_bad ends)))
+            (λ s. s ≡ summary_of counts beyond first_bad ends) }
+    {
+        let bad = counts.failed > 0 || counts.stuck > 0;
+        if first_bad.is_some() != bad || !are_sorted(ends.as_slice()) {
+            return None;
+        }
+        Some(Summary {
+            tried: counts.tried,
+            failed: counts.failed,
+            stuck: counts.stuck,
+            beyond,
+            first_bad,
+            ends,
+        })
     }
 
     /// Forgets all schedules, and gives the end views to this memory.
@@ -254,6 +291,13 @@ fn is_stuck(kind: Kind) -> bool
     ensures { result ≡ is_stuck kind }
 {
     matches!(kind, Kind::Stuck)
+}
+
+// Whether end views are strictly sorted.
+fn are_sorted(ends: &[EndView]) -> bool
+    ensures { IsTrue result ↔ IsStrictlySortedBy view_cmp ends.now }
+{
+    ends.is_sorted_by(|end, next| end.compare(next).is_lt())
 }
 
 // So many more.

@@ -431,7 +431,7 @@ fn lent(
     program: &Arc<Program>,
     worker: usize,
 ) -> Result<String, AllocError>
-    requires { book.old.program ≡ arc_value program.now }
+    requires { book.old.of.program ≡ arc_value program.now }
 {
     let (mut loan, mut items) = (Loan::new(alloc), Vec::new(alloc));
     if book.lend(alloc, worker, 2, &mut loan)? {

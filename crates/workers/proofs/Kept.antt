@@ -11,26 +11,26 @@ use Rattle.book.specs.Books.{BookView, AreWalksAt, HaveFound, HaveSettled}
 use Rattle.workers.specs.Teams.{IsOf}
 
 -- a book where walks were settled is of the same search
-pub settled_of : (p : Program) (mode : Mode) (quick lists : Bool) (ws : List WalkView)
-    (old new : BookView) → IsOf old p mode quick lists → HaveSettled old ws new →
-    IsOf new p mode quick lists
-settled_of p mode quick lists [] old new of h = subst (λ z. IsOf z p mode quick lists) (sym h) of
-settled_of p mode quick lists (w ∷ ws) old new of h =
-    settled_of p mode quick lists ws h.0 new
-    (subst (λ z. IsOf z p mode quick lists) (sym h.1.book)
-    (record { program = of.program; mode = of.mode; quick = of.quick; lists = of.lists })) h.2
+pub settled_of : (i : ItemView) (mode : Mode) (quick lists : Bool) (ws : List WalkView)
+    (old new : BookView) → IsOf old i mode quick lists → HaveSettled old ws new →
+    IsOf new i mode quick lists
+settled_of i mode quick lists [] old new of h = subst (λ z. IsOf z i mode quick lists) (sym h) of
+settled_of i mode quick lists (w ∷ ws) old new of h =
+    settled_of i mode quick lists ws h.0 new
+    (subst (λ z. IsOf z i mode quick lists) (sym h.1.book)
+    (record { of = of.of; mode = of.mode; quick = of.quick; lists = of.lists })) h.2
 
 -- and so it is where they were taken or not
-pub kept_of : (p : Program) (mode : Mode) (quick lists : Bool) (ws : List WalkView)
-    (old new : BookView) (r : Result Bool AllocError) → IsOf old p mode quick lists →
+pub kept_of : (i : ItemView) (mode : Mode) (quick lists : Bool) (ws : List WalkView)
+    (old new : BookView) (r : Result Bool AllocError) → IsOf old i mode quick lists →
     (r ≡ Ok true → HaveSettled old ws new) → ((r ≡ Ok true → ⊥) → new ≡ old) →
-    IsOf new p mode quick lists
-kept_of p mode quick lists ws old new (Ok true) of f g =
-    settled_of p mode quick lists ws old new of (f refl)
-kept_of p mode quick lists ws old new (Ok false) of f g =
-    subst (λ z. IsOf z p mode quick lists) (sym (g (λ e. cc))) of
-kept_of p mode quick lists ws old new (Err x) of f g =
-    subst (λ z. IsOf z p mode quick lists) (sym (g (λ e. cc))) of
+    IsOf new i mode quick lists
+kept_of i mode quick lists ws old new (Ok true) of f g =
+    settled_of i mode quick lists ws old new of (f refl)
+kept_of i mode quick lists ws old new (Ok false) of f g =
+    subst (λ z. IsOf z i mode quick lists) (sym (g (λ e. cc))) of
+kept_of i mode quick lists ws old new (Err x) of f g =
+    subst (λ z. IsOf z i mode quick lists) (sym (g (λ e. cc))) of
 
 -- what was found in a round, with the names that another holder has for the same
 abbrev pub found_in : (p q : Program) (mode other : Mode) (items is : List ItemView)

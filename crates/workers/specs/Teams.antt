@@ -2,14 +2,14 @@
 use Rattle.std.specs.Prelude.{◌≡◌, ◌≤◌, ◌<◌, Bool, All, vec_len}
 use Rattle.guest_code.specs.Program.{Program}
 use Rattle.items.specs.declared.mode.Mode.{Mode}
+use Rattle.items.specs.Items.{ItemView}
 use Rattle.book.specs.Books.{BookView}
 use Rattle.workers.specs.declared.limits.TheConstants.{WORKERS}
 use Rattle.workers.specs.declared.team.Team.{Team}
 
--- the book is of this program and mode, a quick one or not, and lists what its bound puts off or
--- not
-pub record IsOf (b : BookView) (p : Program) (m : Mode) (q l : Bool) : Type 0 where
-  pub program : b.program ≡ p
+-- the book is of this item and mode, a quick one or not, and lists what its bound puts off or not
+pub record IsOf (b : BookView) (i : ItemView) (m : Mode) (q l : Bool) : Type 0 where
+  pub of : b.of ≡ i
   pub mode : b.mode ≡ m
   pub quick : b.quick ≡ q
   pub lists : b.lists ≡ l

@@ -40,8 +40,7 @@ impl Batch {
         })
     }
 
-    /// Forgets the walks that it keeps. Their memory serves later walks, of which what they put off
-    /// is listed or not.
+    /// Forgets its walks. Their memory serves later ones, which list what they put off or don't.
     pub fn forget(&mut self, lists: bool)
         ensures walker { self.new.walker ≡ self.old.walker }
         ensures places { self.new.places.items ≡ [] }

@@ -18,10 +18,10 @@ use std::marker::{Brand, Model, PhantomData};
 /// Which search a book is of. Each stretch of rounds picks it.
 pub(crate) trait SearchBrand {
     ghost use Rattle.std.specs.Prelude.{Bool};
-    ghost use Rattle.guest_code.specs.Program.{Program};
     ghost use Rattle.items.specs.declared.mode.Mode.{Mode};
+    ghost use Rattle.items.specs.Items.{ItemView};
 
-    ghost program: { Program };
+    ghost of: { ItemView };
 
     ghost mode: { Mode };
 
@@ -34,14 +34,15 @@ pub(crate) trait SearchBrand {
 impl SearchBrand for Brand {
     ghost use Rattle.std.specs.Prelude.{[], false};
     ghost use Rattle.items.specs.declared.mode.Mode.TheVariants.{Reduced};
+    ghost use Rattle.items.specs.Items.{root_of};
 
-    ghost program = { record {
+    ghost of = { root_of (record {
       variables = [];
       mutexes = [];
       conditions = [];
       semaphores = [];
       threads = [];
-    } };
+    }) };
 
     ghost mode = { Reduced };
 
@@ -66,13 +67,13 @@ impl<N: SearchBrand> Model for BrandedBook<N> {
 
     ghost view = { λ n. n.book };
 
-    ghost invariant = { λ n. IsOf n.book N.program N.mode N.quick N.lists };
+    ghost invariant = { λ n. IsOf n.book N.of N.mode N.quick N.lists };
 }
 
 impl<N: SearchBrand> BrandedBook<N> {
     /// A book of this search.
     pub fn new(book: Book) -> BrandedBook<N>
-        requires { IsOf book N.program N.mode N.quick N.lists }
+        requires { IsOf book N.of N.mode N.quick N.lists }
         ensures { result ≡ book }
     {
         BrandedBook {
@@ -91,7 +92,7 @@ impl<N: SearchBrand> BrandedBook<N> {
     /// The book.
     pub fn into_book(self) -> Book
         ensures same { result ≡ self }
-        ensures of { IsOf result N.program N.mode N.quick N.lists }
+        ensures of { IsOf result N.of N.mode N.quick N.lists }
     {
         self.book
     }
@@ -109,11 +110,11 @@ impl<N: SearchBrand> BrandedBook<N> {
         batch: &mut Batch,
         round: &Round,
     ) -> Result<(), AllocError>
-        requires round { IsRoundOf N.program N.mode round.now }
-        requires walker { batch.old.walker ≡ N.program }
+        requires round { IsRoundOf N.of.program N.mode round.now }
+        requires walker { batch.old.walker ≡ N.of.program }
         requires kept { AreKept round.now batch.old }
         ensures settled { let ks = batch.old.places.items in
-            (f : HaveFound N.program N.mode round.now.items.items ks batch.old.found) →
+            (f : HaveFound N.of.program N.mode round.now.items.items ks batch.old.found) →
             OnOk result (HaveSettled self.old f.walks self.new
             ⊎ AreNotTaken self.old round.now.items.items ks batch.old.found) }
         ensures refused { OnErr result (self.new ≡ self.old) }
@@ -152,10 +153,10 @@ impl<N: SearchBrand> BrandedBook<N> {
     ///
     /// `AllocError` where memory runs out.
     pub fn next_round(&mut self, alloc: Global, items: &mut Vec<Item>) -> Result<(), AllocError>
-        requires { AreOf N.program items.old.items }
+        requires { AreOf N.of.program items.old.items }
         ensures round { OnOk result (items.new.items
             ≡ drop (length self.old.open_items - ROUND) self.old.open_items) }
-        ensures items { AreOf N.program items.new.items }
+        ensures items { AreOf N.of.program items.new.items }
         ensures book { self.new ≡ self.old }
     {
         self.book.next_round(alloc, items)

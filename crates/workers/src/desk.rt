@@ -39,8 +39,8 @@ pub(crate) struct Desk<N: SearchBrand> {
     ends: bool,
     /// Whether the last round of the stretch has ended.
     is_over: bool,
-    ghost of: { IsRoundOf N.program N.mode (arc_value round) },
-    ghost last_of: { ForSome last (λ r. IsRoundOf N.program N.mode (arc_value r)) },
+    ghost of: { IsRoundOf N.of.program N.mode (arc_value round) },
+    ghost last_of: { ForSome last (λ r. IsRoundOf N.of.program N.mode (arc_value r)) },
 }
 
 impl<N: SearchBrand> Desk<N> {
@@ -55,7 +55,7 @@ impl<N: SearchBrand> Desk<N> {
         options: Options,
         own_from: usize,
     ) -> Result<Desk<N>, AllocError>
-        requires book { IsOf book N.program N.mode N.quick N.lists }
+        requires book { IsOf book N.of N.mode N.quick N.lists }
         requires quota { 1 ≤ options.quota }
     {
         let none = Round {
@@ -85,14 +85,14 @@ impl<N: SearchBrand> Desk<N> {
 
     /// The book.
     pub fn into_book(self) -> Book
-        ensures { IsOf result N.program N.mode N.quick N.lists }
+        ensures { IsOf result N.of N.mode N.quick N.lists }
     {
         self.book.into_book()
     }
 
     /// The round, if the stretch is not over.
     pub fn round(&self) -> Option<Arc<Round>>
-        ensures { IfSome result (λ r. IsRoundOf N.program N.mode (arc_value r)) }
+        ensures { IfSome result (λ r. IsRoundOf N.of.program N.mode (arc_value r)) }
     {
         if self.is_over {
             return None;
@@ -102,7 +102,7 @@ impl<N: SearchBrand> Desk<N> {
 
     // The items of the round before, for their memory, if no worker has that round any more.
     fn spare_items(&mut self, alloc: Global) -> Vec<Item>
-        ensures items { AreOf N.program result.items }
+        ensures items { AreOf N.of.program result.items }
         ensures same { (self.new.book ≡ self.old.book) × (self.new.round ≡ self.old.round)
             × (self.new.left ≡ self.old.left) × (self.new.limit ≡ self.old.limit)
             × (self.new.own_from ≡ self.old.own_from)

@@ -50,7 +50,7 @@ pub(crate) struct Lender<N: SearchBrand> {
     /// The turn that ended last.
     turn: u64,
     search: PhantomData<N>,
-    ghost of: { IsOf (as_book book) N.program N.mode N.quick N.lists },
+    ghost of: { IsOf (as_book book) N.of N.mode N.quick N.lists },
 }
 
 impl<N: SearchBrand> Lender<N> {
@@ -65,7 +65,7 @@ impl<N: SearchBrand> Lender<N> {
         workers: usize,
         limit: Option<u64>,
     ) -> Result<Lender<N>, AllocError>
-        requires book { IsOf book N.program N.mode N.quick N.lists }
+        requires book { IsOf book N.of N.mode N.quick N.lists }
         requires all { book.dropped ≡ false }
     {
         Ok(Lender {
@@ -89,7 +89,7 @@ impl<N: SearchBrand> Lender<N> {
     ///
     /// `AllocError` where memory runs out or was refused to a worker.
     pub fn into_book(self, alloc: Global) -> Result<Book, AllocError>
-        ensures { IfOk result (λ b. IsOf b N.program N.mode N.quick N.lists) }
+        ensures { IfOk result (λ b. IsOf b N.of N.mode N.quick N.lists) }
     {
         if self.refused {
             return Err(AllocError);
@@ -108,7 +108,7 @@ impl<N: SearchBrand> Lender<N> {
 
     /// Lends a worker a round of its own, if anything is free. Answers what it does next.
     pub fn lend(&mut self, alloc: Global, worker: u32, loan: &mut Loan) -> Next
-        ensures walk { result ≡ Walk → (self.old.ends ≡ false) × IsLent N.program loan.new }
+        ensures walk { result ≡ Walk → (self.old.ends ≡ false) × IsLent N.of.program loan.new }
         ensures leave { result ≡ Leave → (self.new.ends ≡ true)
             ⊎ ((self.old.walking ≡ 0) × (length self.old.book.free ≡ 0)) }
     {
@@ -148,12 +148,13 @@ impl<N: SearchBrand> Lender<N> {
     /// Settles what a worker's walks of all that it was lent found. The gate is told how far the
     /// search is where it goes on: else nothing more is lent.
     pub fn settle<G: Gate>(&mut self, alloc: Global, worker: &mut Batch, loan: &Loan, gate: &G)
-        requires loan { IsLoanOf N.program loan.now }
-        requires walked { let items = all_of N.program loan.now in
-            HaveFound N.program N.mode items (places_from 0 (length items)) worker.old.found }
+        requires loan { IsLoanOf N.of.program loan.now }
+        requires walked { let items = all_of N.of.program loan.now in
+            HaveFound N.of.program N.mode items (places_from 0 (length items)) worker.old.found }
         ensures walker { worker.new.walker ≡ worker.old.walker }
-        ensures settled { let b = self.old.book in let items = all_of b.program loan.now in
-            (f : HaveFound b.program b.mode items (places_from 0 (length items)) worker.old.found) →
+        ensures settled { let b = self.old.book in let items = all_of b.of.program loan.now in
+            (f : HaveFound b.of.program b.mode items (places_from 0 (length items))
+            worker.old.found) →
             self.new.ends ≡ false → HaveSettled (as_book b) f.walks (as_book self.new.book) }
         ensures goes_on { self.new.ends ≡ false →
             MayLend self.old.limit self.old.quick self.new.book.finished }

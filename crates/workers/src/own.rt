@@ -37,7 +37,7 @@ pub(crate) struct Lending<'a, N: SearchBrand, G: Gate> {
     pub quota: u32,
     pub gate: &'a G,
     pub lock: Lock<Lender<N>>,
-    ghost of: { (arc_value program ≡ N.program) × (mode ≡ N.mode) × (1 ≤ quota) },
+    ghost of: { (arc_value program ≡ N.of.program) × (mode ≡ N.mode) × (1 ≤ quota) },
     ghost open: { G.stops gate.now ≡ false },
 }
 
@@ -49,13 +49,13 @@ impl<N: SearchBrand, G: Gate> Lending<'_, N, G> {
         loan: &Loan,
         items: &mut Vec<Item>,
     ) -> Result<(), AllocError>
-        requires walker { worker.old.walker ≡ N.program }
-        requires lent { IsLent N.program loan.now }
-        requires items { AreOf N.program items.old.items }
-        ensures walker { worker.new.walker ≡ N.program }
-        ensures items { AreOf N.program items.new.items }
-        ensures walked { let items = all_of N.program loan.now in OnOk result
-            (HaveFound N.program N.mode items (places_from 0 (length items)) worker.new.found) }
+        requires walker { worker.old.walker ≡ N.of.program }
+        requires lent { IsLent N.of.program loan.now }
+        requires items { AreOf N.of.program items.old.items }
+        ensures walker { worker.new.walker ≡ N.of.program }
+        ensures items { AreOf N.of.program items.new.items }
+        ensures walked { let items = all_of N.of.program loan.now in OnOk result
+            (HaveFound N.of.program N.mode items (places_from 0 (length items)) worker.new.found) }
     {
         worker.walker.clear(&mut worker.found, self.lists);
         loan.write_items(self.alloc, &self.program, items)?;
@@ -81,12 +81,12 @@ impl<N: SearchBrand, G: Gate> Lending<'_, N, G> {
         loan: &mut Loan,
         items: &mut Vec<Item>,
     ) -> Next
-        requires walker { worker.old.walker ≡ N.program }
-        requires lent { IsLent N.program loan.old }
-        requires items { AreOf N.program items.old.items }
-        ensures walker { worker.new.walker ≡ N.program }
-        ensures items { AreOf N.program items.new.items }
-        ensures lent { result ≡ Walk → IsLent N.program loan.new }
+        requires walker { worker.old.walker ≡ N.of.program }
+        requires lent { IsLent N.of.program loan.old }
+        requires items { AreOf N.of.program items.old.items }
+        ensures walker { worker.new.walker ≡ N.of.program }
+        ensures items { AreOf N.of.program items.new.items }
+        ensures lent { result ≡ Walk → IsLent N.of.program loan.new }
     {
         let walked = self.walk_loan(worker, loan, items);
         let mut lender = self.lock.desk(rt);
@@ -105,8 +105,8 @@ impl<N: SearchBrand, G: Gate> Lending<'_, N, G> {
 
     // A worker walks rounds of its own, until nothing more is lent.
     fn work<R: Wait>(&self, rt: &R, worker: &mut Batch)
-        requires { worker.old.walker ≡ N.program }
-        ensures { worker.new.walker ≡ N.program }
+        requires { worker.old.walker ≡ N.of.program }
+        ensures { worker.new.walker ≡ N.of.program }
     {
         let mut loan = Loan::new(self.alloc);
         let mut items = Vec::new(self.alloc);
@@ -133,13 +133,13 @@ fn work_all<N: SearchBrand + Send + Sync, G: Gate, R: Threads + Wait + Sync>(
     lending: &Lending<N, G>,
     workers: &mut Vec<Batch>,
 )
-    requires { All (λ b. b.walker ≡ N.program) workers.old.items }
-    ensures walkers { All (λ b. b.walker ≡ N.program) workers.new.items }
+    requires { All (λ b. b.walker ≡ N.of.program) workers.old.items }
+    ensures walkers { All (λ b. b.walker ≡ N.of.program) workers.new.items }
     ensures count { vec_len workers.new ≡ vec_len workers.old }
 {
     let one = |_: usize, w: &mut Batch|
-        requires { w.old.walker ≡ N.program }
-        ensures { w.new.walker ≡ N.program }
+        requires { w.old.walker ≡ N.of.program }
+        ensures { w.new.walker ≡ N.of.program }
     { lending.work(rt, w) };
     thread::for_each_mut(rt, workers.as_mut_slice(), WORKERS as usize, &one);
 }
@@ -157,12 +157,12 @@ pub(crate) fn walk_own_rounds<N: SearchBrand + Send + Sync, G: Gate, R: Threads 
     options: Options,
 ) -> Result<Team, AllocError>
     requires quota { 1 ≤ options.quota }
-    requires team { IsTeam N.program team }
-    requires book { IsOf team.book N.program N.mode N.quick N.lists }
+    requires team { IsTeam N.of.program team }
+    requires book { IsOf team.book N.of N.mode N.quick N.lists }
     requires all { team.book.dropped ≡ false }
     requires open { G.stops gate.now ≡ false }
-    ensures book { IfOk result (λ t. IsOf t.book N.program N.mode N.quick N.lists) }
-    ensures team { IfOk result (IsTeam N.program) }
+    ensures book { IfOk result (λ t. IsOf t.book N.of N.mode N.quick N.lists) }
+    ensures team { IfOk result (IsTeam N.of.program) }
 {
     let Team { book, mut batches } = team;
     let lending = Lending {

@@ -68,10 +68,10 @@ fn collect_seats<N: SearchBrand>(
     board: &Board,
     workers: Vec<Worker>,
 ) -> Result<(Vec<Seat>, Vec<Batch>), AllocError>
-    requires { All (IsOn board.now.id N.program) workers.items }
+    requires { All (IsOn board.now.id N.of.program) workers.items }
     ensures seats { IfOk result (λ r. All (λ s. s.board ≡ board.now.id) r.0.items) }
     ensures count { IfOk result (λ r. vec_len r.0 ≡ vec_len workers) }
-    ensures batches { IfOk result (λ r. All (λ b. b.walker ≡ N.program) r.1.items) }
+    ensures batches { IfOk result (λ r. All (λ b. b.walker ≡ N.of.program) r.1.items) }
     ensures kept { IfOk result (λ r. vec_len r.1 ≡ vec_len workers) }
 {
     let mut seats = Vec::new(alloc);
@@ -92,12 +92,12 @@ impl Stretch {
         board: Board,
         seats: Vec<Seat>,
     ) -> Result<Stretch, AllocError>
-        requires team { IsTeam team.book.program team }
+        requires team { IsTeam team.book.of.program team }
         requires seats { All (λ s. s.board ≡ board.id) seats.items }
         requires count { vec_len seats ≡ board.seats }
         requires batches { vec_len team.batches ≡ vec_len seats }
         ensures book { IfOk result (λ s. s.book ≡ team.book) }
-        ensures stretch { IfOk result (λ s. IsStretch s.book.program s) }
+        ensures stretch { IfOk result (λ s. IsStretch s.book.of.program s) }
     {
         let Team { book, batches } = team;
         let program = Arc::try_clone(book.program())?;
@@ -120,10 +120,10 @@ impl Stretch {
         own_from: usize,
     ) -> Result<(Team, Ending), AllocError>
         requires quota { 1 ≤ options.quota }
-        requires stretch { IsStretch N.program self }
-        requires book { IsOf self.book N.program N.mode N.quick N.lists }
-        ensures book { IfOk result (λ r. IsOf r.0.book N.program N.mode N.quick N.lists) }
-        ensures team { IfOk result (λ r. IsTeam N.program r.0) }
+        requires stretch { IsStretch N.of.program self }
+        requires book { IsOf self.book N.of N.mode N.quick N.lists }
+        ensures book { IfOk result (λ r. IsOf r.0.book N.of N.mode N.quick N.lists) }
+        ensures team { IfOk result (λ r. IsTeam N.of.program r.0) }
         ensures stopped { IfOk result (λ r. r.1 ≡ Stopped → G.stops gate.now ≡ true) }
     {
         let Stretch {

@@ -22,8 +22,7 @@ use std::sync::{Arc, Wait};
 use std::thread::Threads;
 use walk::walker::walk;
 
-/// The book of a search, and a batch for each of its workers: all that is kept from one stretch of
-/// rounds to the next.
+/// A search's book, and a batch for each worker: all that is kept from one stretch to the next.
 #[derive(Drop)]
 pub struct Team {
     /// The book.
@@ -44,7 +43,7 @@ fn walk_in_order<G: Gate>(
 ) -> Result<Ending, AllocError>
     requires quota { 1 ≤ quota }
     ensures book { let b = book.old in
-        IsOf book.new b.program b.mode b.quick b.lists }
+        IsOf book.new b.of b.mode b.quick b.lists }
     ensures stopped { IfOk result (λ e. e ≡ Stopped → G.stops gate.now ≡ true) }
 {
     let items = book.round(alloc)?;
@@ -78,7 +77,7 @@ impl Team {
     pub fn new(alloc: Global, book: Book, workers: u32) -> Result<Team, AllocError>
         requires { (0 < workers) × (workers ≤ WORKERS) }
         ensures book { IfOk result (λ t. t.book ≡ book) }
-        ensures team { IfOk result (IsTeam book.program) }
+        ensures team { IfOk result (IsTeam book.of.program) }
     {
         let mut batches = Vec::new(alloc);
         for number in 0..workers {
@@ -102,10 +101,10 @@ impl Team {
         options: Options,
     ) -> Result<(Team, Ending), ExploreError>
         requires quota { 1 ≤ options.quota }
-        requires team { IsTeam self.book.program self }
+        requires team { IsTeam self.book.of.program self }
         ensures book { let b = self.book in
-            IfOk result (λ r. IsOf r.0.book b.program b.mode b.quick b.lists) }
-        ensures team { IfOk result (λ r. IsTeam self.book.program r.0) }
+            IfOk result (λ r. IsOf r.0.book b.of b.mode b.quick b.lists) }
+        ensures team { IfOk result (λ r. IsTeam self.book.of.program r.0) }
         ensures stopped { IfOk result (λ r. r.1 ≡ Stopped → G.stops gate.now ≡ true) }
         ensures error { IfErr result (λ e. e ≡ OutOfMemory) }
     {

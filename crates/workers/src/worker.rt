@@ -126,8 +126,8 @@ impl Worker {
     // Works from round to round, until the stretch is over, the board has no number any more, the
     // gate stops it or memory runs out.
     fn work<N: SearchBrand, G: Gate, R: Wait>(&mut self, rt: &R, shared: &Shared<N, G>) -> Ending
-        requires { IsOn shared.now.board.id N.program self.old }
-        ensures on { IsOn shared.now.board.id N.program self.new }
+        requires { IsOn shared.now.board.id N.of.program self.old }
+        ensures on { IsOn shared.now.board.id N.of.program self.new }
         ensures stopped { result ≡ Stopped → G.stops shared.now.gate.now ≡ true }
     {
         for _ in rt.forever() {
@@ -150,9 +150,9 @@ impl Worker {
         shared: &Shared<N, G>,
         round: &Round,
     ) -> Option<Ending>
-        requires round { IsRoundOf N.program N.mode round.now }
-        requires on { IsOn shared.now.board.id N.program self.old }
-        ensures on { IsOn shared.now.board.id N.program self.new }
+        requires round { IsRoundOf N.of.program N.mode round.now }
+        requires on { IsOn shared.now.board.id N.of.program self.old }
+        ensures on { IsOn shared.now.board.id N.of.program self.new }
         ensures stopped { result ≡ Some Stopped → G.stops shared.now.gate.now ≡ true }
     {
         self.batch.forget(round.lists);
@@ -180,10 +180,10 @@ impl Worker {
         mut desk: MutexGuard<'_, Desk<N>>,
         ends: bool,
     ) -> Result<(), AllocError>
-        requires round { IsRoundOf N.program N.mode round.now }
-        requires on { IsOn shared.now.board.id N.program self.old }
+        requires round { IsRoundOf N.of.program N.mode round.now }
+        requires on { IsOn shared.now.board.id N.of.program self.old }
         requires kept { AreKept round.now self.old.batch }
-        ensures on { IsOn shared.now.board.id N.program self.new }
+        ensures on { IsOn shared.now.board.id N.of.program self.new }
         ensures kept { AreKept round.now self.new.batch }
         ensures places { self.new.batch.places.items ≡ [] }
     {
@@ -233,10 +233,10 @@ impl Worker {
         item: &Item,
         is_bad: bool,
     ) -> Result<(), AllocError>
-        requires round { IsRoundOf N.program N.mode round.now }
-        requires on { IsOn shared.now.board.id N.program self.old }
+        requires round { IsRoundOf N.of.program N.mode round.now }
+        requires on { IsOn shared.now.board.id N.of.program self.old }
         requires kept { AreKept round.now self.old.batch }
-        ensures on { IsOn shared.now.board.id N.program self.new }
+        ensures on { IsOn shared.now.board.id N.of.program self.new }
         ensures kept { AreKept round.now self.new.batch }
         ensures room { OnOk result (vec_len self.new.batch.places < KEPT_WALKS) }
     {
@@ -259,11 +259,11 @@ impl Worker {
         shared: &Shared<N, G>,
         round: &Round,
     ) -> Option<Ending>
-        requires round { IsRoundOf N.program N.mode round.now }
-        requires on { IsOn shared.now.board.id N.program self.old }
+        requires round { IsRoundOf N.of.program N.mode round.now }
+        requires on { IsOn shared.now.board.id N.of.program self.old }
         requires kept { AreKept round.now self.old.batch }
         requires none { self.old.batch.places.items ≡ [] }
-        ensures on { IsOn shared.now.board.id N.program self.new }
+        ensures on { IsOn shared.now.board.id N.of.program self.new }
         ensures kept { AreKept round.now self.new.batch }
         ensures stopped { result ≡ Some Stopped → G.stops shared.now.gate.now ≡ true }
     {
@@ -303,15 +303,15 @@ pub(crate) fn work_all<N: SearchBrand + Send + Sync, G: Gate, R: Threads + Wait 
     shared: &Shared<N, G>,
     workers: &mut Vec<Worker>,
 )
-    requires { All (IsOn shared.now.board.id N.program) workers.old.items }
-    ensures on { All (IsOn shared.now.board.id N.program) workers.new.items }
+    requires { All (IsOn shared.now.board.id N.of.program) workers.old.items }
+    ensures on { All (IsOn shared.now.board.id N.of.program) workers.new.items }
     ensures stopped { All (λ w. w.ending ≡ Stopped → G.stops shared.now.gate.now ≡ true)
         workers.new.items }
     ensures count { vec_len workers.new ≡ vec_len workers.old }
 {
     let one = |_: usize, w: &mut Worker|
-        requires { IsOn shared.now.board.id N.program w.old }
-        ensures { IsOn shared.entry.now.board.id N.program w.new
+        requires { IsOn shared.now.board.id N.of.program w.old }
+        ensures { IsOn shared.entry.now.board.id N.of.program w.new
             × (w.new.ending ≡ Stopped → G.stops shared.entry.now.gate.now ≡ true) }
     { w.ending = w.work(rt, shared) };
     thread::for_each_mut(rt, workers.as_mut_slice(), WORKERS as usize, &one);

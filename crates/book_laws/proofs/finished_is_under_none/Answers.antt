@@ -1,8 +1,6 @@
-use Rattle.items.specs.Items.{root_of}
-use Rattle.items.proofs.Splits.{root_within, split_part}
+use Rattle.items.proofs.Splits.{split_part}
 use Rattle.book_laws.proofs.finished_is_under_none.Goals as goal
 
 pub returns : goal.returns
 returns c = λ b h.
-    split_part b.mode (root_of b.program) b.finished b.open_items b.deferred
-    (root_within b.mode b.program) h
+    split_part b.mode b.of b.finished b.open_items b.deferred h.within h.split

@@ -1,4 +1,3 @@
-use Rattle.items.specs.Items.{root_of}
 use Rattle.items.specs.Walks.{IsBelow}
 use Rattle.items.proofs.ListParts.{all_left}
 use Rattle.items.proofs.WalkedItems.{rest_has}
@@ -6,8 +5,8 @@ use Rattle.book_laws.proofs.open_have_their_schedules.Goals as goal
 
 pub returns-clause-below : goal.returns-clause-below
 returns-clause-below c = λ b h.
-    all_left (IsBelow (root_of b.program)) b.open_items b.deferred h.below
+    all_left (IsBelow b.of) b.open_items b.deferred h.split.below
 
 pub returns-clause-schedules : goal.returns-clause-schedules
 returns-clause-schedules c = λ b h.
-    rest_has b.mode (root_of b.program) b.finished b.open_items b.deferred h
+    rest_has b.mode b.of b.finished b.open_items b.deferred h.split

@@ -1,25 +1,32 @@
 -- What a round comes to.
-use Rattle.std.specs.Prelude.{◌≡◌, ◌≤◌, ◌<◌, ◌+◌, ◌-◌, ℕ, List, [], Bool, false, nat_lt}
+use Rattle.std.specs.Prelude.{◌≡◌, ◌<◌, ◌+◌, ◌-◌, ℕ, [], ◌∷◌, ◌++◌, Bool, false, true, not, nat_lt}
 use Rattle.std.specs.Prelude.{Option, Some, None}
+use Rattle.std.specs.declared.alloc.Global.{Global}
+use Rattle.std.specs.declared.vec.Vec.{Vec}
 use Rattle.guest_code.specs.Program.{Program}
 use Rattle.items.specs.declared.mode.Mode.{Mode}
 use Rattle.items.specs.declared.mode.Mode.TheVariants.{Bounded, Reduced}
 use Rattle.schedules.specs.Schedules.{preemptions}
 use Rattle.summary.specs.Summaries.{SummaryView, end_kind}
-use Rattle.items.specs.Items.{whole}
+use Rattle.items.specs.Items.{ItemView, whole}
 use Rattle.items.specs.Walks.{listed_if}
 use Rattle.book.specs.Books.{BookView}
+use Rattle.book.specs.Progress.{mode_bound}
+use Rattle.report.specs.declared.level.Level.{Level}
 use Rattle.report.specs.declared.options.Options.{Options}
 use Rattle.report.specs.declared.options.Search.{Search}
 use Rattle.report.specs.declared.options.Search.TheVariants.{UpTo, Unbounded}
-use Rattle.runner.specs.declared.judge.Decision.{Decision}
-use Rattle.runner.specs.declared.judge.Decision.TheVariants.{Answer, Raise, Again}
+use Rattle.report.specs.declared.report.Cause.{Cause}
 use Rattle.report.specs.declared.report.Report.{Report}
 use Rattle.report.specs.declared.report.Verdict.{Verdict}
 use Rattle.report.specs.declared.report.Verdict.TheVariants.{Clean, Bad, Incomplete}
-use Rattle.report.specs.Reports.{NoBadBelow, SomeExceeds, IsSummaryOf, IsReached, IsFinished}
-use Rattle.book.specs.Progress.{mode_bound}
-use Rattle.report.specs.Promises.{IsReport}
+use Rattle.report.specs.Reports.{NoBadBelow, SomeExceeds, IsSummaryOf, IsCause, IsFinished}
+use Rattle.runner.specs.declared.course.Course.{Course}
+use Rattle.runner.specs.declared.judge.Ending.{Ending}
+use Rattle.runner.specs.declared.judge.Ending.TheVariants.{Whole, Cut}
+use Rattle.runner.specs.declared.judge.Next.{Next}
+use Rattle.runner.specs.declared.judge.Next.TheVariants.{Again, Raise, End}
+use Rattle.runner.specs.Levels.{IsModeOf, GoesOn, HasPassed, AreBelow}
 use Rattle.workers.specs.Teams.{IsOf}
 
 -- the bounds below this one were finished without a bad schedule, and some schedule exceeds each
@@ -27,36 +34,11 @@ pub record HasPassedBounds (p : Program) (bound : ℕ) : Type 0 where
   pub none : NoBadBelow p bound
   pub past : (b : ℕ) → b < bound → SomeExceeds p b
 
--- what is known of a program where a search of it comes to a mode
-abbrev pub HasPassed : Program → Mode → Type 0
-HasPassed p (Bounded bound) = HasPassedBounds p bound
-HasPassed p Reduced = Unit {0}
-
--- the search comes to the mode
-abbrev pub IsModeOf : Search → Mode → Type 0
-IsModeOf (UpTo last) (Bounded bound) = bound ≤ last
-IsModeOf (UpTo last) Reduced = ⊥
-IsModeOf Unbounded (Bounded bound) = ⊥
-IsModeOf Unbounded Reduced = Unit {0}
-
--- the search begins with the mode
-abbrev pub IsFirstMode : Search → Mode → Type 0
-IsFirstMode (UpTo last) (Bounded bound) = bound ≡ 0
-IsFirstMode (UpTo last) Reduced = ⊥
-IsFirstMode Unbounded (Bounded bound) = ⊥
-IsFirstMode Unbounded Reduced = Unit {0}
-
--- a search has come to this mode of the program
-pub record IsStage (p : Program) (search : Search) (mode : Mode) : Type 0 where
-  pub of : IsModeOf search mode
-  pub passed : HasPassed p mode
-
--- the mode is the search's last one
-abbrev pub IsLast : Search → Mode → Type 0
-IsLast (UpTo last) (Bounded bound) = bound ≡ last
-IsLast (UpTo last) Reduced = ⊥
-IsLast Unbounded (Bounded bound) = ⊥
-IsLast Unbounded Reduced = Unit {0}
+-- the first mode of a search at which something is tried of what is under a prefix with so many
+-- preemptions
+abbrev pub first_mode : Search → ℕ → Mode
+first_mode (UpTo last) preemptions = Bounded preemptions
+first_mode Unbounded preemptions = Reduced
 
 -- whether what a mode puts off is listed: it is where the search may go on to another bound
 abbrev pub lists_at : Search → Mode → Bool
@@ -64,9 +46,33 @@ lists_at (UpTo last) (Bounded bound) = nat_lt bound last
 lists_at (UpTo last) Reduced = false
 lists_at Unbounded mode = false
 
--- the book is that of a search of this program that has come to this mode
-abbrev pub IsAt : BookView → Program → Options → Mode → Type 0
-IsAt b p o mode = IsOf b p mode o.quick (lists_at o.search mode)
+-- a search under an item has come to the mode of its book, and the bounds below are passed
+pub record IsAt (i : ItemView) (o : Options) (b : BookView) : Type 0 where
+  pub is : IsOf b i b.mode o.quick (lists_at o.search b.mode)
+  pub of : IsModeOf o.search b.mode
+  pub passed : HasPassed i b.mode
+
+-- these are the levels of the bounds below, where levels are kept at all
+abbrev pub AreKept : Bool → ItemView → Mode → Option (Vec Level Global) → Type 0
+AreKept keeps i mode (Some levels) = (keeps ≡ true) × AreBelow i mode levels.items
+AreKept keeps i mode None = keeps ≡ false
+
+-- what is told of a bound
+abbrev pub level_at : Mode → SummaryView → Option Cause → Level
+level_at mode sum cause = record { bound = mode_bound mode; summary = sum; cause = cause }
+
+-- the level of a bound that is finished is kept, where levels are
+abbrev pub HasKept : BookView → Option (Vec Level Global) → Option (Vec Level Global) → Type 0
+HasKept b (Some old) (Some new) = new.items ≡ old.items ++ level_at b.mode b.finished None ∷ []
+HasKept b (Some old) None = ⊥
+HasKept b None (Some new) = ⊥
+HasKept b None None = Unit {0}
+
+-- the search under an item is on its way, and keeps levels or not
+pub record IsCourse (i : ItemView) (o : Options) (keeps : Bool) (c : Course) : Type 0 where
+  pub options : c.options ≡ o
+  pub at : IsAt i o c.book
+  pub levels : AreKept keeps i c.book.mode c.levels
 
 -- the book where its bound begins: what it puts off is listed or not
 abbrev pub begun : Search → BookView → BookView
@@ -82,12 +88,6 @@ IsBoundBelow (Bounded bound) None = bound ≡ 0
 IsBoundBelow Reduced (Some below) = ⊥
 IsBoundBelow Reduced None = Unit {0}
 
--- the search goes on to the next bound, with what is known there
-abbrev pub CanRaise : Program → Search → Mode → Type 0
-CanRaise p (UpTo last) (Bounded bound) = (bound < last) × HasPassedBounds p (bound + 1)
-CanRaise p (UpTo last) Reduced = ⊥
-CanRaise p Unbounded mode = ⊥
-
 -- the last bound that was finished, where a search is cut short in a mode
 abbrev pub IsFinishedIn : Program → Mode → Option ℕ → Type 0
 IsFinishedIn p (Bounded bound) finished = IsFinished p bound finished
@@ -99,38 +99,42 @@ pub record IsFound (quick : Bool) (p : Program) (mode : Mode) (s : SummaryView) 
   pub sum : IsSummaryOf quick s (whole p mode)
   pub clean : s.first_bad ≡ None → s ≡ whole p mode
 
--- what comes next where nothing is open
-abbrev pub ComesWhole : Bool → Program → Options → Mode → SummaryView → Decision → Type 0
-ComesWhole may p o mode sum (Answer r) = IsReport may p o r
-ComesWhole may p o mode sum Raise =
-    (sum.first_bad ≡ None) × (IsReached o.limit sum → ⊥) × CanRaise p o.search mode
-ComesWhole may p o mode sum Again = ⊥
+-- a search of this book ends so: nothing is open and the search doesn't go on, or it is cut short,
+-- and not where it would end by itself
+abbrev pub Ends : Bool → Options → BookView → Ending → Type 0
+Ends may o b Whole = (b.open_items ≡ []) × (GoesOn o.search b.mode b.finished → ⊥)
+Ends may o b (Cut cause) =
+    IsCause may o.limit b.finished cause
+    × (b.open_items ≡ [] → GoesOn o.search b.mode b.finished)
 
--- what comes next where items are open
-abbrev pub ComesOpen : Bool → Program → Options → SummaryView → Decision → Type 0
-ComesOpen may p o sum (Answer r) = IsReport may p o r
-ComesOpen may p o sum Raise = ⊥
-ComesOpen may p o sum Again = IsReached o.limit sum → ⊥
+-- why a search is cut short that ends so
+abbrev pub ending_cause : Ending → Option Cause
+ending_cause Whole = None
+ending_cause (Cut cause) = Some cause
 
--- what comes next after a round: a report, or the search is not cut short and goes on
-abbrev pub Comes : Bool → Program → Options → Mode → BookView → Decision → Type 0
-Comes may p o mode book (Answer r) = IsReport may p o r
-Comes may p o mode book Raise = (book.open_items ≡ []) × (book.dropped ≡ false)
-    × (IsReached o.limit book.finished → ⊥) × CanRaise p o.search mode
-Comes may p o mode book Again =
-    (book.open_items ≡ [] → ⊥) × (IsReached o.limit book.finished → ⊥)
+-- there is no cause to cut a search short
+abbrev pub HasNoCause : Bool → Option ℕ → SummaryView → Type 0
+HasNoCause may limit sum = (cause : Cause) → IsCause may limit sum cause → ⊥
 
--- what comes next after all rounds of a mode
-abbrev pub ComesAfter : Program → Options → Mode → BookView → Decision → Type 0
-ComesAfter p o mode book (Answer r) = IsReport false p o r
-ComesAfter p o mode book Raise = IsAt book p o mode × Comes false p o mode book Raise
-ComesAfter p o mode book Again = ⊥
+-- what comes next after a round
+abbrev pub Comes : Bool → Options → BookView → Next → Type 0
+Comes may o b (End ending) = Ends may o b ending
+Comes may o b Raise =
+    (b.open_items ≡ []) × GoesOn o.search b.mode b.finished × HasNoCause may o.limit b.finished
+Comes may o b Again = (b.open_items ≡ [] → ⊥) × HasNoCause may o.limit b.finished
 
--- what follows a round: a report, or another round, which is of the book
-abbrev pub Follows : Bool → Program → Options → BookView → Option Report → Type 0
-Follows may p o book (Some r) = IsReport may p o r
-Follows may p o book None =
-    IsStage p o.search book.mode × IsAt book p o book.mode
+-- what comes after all rounds of a bound: the search ends, or another bound
+abbrev pub ComesAfter : Options → BookView → Option Ending → Type 0
+ComesAfter o b (Some ending) = Ends false o b ending
+ComesAfter o b None = Comes false o b Raise
+
+-- a search that was on its way has ended: what its course is then, and how it ends
+pub record HasEnded (may : Bool) (c : Course) (r : Course × Ending) : Type 0 where
+  pub options : r.0.options ≡ c.options
+  pub at : IsAt c.book.of c.options r.0.book
+  pub levels : (keeps : Bool) → AreKept keeps c.book.of c.book.mode c.levels →
+      AreKept keeps c.book.of r.0.book.mode r.0.levels
+  pub ends : Ends may c.options r.0.book r.1
 
 -- how many bounds a search may still come to
 abbrev pub bounds_left : Search → Mode → ℕ
@@ -138,12 +142,14 @@ bounds_left (UpTo last) (Bounded bound) = last - bound
 bounds_left (UpTo last) Reduced = 0
 bounds_left Unbounded mode = 0
 
--- the verdict on a bad schedule: its preemptions, the schedule itself, and how it ends
-abbrev pub IsVerdictOn : Program → List ℕ → Verdict → Type 0
-IsVerdictOn p w (Bad k schedule kind) =
-    (k ≡ preemptions p w) × (schedule.items ≡ w) × (kind ≡ end_kind p w)
-IsVerdictOn p w (Clean all) = ⊥
-IsVerdictOn p w (Incomplete cause finished) = ⊥
+-- the verdict on a sum of all: on its bad schedule the preemptions, the schedule itself, and how it
+-- ends; without one, whether nothing is beyond
+abbrev pub IsVerdictOn : Program → SummaryView → Verdict → Type 0
+IsVerdictOn p sum (Bad k schedule kind) =
+    (sum.first_bad ≡ Some schedule.items) × (k ≡ preemptions p schedule.items)
+    × (kind ≡ end_kind p schedule.items)
+IsVerdictOn p sum (Clean all) = (sum.first_bad ≡ None) × (all ≡ not sum.beyond)
+IsVerdictOn p sum (Incomplete cause finished) = ⊥
 
 -- the report of a search in a mode
 abbrev pub report_in : Options → Mode → SummaryView → Verdict → Report

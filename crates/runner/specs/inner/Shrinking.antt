@@ -10,10 +10,10 @@ abbrev pub IsSmaller : Mode → List ItemView → List ItemView → Type 0
 IsSmaller mode a b = (schedule_count mode a < schedule_count mode b)
     ⊎ ((schedule_count mode a ≡ schedule_count mode b) × (length a < length b))
 
--- the book is of the same program and mode, a quick one and listing or not as before, and has less
+-- the book is of the same item and mode, a quick one and listing or not as before, and has less
 -- left
 pub record HasLess (old new : BookView) : Type 0 where
-  pub program : new.program ≡ old.program
+  pub of : new.of ≡ old.of
   pub mode : new.mode ≡ old.mode
   pub quick : new.quick ≡ old.quick
   pub lists : new.lists ≡ old.lists

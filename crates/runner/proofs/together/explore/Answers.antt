@@ -1,36 +1,39 @@
-use Rattle.std.proofs.Common.{rules, ◌≡◌, subst, refl, true, Option, None}
+use Rattle.std.proofs.Common.{subst, refl, true, false}
+use Rattle.std.proofs.lemmas.Result.{IfOk-weaker}
+use Rattle.std.specs.Arc.{arc_value}
 use Rattle.guest_code.specs.Program.{Program}
-use Rattle.report.specs.declared.report.Report.{Report}
+use Rattle.items.specs.Items.{root_of}
 use Rattle.report.specs.Promises.{IsReport}
-use Rattle.runner.specs.inner.Judging.{IsStage, IsAt, Follows}
-use Rattle.workers.proofs.Teams.{same_batches}
+use Rattle.runner.proofs.AfterRounds.{course_at, report_ready, ends_weaker}
 use Rattle.runner.proofs.together.explore.Goals as goal
 
-pub returns-in-Some-2-clause-report : goal.returns-in-Some-2-clause-report
-returns-in-Some-2-clause-report g c =
-    let o = c.args.options in
-    let may = g.G.Gate.stops c.args.gate.now in
-    let stopped : c.in_ok-stopped.stopped ≡ true → may ≡ true =
-    λ e. c.in_ok-next.ensures.stopped (c.in_ok-stopped.ensures.stopped e) in
-    let ends = subst (λ (r : Option Report). Follows may c.deref.result.now o c.after_round.new.book r)
-    c.in-Some-2.is (c.in_ok-report.ensures.report may stopped) in
-    subst (λ (p : Program). IsReport may p o c.in-Some-2.report) c.deref.ensures ends
+pub search-requires-clause-at : goal.search-requires-clause-at
+search-requires-clause-at g c = λ k l.
+    course_at (root_of (arc_value c.args.program.now)) c.args.options false c.in_ok-course.course
+    c.in_ok-course.ensures.course
 
-pub loop-preserved : goal.loop-preserved
-loop-preserved g c =
-    let o = c.args.options in
+pub report_at_end-requires-clause-at : goal.report_at_end-requires-clause-at
+report_at_end-requires-clause-at g c =
+    (report_ready (arc_value c.args.program.now) c.deref.result.now c.args.options
+    (g.G.Gate.stops c.args.gate.now) c.in_ok-course.course
+    (c.in_ok-course-2.course, c.in_ok-course-2.ending) c.deref.ensures c.in_ok-course.ensures.course
+    c.in_ok-course-2.ensures.ended).0
+
+pub report_at_end-requires-clause-ends : goal.report_at_end-requires-clause-ends
+report_at_end-requires-clause-ends g c =
+    ends_weaker (g.G.Gate.stops c.args.gate.now) true c.args.options c.in_ok-course-2.course.book
+    c.in_ok-course-2.ending (λ e. refl)
+    (report_ready (arc_value c.args.program.now) c.deref.result.now c.args.options
+    (g.G.Gate.stops c.args.gate.now) c.in_ok-course.course
+    (c.in_ok-course-2.course, c.in_ok-course-2.ending) c.deref.ensures c.in_ok-course.ensures.course
+    c.in_ok-course-2.ensures.ended).1
+
+pub returns-clause-report : goal.returns-clause-report
+returns-clause-report g c =
     let may = g.G.Gate.stops c.args.gate.now in
-    let of = c.loop.invariant.3 in
-    let kept = c.in_ok-next.ensures.team in
-    let stopped : c.in_ok-stopped.stopped ≡ true → may ≡ true =
-    λ e. c.in_ok-next.ensures.stopped (c.in_ok-stopped.ensures.stopped e) in
-    let none : c.in_ok-report.field-0 ≡ None = search rules in
-    let goes = subst (λ (r : Option Report). Follows may c.deref.result.now o c.after_round.new.book r)
-    none (c.in_ok-report.ensures.report may stopped) in (
-      tt,
-      tt,
-      subst (λ (p : Program). IsStage p o.search c.after_round.new.book.mode) c.deref.ensures goes.0,
-      subst (λ (p : Program). IsAt c.after_round.new.book p o c.after_round.new.book.mode)
-          c.deref.ensures goes.1,
-      same_batches _ _ c.in_ok-next.next _ refl of.program kept,
-    )
+    let ends = (report_ready (arc_value c.args.program.now) c.deref.result.now c.args.options may
+    c.in_ok-course.course (c.in_ok-course-2.course, c.in_ok-course-2.ending) c.deref.ensures
+    c.in_ok-course.ensures.course c.in_ok-course-2.ensures.ended).1 in
+    IfOk-weaker c.report_at_end.result _ _ (λ r is.
+    subst (λ (p : Program). IsReport may p c.args.options r) c.deref.ensures (is may ends))
+    c.report_at_end.ensures.report

@@ -1,14 +1,18 @@
-use Rattle.runner.proofs.Promises.{runs_on}
+use Rattle.std.proofs.Common.{◌≡◌, ◌∙◌, sym, true, false}
+use Rattle.runner.proofs.Promises.{runs_through}
 use Rattle.verify.proofs.found.run_of.Goals as goal
+
+not_both : true ≡ false → ⊥
+not_both e = cc
 
 pub unreachable-requires : goal.unreachable-requires
 unreachable-requires c =
     let h = rw c.in-Err-NoSuchThread.field-0-is at c.in-Err-NoSuchThread.ensures.value in
-    runs_on c.args.program.now c.args.steps.now c.requires.0
-    (c.one_place_is_the_first_bad.ensures.fails _ _ c.in-Err-NoSuchThread.field-0-0 h.0)
+    not_both (sym (runs_through c.args.program.now c.args.steps.now c.requires.0)
+    ∙ c.one_place_is_the_first_bad.ensures.fails _ _ c.in-Err-NoSuchThread.field-0-0 h.0)
 
 pub unreachable-requires-in-Err-NotEnabled : goal.unreachable-requires-in-Err-NotEnabled
 unreachable-requires-in-Err-NotEnabled c =
     let h = rw c.in-Err-NotEnabled.field-0-is at c.in-Err-NotEnabled.ensures.value in
-    runs_on c.args.program.now c.args.steps.now c.requires.0
-    (c.one_place_is_the_first_bad.ensures.fails _ _ c.in-Err-NotEnabled.field-0-0 h.0)
+    not_both (sym (runs_through c.args.program.now c.args.steps.now c.requires.0)
+    ∙ c.one_place_is_the_first_bad.ensures.fails _ _ c.in-Err-NotEnabled.field-0-0 h.0)

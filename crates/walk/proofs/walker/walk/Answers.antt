@@ -8,7 +8,7 @@ use Rattle.walk.proofs.walker.walk.Goals as goal
 pub new-requires : goal.new-requires
 new-requires c =
     subst (λ (i : ItemView). IsWalked (found_walk c.args.mode i c.walk.new.found))
-    (sym c.in_ok-try_clone.ensures)
+    (sym c.in_ok-try_clone.ensures.same)
     (alone_added c.args.mode c.args.item.now c.args.quota c.new-found.result c.walk.new.found
     c.new-found.ensures.part c.new-found.ensures.rest c.new-found.ensures.deferred
     c.new-found.ensures.lists c.in_ok-walk.ensures.added).walked
@@ -30,7 +30,8 @@ returns-clause-rest c =
 pub returns-clause-past : goal.returns-clause-past
 returns-clause-past c = λ more.
     c.new.ensures
-    ∙ (ap (λ (i : ItemView). found_walk c.args.mode i c.walk.new.found) c.in_ok-try_clone.ensures
+    ∙ (ap (λ (i : ItemView). found_walk c.args.mode i c.walk.new.found)
+    c.in_ok-try_clone.ensures.same
     ∙ (alone_added c.args.mode c.args.item.now c.args.quota c.new-found.result c.walk.new.found
     c.new-found.ensures.part c.new-found.ensures.rest c.new-found.ensures.deferred
     c.new-found.ensures.lists c.in_ok-walk.ensures.added).past more)
@@ -39,7 +40,7 @@ pub returns-clause-walked : goal.returns-clause-walked
 returns-clause-walked c =
     subst IsWalked (sym c.new.ensures)
     (subst (λ (i : ItemView). IsWalked (found_walk c.args.mode i c.walk.new.found))
-    (sym c.in_ok-try_clone.ensures)
+    (sym c.in_ok-try_clone.ensures.same)
     (alone_added c.args.mode c.args.item.now c.args.quota c.new-found.result c.walk.new.found
     c.new-found.ensures.part c.new-found.ensures.rest c.new-found.ensures.deferred
     c.new-found.ensures.lists c.in_ok-walk.ensures.added).walked)

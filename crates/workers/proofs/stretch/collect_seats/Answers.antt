@@ -11,7 +11,7 @@ loop-worker-preserved g c =
     let i = c.loop-worker.invariant in
     let e = c.in-Some.ensures.steps.0 in
     let board = c.args.board.now.id in
-    let p = g.N.SearchBrand.program in
+    let p = g.N.SearchBrand.of.program in
     let S : SeatView → Type 0 = λ s. s.board ≡ board in
     let B : Batch → Type 0 = λ b. b.walker ≡ p in
     let left = ap (length {A = Worker}) e in

@@ -15,9 +15,10 @@ use Rattle.book.proofs.books.Book.settle.Goals as goal
 use Rattle.book.proofs.books.Book.settle.Goals.{After-item-1, In-Some}
 
 -- the walk is of the book's program and mode
-own : (c : After-item-1) → c.args.self.now.program ≡ c.args.walked.item.program
-own c = ap (λ (b : BookView). b.program) (sym c.self.view_is)
-    ∙ (sym c.deref.ensures ∙ (c.if-not-is_same.ensures.0 refl ∙ c.program.ensures))
+own : (c : After-item-1) → c.args.self.now.of.program ≡ c.args.walked.item.program
+own c = ap (λ (b : BookView). b.of.program) (sym c.self.view_is)
+    ∙ (sym c.program.ensures
+    ∙ (c.if-not-is_same.ensures.0 refl ∙ c.program-else-not-same_modes.ensures))
 
 in_mode : (c : After-item-1) → c.args.self.now.mode ≡ c.args.walked.mode
 in_mode c = ap (λ (b : BookView). b.mode) (sym c.self.view_is)
@@ -36,19 +37,19 @@ taken c place =
 pub place_of-requires : goal.place_of-requires
 place_of-requires c =
     subst (λ (p : Program). AreOf p c.self.inside.open_items.unpacked)
-    (ap (λ (z : BookView). z.program) c.self.view_is
+    (ap (λ (z : BookView). z.of.program) c.self.view_is
     ∙ (own c ∙ ap (λ (i : ItemView). i.program) (sym c.into_parts-item.ensures.item)))
     (unpacked_own (book_of c.self.inside) c.self.inside.open_items refl c.self.invariant.0)
 
 -- the item is open at the place that was found
-at : (c : In-Some) → c.args.self.now.program ≡ c.args.walked.item.program →
+at : (c : In-Some) → c.args.self.now.of.program ≡ c.args.walked.item.program →
     IsOpenAt c.args.self.now c.args.walked.item c.in-Some.place
 at c same =
     let item = c.into_parts-item.ensures.item in
     let open_is : all_of c.args.walked.item.program c.self.inside.open_items
     ≡ c.args.self.now.open_items =
     ap (λ (p : Program). all_of p c.self.inside.open_items)
-    (sym same ∙ ap (λ (b : BookView). b.program) (sym c.self.view_is))
+    (sym same ∙ ap (λ (b : BookView). b.of.program) (sym c.self.view_is))
     ∙ ap (λ (b : BookView). b.open_items) c.self.view_is in
     subst (λ (xs : List ItemView). (c.in-Some.place < length xs)
     × (slice_get xs c.in-Some.place ≡ Some c.args.walked.item)) open_is

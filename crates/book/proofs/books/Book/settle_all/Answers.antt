@@ -1,9 +1,10 @@
 use Rattle.std.proofs.Common.{rules, ◌≡◌, ◌∙◌, false, not, ◌&&◌, refl, ap, sym, subst, IfSome, IfNone, inl, inr}
 use Rattle.items.specs.Items.{AreOf}
+use Rattle.book.specs.ItemLists.{all_of}
 use Rattle.book.specs.Books.{BookView, Keeps, AreWithin, AreOpenAt, StandInOrder, HaveSettled, taken_in, remove_each}
 use Rattle.book.proofs.BookFields.{book_of}
 use Rattle.book.proofs.Lists.{open_within}
-use Rattle.book.proofs.OpenItems.{open_run, unpacked_own}
+use Rattle.book.proofs.OpenItems.{open_run, unpacked_own, run_of, same_of}
 use Rattle.book.proofs.Gathered.{walked_within, settled_together}
 use Rattle.book.proofs.books.Book.settle_all.Goals as goal
 use Rattle.book.proofs.books.Book.settle_all.Goals.{After-as_slice}
@@ -15,16 +16,19 @@ places_of-requires-clause-places c =
 
 pub places_of-requires-clause-run : goal.places_of-requires-clause-run
 places_of-requires-clause-run c =
-    open_run (book_of c.self.inside) c.self.inside.open_items refl c.self.invariant.0
+    run_of c.self.inside.open_items.packed c.shared_program.ensures
+    (open_run (book_of c.self.inside) c.self.inside.open_items refl c.self.invariant.0)
 
 pub places_of-requires-clause-unpacked : goal.places_of-requires-clause-unpacked
 places_of-requires-clause-unpacked c =
-    unpacked_own (book_of c.self.inside) c.self.inside.open_items refl c.self.invariant.0
+    subst (λ p. AreOf p c.self.inside.open_items.unpacked) (sym c.shared_program.ensures)
+    (unpacked_own (book_of c.self.inside) c.self.inside.open_items refl c.self.invariant.0)
 
 pub places_of-requires-clause-program : goal.places_of-requires-clause-program
 places_of-requires-clause-program c =
-    subst (λ (z : BookView). AreOf z.program c.args.items.now) (sym c.self.view_is)
-    c.requires.program
+    subst (λ p. AreOf p c.args.items.now) (sym c.shared_program.ensures)
+    (subst (λ (z : BookView). AreOf z.of.program c.args.items.now) (sym c.self.view_is)
+    c.requires.program)
 
 -- the items stand at the places that were answered
 there : (c : After-as_slice) → AreOpenAt c.args.self.now.open_items c.args.items.now
@@ -35,13 +39,18 @@ there c =
     subst (λ (z : BookView). AreOpenAt z.open_items c.args.items.now c.args.places.now
     c.as_slice.result.now) c.self.view_is
     (subst at (sym c.as_slice.ensures.value)
-    (subst (λ o. IfSome o (λ v. at v.items)) c.in-Some.is c.in_ok-stand.ensures.there))
+    (subst (λ o. IfSome o (λ v. at v.items)) c.in-Some.is
+    (subst (λ p. IfSome c.in_ok-stand.field-0 (λ v. AreOpenAt (all_of p c.self.inside.open_items)
+    c.args.items.now c.args.places.now v.items)) c.shared_program.ensures
+    c.in_ok-stand.ensures.there)))
 
 -- to unpack items changes nothing in the book
 moved : (c : After-as_slice) →
     book_of (record c.self.inside { open_items = c.places_of.new.self }) ≡ c.args.self.now
 moved c =
-    ap (λ is. record (book_of c.self.inside) { open_items = is }) c.in_ok-stand.ensures.same
+    ap (λ is. record (book_of c.self.inside) { open_items = is })
+    (same_of c.places_of.new.self c.self.inside.open_items c.shared_program.ensures
+    c.in_ok-stand.ensures.same)
     ∙ c.self.view_is
 
 -- the walks list what the book lists
@@ -82,4 +91,6 @@ returns-in_default-clause-not_taken c = λ e. inr
     (subst (λ (z : BookView). StandInOrder z.open_items c.args.items.now c.args.places.now → ⊥)
     c.self.view_is
     (subst (λ o. IfNone o (StandInOrder (book_of c.self.inside).open_items c.args.items.now
-    c.args.places.now → ⊥)) c.in_default.is c.in_ok-stand.ensures.none))
+    c.args.places.now → ⊥)) c.in_default.is
+    (subst (λ p. IfNone c.in_ok-stand.field-0 (StandInOrder (all_of p c.self.inside.open_items)
+    c.args.items.now c.args.places.now → ⊥)) c.shared_program.ensures c.in_ok-stand.ensures.none)))

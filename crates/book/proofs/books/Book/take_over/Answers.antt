@@ -1,6 +1,5 @@
 use Rattle.std.proofs.Common.{refl, ◌≡◌, ◌∙◌, ◌++◌, ◌≤◌, sym, ap, subst, arith, length}
 use Rattle.std.proofs.Common.{None, Bool}
-use Rattle.std.specs.Arc.{arc_value}
 use Rattle.std.specs.List.{All}
 use Rattle.std.proofs.lemmas.List.Elements.{All-weaker}
 use Rattle.items.specs.Items.{IsItem}
@@ -16,43 +15,51 @@ use Rattle.book.proofs.Lists.{within_more}
 use Rattle.book.proofs.Swept.{taken_swept}
 use Rattle.book.proofs.TakenOver.{grown, still_there, open_taken, taken_back, same_book, packs_none}
 use Rattle.book.proofs.TakenOver.{unpacked_after, none_there}
-use Rattle.book.proofs.OpenItems.{open_run, deferred_run, waiting_run}
+use Rattle.book.proofs.OpenItems.{open_run, deferred_run, waiting_run, run_of, same_of, more_of}
 use Rattle.book.proofs.books.Book.take_over.Goals as goal
 use Rattle.book.proofs.books.Book.take_over.Goals.{After-drop-none-inside-in-Err-2, After-drop-none-inside-3}
 
 pub unpack_from-requires : goal.unpack_from-requires
 unpack_from-requires c =
     let b = book_of c.self.inside in
-    open_run b c.self.inside.open_items refl c.self.invariant.0
+    run_of c.self.inside.open_items.packed c.shared_program-program.ensures
+    (open_run b c.self.inside.open_items refl c.self.invariant.0)
 
 pub unpack_from-requires-2 : goal.unpack_from-requires-2
 unpack_from-requires-2 c =
     let b = book_of c.self.inside in
-    deferred_run b c.self.inside.deferred refl c.self.invariant.0
+    run_of c.self.inside.deferred.packed c.shared_program-program.ensures
+    (deferred_run b c.self.inside.deferred refl c.self.invariant.0)
 
 pub append_prefixes-requires : goal.append_prefixes-requires
 append_prefixes-requires c =
     let b = c.args.self.now in
     let found = c.args.found.now in
-    subst (λ ps. All IsItem (items_at (arc_value c.self.inside.program) ps))
+    run_of c.listed_of-listed.result.now c.shared_program-program.ensures
+    (subst (λ ps. All IsItem (items_at c.self.inside.of.program ps))
     (sym c.listed_of-listed.ensures)
-    (subst (λ (z : BookView). All IsItem (items_at z.program (listed_if z.lists found.deferred)))
+    (subst (λ (z : BookView). All IsItem (items_at z.of.program (listed_if z.lists found.deferred)))
     (sym c.self.view_is)
-    (subst (All IsItem) (sym (listed_items b.program b.lists found.deferred))
-    (all_right IsItem b.deferred (listed_if b.lists (items_at b.program found.deferred))
+    (subst (All IsItem) (sym (listed_items b.of.program b.lists found.deferred))
+    (all_right IsItem b.deferred (listed_if b.lists (items_at b.of.program found.deferred))
     (waiting_run (taken_in b (remove_each b.open_items c.args.places.now) found)
-    c.requires.keeps))))
+    c.requires.keeps)))))
 
 -- the book is as before where memory for its items was refused
 pub invariant_of-self-in_err-make_room : goal.invariant_of-self-in_err-make_room
 invariant_of-self-in_err-make_room c =
     let b = book_of c.self.inside in
-    let p = arc_value c.self.inside.program in
+    let p = c.self.inside.of.program in
+    let own = c.shared_program-program.ensures in
+    let opened = same_of c.unpack_from.new.self c.self.inside.open_items own
+    c.unpack_from.ensures.same in
+    let waiting = same_of c.unpack_from-2.new.self c.self.inside.deferred own
+    c.unpack_from-2.ensures.same in
     let same = same_book b b.finished (all_of p c.make_room.new.self)
     (all_of p c.unpack_from-2.new.self) refl
-    (still_there p c.unpack_from.new.self c.make_room.new.self b.open_items
-    c.unpack_from.ensures.same c.make_room.ensures.packed c.make_room.ensures.unpacked)
-    c.unpack_from-2.ensures.same in (
+    (still_there p c.unpack_from.new.self c.make_room.new.self b.open_items opened
+    c.make_room.ensures.packed c.make_room.ensures.unpacked)
+    waiting in (
       subst Keeps (sym same) c.self.invariant.0,
       subst (IsSwept c.self.inside.swept) (sym same) c.self.invariant.1,
       λ q bad. (
@@ -65,12 +72,19 @@ invariant_of-self-in_err-make_room c =
 pub invariant_of-self-in_err-append_prefixes : goal.invariant_of-self-in_err-append_prefixes
 invariant_of-self-in_err-append_prefixes c =
     let b = book_of c.self.inside in
-    let p = arc_value c.self.inside.program in
+    let p = c.self.inside.of.program in
+    let own = c.shared_program-program.ensures in
+    let opened = same_of c.unpack_from.new.self c.self.inside.open_items own
+    c.unpack_from.ensures.same in
+    let waiting = same_of c.unpack_from-2.new.self c.self.inside.deferred own
+    c.unpack_from-2.ensures.same in
+    let as_before = same_of c.append_prefixes.new.self c.unpack_from-2.new.self own
+    c.in_err-append_prefixes.ensures.all in
     let same = same_book b b.finished (all_of p c.make_room.new.self)
     (all_of p c.append_prefixes.new.self) refl
-    (still_there p c.unpack_from.new.self c.make_room.new.self b.open_items
-    c.unpack_from.ensures.same c.make_room.ensures.packed c.make_room.ensures.unpacked)
-    (c.in_err-append_prefixes.ensures.all ∙ c.unpack_from-2.ensures.same) in (
+    (still_there p c.unpack_from.new.self c.make_room.new.self b.open_items opened
+    c.make_room.ensures.packed c.make_room.ensures.unpacked)
+    (as_before ∙ waiting) in (
       subst Keeps (sym same) c.self.invariant.0,
       subst (IsSwept c.self.inside.swept) (sym same) c.self.invariant.1,
       λ q bad. (
@@ -85,21 +99,27 @@ invariant_of-self-in_err-append_prefixes c =
 -- and where the sum was refused
 not_joined : (c : After-drop-none-inside-in-Err-2) → record (book_of c.self.inside) {
   finished = c.join_in_by.new.self;
-  open_items = all_of (arc_value c.self.inside.program) c.make_room.new.self;
-  deferred = all_of (arc_value c.self.inside.program) c.truncate.new.self;
+  open_items = all_of c.self.inside.of.program c.make_room.new.self;
+  deferred = all_of c.self.inside.of.program c.truncate.new.self;
 } ≡ book_of c.self.inside
 not_joined c =
     let b = book_of c.self.inside in
-    let p = b.program in
+    let p = b.of.program in
+    let own = c.shared_program-program.ensures in
+    let opened = same_of c.unpack_from.new.self c.self.inside.open_items own
+    c.unpack_from.ensures.same in
+    let waiting = same_of c.unpack_from-2.new.self c.self.inside.deferred own
+    c.unpack_from-2.ensures.same in
+    let more = more_of c.append_prefixes.new.self c.unpack_from-2.new.self
+    c.listed_of-listed.result.now own c.in_ok-append_prefixes.ensures.all in
     same_book b c.join_in_by.new.self (all_of p c.make_room.new.self) (all_of p c.truncate.new.self)
     c.in-Err.ensures.joined
-    (still_there p c.unpack_from.new.self c.make_room.new.self b.open_items
-    c.unpack_from.ensures.same c.make_room.ensures.packed c.make_room.ensures.unpacked)
+    (still_there p c.unpack_from.new.self c.make_room.new.self b.open_items opened
+    c.make_room.ensures.packed c.make_room.ensures.unpacked)
     (taken_back b.deferred (items_at p c.listed_of-listed.result.now)
     (all_of p c.append_prefixes.new.self) (all_of p c.truncate.new.self)
     c.length-deferred_length.result
-    (c.in_ok-append_prefixes.ensures.all
-    ∙ ap (λ is. is ++ items_at p c.listed_of-listed.result.now) c.unpack_from-2.ensures.same)
+    (more ∙ ap (λ is. is ++ items_at p c.listed_of-listed.result.now) waiting)
     (c.length-deferred_length.ensures p) (c.truncate.ensures.items p))
 
 pub invariant_of-self-in-Err : goal.invariant_of-self-in-Err
@@ -139,16 +159,19 @@ remove_each-requires-clause-unpacked c =
 
 pub remove_each-requires-clause-within : goal.remove_each-requires-clause-within
 remove_each-requires-clause-within c =
-    let p = arc_value c.self.inside.program in
+    let p = c.self.inside.of.program in
     let places = c.args.places.now in
     let rest = c.args.found.now.rest.items in
-    let b = book_of c.self.inside in (
+    let b = book_of c.self.inside in
+    let own = c.shared_program-program.ensures in
+    let opened = same_of c.unpack_from.new.self c.self.inside.open_items own
+    c.unpack_from.ensures.same in (
       p,
       subst (λ xs. AreWithin xs places) (sym (grown p c.make_room.new.self c.append.new.self rest
           c.append.ensures.packed c.append.ensures.unpacked))
           (within_more (all_of p c.make_room.new.self) rest places
-          (subst (λ xs. AreWithin xs places) (sym (still_there p c.unpack_from.new.self c.make_room.new.self
-          b.open_items c.unpack_from.ensures.same c.make_room.ensures.packed
+          (subst (λ xs. AreWithin xs places) (sym (still_there p c.unpack_from.new.self
+          c.make_room.new.self b.open_items opened c.make_room.ensures.packed
           c.make_room.ensures.unpacked))
           (subst (λ (z : BookView). AreWithin z.open_items places) (sym c.self.view_is)
           c.requires.within))),
@@ -157,28 +180,33 @@ remove_each-requires-clause-within c =
 -- the book where the walks are settled
 settled : (c : After-drop-none-inside-3) → record (book_of c.self.inside) {
   finished = c.join_in_by.new.self;
-  open_items = all_of (arc_value c.self.inside.program) c.remove_each.new.self;
-  deferred = all_of (arc_value c.self.inside.program) c.append_prefixes.new.self;
+  open_items = all_of c.self.inside.of.program c.remove_each.new.self;
+  deferred = all_of c.self.inside.of.program c.append_prefixes.new.self;
 } ≡ taken_in (book_of c.self.inside)
     (remove_each (book_of c.self.inside).open_items c.args.places.now) c.args.found.now
 settled c =
     let b = book_of c.self.inside in
-    let p = b.program in
+    let p = b.of.program in
     let found = c.args.found.now in
     let places = c.args.places.now in
     let within = subst (λ (z : BookView). AreWithin z.open_items places) (sym c.self.view_is)
     c.requires.within in
+    let own = c.shared_program-program.ensures in
+    let opened = same_of c.unpack_from.new.self c.self.inside.open_items own
+    c.unpack_from.ensures.same in
+    let waiting = same_of c.unpack_from-2.new.self c.self.inside.deferred own
+    c.unpack_from-2.ensures.same in
+    let more = more_of c.append_prefixes.new.self c.unpack_from-2.new.self
+    c.listed_of-listed.result.now own c.in_ok-append_prefixes.ensures.all in
     let items = open_taken p c.make_room.new.self c.append.new.self c.remove_each.new.self
     b.open_items found.rest.items places
-    (still_there p c.unpack_from.new.self c.make_room.new.self b.open_items
-    c.unpack_from.ensures.same c.make_room.ensures.packed c.make_room.ensures.unpacked)
+    (still_there p c.unpack_from.new.self c.make_room.new.self b.open_items opened
+    c.make_room.ensures.packed c.make_room.ensures.unpacked)
     c.append.ensures.packed c.append.ensures.unpacked (c.remove_each.ensures.items p) within in
     λ k. record b {
       finished = c.in_default.ensures.joined k;
       open_items = items k;
-      deferred = (c.in_ok-append_prefixes.ensures.all
-          ∙ (λ j. c.unpack_from-2.ensures.same j
-          ++ (ap (items_at p) c.listed_of-listed.ensures
+      deferred = (more ∙ (λ j. waiting j ++ (ap (items_at p) c.listed_of-listed.ensures
           ∙ listed_items p b.lists found.deferred) j)) k;
     }
 

@@ -1,12 +1,13 @@
-use Rattle.std.proofs.Common.{◌≡◌, ◌≤◌, ◌+◌, ◌-◌, ◌∙◌, ap, sym, subst, arith, refl, length, take, replicate}
+use Rattle.std.proofs.Common.{◌≡◌, ◌≤◌, ◌+◌, ◌-◌, ◌∙◌, ap, sym, subst, arith, refl, length, take, replicate, ℕ, List}
 use Rattle.std.proofs.lemmas.List.Elements.{All-weaker, All-take, All-replicate}
 use Rattle.items.specs.Items.{ItemView}
-use Rattle.book.specs.ItemLists.{all_of}
 use Rattle.book.specs.Books.{BookView, Keeps, AreWithin, HasWalkedRound, taken_in, remove_each}
 use Rattle.book.proofs.BookFields.{book_of}
+use Rattle.book.proofs.OpenItems.{same_of}
 use Rattle.book.proofs.TakenOver.{on_settled}
 use Rattle.book.proofs.Rounds.{IsFoundFrom, open_at, at_end, added_tried, round_begins, round_goes_on, round_settles}
 use Rattle.book.proofs.books.Book.walk_round.Goals as goal
+use Rattle.book.proofs.books.Book.walk_round.Goals.{After-loop-place}
 
 pub loop-place-init : goal.loop-place-init
 loop-place-init c =
@@ -23,11 +24,13 @@ loop-place-init c =
 pub walk_on-requires-clause-program : goal.walk_on-requires-clause-program
 walk_on-requires-clause-program c =
     let b = book_of c.self.inside in
-    let at = open_at b _ _ c.loop-place.place _ c.self.invariant.0 c.unpack_from.ensures.same
-    (c.length-end.ensures b.program) c.loop-place-test.true
-    (c.unpacked_item-item.ensures b.program) in
+    let at = open_at b _ _ c.loop-place.place _ c.self.invariant.0
+    (same_of c.unpack_from.new.self c.self.inside.open_items c.shared_program.ensures
+    c.unpack_from.ensures.same)
+    (c.length-end.ensures b.of.program) c.loop-place-test.true
+    (c.unpacked_item-item.ensures b.of.program) in
     sym at.1
-    ∙ (ap (λ (z : BookView). z.program) c.self.view_is ∙ (sym c.requires.walker
+    ∙ (ap (λ (z : BookView). z.of.program) c.self.view_is ∙ (sym c.requires.walker
     ∙ sym c.loop-place.invariant.walker))
 
 pub loop-place-preserved : goal.loop-place-preserved
@@ -37,9 +40,11 @@ loop-place-preserved c =
     let from = c.loop-place.auto.place in
     let tried = c.loop-place.invariant.tried in
     let quota = c.ranges.quota.fits in
-    let at = open_at b _ _ c.loop-place.place item c.self.invariant.0 c.unpack_from.ensures.same
-    (c.length-end.ensures b.program) c.loop-place-test.true
-    (c.unpacked_item-item.ensures b.program) in
+    let at = open_at b _ _ c.loop-place.place item c.self.invariant.0
+    (same_of c.unpack_from.new.self c.self.inside.open_items c.shared_program.ensures
+    c.unpack_from.ensures.same)
+    (c.length-end.ensures b.of.program) c.loop-place-test.true
+    (c.unpacked_item-item.ensures b.of.program) in
     let more = added_tried c.self.inside.mode item c.args.quota c.loop-place.found
     c.walk_on.new.found c.in_ok-walk_on.ensures.added in
     record {
@@ -63,45 +68,50 @@ take_over-requires-clause-first c =
     (All-take (λ k. k ≡ first) (c.length-end.result - first) _
     (All-replicate (λ k. k ≡ first) 64 first refl))
 
+-- to unpack items changes nothing in the book
+moved : (c : After-loop-place) →
+    book_of (record c.self.inside { open_items = c.unpack_from.new.self }) ≡ c.args.self.now
+moved c =
+    ap (λ is. record (book_of c.self.inside) { open_items = is })
+    (same_of c.unpack_from.new.self c.self.inside.open_items c.shared_program.ensures
+    c.unpack_from.ensures.same) ∙ c.self.view_is
+
+-- the places of the round's items, each counted without those before it
+abbrev places : After-loop-place → List ℕ
+places c =
+    take (c.length-end.result - c.saturating_sub-first.result)
+    (replicate 64 c.saturating_sub-first.result)
+
+-- the book where what was found is settled
+abbrev taken : (c : After-loop-place) → BookView → BookView
+taken c z = taken_in z (remove_each z.open_items (places c)) c.loop-place.found
+
+-- the items are walked up to the last one
+walked : (c : After-loop-place) → let b = c.args.self.now in
+    AreWithin b.open_items (places c) × Keeps (taken c b)
+    × HasWalkedRound b c.args.quota (taken c b)
+walked c =
+    round_settles c.args.self.now _ _ c.loop-place.place c.args.quota c.loop-place.found
+    (subst Keeps c.self.view_is c.self.invariant.0) c.saturating_sub-first.ensures
+    (c.length-end.ensures c.self.inside.of.program
+    ∙ ap (λ (z : BookView). length z.open_items) c.self.view_is)
+    (at_end _ c.loop-place.place _ c.saturating_sub-first.ensures c.loop-place.auto.place-end
+    c.loop-place-test.false) c.loop-place.invariant.lists c.loop-place.invariant.walked
+
 pub take_over-requires-clause-within : goal.take_over-requires-clause-within
 take_over-requires-clause-within c =
-    let b = book_of c.self.inside in
-    let r = round_settles c.args.self.now _ _ c.loop-place.place c.args.quota c.loop-place.found
-    (subst Keeps c.self.view_is c.self.invariant.0) c.saturating_sub-first.ensures
-    (c.length-end.ensures b.program ∙ ap (λ (z : BookView). length z.open_items) c.self.view_is)
-    (at_end _ c.loop-place.place _ c.saturating_sub-first.ensures c.loop-place.auto.place-end
-    c.loop-place-test.false) c.loop-place.invariant.lists c.loop-place.invariant.walked in
-    let qs = take (c.length-end.result - c.saturating_sub-first.result)
-    (replicate 64 c.saturating_sub-first.result) in
-    subst (λ (z : BookView). AreWithin z.open_items qs)
-    (sym ((λ j. record b { open_items = c.unpack_from.ensures.same j }) ∙ c.self.view_is)) r.0
+    let d = (goal.at.take_over-requires-clause-within c).After-loop-place in
+    subst (λ (z : BookView). AreWithin z.open_items (places d)) (sym (moved d)) (walked d).0
 
 pub take_over-requires-clause-keeps : goal.take_over-requires-clause-keeps
 take_over-requires-clause-keeps c =
-    let b = book_of c.self.inside in
-    let r = round_settles c.args.self.now _ _ c.loop-place.place c.args.quota c.loop-place.found
-    (subst Keeps c.self.view_is c.self.invariant.0) c.saturating_sub-first.ensures
-    (c.length-end.ensures b.program ∙ ap (λ (z : BookView). length z.open_items) c.self.view_is)
-    (at_end _ c.loop-place.place _ c.saturating_sub-first.ensures c.loop-place.auto.place-end
-    c.loop-place-test.false) c.loop-place.invariant.lists c.loop-place.invariant.walked in
-    let qs = take (c.length-end.result - c.saturating_sub-first.result)
-    (replicate 64 c.saturating_sub-first.result) in
-    subst (λ (z : BookView). Keeps (taken_in z (remove_each z.open_items qs) c.loop-place.found))
-    (sym ((λ j. record b { open_items = c.unpack_from.ensures.same j }) ∙ c.self.view_is)) r.1
+    let d = (goal.at.take_over-requires-clause-keeps c).After-loop-place in
+    subst (λ (z : BookView). Keeps (taken d z)) (sym (moved d)) (walked d).1
 
 pub returns-clause-ok : goal.returns-clause-ok
 returns-clause-ok c =
-    let b = book_of c.self.inside in
-    let r = round_settles c.args.self.now _ _ c.loop-place.place c.args.quota c.loop-place.found
-    (subst Keeps c.self.view_is c.self.invariant.0) c.saturating_sub-first.ensures
-    (c.length-end.ensures b.program ∙ ap (λ (z : BookView). length z.open_items) c.self.view_is)
-    (at_end _ c.loop-place.place _ c.saturating_sub-first.ensures c.loop-place.auto.place-end
-    c.loop-place-test.false) c.loop-place.invariant.lists c.loop-place.invariant.walked in
-    let qs = take (c.length-end.result - c.saturating_sub-first.result)
-    (replicate 64 c.saturating_sub-first.result) in
+    let d = (goal.at.returns-clause-ok c).After-loop-place in
     on_settled c.take_over.result c.take_over.new.self _ _
     (HasWalkedRound c.args.self.now c.args.quota c.take_over.new.self) c.take_over.ensures.book
     (λ is. subst (HasWalkedRound c.args.self.now c.args.quota)
-    (ap (λ (z : BookView). taken_in z (remove_each z.open_items qs) c.loop-place.found)
-    (sym ((λ j. record b { open_items = c.unpack_from.ensures.same j }) ∙ c.self.view_is)) ∙ sym is)
-    r.2)
+    (ap (taken d) (sym (moved d)) ∙ sym is) (walked d).2)

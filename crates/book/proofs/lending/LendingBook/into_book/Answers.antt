@@ -10,19 +10,20 @@ use Rattle.book.specs.Books.{Keeps}
 use Rattle.book.specs.Lending.{LendingView, as_book, all_lent}
 use Rattle.book.proofs.LendingFields.{lending_of}
 use Rattle.book.proofs.Lent.{lists_back, all_back, open_runs, keeps_permuted}
-use Rattle.book.proofs.OpenItems.{deferred_run}
+use Rattle.book.proofs.OpenItems.{deferred_run, run_of, same_of}
 use Rattle.book.proofs.TakenOver.{packs_none, none_there}
 use Rattle.book.proofs.lending.LendingBook.into_book.Goals as goal
 
 pub append_list-requires : goal.append_list-requires
 append_list-requires c =
-    let p = arc_value c.self.inside.program in
+    let p = arc_value c.shared_program-program.result.now in
     let l : ListView = c.in-Some.list in
     let left : List ListView = c.pop.new.self.items in
     let popped : c.loop-list.lent.items ≡ left ++ l ∷ [] = search rules in
     let all : List ItemView = (as_book c.args.self).open_items in
     let run : All IsItem all =
-    open_runs c.args.self (subst (λ (z : LendingView). Keeps (as_book z)) c.self.view_is c.self.invariant) in
+    open_runs c.args.self
+    (subst (λ (z : LendingView). Keeps (as_book z)) c.self.view_is c.self.invariant) in
     all_left IsItem (items_at p l.packed) l.unpacked
     (all_right IsItem (all_of p c.loop-list.free) (all_of p l)
     (all_right IsItem (all_lent (map (all_of p) left)) (all_of p c.loop-list.free ++ all_of p l)
@@ -32,7 +33,7 @@ append_list-requires c =
 
 pub loop-list-preserved : goal.loop-list-preserved
 loop-list-preserved c =
-    let p = arc_value c.self.inside.program in
+    let p = arc_value c.shared_program-program.result.now in
     let l : ListView = c.in-Some.list in
     let left : List ListView = c.pop.new.self.items in
     let popped : c.loop-list.lent.items ≡ left ++ l ∷ [] = search rules in
@@ -43,11 +44,12 @@ loop-list-preserved c =
 
 pub unpack_from-requires : goal.unpack_from-requires
 unpack_from-requires c =
-    let p = arc_value c.self.inside.program in
+    let p = arc_value c.shared_program-program.result.now in
     let free : ListView = c.loop-list.free in
     let all : List ItemView = (as_book c.args.self).open_items in
     let run : All IsItem all =
-    open_runs c.args.self (subst (λ (z : LendingView). Keeps (as_book z)) c.self.view_is c.self.invariant) in
+    open_runs c.args.self
+    (subst (λ (z : LendingView). Keeps (as_book z)) c.self.view_is c.self.invariant) in
     all_left IsItem (items_at p free.packed) free.unpacked
     (All-permutation IsItem all (all_of p free)
     (all_back p all c.loop-list.lent.items free
@@ -55,23 +57,30 @@ unpack_from-requires c =
 
 pub unpack_from-requires-2 : goal.unpack_from-requires-2
 unpack_from-requires-2 c =
-    deferred_run (as_book (lending_of c.self.inside)) c.self.inside.deferred refl c.self.invariant
+    run_of c.self.inside.deferred.packed c.shared_program-program.ensures
+    (deferred_run (as_book (lending_of c.self.inside)) c.self.inside.deferred refl c.self.invariant)
 
 pub invariant_of-result : goal.invariant_of-result
 invariant_of-result c =
     let i = c.self.inside in
-    let p = arc_value i.program in
+    let p = i.of.program in
     let b = as_book (lending_of i) in
     let free : ListView = c.loop-list.free in
     let moved : IsPermutation b.open_items (all_of p free) =
     all_back p b.open_items c.loop-list.lent.items free
     (omega (arith, c.loop-list.lent.ok.0, c.in_default.ensures.cases.0))
+    (subst (λ q. IsPermutation b.open_items
+    (all_lent (map (all_of q) c.loop-list.lent.items) ++ all_of q free))
+    c.shared_program-program.ensures
     (subst (λ (z : LendingView). IsPermutation (as_book z).open_items
-    (all_lent (map (all_of p) c.loop-list.lent.items) ++ all_of p free)) (sym c.self.view_is)
-    c.loop-list.invariant) in (
+    (all_lent (map (all_of (arc_value c.shared_program-program.result.now))
+    c.loop-list.lent.items) ++ all_of (arc_value c.shared_program-program.result.now) free))
+    (sym c.self.view_is) c.loop-list.invariant)) in (
       subst Keeps (λ k. record b {
-        open_items = sym c.unpack_from.ensures.same k;
-        deferred = sym c.unpack_from-2.ensures.same k;
+        open_items = sym (same_of c.unpack_from.new.self free c.shared_program-program.ensures
+            c.unpack_from.ensures.same) k;
+        deferred = sym (same_of c.unpack_from-2.new.self i.deferred
+            c.shared_program-program.ensures c.unpack_from-2.ensures.same) k;
       }) (keeps_permuted b (all_of p free) refl moved c.self.invariant),
       tt,
       λ q bad. let packs : c.is_packed-packs.result ≡ false =

@@ -1,5 +1,4 @@
 use Rattle.std.proofs.Common.{rules, ◌≡◌, ◌∙◌, ◌++◌, ◌<◌, [], refl, ap, sym, subst, arith, length, get_or, set, take, slice_get, List, ◌-◌}
-use Rattle.std.specs.Arc.{arc_value}
 use Rattle.std.proofs.lemmas.List.{map-set}
 use Rattle.items.specs.Items.{ItemView}
 use Rattle.items.specs.Walks.{items_at}
@@ -16,7 +15,7 @@ use Rattle.book.proofs.lending.LendingBook.lend.Goals.{After-branch-split_last}
 idle : (c : After-branch-split_last) → Has (lending_of c.self.inside) c.args.worker []
 idle c =
     let i = c.self.inside in
-    let p = arc_value i.program in
+    let p = i.of.program in
     let there : c.args.worker < length i.lent.items = search rules in
     let at : c.in-Some.lent.now ≡ get_or i.lent.items c.args.worker c.in-Some.lent.now = search rules in
     let none : all_of p c.in-Some.lent.now ≡ [] =
@@ -28,11 +27,11 @@ idle c =
 abbrev after : After-branch-split_last → LendingView
 after c =
     let i = c.self.inside in
-    lending_view i.program i.mode i.finished c.split_last.new.self
+    lending_view i.of i.mode i.finished c.split_last.new.self
     (set i.lent.items c.args.worker c.split_last.new.other) i.deferred i.lists i.quick
 
 abbrev these : After-branch-split_last → ListView → List ItemView
-these c l = all_of (arc_value c.self.inside.program) l
+these c l = all_of c.self.inside.of.program l
 
 lent_is : (c : After-branch-split_last) (items : List ItemView) →
     these c c.split_last.new.other ≡ items → (after c).lent
@@ -43,8 +42,8 @@ lent_is c items e =
     ∙ ap (set (lending_of i).lent c.args.worker) e
 
 -- where memory was refused it is as before
-as_before : (c : After-branch-split_last) → these c c.split_last.new.self ≡ (lending_of c.self.inside).free
-    → these c c.split_last.new.other ≡ [] → after c ≡ lending_of c.self.inside
+as_before : (c : After-branch-split_last) →
+    these c c.split_last.new.self ≡ (lending_of c.self.inside).free → these c c.split_last.new.other ≡ [] → after c ≡ lending_of c.self.inside
 as_before c kept none =
     let b = lending_of c.self.inside in
     λ k. record b {
@@ -55,7 +54,7 @@ as_before c kept none =
 pub invariant_of-self-in_err-split_last : goal.invariant_of-self-in_err-split_last
 invariant_of-self-in_err-split_last c =
     let d = (goal.at.invariant_of-self-in_err-split_last c).After-branch-split_last in
-    let p = arc_value c.self.inside.program in
+    let p = c.self.inside.of.program in
     subst (λ (z : LendingView). Keeps (as_book z))
     (sym (as_before d (c.in_err-split_last.ensures.kept p) (c.in_err-split_last.ensures.moved p)))
     c.self.invariant
@@ -63,7 +62,7 @@ invariant_of-self-in_err-split_last c =
 pub returns-in_err-split_last-clause-book : goal.returns-in_err-split_last-clause-book
 returns-in_err-split_last-clause-book c =
     let d = (goal.at.returns-in_err-split_last-clause-book c).After-branch-split_last in
-    let p = arc_value c.self.inside.program in
+    let p = c.self.inside.of.program in
     subst (λ (z : LendingView). Reorders (as_book c.args.self.now) (as_book z))
     (sym (as_before d (c.in_err-split_last.ensures.kept p) (c.in_err-split_last.ensures.moved p)
     ∙ c.self.view_is))
@@ -94,7 +93,7 @@ keeps c m =
 
 pub invariant_of-self-in_err-copy_from : goal.invariant_of-self-in_err-copy_from
 invariant_of-self-in_err-copy_from c =
-    let p = arc_value c.self.inside.program in
+    let p = c.self.inside.of.program in
     keeps (goal.at.invariant_of-self-in_err-copy_from c).After-branch-split_last (record {
       kept = c.in_ok-split_last.ensures.kept p;
       moved = c.in_ok-split_last.ensures.moved p;
@@ -103,7 +102,7 @@ invariant_of-self-in_err-copy_from c =
 pub returns-in_err-copy_from-clause-book : goal.returns-in_err-copy_from-clause-book
 returns-in_err-copy_from-clause-book c =
     let d = (goal.at.returns-in_err-copy_from-clause-book c).After-branch-split_last in
-    let p = arc_value c.self.inside.program in
+    let p = c.self.inside.of.program in
     subst (λ (z : LendingView). Reorders (as_book z) (as_book (after d))) c.self.view_is
     (reorders d (record {
       kept = c.in_ok-split_last.ensures.kept p;
@@ -112,7 +111,7 @@ returns-in_err-copy_from-clause-book c =
 
 pub invariant_of-self-2 : goal.invariant_of-self-2
 invariant_of-self-2 c =
-    let p = arc_value c.self.inside.program in
+    let p = c.self.inside.of.program in
     keeps (goal.at.invariant_of-self-2 c).After-branch-split_last (record {
       kept = c.in_ok-split_last.ensures.kept p;
       moved = c.in_ok-split_last.ensures.moved p;
@@ -121,7 +120,7 @@ invariant_of-self-2 c =
 pub returns-clause-book : goal.returns-clause-book
 returns-clause-book c =
     let d = (goal.at.returns-clause-book c).After-branch-split_last in
-    let p = arc_value c.self.inside.program in
+    let p = c.self.inside.of.program in
     subst (λ (z : LendingView). Reorders (as_book z) (as_book (after d))) c.self.view_is
     (reorders d (record {
       kept = c.in_ok-split_last.ensures.kept p;
@@ -130,9 +129,9 @@ returns-clause-book c =
 
 -- what the worker has is of the program
 owned : (c : After-branch-split_last) → Moved c →
-    IsLoanOf (arc_value c.self.inside.program) c.split_last.new.other
+    IsLoanOf c.self.inside.of.program c.split_last.new.other
 owned c m =
-    let p = arc_value c.self.inside.program in
+    let p = c.self.inside.of.program in
     let other : ListView = c.split_last.new.other in
     let lent : List (List ItemView) = (lending_of c.self.inside).lent in
     let has : Has (after c) c.args.worker (all_of p other) =
@@ -143,8 +142,8 @@ owned c m =
 pub returns-clause-loan : goal.returns-clause-loan
 returns-clause-loan c = λ e.
     let d = (goal.at.returns-clause-loan c).After-branch-split_last in
-    let p = arc_value c.self.inside.program in
-    subst (λ (z : LendingView). IsLoanOf z.program c.copy_from.new.self) c.self.view_is
+    let p = c.self.inside.of.program in
+    subst (λ (z : LendingView). IsLoanOf z.of.program c.copy_from.new.self) c.self.view_is
     (same_loan p c.split_last.new.other c.copy_from.new.self c.in_ok-copy_from.ensures.packed
     c.in_ok-copy_from.ensures.unpacked
     (owned d (record {
@@ -155,7 +154,7 @@ returns-clause-loan c = λ e.
 pub returns-clause-lent : goal.returns-clause-lent
 returns-clause-lent c = λ e.
     let d = (goal.at.returns-clause-lent c).After-branch-split_last in
-    let p = arc_value c.self.inside.program in
+    let p = c.self.inside.of.program in
     let m : Moved d = record {
       kept = c.in_ok-split_last.ensures.kept p;
       moved = c.in_ok-split_last.ensures.moved p;

@@ -1,5 +1,4 @@
 use Rattle.std.proofs.Common.{◌≡◌, ◌∙◌, [], ◌∷◌, ◌++◌, ap, sym, subst, map}
-use Rattle.std.specs.Arc.{arc_value}
 use Rattle.std.proofs.lemmas.List.{map-append, replicate_more}
 use Rattle.items.specs.Walks.{items_at}
 use Rattle.book.specs.ItemLists.{all_of}
@@ -20,11 +19,11 @@ invariant_of-result c =
     let i = c.book.inside in
     subst Keeps (sym (not_lent_yet i c.loop.lent.items c.loop.counter
     (ap (λ (b : BookView). b.dropped) c.book.view_is ∙ c.requires.all)
-    (c.loop.invariant (arc_value i.program)))) c.book.invariant.0
+    (c.loop.invariant i.of.program))) c.book.invariant.0
 
 pub returns-clause-book : goal.returns-clause-book
 returns-clause-book c =
     let i = c.book.inside in
     not_lent_yet i c.loop.lent.items c.loop.counter
     (ap (λ (b : BookView). b.dropped) c.book.view_is ∙ c.requires.all)
-    (c.loop.invariant (arc_value i.program)) ∙ c.book.view_is
+    (c.loop.invariant i.of.program) ∙ c.book.view_is

@@ -1,5 +1,4 @@
 use Rattle.std.proofs.Common.{◌≡◌, ◌∙◌, ◌+◌, ◌<◌, ◌≤◌, ◌++◌, ap, sym, subst, arith, length, get_or, take}
-use Rattle.std.specs.Arc.{arc_value}
 use Rattle.std.proofs.lemmas.List.{length-map, take_all}
 use Rattle.summary.specs.Summaries.{cut}
 use Rattle.book.specs.ItemLists.{ListView, all_of}
@@ -11,7 +10,7 @@ use Rattle.book.proofs.lending.LendingBook.progress.Goals as goal
 pub loop-list-preserved : goal.loop-list-preserved
 loop-list-preserved c =
     let i = c.self.inside in
-    let p = arc_value i.program in
+    let p = i.of.program in
     let b = lending_of i in
     let k = c.loop-list.list-index in
     let l : ListView = c.list-item.result in
@@ -31,7 +30,7 @@ loop-list-preserved c =
 pub returns-clause-open_items : goal.returns-clause-open_items
 returns-clause-open_items c =
     let i = c.self.inside in
-    let p = arc_value i.program in
+    let p = i.of.program in
     let k = c.loop-list.list-index in
     let v : LendingView = c.args.self.now in
     let over : length v.lent ≤ k =

@@ -2,7 +2,7 @@ use Rattle.std.proofs.Common.{rules, ◌≡◌, ◌∙◌, ◌<◌, ◌++◌, []
 use Rattle.std.specs.Arc.{arc_value}
 use Rattle.std.specs.List.{All}
 use Rattle.std.proofs.lemmas.List.{map-set}
-use Rattle.items.specs.Items.{IsItem}
+use Rattle.items.specs.Items.{IsItem, AreOf}
 use Rattle.items.specs.Walks.{items_at, listed_if}
 use Rattle.items.proofs.Listed.{listed_items}
 use Rattle.items.proofs.ListParts.{all_right}
@@ -11,7 +11,7 @@ use Rattle.book.specs.Books.{Keeps, HaveSettled}
 use Rattle.book.specs.Lending.{LendingView, Has, as_book, lending_view}
 use Rattle.book.proofs.LendingFields.{lending_of}
 use Rattle.book.proofs.Lent.{lent_at, set_same, of_worker, is_loan, came_back, settled_loan}
-use Rattle.book.proofs.OpenItems.{waiting_run}
+use Rattle.book.proofs.OpenItems.{waiting_run, run_of, same_of, more_of}
 use Rattle.book.proofs.TakenOver.{grown, still_there, taken_back}
 use Rattle.book.proofs.lending.LendingBook.settle.Goals as goal
 use Rattle.book.proofs.lending.LendingBook.settle.Goals.{In_ok-make_room, After-drop-none-inside-in-Err-2, After-drop-none-inside-3}
@@ -19,27 +19,29 @@ use Rattle.book.proofs.lending.LendingBook.settle.Goals.{In_ok-make_room, After-
 pub is_same-requires-clause-run : goal.is_same-requires-clause-run
 is_same-requires-clause-run c =
     let i = c.self.inside in
-    let p = arc_value i.program in
+    let p = i.of.program in
     let lent = c.in-Some.lent.now in
     let there : c.args.worker < length i.lent.items = search rules in
     let at : lent ≡ get_or i.lent.items c.args.worker lent = search rules in
+    run_of lent.packed c.shared_program-program.ensures
     (is_loan p lent (of_worker (lending_of i) c.args.worker (all_of p lent)
     (lent_at p i.lent.items c.args.worker lent there at) c.self.invariant)).run
 
 pub is_same-requires-clause-unpacked : goal.is_same-requires-clause-unpacked
 is_same-requires-clause-unpacked c =
     let i = c.self.inside in
-    let p = arc_value i.program in
+    let p = i.of.program in
     let lent = c.in-Some.lent.now in
     let there : c.args.worker < length i.lent.items = search rules in
     let at : lent ≡ get_or i.lent.items c.args.worker lent = search rules in
+    subst (λ q. AreOf q lent.unpacked) (sym c.shared_program-program.ensures)
     (is_loan p lent (of_worker (lending_of i) c.args.worker (all_of p lent)
     (lent_at p i.lent.items c.args.worker lent there at) c.self.invariant)).own
 
 pub returns-then-not-branch-clause-not_taken : goal.returns-then-not-branch-clause-not_taken
 returns-then-not-branch-clause-not_taken c = λ e. inr (λ has.
     let i = c.self.inside in
-    let p = arc_value i.program in
+    let p = i.of.program in
     let lent : ListView = c.in-Some.lent.now in
     let loan : ListView = c.loan.inside.list in
     let there : c.args.worker < length i.lent.items = search rules in
@@ -48,26 +50,30 @@ returns-then-not-branch-clause-not_taken c = λ e. inr (λ has.
     lent_at p i.lent.items c.args.worker lent there at in
     let its : slice_get (lending_of i).lent c.args.worker ≡ Some (all_of p loan) =
     subst (λ (l : ListView). Has (lending_of i) c.args.worker (all_of p l)) (sym c.loan.view_is)
-    (subst (λ (z : LendingView). Has z c.args.worker (all_of z.program c.args.loan.now))
+    (subst (λ (z : LendingView). Has z c.args.worker (all_of z.of.program c.args.loan.now))
     (sym c.self.view_is) has) in
     let same : all_of p lent ≡ all_of p loan = cc in
-    let yes : c.in_ok-is_same.field-0 ≡ true = c.in_ok-is_same.ensures.1 same in
+    let of_own : all_of (arc_value c.shared_program-program.result.now) lent
+    ≡ all_of (arc_value c.shared_program-program.result.now) loan =
+    same_of lent loan (sym c.shared_program-program.ensures) same in
+    let yes : c.in_ok-is_same.field-0 ≡ true = c.in_ok-is_same.ensures.1 of_own in
     let no : c.in_ok-is_same.field-0 ≡ false = c.if-not-branch.true in
     absurd (cc))
 
 -- the worker has the items of the loan
 has : (c : In_ok-make_room) →
-    Has c.args.self.now c.args.worker (all_of c.args.self.now.program c.args.loan.now)
+    Has c.args.self.now c.args.worker (all_of c.args.self.now.of.program c.args.loan.now)
 has c =
     let i = c.self.inside in
-    let p = arc_value i.program in
+    let p = i.of.program in
     let lent : ListView = c.in-Some.lent.now in
     let there : c.args.worker < length i.lent.items = search rules in
     let at : lent ≡ get_or i.lent.items c.args.worker lent = search rules in
     let yes : c.in_ok-is_same.field-0 ≡ true = search rules in
     let same : all_of p lent ≡ all_of p c.args.loan.now =
-    c.in_ok-is_same.ensures.0 yes ∙ ap (all_of p) c.loan.view_is in
-    subst (λ (z : LendingView). Has z c.args.worker (all_of z.program c.args.loan.now))
+    same_of lent c.loan.inside.list c.shared_program-program.ensures
+    (c.in_ok-is_same.ensures.0 yes) ∙ ap (all_of p) c.loan.view_is in
+    subst (λ (z : LendingView). Has z c.args.worker (all_of z.of.program c.args.loan.now))
     c.self.view_is
     (subst (Has (lending_of i) c.args.worker) same
     (lent_at p i.lent.items c.args.worker lent there at))
@@ -84,24 +90,26 @@ append_prefixes-requires c =
     let v : LendingView = c.args.self.now in
     let found = c.args.found.now in
     let after = came_back v c.args.worker found in
-    let run : All IsItem (v.deferred ++ listed_if v.lists (items_at v.program found.deferred)) =
+    let run : All IsItem (v.deferred ++ listed_if v.lists (items_at v.of.program found.deferred)) =
     waiting_run (as_book after)
     (settled_loan v c.args.worker _ found (has d) (keeps d) (lists d) c.requires.walked).1 in
-    subst (λ ps. All IsItem (items_at (arc_value c.self.inside.program) ps))
+    run_of c.listed_of-listed.result.now c.shared_program-program.ensures
+    (subst (λ ps. All IsItem (items_at c.self.inside.of.program ps))
     (sym c.listed_of-listed.ensures)
-    (subst (λ (z : LendingView). All IsItem (items_at z.program (listed_if z.lists found.deferred)))
+    (subst (λ (z : LendingView). All IsItem
+    (items_at z.of.program (listed_if z.lists found.deferred)))
     (sym c.self.view_is)
-    (subst (All IsItem) (sym (listed_items v.program v.lists found.deferred))
-    (all_right IsItem v.deferred (listed_if v.lists (items_at v.program found.deferred)) run)))
+    (subst (All IsItem) (sym (listed_items v.of.program v.lists found.deferred))
+    (all_right IsItem v.deferred (listed_if v.lists (items_at v.of.program found.deferred)) run))))
 
 -- the book is as before where the sum was refused
-not_joined : (c : After-drop-none-inside-in-Err-2) → lending_view c.self.inside.program
+not_joined : (c : After-drop-none-inside-in-Err-2) → lending_view c.self.inside.of
     c.self.inside.mode c.join_in_by.new.self c.make_room.new.self
     (set c.self.inside.lent.items c.args.worker c.in-Some.lent.now) c.truncate.new.self
     c.self.inside.lists c.self.inside.quick ≡ lending_of c.self.inside
 not_joined c =
     let i = c.self.inside in
-    let p = arc_value i.program in
+    let p = i.of.program in
     let b = lending_of i in
     let lent : ListView = c.in-Some.lent.now in
     let there : c.args.worker < length i.lent.items = search rules in
@@ -113,7 +121,9 @@ not_joined c =
     (lent_at p i.lent.items c.args.worker lent there at) in
     let put_off = taken_back b.deferred (items_at p c.listed_of-listed.result.now)
     (all_of p c.append_prefixes.new.self) (all_of p c.truncate.new.self)
-    c.length-deferred_length.result c.in_ok-append_prefixes.ensures.all
+    c.length-deferred_length.result
+    (more_of c.append_prefixes.new.self i.deferred c.listed_of-listed.result.now
+    c.shared_program-program.ensures c.in_ok-append_prefixes.ensures.all)
     (c.length-deferred_length.ensures p) (c.truncate.ensures.items p) in
     λ k. record b {
       finished = c.in-Err.ensures.joined k;
@@ -130,14 +140,14 @@ pub returns-in-Err-clause-same : goal.returns-in-Err-clause-same
 returns-in-Err-clause-same c = λ e. not_joined c ∙ c.self.view_is
 
 -- the book where the walks are settled
-settled : (c : After-drop-none-inside-3) → lending_view c.self.inside.program
+settled : (c : After-drop-none-inside-3) → lending_view c.self.inside.of
     c.self.inside.mode c.join_in_by.new.self c.append.new.self
     (set c.self.inside.lent.items c.args.worker c.clear.new.self) c.append_prefixes.new.self
     c.self.inside.lists c.self.inside.quick
     ≡ came_back c.args.self.now c.args.worker c.args.found.now
 settled c =
     let i = c.self.inside in
-    let p = arc_value i.program in
+    let p = i.of.program in
     let b = lending_of i in
     let found = c.args.found.now in
     let free = grown p c.make_room.new.self c.append.new.self found.rest.items
@@ -149,7 +159,8 @@ settled c =
     λ k. items_at p (c.clear.ensures.packed k) ++ c.clear.ensures.unpacked k in
     let mine = map-set (all_of p) i.lent.items c.args.worker c.clear.new.self
     ∙ ap (set b.lent c.args.worker) none in
-    let put_off = c.in_ok-append_prefixes.ensures.all
+    let put_off = more_of c.append_prefixes.new.self i.deferred c.listed_of-listed.result.now
+    c.shared_program-program.ensures c.in_ok-append_prefixes.ensures.all
     ∙ ap (λ is. b.deferred ++ is)
     (ap (items_at p) c.listed_of-listed.ensures ∙ listed_items p b.lists found.deferred) in
     (λ k. record b {

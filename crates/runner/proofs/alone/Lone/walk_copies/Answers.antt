@@ -24,6 +24,6 @@ loop-item-preserved c =
     record {
       start = λ e. absurd (omega arith);
       less = λ _. less;
-      program = less.program;
+      of = less.of;
       walker = c.walk_item.ensures.walker ∙ c.loop-item.invariant.walker;
     }

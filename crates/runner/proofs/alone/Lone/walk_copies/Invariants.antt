@@ -6,6 +6,6 @@ abbrev pub invariant-loop-item : goal.invariant-loop-item
 invariant-loop-item l = record {
   start : l.item-index ≡ 0 → l.book ≡ l.fn.book;
   less : 0 < l.item-index → HasLess l.fn.book l.book;
-  program : l.book.program ≡ l.fn.book.program;
+  of : l.book.of ≡ l.fn.book.of;
   walker : l.self.walker ≡ l.fn.self.walker;
 }

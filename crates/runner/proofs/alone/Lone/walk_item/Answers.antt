@@ -1,10 +1,10 @@
-use Rattle.std.proofs.Common.{rules, ◌≡◌, ◌∙◌, [], ⊎_elim, inl, inr, ap, sym, subst, Bool, true, false, Result, Ok, Err}
+use Rattle.std.proofs.Common.{rules, ◌≡◌, ◌∙◌, [], ⊎_elim, inl, inr, sym, subst, Bool, true, false, Result, Ok, Err}
 use Rattle.std.specs.declared.alloc.AllocError.{AllocError}
 use Rattle.std.proofs.lemmas.List.Elements.{All-nil, All-cons}
 use Rattle.items.specs.declared.mode.Mode.{Mode}
 use Rattle.items.specs.Items.{ItemView, AreOf}
 use Rattle.walk.specs.Founds.{HasAdded}
-use Rattle.book.specs.Books.{BookView, HaveFound, drops}
+use Rattle.book.specs.Books.{BookView, drops}
 use Rattle.runner.specs.inner.Shrinking.{HasLess, Went}
 use Rattle.runner.proofs.Shrinks.{one_found, one_settled, not_open, thinned_less, thinned_went}
 use Rattle.runner.proofs.alone.Lone.walk_item.Goals as goal
@@ -20,9 +20,9 @@ returns-then-drops-clause-book c =
 pub settle_all-requires-clause-program : goal.settle_all-requires-clause-program
 settle_all-requires-clause-program c =
     let b = c.args.book.now in
-    subst (AreOf b.program) (sym c.from_ref.ensures.value)
-    (All-cons (λ (i : ItemView). i.program ≡ b.program) c.args.item.now []
-    (c.requires.item ∙ sym c.requires.book) (All-nil (λ (i : ItemView). i.program ≡ b.program)))
+    subst (AreOf b.of.program) (sym c.from_ref.ensures.value)
+    (All-cons (λ (i : ItemView). i.program ≡ b.of.program) c.args.item.now []
+    (c.requires.item ∙ sym c.requires.book) (All-nil (λ (i : ItemView). i.program ≡ b.of.program)))
 
 pub settle_all-requires-clause-walked : goal.settle_all-requires-clause-walked
 settle_all-requires-clause-walked c =

@@ -1,13 +1,13 @@
-use Rattle.std.proofs.Common.{◌≡◌, ◌⊎◌, ◌∙◌, true, false, Ok, inl, inr, sym, subst}
-use Rattle.items.specs.Items.{AreOf}
+use Rattle.std.proofs.Common.{◌≡◌, ◌⊎◌, ◌∙◌, true, false, Ok, inl, inr, ap, sym, subst}
+use Rattle.items.specs.Items.{ItemView, AreOf}
 use Rattle.book.specs.Books.{HaveSettled, AreNotTaken}
 use Rattle.workers.proofs.Kept.{found_in, kept_of}
 use Rattle.workers.proofs.branded.BrandedBook.settle.Goals as goal
 
 pub settle_all-settled-requires-clause-program : goal.settle_all-settled-requires-clause-program
 settle_all-settled-requires-clause-program g c =
-    subst (λ q. AreOf q c.as_slice-items.result.now) (sym c.self.invariant.program)
-    (subst (AreOf g.N.SearchBrand.program) (sym c.as_slice-items.ensures.value)
+    subst (λ (i : ItemView). AreOf i.program c.as_slice-items.result.now) (sym c.self.invariant.of)
+    (subst (AreOf g.N.SearchBrand.of.program) (sym c.as_slice-items.ensures.value)
     c.requires.round.items)
 
 pub settle_all-settled-requires-clause-walked : goal.settle_all-settled-requires-clause-walked
@@ -16,9 +16,10 @@ settle_all-settled-requires-clause-walked g c =
     let of = c.self.invariant in
     let round = c.args.round.now in
     let batch = c.args.batch.now in
-    found_in batch.walker b.program round.mode b.mode round.items.items c.as_slice-items.result.now
-    batch.places.items c.as_slice-places.result.now batch.found
-    (of.program ∙ sym c.requires.walker) (of.mode ∙ sym c.requires.round.mode)
+    found_in batch.walker b.of.program round.mode b.mode round.items.items
+    c.as_slice-items.result.now batch.places.items c.as_slice-places.result.now batch.found
+    (ap (λ (i : ItemView). i.program) of.of ∙ sym c.requires.walker)
+    (of.mode ∙ sym c.requires.round.mode)
     c.as_slice-items.ensures.value c.as_slice-places.ensures.value c.requires.kept.found
 
 pub invariant_of-self : goal.invariant_of-self
@@ -27,11 +28,12 @@ invariant_of-self g c =
     let of = c.self.invariant in
     let round = c.args.round.now in
     let batch = c.args.batch.now in
-    let found = found_in batch.walker b.program round.mode b.mode round.items.items
+    let found = found_in batch.walker b.of.program round.mode b.mode round.items.items
     c.as_slice-items.result.now batch.places.items c.as_slice-places.result.now batch.found
-    (of.program ∙ sym c.requires.walker) (of.mode ∙ sym c.requires.round.mode)
+    (ap (λ (i : ItemView). i.program) of.of ∙ sym c.requires.walker)
+    (of.mode ∙ sym c.requires.round.mode)
     c.as_slice-items.ensures.value c.as_slice-places.ensures.value c.requires.kept.found in
-    kept_of g.N.SearchBrand.program g.N.SearchBrand.mode g.N.SearchBrand.quick
+    kept_of g.N.SearchBrand.of g.N.SearchBrand.mode g.N.SearchBrand.quick
     g.N.SearchBrand.lists found.walks b c.settle_all-settled.new.self c.settle_all-settled.result of
     (c.settle_all-settled.ensures.taken found) c.settle_all-settled.ensures.same
 
@@ -41,11 +43,12 @@ invariant_of-self-2 g c =
     let of = c.self.invariant in
     let round = c.args.round.now in
     let batch = c.args.batch.now in
-    let found = found_in batch.walker b.program round.mode b.mode round.items.items
+    let found = found_in batch.walker b.of.program round.mode b.mode round.items.items
     c.as_slice-items.result.now batch.places.items c.as_slice-places.result.now batch.found
-    (of.program ∙ sym c.requires.walker) (of.mode ∙ sym c.requires.round.mode)
+    (ap (λ (i : ItemView). i.program) of.of ∙ sym c.requires.walker)
+    (of.mode ∙ sym c.requires.round.mode)
     c.as_slice-items.ensures.value c.as_slice-places.ensures.value c.requires.kept.found in
-    kept_of g.N.SearchBrand.program g.N.SearchBrand.mode g.N.SearchBrand.quick
+    kept_of g.N.SearchBrand.of g.N.SearchBrand.mode g.N.SearchBrand.quick
     g.N.SearchBrand.lists found.walks b c.settle_all-settled.new.self c.settle_all-settled.result of
     (c.settle_all-settled.ensures.taken found) c.settle_all-settled.ensures.same
 
@@ -56,9 +59,10 @@ returns-clause-settled g c = λ f.
     let of = c.self.invariant in
     let round = c.args.round.now in
     let batch = c.args.batch.now in
-    let again = found_in g.N.SearchBrand.program b.program g.N.SearchBrand.mode b.mode
+    let again = found_in g.N.SearchBrand.of.program b.of.program g.N.SearchBrand.mode b.mode
     round.items.items c.as_slice-items.result.now batch.places.items c.as_slice-places.result.now
-    batch.found of.program of.mode c.as_slice-items.ensures.value c.as_slice-places.ensures.value f in
+    batch.found (ap (λ (i : ItemView). i.program) of.of) of.mode c.as_slice-items.ensures.value
+    c.as_slice-places.ensures.value f in
     elim c.in_ok-_is_taken._is_taken as (λ taken. c.settle_all-settled.result ≡ Ok taken
     → HaveSettled old f.walks c.settle_all-settled.new.self
     ⊎ AreNotTaken old round.items.items batch.places.items batch.found) [

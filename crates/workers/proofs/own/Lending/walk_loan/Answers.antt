@@ -10,7 +10,7 @@ use Rattle.workers.proofs.own.Lending.walk_loan.Goals as goal
 
 pub loop-place-init : goal.loop-place-init
 loop-place-init g c =
-    let p = g.N.SearchBrand.program in
+    let p = g.N.SearchBrand.of.program in
     record {
       walker = c.clear.ensures.program ∙ c.requires.walker;
       walked = none_walked p g.N.SearchBrand.mode (all_of p c.args.loan.now) c.args.self.now.quota 0
@@ -19,7 +19,7 @@ loop-place-init g c =
 
 pub loop-place-preserved : goal.loop-place-preserved
 loop-place-preserved g c =
-    let p = g.N.SearchBrand.program in
+    let p = g.N.SearchBrand.of.program in
     let of = c.args.self.now.of in
     let i = c.loop-place.invariant in
     let own = c.write_items.new.items.items in

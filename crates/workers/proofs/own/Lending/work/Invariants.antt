@@ -7,5 +7,6 @@ use Rattle.workers.proofs.own.Lending.work.Given as goal
 abbrev pub invariant-loop : goal.invariant-loop
 invariant-loop g l =
     (goal.iterator-loop g).can_next l.iterator' × (goal.iterator-loop g).is_finite l.iterator'
-    × (l.worker.walker ≡ g.N.SearchBrand.program) × AreOf g.N.SearchBrand.program l.items.items
-    × (l.next ≡ Walk → IsLent g.N.SearchBrand.program l.loan)
+    × (l.worker.walker ≡ g.N.SearchBrand.of.program)
+    × AreOf g.N.SearchBrand.of.program l.items.items
+    × (l.next ≡ Walk → IsLent g.N.SearchBrand.of.program l.loan)

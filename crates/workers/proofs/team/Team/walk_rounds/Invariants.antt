@@ -3,7 +3,7 @@ use Rattle.workers.proofs.team.Team.walk_rounds.Given as goal
 -- the search that the stretch is of
 abbrev pub ghosts-walk : goal.ghosts-walk
 ghosts-walk g a = record {
-  program = a.self.book.program;
+  of = a.self.book.of;
   mode = a.self.book.mode;
   quick = a.self.book.quick;
   lists = a.self.book.lists;
@@ -12,7 +12,7 @@ ghosts-walk g a = record {
 -- and that the workers' own rounds are of
 abbrev pub ghosts-walk_own_rounds : goal.ghosts-walk_own_rounds
 ghosts-walk_own_rounds g a = record {
-  program = a.team.book.program;
+  of = a.team.book.of;
   mode = a.team.book.mode;
   quick = a.team.book.quick;
   lists = a.team.book.lists;

@@ -6,5 +6,5 @@ use Rattle.workers.proofs.worker.Worker.walk_items.Given as goal
 abbrev pub invariant-loop : goal.invariant-loop
 invariant-loop g l =
     (goal.iterator-loop g).can_next l.iterator' × (goal.iterator-loop g).is_finite l.iterator'
-    × IsOn l.shared.board.id g.N.SearchBrand.program l.self × AreKept l.round l.self.batch
+    × IsOn l.shared.board.id g.N.SearchBrand.of.program l.self × AreKept l.round l.self.batch
     × (vec_len l.self.batch.places < KEPT_WALKS)

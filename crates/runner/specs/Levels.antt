@@ -1,0 +1,96 @@
+-- How a search goes from bound to bound, and what its levels are.
+use Rattle.std.specs.Prelude.{◌≡◌, ℕ, ◌<◌, ◌≤◌, ◌+◌, Bool, true, List, [], ◌∷◌, ◌++◌, length, Contains}
+use Rattle.std.specs.Prelude.{Option, Some, None}
+use Rattle.guest_code.specs.Program.{Program}
+use Rattle.semantics.specs.Machine.{start}
+use Rattle.schedules.specs.Schedules.{complete_schedules}
+use Rattle.items.specs.declared.mode.Mode.{Mode}
+use Rattle.items.specs.declared.mode.Mode.TheVariants.{Bounded, Reduced}
+use Rattle.summary.specs.Summaries.{SummaryView}
+use Rattle.items.specs.Items.{ItemView, item_sum}
+use Rattle.items.specs.Walks.{IsSplit}
+use Rattle.book.specs.Progress.{mode_bound}
+use Rattle.report.specs.declared.level.Level.{Level}
+use Rattle.report.specs.declared.options.Search.{Search}
+use Rattle.report.specs.declared.options.Search.TheVariants.{UpTo, Unbounded}
+use Rattle.report.specs.declared.report.Cause.{Cause}
+use Rattle.report.specs.Reports.{IsCause}
+
+-- the search comes to the mode
+abbrev pub IsModeOf : Search → Mode → Type 0
+IsModeOf (UpTo last) (Bounded bound) = bound ≤ last
+IsModeOf (UpTo last) Reduced = ⊥
+IsModeOf Unbounded (Bounded bound) = ⊥
+IsModeOf Unbounded Reduced = Unit {0}
+
+-- the mode is the search's last one
+abbrev pub IsLast : Search → Mode → Type 0
+IsLast (UpTo last) (Bounded bound) = bound ≡ last
+IsLast (UpTo last) Reduced = ⊥
+IsLast Unbounded (Bounded bound) = ⊥
+IsLast Unbounded Reduced = Unit {0}
+
+-- a search that finds this sum of all at this mode goes on to the next bound: nothing is bad,
+-- something is beyond, and the mode isn't the last
+pub record GoesOn (search : Search) (mode : Mode) (sum : SummaryView) : Type 0 where
+  pub none : sum.first_bad ≡ None
+  pub beyond : sum.beyond ≡ true
+  pub more : IsLast search mode → ⊥
+
+-- the schedule that was found, if any, is a complete one of the program
+abbrev pub IsOfProgram : Program → Option (List ℕ) → Type 0
+IsOfProgram p found = (w : List ℕ) → found ≡ Some w → Contains (complete_schedules p (start p)) w
+
+-- of the item's schedules within this bound none is bad, and some are beyond it
+pub record IsPassed (i : ItemView) (bound : ℕ) : Type 0 where
+  pub none : (item_sum (Bounded bound) i).first_bad ≡ None
+  pub beyond : (item_sum (Bounded bound) i).beyond ≡ true
+
+-- each bound below that of the mode is passed
+abbrev pub HasPassed : ItemView → Mode → Type 0
+HasPassed i (Bounded bound) = (b : ℕ) → b < bound → IsPassed i b
+HasPassed i Reduced = Unit {0}
+
+-- the level of a bound that is passed: all that is there
+pub record IsPassedLevel (i : ItemView) (bound : ℕ) (l : Level) : Type 0 where
+  pub at : l.bound ≡ Some bound
+  pub summary : l.summary ≡ item_sum (Bounded bound) i
+  pub cause : l.cause ≡ None
+  pub passed : IsPassed i bound
+
+-- those of this bound and of the ones after it
+abbrev pub ArePassedFrom : ItemView → ℕ → List Level → Type 0
+ArePassedFrom i bound [] = Unit {0}
+ArePassedFrom i bound (l ∷ ls) = IsPassedLevel i bound l × ArePassedFrom i (bound + 1) ls
+
+-- the levels of all bounds below that of the mode
+abbrev pub AreBelow : ItemView → Mode → List Level → Type 0
+AreBelow i (Bounded bound) levels = (length levels ≡ bound) × ArePassedFrom i 0 levels
+AreBelow i Reduced levels = levels ≡ []
+
+-- there are items that the item's schedules split into beside those of the summary
+abbrev pub HasItemsOf : Mode → ItemView → SummaryView → Type 0
+HasItemsOf mode i sum =
+    (open_items deferred : List ItemView) × IsSplit mode i sum open_items deferred
+
+-- what the last level says of the item: the sum of all with which the search ends, or of what was
+-- tried when it was cut short
+abbrev pub IsLastSum : Bool → Search → Option ℕ → Mode → ItemView → Option Cause → SummaryView →
+    Type 0
+IsLastSum may search limit mode i None sum =
+    (sum ≡ item_sum mode i) × (GoesOn search mode sum → ⊥)
+IsLastSum may search limit mode i (Some cause) sum =
+    IsCause may limit sum cause × HasItemsOf mode i sum
+
+-- the levels of a search under an item, with a limit or none, which a gate may have stopped or not:
+-- bound after bound
+pub record AreLevels (may : Bool) (search : Search) (limit : Option ℕ) (i : ItemView)
+    (levels : List Level) : Type 0 where
+  pub passed : List Level
+  pub last : Level
+  pub all : levels ≡ passed ++ last ∷ []
+  pub mode : Mode
+  pub of : IsModeOf search mode
+  pub below : AreBelow i mode passed
+  pub bound : last.bound ≡ mode_bound mode
+  pub sum : IsLastSum may search limit mode i last.cause last.summary

@@ -1,0 +1,264 @@
+//! A search on its way from bound to bound.
+
+ghost use Rattle.std.specs.Prelude.{◌≡◌, ◌<◌, ◌≤◌, Bool, [], true, false, None, Some, IfOk, IfErr, OnOk};
+ghost use Rattle.std.specs.Arc.{arc_value};
+ghost use Rattle.schedules.specs.Schedules.{preemptions};
+ghost use Rattle.items.specs.declared.mode.Mode.TheVariants.{Bounded};
+ghost use Rattle.summary.specs.Summaries.{nothing, with_beyond};
+ghost use Rattle.items.specs.Items.{ItemView, IsItem, root_of};
+ghost use Rattle.book.specs.Books.{Keeps, opening};
+ghost use Rattle.report.specs.declared.error.ExploreError.TheVariants.{OutOfMemory};
+ghost use Rattle.report.specs.Promises.{IsSearch};
+ghost use Rattle.runner.specs.Levels.{IsModeOf, GoesOn, AreBelow, AreLevels};
+ghost use Rattle.runner.specs.inner.Judging.{IsAt, AreKept, HasKept, IsCourse, Ends, level_at, begun, bounds_left, first_mode, lists_at};
+
+use crate::judge::Ending;
+use crate::reports::run_of;
+use book::books::Book;
+use book::errors::RaiseError;
+use book::progress::mode_bound;
+use guest_code::laws::programs_are_well_formed;
+use guest_code::program::Program;
+use items::item::Item;
+use items::mode::Mode;
+use report::{Cause, ExploreError, Level, Options, Search};
+use std::alloc::Global;
+use std::sync::Arc;
+use summary::Summary;
+
+/// A search on its way: what it is asked for, its book, and the levels of the bounds that it has
+/// passed, where these are kept.
+#[derive(Drop)]
+pub(crate) struct Course {
+    pub options: Options,
+    pub book: Book,
+    pub levels: Option<Vec<Level>>,
+}
+
+/// The preemptions of an item's prefix.
+pub(crate) fn preemptions_of(alloc: Global, item: &Item) -> Result<u32, ExploreError>
+    ensures number { IfOk result (λ n. n ≡ preemptions item.now.program item.now.prefix) }
+    ensures runs { IsItem item.now }
+    ensures error { IfErr result (λ e. e ≡ OutOfMemory) }
+{
+    let program = item.program();
+    programs_are_well_formed(program);
+    let run = run_of(alloc, program, item.prefix())?;
+    Ok(run.preemptions() as u32)
+}
+
+// The mode that a search begins with, where a prefix has so many preemptions.
+fn first_mode(search: Search, preemptions: u32) -> Mode
+    ensures { result ≡ first_mode search preemptions }
+{
+    match search {
+        Search::UpTo(_) => Mode::Bounded(preemptions),
+        Search::Unbounded => Mode::Reduced,
+    }
+}
+
+// Whether what a mode puts off is listed: it is where the search may go on to another bound.
+fn lists_at(search: Search, mode: Mode) -> bool
+    ensures { result ≡ lists_at search mode }
+{
+    match (search, mode) {
+        (Search::UpTo(last), Mode::Bounded(bound)) => bound < last,
+        (_, _) => false,
+    }
+}
+
+// Begins the bound of a book to which a search has come: what its last bound puts off isn't listed.
+fn begin_bound(book: &mut Book, search: Search)
+    requires lists { book.old.lists ≡ true }
+    ensures { book.new ≡ begun search book.old }
+{
+    if !lists_at(search, book.mode()) {
+        book.make_last();
+    }
+}
+
+// The book of a program of which nothing is known.
+fn open(alloc: Global, program: Arc<Program>, mode: Mode, quick: bool) -> Result<Book, ExploreError>
+    ensures book { IfOk result (λ b. b ≡ opening (arc_value program) mode quick) }
+    ensures error { IfErr result (λ e. e ≡ OutOfMemory) }
+{
+    if quick {
+        Ok(Book::open_quick(alloc, program, mode)?)
+    } else {
+        Ok(Book::open(alloc, program, mode)?)
+    }
+}
+
+/// The search of a program of which nothing is known, where it begins. It keeps no levels.
+pub(crate) fn begin(
+    alloc: Global,
+    program: &Arc<Program>,
+    options: Options,
+) -> Result<Course, ExploreError>
+    ensures course { IfOk result (IsCourse (root_of (arc_value program.now)) options false) }
+    ensures error { IfErr result (λ e. e ≡ OutOfMemory) }
+{
+    let program = Arc::try_clone(program)?;
+    let mode = first_mode(options.search, 0);
+    let mut book = open(alloc, program, mode, options.quick)?;
+    begin_bound(&mut book, options.search);
+    Ok(Course {
+        options,
+        book,
+        levels: None,
+    })
+}
+
+/// The level of a bound that an item's own prefix exceeds: nothing is tried, and all is beyond.
+pub(crate) fn level_past(alloc: Global, bound: u32) -> Level
+    ensures { result ≡
+        record { bound = Some bound; summary = with_beyond nothing true; cause = None } }
+{
+    let mut summary = Summary::empty(alloc);
+    summary.set_beyond();
+    Level {
+        bound: Some(bound),
+        summary,
+        cause: None,
+    }
+}
+
+/// The levels of the bounds below this one, for an item whose own prefix exceeds them.
+pub(crate) fn levels_past(alloc: Global, end: u32) -> Result<Vec<Level>, ExploreError>
+    ensures levels { IfOk result (λ v. (i : ItemView) → IsItem i →
+        end ≤ preemptions i.program i.prefix → AreBelow i (Bounded end) v.items) }
+    ensures error { IfErr result (λ e. e ≡ OutOfMemory) }
+{
+    let mut levels = Vec::new(alloc);
+    for bound in 0..end {
+        levels.push(level_past(alloc, bound))?;
+    }
+    Ok(levels)
+}
+
+// The levels of the bounds below the first mode at which something is tried of what is under a
+// prefix with so many preemptions.
+fn levels_before(alloc: Global, search: Search, number: u32) -> Result<Vec<Level>, ExploreError>
+    ensures levels { IfOk result (λ v. (i : ItemView) → IsItem i →
+        number ≡ preemptions i.program i.prefix → AreBelow i (first_mode search number) v.items) }
+    ensures error { IfErr result (λ e. e ≡ OutOfMemory) }
+{
+    match search {
+        Search::UpTo(_) => levels_past(alloc, number),
+        Search::Unbounded => Ok(Vec::new(alloc)),
+    }
+}
+
+/// The search under an item whose prefix has so many preemptions, where it begins: at the first
+/// mode at which something is tried. It keeps levels.
+pub(crate) fn begin_under(
+    alloc: Global,
+    item: Item,
+    number: u32,
+    options: Options,
+) -> Result<Course, ExploreError>
+    requires number { number ≡ preemptions item.program item.prefix }
+    requires runs { IsItem item }
+    requires mode { IsModeOf options.search (first_mode options.search number) }
+    requires quick { options.quick ≡ false }
+    ensures course { IfOk result (IsCourse item options true) }
+    ensures error { IfErr result (λ e. e ≡ OutOfMemory) }
+{
+    let mode = first_mode(options.search, number);
+    let levels = levels_before(alloc, options.search, number)?;
+    let mut book = Book::open_under(alloc, item, mode)?;
+    begin_bound(&mut book, options.search);
+    Ok(Course {
+        options,
+        book,
+        levels: Some(levels),
+    })
+}
+
+// What a book found at its bound, or with a cause what was tried when the search was cut short.
+fn level_of(alloc: Global, book: &Book, cause: Option<Cause>) -> Result<Level, ExploreError>
+    ensures level { IfOk result (λ l. l ≡ level_at book.now.mode book.now.finished cause) }
+    ensures kept { Keeps book.now }
+    ensures error { IfErr result (λ e. e ≡ OutOfMemory) }
+{
+    Ok(Level {
+        bound: mode_bound(book.mode()),
+        summary: book.finished().try_clone(alloc)?,
+        cause,
+    })
+}
+
+// Keeps the level of a bound that is finished, where levels are kept.
+fn keep_level(
+    alloc: Global,
+    book: &Book,
+    levels: &mut Option<Vec<Level>>,
+) -> Result<(), ExploreError>
+    ensures levels { OnOk result (HasKept book.now levels.old levels.new) }
+    ensures kept { Keeps book.now }
+    ensures error { IfErr result (λ e. e ≡ OutOfMemory) }
+{
+    let _open = book.open_length();
+    match levels {
+        Some(levels) => {
+            levels.push(level_of(alloc, book, None)?)?;
+            Ok(())
+        }
+        None => Ok(()),
+    }
+}
+
+/// Goes on from a bound that is finished to the next; the level of the one is kept, where levels
+/// are.
+pub(crate) fn raise(
+    alloc: Global,
+    options: Options,
+    book: &mut Book,
+    levels: &mut Option<Vec<Level>>,
+) -> Result<(), ExploreError>
+    requires search { IsSearch options.search }
+    requires at { IsAt book.old.of options book.old }
+    requires closed { book.old.open_items ≡ [] }
+    requires goes_on { GoesOn options.search book.old.mode book.old.finished }
+    ensures at { OnOk result (IsAt book.old.of options book.new) }
+    ensures levels { OnOk result ((keeps : Bool) →
+        AreKept keeps book.old.of book.old.mode levels.old →
+        AreKept keeps book.old.of book.new.mode levels.new) }
+    ensures less { OnOk result (bounds_left options.search book.new.mode
+        < bounds_left options.search book.old.mode) }
+    ensures error { IfErr result (λ e. e ≡ OutOfMemory) }
+{
+    keep_level(alloc, book, levels)?;
+    match book.raise() {
+        Ok(()) => {
+            begin_bound(book, options.search);
+            Ok(())
+        }
+        Err(RaiseError::StillOpen) => unreachable!(),
+        Err(RaiseError::Dropped) => unreachable!(),
+        Err(RaiseError::LastBound) => unreachable!(),
+    }
+}
+
+/// The levels of a search that kept them and has ended so.
+pub(crate) fn levels_at_end(
+    alloc: Global,
+    course: Course,
+    ending: Ending,
+) -> Result<Vec<Level>, ExploreError>
+    requires course { IsCourse course.book.of course.options true course }
+    requires quick { course.options.quick ≡ false }
+    ensures levels { IfOk result (λ v. (may : Bool) → Ends may course.options course.book ending →
+        AreLevels may course.options.search course.options.limit course.book.of v.items) }
+    ensures error { IfErr result (λ e. e ≡ OutOfMemory) }
+{
+    let Course { book, levels, .. } = course;
+    let last = level_of(alloc, &book, ending.cause())?;
+    match levels {
+        Some(mut levels) => {
+            levels.push(last)?;
+            Ok(levels)
+        }
+        None => unreachable!(),
+    }
+}

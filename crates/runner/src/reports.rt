@@ -1,0 +1,205 @@
+//! The report of a search, made when the search has ended.
+
+ghost use Rattle.std.specs.Prelude.{◌≡◌, Bool, [], true, false, Some, None, IfOk, IfErr, IfSome, IfNone};
+ghost use Rattle.semantics.specs.Machine.{start};
+ghost use Rattle.schedules.specs.Schedules.{runs};
+ghost use Rattle.replay.specs.Run.{IsRunOf};
+ghost use Rattle.items.specs.Items.{root_of, whole};
+ghost use Rattle.book.specs.Books.{Keeps, IsClosed};
+ghost use Rattle.report.specs.declared.error.ExploreError.TheVariants.{OutOfMemory};
+ghost use Rattle.report.specs.Promises.{IsReport};
+ghost use Rattle.runner.specs.Levels.{IsModeOf, GoesOn, IsOfProgram, HasPassed};
+ghost use Rattle.runner.specs.inner.Judging.{IsAt, IsFound, IsFinishedIn, IsBoundBelow, IsVerdictOn, Ends, report_in};
+
+use crate::judge::{Ending, goes_on};
+use book::books::Book;
+use book::progress::mode_bound;
+use guest_code::laws::programs_are_well_formed;
+use guest_code::program::Program;
+use items::mode::Mode;
+use replay::laws::one_place_is_the_first_bad;
+use replay::{ReplayError, Run, replay};
+use report::{ExploreError, Options, Report, Verdict};
+use semantics::view::Kind;
+use std::alloc::Global;
+use summary::Summary;
+
+/// The run of a schedule that runs.
+pub(crate) fn run_of(alloc: Global, program: &Program, schedule: &[u8]) -> Result<Run, ExploreError>
+    requires { runs program.now (start program.now) schedule.now ≡ true }
+    ensures run { IfOk result (IsRunOf program.now schedule.now) }
+    ensures error { IfErr result (λ e. e ≡ OutOfMemory) }
+{
+    one_place_is_the_first_bad();
+    match replay(alloc, program, schedule) {
+        Ok(run) => Ok(run),
+        Err(ReplayError::OutOfMemory) => Err(ExploreError::OutOfMemory),
+        Err(ReplayError::NoSuchThread(_)) => unreachable!(),
+        Err(ReplayError::NotEnabled(_)) => unreachable!(),
+    }
+}
+
+// How a run ends that is one of a complete schedule.
+fn kind_of(run: &Run) -> Kind
+    requires { run.now.kind ≡ None → ⊥ }
+    ensures { run.now.kind ≡ Some result }
+{
+    match run.kind() {
+        Some(kind) => kind,
+        None => unreachable!(),
+    }
+}
+
+// The verdict on a sum of all: on its bad schedule, or that there is none.
+fn verdict_on(alloc: Global, program: &Program, summary: &Summary) -> Result<Verdict, ExploreError>
+    requires { IsOfProgram program.now summary.now.first_bad }
+    ensures verdict { IfOk result (IsVerdictOn program.now summary.now) }
+    ensures error { IfErr result (λ e. e ≡ OutOfMemory) }
+{
+    let Some(schedule) = summary.first_bad() else {
+        let all = !summary.beyond();
+        return Ok(Verdict::Clean { all });
+    };
+    programs_are_well_formed(program);
+    let run = run_of(alloc, program, schedule)?;
+    Ok(Verdict::Bad {
+        preemptions: run.preemptions() as u32,
+        schedule: schedule.to_vec(alloc)?,
+        kind: kind_of(&run),
+    })
+}
+
+// The report of a search in a mode.
+fn report_in(
+    alloc: Global,
+    options: Options,
+    mode: Mode,
+    summary: &Summary,
+    verdict: Verdict,
+) -> Result<Report, ExploreError>
+    ensures report { IfOk result (λ r. r ≡ report_in options mode summary.now verdict) }
+    ensures error { IfErr result (λ e. e ≡ OutOfMemory) }
+{
+    Ok(Report {
+        bound: mode_bound(mode),
+        verdict,
+        summary: summary.try_clone(alloc)?,
+        quick: options.quick,
+    })
+}
+
+// The report of a search that comes to this sum of all at this mode and ends there.
+fn report_whole(
+    alloc: Global,
+    program: &Program,
+    options: Options,
+    mode: Mode,
+    summary: &Summary,
+) -> Result<Report, ExploreError>
+    requires mode { IsModeOf options.search mode }
+    requires bad { IsOfProgram program.now summary.now.first_bad }
+    requires ends { GoesOn options.search mode summary.now → ⊥ }
+    ensures report { IfOk result (λ r. (may : Bool) → HasPassed (root_of program.now) mode →
+        IsFound options.quick program.now mode summary.now → IsReport may program.now options r) }
+    ensures error { IfErr result (λ e. e ≡ OutOfMemory) }
+{
+    let verdict = verdict_on(alloc, program, summary)?;
+    report_in(alloc, options, mode, summary, verdict)
+}
+
+/// The report of a search that comes to this sum of all of the program's schedules at this mode,
+/// if it ends there: a bad schedule was found, nothing is beyond, or the mode is its last. Else it
+/// goes on to the next bound.
+///
+/// It is a report of the program where the bounds below are passed and the sum is the program's.
+///
+/// # Errors
+///
+/// `OutOfMemory` where memory runs out.
+pub fn report_of(
+    alloc: Global,
+    program: &Program,
+    options: Options,
+    mode: Mode,
+    summary: &Summary,
+) -> Result<Option<Report>, ExploreError>
+    requires mode { IsModeOf options.search mode }
+    requires bad { IsOfProgram program.now summary.now.first_bad }
+    ensures report { IfOk result (λ o. IfSome o (λ r. HasPassed (root_of program.now) mode →
+        summary.now ≡ whole program.now mode → IsReport false program.now options r)) }
+    ensures none { IfOk result (λ o. IfNone o (GoesOn options.search mode summary.now)) }
+    ensures error { IfErr result (λ e. e ≡ OutOfMemory) }
+{
+    if goes_on(options.search, mode, summary) {
+        return Ok(None);
+    }
+    let report = report_whole(alloc, program, options, mode, summary)?;
+    Ok(Some(report))
+}
+
+// What a book found where nothing is open and it is of this program and mode.
+fn found<'a>(book: &'a Book, program: &Program, mode: Mode) -> Option<&'a Summary>
+    ensures some { IfSome result (λ s.
+        (s.now ≡ book.now.finished) × IsClosed book.now program.now mode) }
+    ensures none { IfNone result (IsClosed book.now program.now mode → ⊥) }
+    ensures found { IfSome result (λ s. IsFound book.now.quick program.now mode s.now) }
+    ensures kept { Keeps book.now }
+{
+    let _open = book.open_length();
+    if book.is_quick() {
+        book.closed_quick(program, mode)
+    } else {
+        book.closed(program, mode)
+    }
+}
+
+// The bound below that of a mode, if there is one.
+fn bound_below(mode: Mode) -> Option<u32>
+    ensures { IsBoundBelow mode result }
+{
+    match mode {
+        Mode::Bounded(0) | Mode::Reduced => None,
+        Mode::Bounded(bound) => Some(bound - 1),
+    }
+}
+
+// The last bound that is finished, if any, where a search of a program stands at this book.
+fn last_finished(program: &Program, book: &Book) -> Option<u32>
+    requires passed { HasPassed (root_of program.now) book.now.mode }
+    requires none { book.now.open_items ≡ [] → book.now.finished.first_bad ≡ None }
+    ensures { IsFinishedIn program.now book.now.mode result }
+{
+    let mode = book.mode();
+    match found(book, program, mode) {
+        Some(_) => mode_bound(mode),
+        None => bound_below(mode),
+    }
+}
+
+/// The report of a search of a program that has ended so at this book.
+pub(crate) fn report_at_end(
+    alloc: Global,
+    program: &Program,
+    options: Options,
+    book: &Book,
+    ending: Ending,
+) -> Result<Report, ExploreError>
+    requires at { IsAt (root_of program.now) options book.now }
+    requires ends { Ends true options book.now ending }
+    ensures report { IfOk result (λ r. (may : Bool) → Ends may options book.now ending →
+        IsReport may program.now options r) }
+    ensures error { IfErr result (λ e. e ≡ OutOfMemory) }
+{
+    let mode = book.mode();
+    match ending {
+        Ending::Whole => match found(book, program, mode) {
+            Some(summary) => report_whole(alloc, program, options, mode, summary),
+            None => unreachable!(),
+        },
+        Ending::Cut(cause) => {
+            let finished = last_finished(program, book);
+            let verdict = Verdict::Incomplete { cause, finished };
+            report_in(alloc, options, mode, book.finished(), verdict)
+        }
+    }
+}
