@@ -50,7 +50,7 @@ use Rattle.cover.specs.Prefixes.{longer, further, prefixes_of}
 use Rattle.cover.proofs.Gathered.{under_item, gathered, any_gathered}
 
 -- of all that begins with an item's prefix, one below it has what begins with its own
-its_all : (mode : Mode) (item r : ItemView) → IsBelow item r → HasItsOf mode item r →
+pub its_all : (mode : Mode) (item r : ItemView) → IsBelow item r → HasItsOf mode item r →
     everything mode r ≡ under_item (everything mode item) r
 its_all (Bounded bound) item r b own =
     ap (λ (p : Program). schedules_under p r.prefix) b.program
@@ -157,7 +157,7 @@ further_cover mode i h of = go (is_terminal i.program (state_of i)) refl
 
 -- covers of the items of a cover
 
-none_below : (i : ItemView) (items : List ItemView) (w : List ℕ) → All (IsBelow i) items →
+pub none_below : (i : ItemView) (items : List ItemView) (w : List ℕ) → All (IsBelow i) items →
     begins_with i.prefix w ≡ false → covers w items ≡ 0
 none_below i [] w b off = refl
 none_below i (r ∷ rs) w b off =
@@ -180,7 +180,7 @@ has_further mode item i d b own part =
     (λ v. begins_further i.prefix d.prefix v b.prefix))
 
 module _ (mode : Mode) (item : ItemView) (parts : ItemView → List ItemView) where
-  has_all : (i : ItemView) (ds : List ItemView) → HasItsOf mode item i → All (IsBelow i) ds →
+  pub has_all : (i : ItemView) (ds : List ItemView) → HasItsOf mode item i → All (IsBelow i) ds →
       All (HasItsOf mode i) ds → All (HasItsOf mode item) ds
   has_all i ds own b h =
       λ k d l. has_further mode item i _ (b k d l) own (h k d l)

@@ -187,7 +187,7 @@ all_in_order mode p (suc n) fine =
     all_in_order mode p n fine
     ∙ parts_schedules mode p (prefixes_of mode p n) fine (prefixes_cover mode p n fine).below
 
-complete_schedule : (mode : Mode) (i : ItemView) → IsItem i → IsComplete i →
+pub complete_schedule : (mode : Mode) (i : ItemView) → IsItem i → IsComplete i →
     everything mode i ≡ i.prefix ∷ []
 complete_schedule (Bounded bound) i h over = schedules_under-terminal i.program i.prefix h over
 complete_schedule Reduced i h over = leaf_schedules Reduced i h over tt

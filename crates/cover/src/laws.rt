@@ -1,6 +1,6 @@
 //! Laws of the definitions. A law is what its function ensures; the functions do nothing.
 
-ghost use Rattle.std.specs.Prelude.{◌≡◌, ◌<◌, ℕ, true, List, map, All};
+ghost use Rattle.std.specs.Prelude.{◌≡◌, ◌<◌, ◌≤◌, ℕ, true, false, List, map, All};
 ghost use Rattle.std.specs.List.{flat_map};
 ghost use Rattle.guest_code.specs.Program.{Program, IsWellFormed};
 ghost use Rattle.semantics.specs.Machine.{start};
@@ -42,6 +42,12 @@ pub fn sums_over_a_cover_join()
 pub fn past_the_bound_nothing_is_summed()
     ensures { (i : ItemView) (bound : ℕ) → IsItem i → bound < preemptions i.program i.prefix →
         item_sum (Bounded bound) i ≡ with_beyond nothing true }
+{}
+
+/// Where none of an item's schedules is beyond a bound, its sum at each greater bound is the same.
+pub fn where_nothing_is_beyond_the_sum_stays()
+    ensures { (i : ItemView) (b c : ℕ) → b ≤ c → (item_sum (Bounded b) i).beyond ≡ false →
+        item_sum (Bounded c) i ≡ item_sum (Bounded b) i }
 {}
 
 /// Where each item of a cover gives way to a cover of its own, they all are a cover.

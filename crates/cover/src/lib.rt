@@ -4,6 +4,8 @@
 //!
 //! - [`prefixes`] answers the prefixes of the least length at which there are as many as asked for,
 //!   and [`prefix_lines`] prints them.
+//! - [`cover_by`] tests a list of prefixes: it answers the items of its prefixes where they cover
+//!   the program, and else a prefix that is missing, two that are nested, or one that is no use.
 //! - [`item_under`] answers the item of the schedules that begin with a prefix: pruned, with who
 //!   sleeps after it.
 //! - [`laws`] says what a cover is good for, and that the prefixes of a length are one.
@@ -11,10 +13,12 @@
 //! `specs/` has the definitions. Nothing is searched here: that does the crate `walk`.
 #![tactic(auto)]
 
+mod covering;
 pub mod laws;
 mod listing;
 mod longer;
 mod under;
 
+pub use crate::covering::{CoverError, cover_by};
 pub use crate::listing::{prefix_lines, prefixes};
 pub use crate::under::item_under;

@@ -75,8 +75,12 @@ fn put_longer(
     Ok(())
 }
 
-// Puts what an item goes on to after the others. Answers whether its prefix is complete.
-fn put_further(
+/// Puts what an item goes on to after the others. Answers whether its prefix is complete.
+///
+/// # Errors
+///
+/// `AllocError` where memory runs out.
+pub fn put_further(
     items: &mut Vec<Item>,
     alloc: Global,
     mode: Mode,

@@ -1,18 +1,33 @@
 //! What no clause says: that a search goes on to its answer, and honours its limit.
 
 mod gates;
+mod joins;
 mod stops;
 
 ghost use Rattle.std.specs.Prelude.{◌≤◌};
 ghost use Rattle.report.specs.Promises.{IsSearch};
 
+use guest_code::lowering::lower;
+use guest_code::program::Program;
+use guest_syntax::parse;
 use runner::{Options, Search, explore_text_alone, report_text};
 use std::alloc::Global;
+use std::sync::Arc;
 use std::test::*;
 
 /// Two threads that each add one to a variable, in two steps.
 const COUNTERS: &str =
     "var x; thread A { load r x; set r r + 1; store x r; } thread B { load r x; set r r + 1; store x r; }";
+
+/// Three threads that each store to a variable of their own: six schedules, without a preemption.
+const THREE: &str =
+    "var x; var y; var z; thread A { store x 1; } thread B { store y 1; } thread C { store z 1; }";
+
+/// The program of a text.
+fn program_of(alloc: Global, text: &str) -> Result<Arc<Program>, Fail> {
+    let tree = parse(alloc, text.as_bytes())?;
+    Ok(Arc::new(alloc, lower(alloc, &tree)?)?)
+}
 
 /// The text of the report of a search of a text.
 fn searched(alloc: Global, text: &str, options: Options) -> Result<Vec<u8>, Fail>

@@ -5,24 +5,19 @@ ghost use Rattle.report.specs.Promises.{IsSearch};
 ghost use Rattle.workers.specs.declared.limits.TheConstants.{WORKERS};
 
 use crate::searches::gates::{Holding, Passing, StopsOne};
-use guest_code::lowering::lower;
-use guest_syntax::parse;
+use crate::searches::{THREE, program_of};
 use items::item::Item;
 use items::mode::Mode;
 use runner::{Gate, Options, Search, explore_text, report_text};
 use std::alloc::{Alloc, Global};
 use std::process::Abort;
+use std::sync::Wait;
 use std::sync::atomic::Ordering;
-use std::sync::{Arc, Wait};
 use std::test::*;
 use std::thread::Threads;
 use walk::walker::walk;
 
-/// Three threads that each store to a variable of their own: six schedules, without a preemption.
-const THREE: &str =
-    "var x; var y; var z; thread A { store x 1; } thread B { store y 1; } thread C { store z 1; }";
-
-/// Four of them.
+/// Four threads that each store to a variable of their own.
 const FOUR: &str =
     "var w; var x; var y; var z; thread A { store w 1; } thread B { store x 1; } thread C { store y 1; } thread D { store z 1; }";
 
@@ -164,8 +159,7 @@ fn two_walks_are_out_at_once(rt: HostRuntime) -> Result<(), Fail> {
 /// How many walks of the four threads are made in the first two rounds: one of all of them, which
 /// tries one schedule, and one of each item that it leaves.
 fn first_walks(alloc: Global) -> Result<u64, Fail> {
-    let tree = parse(alloc, FOUR.as_bytes())?;
-    let program = Arc::new(alloc, lower(alloc, &tree)?)?;
+    let program = program_of(alloc, FOUR)?;
     let walked = walk(alloc, &Item::root(alloc, program)?, Mode::Bounded(0), 1)?;
     Ok((walked.rest_length() as u64).saturating_add(1))
 }

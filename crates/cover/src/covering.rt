@@ -1,0 +1,202 @@
+//! Whether prefixes cover a program.
+
+ghost use Rattle.std.specs.Prelude.{◌≡◌, IfOk, IfErr, IfSome, IfNone, MatchResult, map, All, Contains};
+ghost use Rattle.std.specs.List.{list_any, find};
+ghost use Rattle.std.specs.Ordering.{nat_cmp};
+ghost use Rattle.std.specs.Cmp.Lexicographic.{slice_cmp};
+ghost use Rattle.std.specs.BTreeSet.{IsFromIterResult};
+ghost use Rattle.std.specs.Arc.{arc_value};
+ghost use Rattle.guest_code.specs.Program.{Program, IsWellFormed};
+ghost use Rattle.schedules.specs.Schedules.{begins_with};
+ghost use Rattle.items.specs.declared.mode.Mode.{Mode};
+ghost use Rattle.items.specs.Items.{root_of};
+ghost use Rattle.cover.specs.CoverBy.{IsCoverBy, CoverErrorMeans};
+ghost use Rattle.cover.specs.inner.Reached.{IsReached, IsBare, IsOther};
+
+use crate::longer::put_further;
+use guest_code::laws::programs_are_well_formed;
+use guest_code::program::Program;
+use items::item::Item;
+use items::mode::Mode;
+use std::alloc::{AllocError, Global};
+use std::collections::BTreeSet;
+use std::sync::Arc;
+
+/// Why prefixes cover no program.
+#[derive(Debug, Drop)]
+pub enum CoverError {
+    /// None of the prefixes begins with this one, and a schedule of the program that does lies
+    /// under none of them.
+    Missing(Vec<u8>),
+    /// The first prefix begins the second.
+    Nested(Vec<u8>, Vec<u8>),
+    /// None of the program's schedules begins with this prefix.
+    Unused(Vec<u8>),
+    /// Memory ran out.
+    OutOfMemory,
+}
+
+impl From<AllocError> for CoverError {
+    ghost use Rattle.cover.specs.declared.covering.CoverError.TheVariants.{OutOfMemory};
+
+    ghost from_gives = { λ _ e. e ≡ OutOfMemory };
+
+    fn from(_e: AllocError) -> CoverError {
+        CoverError::OutOfMemory
+    }
+}
+
+/// The items of the schedules that begin with these prefixes, in any order, where each schedule of
+/// the program begins with exactly one of them; pruned, each that sleep sets leave, and each prefix
+/// is one that they enter. The same prefix twice is the same.
+///
+/// # Errors
+///
+/// `Missing`, `Nested` or `Unused` where the prefixes are no such list, `OutOfMemory` where memory
+/// runs out.
+pub fn cover_by(
+    alloc: Global,
+    program: Arc<Program>,
+    mode: Mode,
+    prefixes: &[&[u8]],
+) -> Result<Vec<Item>, CoverError>
+    ensures value { IfOk result (λ v.
+        IsCoverBy mode (arc_value program) (map (λ x. x.now) prefixes.now) v.items) }
+    ensures error { IfErr result
+        (CoverErrorMeans mode (arc_value program) (map (λ x. x.now) prefixes.now)) }
+{
+    programs_are_well_formed(&program);
+    let root = Item::root(alloc, program)?;
+    match covered(alloc, mode, root, prefixes)? {
+        Ok(items) => match unreached(alloc, items.as_slice(), prefixes)? {
+            Some(error) => Err(error),
+            None => Ok(items),
+        },
+        Err(bare) => Err(missing(alloc, &bare, prefixes)?),
+    }
+}
+
+// Goes into the root until each item has a prefix that is listed. Where it comes to a complete
+// schedule that lies under none of the list, it answers that.
+fn covered(
+    alloc: Global,
+    mode: Mode,
+    root: Item,
+    prefixes: &[&[u8]],
+) -> Result<Result<Vec<Item>, Item>, AllocError>
+    requires fine { IsWellFormed root.program }
+    requires root { root ≡ root_of root.program }
+    ensures { IfOk result (λ r. MatchResult r
+        (λ v. IsReached mode root.program (map (λ x. x.now) prefixes.now) v.items)
+        (IsBare mode root.program (map (λ x. x.now) prefixes.now))) }
+{
+    let listed = set_of(alloc, prefixes)?;
+    let mut items = Vec::new(alloc);
+    let mut left = Vec::new(alloc);
+    left.push(root)?;
+    while let Some(item) = left.pop() {
+        if listed.contains(item.prefix()) {
+            items.push(item)?;
+        } else if put_further(&mut left, alloc, mode, &item)? {
+            return Ok(Err(item));
+        }
+    }
+    Ok(Ok(items))
+}
+
+// The prefixes as a set.
+fn set_of<'a>(alloc: Global, prefixes: &[&'a [u8]]) -> Result<BTreeSet<&'a [u8]>, AllocError>
+    ensures { IfOk result (IsFromIterResult (λ x y. slice_cmp nat_cmp x.now y.now) prefixes.now) }
+{
+    prefixes.iter().copied().collect(alloc)
+}
+
+// What is wrong with a prefix of the list that is that of no item.
+fn unreached(
+    alloc: Global,
+    items: &[Item],
+    prefixes: &[&[u8]],
+) -> Result<Option<CoverError>, AllocError>
+    ensures none { IfOk result (λ o. IfNone o
+        (All (λ x. Contains (map (λ i. i.prefix) items.now) x.now) prefixes.now)) }
+    ensures some { (p : Program) (mode : Mode) →
+        IsReached mode p (map (λ x. x.now) prefixes.now) items.now →
+        IfOk result (λ o. IfSome o (CoverErrorMeans mode p (map (λ x. x.now) prefixes.now))) }
+{
+    let own = prefixes_of(alloc, items)?;
+    let reached = set_of(alloc, own.as_slice())?;
+    for prefix in prefixes {
+        if !reached.contains(*prefix) {
+            return Ok(Some(other(alloc, items, prefix)?));
+        }
+    }
+    Ok(None)
+}
+
+// The items' prefixes.
+fn prefixes_of(alloc: Global, items: &[Item]) -> Result<Vec<&[u8]>, AllocError>
+    ensures { IfOk result (λ v.
+        map (λ x. x.now) v.items ≡ map (λ i. i.prefix) items.now) }
+{
+    let mut prefixes = Vec::new(alloc);
+    for item in items {
+        prefixes.push(item.prefix())?;
+    }
+    Ok(prefixes)
+}
+
+// Why a listed prefix is that of no item.
+fn other(alloc: Global, items: &[Item], prefix: &[u8]) -> Result<CoverError, AllocError>
+    ensures { IfOk result (IsOther items.now prefix.now) }
+{
+    let inner = prefix.to_vec(alloc)?;
+    for item in items {
+        if begins(item.prefix(), prefix) {
+            return Ok(CoverError::Nested(item.prefix().to_vec(alloc)?, inner));
+        }
+    }
+    Ok(CoverError::Unused(inner))
+}
+
+// What is missing where the item's complete schedule lies under none of the list.
+fn missing(alloc: Global, item: &Item, prefixes: &[&[u8]]) -> Result<CoverError, AllocError>
+    ensures { (p : Program) (mode : Mode) →
+        IsBare mode p (map (λ x. x.now) prefixes.now) item.now →
+        IfOk result (CoverErrorMeans mode p (map (λ x. x.now) prefixes.now)) }
+{
+    let schedule = item.prefix();
+    for steps in 0..schedule.len() {
+        if !has_under(prefixes, &schedule[..steps]) {
+            return Ok(CoverError::Missing(schedule[..steps].to_vec(alloc)?));
+        }
+    }
+    match under(prefixes, schedule) {
+        Some(longer) => Ok(CoverError::Unused(longer.to_vec(alloc)?)),
+        None => Ok(CoverError::Missing(schedule.to_vec(alloc)?)),
+    }
+}
+
+// Whether a listed prefix begins with this one.
+fn has_under(prefixes: &[&[u8]], prefix: &[u8]) -> bool
+    ensures { result ≡ list_any (λ x. begins_with prefix.now x.now) prefixes.now }
+{
+    prefixes.iter().any(|listed| begins(prefix, listed))
+}
+
+// The first listed prefix that begins with this one.
+fn under<'a>(prefixes: &[&'a [u8]], prefix: &[u8]) -> Option<&'a [u8]>
+    ensures { result ≡ find (λ x. begins_with prefix.now x.now) prefixes.now }
+{
+    prefixes
+        .iter()
+        .copied()
+        .find(|listed| begins(prefix, listed))
+}
+
+// Whether the second one begins with the first.
+#[tactic(auto, using(crate::proofs::Listed::starts))]
+fn begins(first: &[u8], second: &[u8]) -> bool
+    ensures { result ≡ begins_with first.now second.now }
+{
+    second.starts_with(first)
+}

@@ -1,0 +1,131 @@
+//! Why parts don't join to a report.
+
+ghost use Rattle.std.specs.Prelude.{◌≡◌, ◌++◌, IfOk};
+ghost use Rattle.replay.specs.Spelling.{printed};
+ghost use Rattle.joining.specs.ErrorTexts.{place_text, join_error_text, needs_work};
+
+use cover::CoverError;
+use messages::words::decimal;
+use replay::schedule_text;
+use std::alloc::{AllocError, Global};
+
+/// A prefix, and a bound; `None` without one.
+#[derive(Debug, Drop)]
+pub struct Place {
+    /// The prefix.
+    pub under: Vec<u8>,
+    /// The bound.
+    pub bound: Option<u32>,
+}
+
+/// Why parts don't join to a report.
+#[derive(Debug, Drop)]
+pub enum JoinError {
+    /// No part is under this prefix, with which a schedule begins that no part has.
+    Missing(Vec<u8>),
+    /// The first of these prefixes of parts begins the second.
+    Nested(Vec<u8>, Vec<u8>),
+    /// None of the program's schedules begins with this prefix of a part.
+    Unused(Vec<u8>),
+    /// No part says what is under the prefix at the bound.
+    Lacks(Place),
+    /// No part says it but one that was cut short.
+    Cut(Place),
+    /// Two parts say different things of it.
+    Disagree(Place),
+    /// A part tells a schedule that isn't a bad one of the program, that doesn't begin with the
+    /// prefix, or that isn't within the bound.
+    Untrue(Place),
+    /// Memory ran out.
+    OutOfMemory,
+}
+
+impl JoinError {
+    /// Whether a search of more would help.
+    pub fn needs_work(&self) -> bool
+        ensures { result ≡ needs_work self.now }
+    {
+        match self {
+            JoinError::Missing(_) | JoinError::Lacks(_) | JoinError::Cut(_) => true,
+            _ => false,
+        }
+    }
+
+    /// What the user is told, in one line without its end.
+    ///
+    /// # Errors
+    ///
+    /// `AllocError` where memory runs out.
+    pub fn text(&self, alloc: Global) -> Result<Vec<u8>, AllocError>
+        ensures { IfOk result (λ text. text.items ≡ join_error_text self.now) }
+    {
+        match self {
+            JoinError::Missing(prefix) => phrase(alloc, b"nothing under ", prefix, b""),
+            JoinError::Nested(outer, inner) => {
+                let mut text = phrase(alloc, b"", outer, b" holds ")?;
+                text.extend_from_slice(phrase(alloc, b"", inner, b" too")?.as_slice())?;
+                Ok(text)
+            }
+            JoinError::Unused(prefix) => phrase(alloc, b"no schedule begins with ", prefix, b""),
+            JoinError::Lacks(place) => phrase_at(alloc, b"nothing", place),
+            JoinError::Cut(place) => phrase_at(alloc, b"cut short", place),
+            JoinError::Disagree(place) => phrase_at(alloc, b"two parts disagree", place),
+            JoinError::Untrue(place) => phrase_at(alloc, b"an untrue schedule", place),
+            JoinError::OutOfMemory => Vec::from_slice(alloc, b"memory"),
+        }
+    }
+}
+
+// A prefix in its printed spelling, between words.
+fn phrase(
+    alloc: Global,
+    before: &[u8],
+    prefix: &Vec<u8>,
+    after: &[u8],
+) -> Result<Vec<u8>, AllocError>
+    ensures { IfOk result (λ text.
+        text.items ≡ before.now ++ (printed prefix.now.items ++ after.now)) }
+{
+    let mut text = Vec::from_slice(alloc, before)?;
+    text.extend_from_slice(schedule_text(alloc, prefix.as_slice())?.as_slice())?;
+    text.extend_from_slice(after)?;
+    Ok(text)
+}
+
+// Words, with a place after them.
+fn phrase_at(alloc: Global, words: &[u8], place: &Place) -> Result<Vec<u8>, AllocError>
+    ensures { IfOk result (λ text. text.items ≡ words.now ++ place_text place.now) }
+{
+    let mut text = Vec::from_slice(alloc, words)?;
+    if let Some(bound) = place.bound {
+        text.extend_from_slice(b" at bound ")?;
+        text.extend_from_slice(decimal(alloc, u64::from(bound))?.as_bytes())?;
+    }
+    text.extend_from_slice(phrase(alloc, b" under ", &place.under, b"")?.as_slice())?;
+    Ok(text)
+}
+
+impl From<AllocError> for JoinError {
+    ghost use Rattle.joining.specs.declared.error.JoinError.TheVariants.{OutOfMemory};
+
+    ghost from_gives = { λ _ e. e ≡ OutOfMemory };
+
+    fn from(_e: AllocError) -> JoinError {
+        JoinError::OutOfMemory
+    }
+}
+
+impl From<CoverError> for JoinError {
+    ghost use Rattle.joining.specs.Parts.{of_cover};
+
+    ghost from_gives = { λ e error. error ≡ of_cover e };
+
+    fn from(error: CoverError) -> JoinError {
+        match error {
+            CoverError::Missing(prefix) => JoinError::Missing(prefix),
+            CoverError::Nested(outer, inner) => JoinError::Nested(outer, inner),
+            CoverError::Unused(prefix) => JoinError::Unused(prefix),
+            CoverError::OutOfMemory => JoinError::OutOfMemory,
+        }
+    }
+}

@@ -1,0 +1,145 @@
+//! Which part tells what is under a prefix at a bound.
+
+ghost use Rattle.std.specs.Prelude.{◌≡◌, ◌≢◌, None, true, All, Contains, IfSome, IfNone, IfErr, OnOk};
+ghost use Rattle.std.specs.Bool.{Decides};
+ghost use Rattle.guest_code.specs.Program.{Program};
+ghost use Rattle.report.specs.declared.options.Search.{Search};
+ghost use Rattle.joining.specs.Parts.{IsSettled, Tells, IsOfPlace, Differ, AreApart, JoinErrorMeans};
+
+use crate::error::{JoinError, Place};
+use parts::Part;
+use report::Level;
+use semantics::view::EndView;
+use std::alloc::Global;
+use summary::Summary;
+
+/// The first part that tells what is under the prefix at the bound.
+pub fn line_at<'a>(parts: &'a [Part], under: &[u8], bound: Option<u32>) -> Option<&'a Part>
+    ensures some { IfSome result (λ x.
+        Contains parts.now x.now × Tells under.now bound x.now) }
+    ensures none { IfNone result (All (λ x. Tells under.now bound x → ⊥) parts.now) }
+{
+    for part in parts {
+        if tells(part, under, bound) {
+            return Some(part);
+        }
+    }
+    None
+}
+
+// Whether the part tells what is under the prefix at the bound.
+fn tells(part: &Part, under: &[u8], bound: Option<u32>) -> bool
+    ensures { Decides result (Tells under.now bound part.now) }
+{
+    part.level.cause.is_none()
+        && part.under.as_slice() == under
+        && (part.level.bound == bound || is_settled(&part.level, bound))
+}
+
+// Whether what was found is what there is at this bound, too, which is greater.
+fn is_settled(level: &Level, bound: Option<u32>) -> bool
+    ensures { Decides result (IsSettled bound level.now) }
+{
+    let (Some(at), Some(later)) = (level.bound, bound) else {
+        return false;
+    };
+    at <= later && !level.summary.beyond() && level.summary.first_bad().is_none()
+}
+
+/// Whether a part of the place was cut short.
+pub fn is_cut(parts: &[Part], place: &Place) -> bool
+    ensures { result ≡ true → (x : Part) × Contains parts.now x × IsOfPlace place.now x
+        × (x.level.cause ≢ None) }
+{
+    for part in parts {
+        if is_of(part, place) && part.level.cause.is_some() {
+            return true;
+        }
+    }
+    false
+}
+
+/// Refuses parts of which two that weren't cut short tell different things of one place.
+///
+/// # Errors
+///
+/// `Disagree` with the first such place, `OutOfMemory` where memory runs out.
+pub fn check_agreement(alloc: Global, parts: &[Part]) -> Result<(), JoinError>
+    ensures agree { OnOk result ((place : Place) → AreApart parts.now place → ⊥) }
+    ensures error { (p : Program) (search : Search) →
+        IfErr result (JoinErrorMeans p search parts.now) }
+{
+    for part in parts {
+        if is_disputed(parts, part) {
+            return Err(JoinError::Disagree(Place {
+                under: part.under.as_slice().to_vec(alloc)?,
+                bound: part.level.bound,
+            }));
+        }
+    }
+    Ok(())
+}
+
+// Whether one of the parts tells something else of the part's place.
+fn is_disputed(parts: &[Part], part: &Part) -> bool
+    ensures { Decides result ((x : Part) × Contains parts.now x × Differ part.now x) }
+{
+    for other in parts {
+        if differ(part, other) {
+            return true;
+        }
+    }
+    false
+}
+
+// Whether the two are of one place, weren't cut short, and tell different things.
+fn differ(one: &Part, other: &Part) -> bool
+    ensures { Decides result (Differ one.now other.now) }
+{
+    one.level.cause.is_none()
+        && other.level.cause.is_none()
+        && one.level.bound == other.level.bound
+        && one.under.as_slice() == other.under.as_slice()
+        && !same_sums(&one.level.summary, &other.level.summary)
+}
+
+// Whether the part is of the place.
+fn is_of(part: &Part, place: &Place) -> bool
+    ensures { result ≡ true → IsOfPlace place.now part.now }
+{
+    part.under.as_slice() == place.under.as_slice() && part.level.bound == place.bound
+}
+
+// Whether the two are equal.
+fn same_sums(first: &Summary, second: &Summary) -> bool
+    ensures { Decides result (first.now ≡ second.now) }
+{
+    first.tried() == second.tried()
+        && first.failed() == second.failed()
+        && first.stuck() == second.stuck()
+        && first.beyond() == second.beyond()
+        && first.first_bad() == second.first_bad()
+        && same_ends(first.ends(), second.ends())
+}
+
+// Whether the two lists are equal.
+fn same_ends(first: &[EndView], second: &[EndView]) -> bool
+    ensures { Decides result (first.now ≡ second.now) }
+{
+    if first.len() != second.len() {
+        return false;
+    }
+    for at in 0..first.len() {
+        if !same_end(&first[at], &second[at]) {
+            return false;
+        }
+    }
+    true
+}
+
+// Whether the two are equal.
+fn same_end(first: &EndView, second: &EndView) -> bool
+    ensures { Decides result (first.now ≡ second.now) }
+{
+    first.compare(second).is_eq()
+}

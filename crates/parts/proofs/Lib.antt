@@ -1,0 +1,4 @@
+pub mod PartTexts
+pub mod Digests
+pub mod ReadLists
+pub mod PartLines

@@ -1,0 +1,4 @@
+pub mod PartText
+pub mod Lines
+pub mod ErrorTexts
+pub mod inner

@@ -1,0 +1,22 @@
+-- What stands in the JSON of a part at each key.
+use Rattle.std.specs.Prelude.{◌≡◌, Some, option_map, codes}
+use Rattle.report.specs.declared.level.Level.{Level}
+use Rattle.report.specs.ReportText.{cause_data, bound_data, count_data, ends_data, schedule_data, first_bad_data}
+use Rattle.serde_json.specs.Data.{Data, boolean}
+use Rattle.serde_json.specs.Find.{get}
+use Rattle.parts.specs.PartText.{PartView, guest_data}
+
+pub record HasLevel (l : Level) (d : Data) : Type 0 where
+  pub beyond : get (codes "beyond") d ≡ Some (boolean l.summary.beyond)
+  pub bound : get (codes "bound") d ≡ Some (bound_data l.bound)
+  pub cause : get (codes "cause") d ≡ option_map cause_data l.cause
+  pub ends : get (codes "ends") d ≡ Some (ends_data l.summary.ends)
+  pub failed : get (codes "failed") d ≡ Some (count_data l.summary.failed)
+  pub schedule : get (codes "schedule") d ≡ Some (first_bad_data l.summary.first_bad)
+  pub stuck : get (codes "stuck") d ≡ Some (count_data l.summary.stuck)
+  pub tried : get (codes "tried") d ≡ Some (count_data l.summary.tried)
+
+pub record HasPart (x : PartView) (d : Data) : Type 0 where
+  pub level : HasLevel x.level d
+  pub guest : get (codes "guest") d ≡ Some (guest_data x.guest)
+  pub under : get (codes "under") d ≡ Some (schedule_data x.under)

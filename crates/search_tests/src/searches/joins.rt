@@ -1,0 +1,128 @@
+//! Searches under the prefixes of a program, whose parts are printed, read back and joined.
+
+ghost use Rattle.std.specs.Prelude.{◌≤◌};
+ghost use Rattle.report.specs.Promises.{IsSearch};
+ghost use Rattle.workers.specs.declared.limits.TheConstants.{WORKERS};
+
+use crate::searches::{COUNTERS, THREE, program_of};
+use cover::prefixes;
+use guest_code::program::Program;
+use items::mode::Mode;
+use joining::join;
+use parts::{Guest, Part, part_line, parts_from};
+use runner::{Open, Options, Search, explore_alone, explore_under, report_text};
+use std::alloc::{Alloc, Global};
+use std::process::Abort;
+use std::sync::{Arc, Wait};
+use std::test::*;
+use std::thread::Threads;
+
+/// Fails within one preemption: three prefixes of two steps.
+const RACE: &str =
+    "var x; thread A { store x 1; store x 0; } thread B { load r x; assert r == 0; }";
+
+/// What searches find under the prefixes of the least length at which there are three or more.
+fn parts_of(
+    rt: &(impl Threads + Wait + Sync + Alloc<A = Global>),
+    program: &Arc<Program>,
+    options: Options,
+    workers: u32,
+) -> Result<Vec<Part>, Fail>
+    requires search { IsSearch options.search }
+    requires quota { 1 ≤ options.quota }
+    requires workers { (1 ≤ workers) × (workers ≤ WORKERS) }
+{
+    let alloc = rt.alloc();
+    let mode = match options.search {
+        Search::UpTo(last) => Mode::Bounded(last),
+        Search::Unbounded => Mode::Reduced,
+    };
+    let mut lines = Vec::new(alloc);
+    for item in prefixes(alloc, Arc::try_clone(program)?, mode, 3)? {
+        let under = item.prefix().to_vec(alloc)?;
+        for level in explore_under(rt, alloc, item, options, workers, &Open)? {
+            let part = Part {
+                under: under.as_slice().to_vec(alloc)?,
+                level,
+                guest: Guest::of_text(b""),
+            };
+            lines.extend_from_slice(part_line(alloc, &part)?.as_slice())?;
+            lines.push(b'\n')?;
+        }
+    }
+    Ok(parts_from(alloc, lines.as_slice())?)
+}
+
+/// Joins what one worker finds and what three do, which has to agree, and compares the report with
+/// that of a search of the whole.
+fn joins(
+    rt: &(impl Abort + Threads + Wait + Sync + Alloc<A = Global>),
+    text: &str,
+    search: Search,
+) -> Result<(), Fail>
+    requires { IsSearch search }
+{
+    let alloc = rt.alloc();
+    let program = program_of(alloc, text)?;
+    let options = Options::new(search);
+    let mut parts = parts_of(rt, &program, options, 1)?;
+    for part in parts_of(rt, &program, options, 3)? {
+        parts.push(part)?;
+    }
+    let joined = report_text(alloc, &join(alloc, &program, search, parts.as_slice())?)?;
+    let whole = report_text(alloc, &explore_alone(alloc, &program, options)?)?;
+    assert_eq!(rt; joined.as_slice(), whole.as_slice());
+    Ok(())
+}
+
+#[test]
+fn parts_join_to_the_report_of_the_whole(rt: HostRuntime) -> Result<(), Fail> {
+    for text in &[COUNTERS, RACE, THREE] {
+        joins(&rt, text, Search::UpTo(0))?;
+        joins(&rt, text, Search::UpTo(2))?;
+        joins(&rt, text, Search::Unbounded)?;
+    }
+    Ok(())
+}
+
+/// Why parts of a program don't join.
+fn refusal(
+    alloc: Global,
+    program: &Arc<Program>,
+    search: Search,
+    parts: &[Part],
+) -> Result<Vec<u8>, Fail> {
+    match join(alloc, program, search, parts) {
+        Ok(_) => Err(Fail::new("the parts join")),
+        Err(error) => Ok(error.text(alloc)?),
+    }
+}
+
+#[test]
+fn what_is_missing_is_told(rt: HostRuntime) -> Result<(), Fail> {
+    let alloc = rt.alloc();
+    let options = Options::new(Search::UpTo(0));
+    let program = program_of(alloc, COUNTERS)?;
+    let mut parts = parts_of(&rt, &program, options, 1)?;
+    let lacks = refusal(alloc, &program, Search::UpTo(1), parts.as_slice())?;
+    let want = "nothing at bound 1 under 1,0";
+    assert_eq!(&rt; lacks.as_slice(), want.as_bytes());
+    let _ = parts.pop();
+    let missing = refusal(alloc, &program, options.search, parts.as_slice())?;
+    assert_eq!(&rt; missing.as_slice(), "nothing under 1x2".as_bytes());
+    Ok(())
+}
+
+#[test]
+fn a_level_that_was_cut_short_is_told(rt: HostRuntime) -> Result<(), Fail> {
+    let program = program_of(rt.alloc(), THREE)?;
+    let options = Options {
+        limit: Some(1),
+        quota: 1,
+        ..Options::new(Search::UpTo(0))
+    };
+    let parts = parts_of(&rt, &program, options, 1)?;
+    let cut = refusal(rt.alloc(), &program, options.search, parts.as_slice())?;
+    assert_eq!(&rt; cut.as_slice(), "cut short at bound 0 under 2".as_bytes());
+    Ok(())
+}
