@@ -79,10 +79,13 @@ SHARED = man/ctxbound.1=man/man1/ctxbound.1 \
 	vscode/language-configuration.json=ctxbound/vscode/language-configuration.json \
 	vscode/syntaxes/guest.tmLanguage.json=ctxbound/vscode/syntaxes/guest.tmLanguage.json \
 	vscode/snippets/guest.json=ctxbound/vscode/snippets/guest.json \
-	vscode/tasks.json=ctxbound/vscode/tasks.json
+	vscode/tasks.json=ctxbound/vscode/tasks.json \
+	machines/search_by_parallel.sh=ctxbound/machines/search_by_parallel.sh \
+	machines/search.sbatch=ctxbound/machines/search.sbatch \
+	machines/Makefile=ctxbound/machines/Makefile
 
 # The pages that the archive has beside the program.
-PAGES = docs/LANGUAGE.md docs/FORMATS.md docs/GALLERY.md docs/COOKBOOK.md docs/SHRINKING.md docs/CI.md docs/GLOSSARY.md
+PAGES = docs/LANGUAGE.md docs/FORMATS.md docs/GALLERY.md docs/COOKBOOK.md docs/SHRINKING.md docs/MACHINES.md docs/CI.md docs/GLOSSARY.md
 
 run:
 	@$(COMPILING)
@@ -185,6 +188,8 @@ shown:
 	python3 tests/explain.py "$(PROGRAM)"
 	python3 tests/simulator.py "$(PROGRAM)"
 	python3 tests/prefixes.py "$(PROGRAM)"
+	python3 tests/parts.py "$(PROGRAM)"
+	python3 tests/machines.py "$(PROGRAM)"
 	python3 tests/page.py "$(PROGRAM)"
 	python3 tests/around.py "$(PROGRAM)"
 	@test ! -x crates/tools/out/tools || python3 tests/rounds.py "$(PROGRAM)" crates/tools/out/tools

@@ -88,7 +88,11 @@ RUNS = [
     ("explain", "race", "1,1,1", 2), ("explain", "waits", "--json", 1), ("explain", "race", "0,1,0 --html", 1),
     ("explain", "race", "0,1,0 --json", 1), ("explain", "updates", "--json", 0),
     ("check", "unknown", "", 2), ("check", "cut", "", 2), ("check", "odd", "", 0), ("check", "odd", "--deep", 0),
+    ("explore", "late", "--under 0", 1), ("explore", "late", "--under 0 --workers 2", 1), ("explore", "race", "--under 7", 2),
+    ("unbounded", "locks", "--under 0 --workers 2", 1),
 ]
+# A guest, of which two parts are joined, the guest that they are of, and the status with ample memory.
+JOINS = [("late", "late", 1), ("updates", "updates", 0), ("race", "updates", 2)]
 # The same, where all later requests fail, too.
 LASTING = [
     ("explore", "updates", "--workers 1", 0), ("explore", "updates", "--workers 2", 0),
@@ -228,6 +232,14 @@ def suite_of(folder, names):
     return suite
 
 
+def part_of(binary, folder, name):
+    """A file of what is under the empty prefix of a guest's schedules, at each bound twice."""
+    part = os.path.join(folder, name + ".part")
+    with open(part, "wb") as file:
+        file.write(2 * run(binary, ["explore", os.path.join(folder, name), "--under", "-"])[0][0])
+    return part
+
+
 def says(binary, words, said):
     """No refusals, and what is wrong with what a run says with ample memory, or None."""
     answer, _ = run(binary, words)
@@ -259,6 +271,8 @@ def main(binary, tools):
         trials += [(sweep, program, [command, os.path.join(folder, name)] + words.split(), library, status,
                     says_memory, lasting)
                    for runs, lasting in ((RUNS, False), (LASTING, True)) for command, name, words, status in runs]
+        trials += [(sweep, program, ["join", os.path.join(folder, name), part_of(program, folder, of)], library, status,
+                    says_memory) for name, of, status in JOINS]
         trials += [(sweep, program, ["suite", suite_of(folder, names)] + words.split(), library, status,
                     says_memory_of_a_file) for names, words, status in SUITES]
         trials += [(sweep, program, [command, os.path.join(folder, name)] + words.split(), library, status,

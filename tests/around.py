@@ -136,7 +136,7 @@ class Checker:
             wanted = {"lock_order.guest", "lock_order_fixed.guest"}
             self.check("%s: %s FILE" % (shell, command), wanted <= files, files)
             more = ask(["ctxbound", command, "--limit", "9", "first.guest", "lock_order"])
-            is_taken = command in ("check", "suite")
+            is_taken = command in ("check", "suite", "join")
             self.check("%s: %s FILE and another word" % (shell, command),
                        wanted <= more if is_taken else not wanted & more, more)
 
@@ -388,6 +388,7 @@ class Checker:
             self.run(["tar", "-xzf", archive, "-C", folder, "--strip-components=1"])
             there = Path(folder)
             for name in ("share/man/man1/ctxbound.1", "share/ctxbound/vscode/package.json",
+                         "share/ctxbound/machines/search_by_parallel.sh",
                          "share/vim/vimfiles/syntax/guest.vim", "share/zsh/site-functions/_ctxbound",
                          "README.md", "CHANGELOG.md"):
                 self.check("in the archive: " + name, (there / name).is_file())

@@ -236,7 +236,7 @@ REFUSED = [
     ["explore", "a", "--bound", "65"], ["explore", "a", "--bound", "x"], ["explore", "a", "--workers", "0"],
     ["explore", "a", "--workers", "17"], ["unbounded", "a", "--limit", "0"],
     ["unbounded", "a", "--limit", "9223372036854775808"], ["unbounded", "a", "--bound", "1"],
-    ["frobnicate"], ["suite"], ["prefixes"], ["verify"], ["verify", "a", "b"], ["verify", "a", "--bound", "1"],
+    ["frobnicate"], ["suite"], ["prefixes"], ["join"], ["verify"], ["verify", "a", "b"], ["verify", "a", "--bound", "1"],
 ]
 # Words that would do nothing: nothing is searched where a schedule is given, JSON and a page have no columns,
 # and only a deep check goes through schedules. Each by itself is taken.
@@ -247,11 +247,13 @@ USELESS = [
       for words in (["--all"], ["--width", "80"])),
     ["explain", "race.guest", "--json", "--html"], ["check", "race.guest", "--limit", "9"],
     ["check", "race.guest", "--remarks"], ["check", "race.guest", "--short", "--json"],
+    *([command, "race.guest", "--under", "0", word] for command in ("explore", "unbounded") for word in ("--quick", "--trace")),
+    ["join", "race.guest", "--bound", "1", "--unbounded"],
     ["explain", "race.guest", "--steps", "3", "--all"], ["explain", "race.guest", "--bound", "1", "--unbounded"],
 ]
 # What is said where the command is left out or misspelt.
 HINTED = [
-    ([], "[subcommands: explore, unbounded, replay, explain, check, suite, verify, prefixes, help]\n"),
+    ([], "[subcommands: explore, unbounded, replay, explain, check, suite, verify, prefixes, join, help]\n"),
     (["relay", "a"], "tip: a similar subcommand exists: 'replay'\n"),
     (["verfy", "a"], "tip: a similar subcommand exists: 'verify'\n"),
     (["frobnicate"], "For more information, try '--help'.\n"),
@@ -276,7 +278,7 @@ Statuses:
   0  no schedule is bad, or a suite's files are as expected; a replay that is done, or not complete
   1  a schedule is bad: it failed or got stuck; so did a replay
   2  words, text, program or schedule refused; help or version shown
-  3  the search was cut short
+  3  the search was cut short, or parts of one are missing
   4  out of memory, or the file can't be read or the output written
 """
 # Words, and what is written on both streams and the status.

@@ -31,6 +31,8 @@ TRIED = {
     "explanations": [sys.executable, "tests/explain.py", PROGRAM],
     "explanations beside a simulator": [sys.executable, "tests/simulator.py", PROGRAM],
     "prefixes that cover": [sys.executable, "tests/prefixes.py", PROGRAM],
+    "parts that join": [sys.executable, "tests/parts.py", PROGRAM],
+    "searches by many processes": [sys.executable, "tests/machines.py", PROGRAM],
     "pages": [sys.executable, "tests/page.py", PROGRAM],
     "the examples as a suite": [PROGRAM, "suite", "examples"],
     "programs made at random": [sys.executable, "tests/reference.py", PROGRAM],

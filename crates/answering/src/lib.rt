@@ -32,8 +32,8 @@ pub use fault::{Fault, REFUSED};
 pub use limits::{LIMIT, Limits};
 pub use progress::Teller;
 pub use request::{
-    CheckForm, CheckRequest, ExplainRequest, Form, PrefixesRequest, Request, STEPS, SuiteRequest,
-    VerifyRequest, WIDTH,
+    CheckForm, CheckRequest, ExplainRequest, Form, JoinRequest, PrefixesRequest, Request, STEPS,
+    SuiteRequest, UnderRequest, VerifyRequest, WIDTH,
 };
 pub use serving::{
     ended, is_standard_input, read_file, report_device, serve, serve_file, write_named, write_out,

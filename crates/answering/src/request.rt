@@ -1,7 +1,11 @@
 //! What command words can ask for.
 
+ghost use Rattle.report.specs.Promises.{IsSearch};
+ghost use Rattle.answering.specs.inner.Searches.{IsSearch-prop};
+
 use crate::exploration::{Exploration, GuestRequest};
 use crate::limits::Limits;
+use report::Search;
 
 /// What the command words ask for.
 #[derive(Debug, Drop)]
@@ -18,6 +22,10 @@ pub enum Request {
     Check(CheckRequest),
     /// To list prefixes of the schedules of a guest program.
     Prefixes(PrefixesRequest),
+    /// To search what is under a prefix of the schedules of a guest program.
+    Under(UnderRequest),
+    /// To join what such searches found.
+    Join(JoinRequest),
 }
 
 /// To list prefixes of the schedules of the guest program in a file.
@@ -29,6 +37,29 @@ pub struct PrefixesRequest {
     pub at_least: u32,
     /// Whether those alone are listed that sleep sets enter, for searches without a bound.
     pub is_pruned: bool,
+}
+
+/// To search, of the schedules of the guest program in a file, those that begin with a prefix.
+#[derive(Debug, Drop)]
+pub struct UnderRequest {
+    /// The file, by the name that it is told with.
+    pub file: String,
+    /// The prefix, in schedule text.
+    pub prefix: String,
+    /// A quick search is made as one that isn't.
+    pub search: Exploration,
+}
+
+/// To join parts, which say what was found under prefixes of the schedules of the guest program in
+/// a file, to the report of a search.
+#[derive(Debug, Drop)]
+pub struct JoinRequest {
+    /// The file, by the name that it is told with.
+    pub file: String,
+    /// The files of the parts, by the names that they are told with.
+    pub parts: Vec<String>,
+    pub search: Search,
+    ghost is_search: { IsSearch search } by { IsSearch-prop search },
 }
 
 /// To check the guest program in each of these files, and tell what is wrong or odd.

@@ -3,16 +3,18 @@
 //! The crate `words` reads the words, `program` does what they ask for, and `main` joins both to
 //! the system. What is answered to a replay or a search is in the crate `answering`, and what an
 //! explanation answers in `explained`; `forms` has its other forms. The other commands are in
-//! `checks`, `suites`, `verified` and `prefixes`.
+//! `checks`, `suites`, `verified`, `prefixes` and `joins`; `under` has searches under a prefix.
 #![tactic(auto)]
 
 mod checks;
 mod diagnostics;
 mod files;
 mod forms;
+mod joins;
 mod prefixes;
 mod program;
 mod suites;
+mod under;
 mod verified;
 
 use crate::program::serve_words;

@@ -54,8 +54,8 @@ fn prefixes_text(
     Ok(prefix_lines(alloc, items.as_slice())?)
 }
 
-// The mode whose prefixes are listed. The bound makes no difference.
-fn mode_of(is_pruned: bool) -> Mode
+/// The mode whose prefixes are listed. The bound makes no difference.
+pub fn mode_of(is_pruned: bool) -> Mode
     ensures { result ≡ mode_of is_pruned }
 {
     if is_pruned {

@@ -2,8 +2,10 @@
 
 use crate::checks::{is_refused, serve_check};
 use crate::forms::{Html, Json};
+use crate::joins::serve_join;
 use crate::prefixes::serve_prefixes;
 use crate::suites::serve_suite;
+use crate::under::serve_under;
 use crate::verified::serve_verify;
 use answering::{ExplainRequest, Form, REFUSED, Request, serve_file};
 use explained::{Lines, serve_explain};
@@ -30,35 +32,41 @@ where
     match request(rt.alloc(), words) {
         Ok(Request::One { file, request }) => {
             let status = serve_file(rt, file.as_str(), &request, out, err);
-            tell_check(rt, file.as_str(), is_seen && status == REFUSED, err);
-            status
+            told(rt, file.as_str(), is_seen, status, err)
         }
         Ok(Request::Explain { request, form }) => {
             let status = explain_as(rt, &request, form, out, err);
-            tell_check(rt, request.file.as_str(), is_seen && status == REFUSED, err);
-            status
+            told(rt, request.file.as_str(), is_seen, status, err)
         }
         Ok(Request::Check(request)) => serve_check(rt, &request, out, err),
         Ok(Request::Suite(request)) => serve_suite(rt, &request, out, err),
         Ok(Request::Verify(request)) => serve_verify(rt, &request, out, err),
         Ok(Request::Prefixes(request)) => {
             let status = serve_prefixes(rt, &request, out, err);
-            tell_check(rt, request.file.as_str(), is_seen && status == REFUSED, err);
-            status
+            told(rt, request.file.as_str(), is_seen, status, err)
+        }
+        Ok(Request::Under(request)) => {
+            let status = serve_under(rt, &request, out, err);
+            told(rt, request.file.as_str(), is_seen, status, err)
+        }
+        Ok(Request::Join(request)) => {
+            let status = serve_join(rt, &request, out, err);
+            told(rt, request.file.as_str(), is_seen, status, err)
         }
         Err(fault) => fault.report(err),
     }
 }
 
 /// Where a person sees that something was refused, and it is the text of the file, tells which
-/// command says more.
-fn tell_check<H, E: Write>(rt: &H, file: &str, is_seen: bool, err: &mut E)
+/// command says more. Answers the status.
+fn told<H, E: Write>(rt: &H, file: &str, is_seen: bool, status: u8, err: &mut E) -> u8
 where
     H: Files + Input + Alloc<A = Global>,
 {
-    if is_seen && is_refused(rt, file) {
+    if is_seen && status == REFUSED && is_refused(rt, file) {
         let _ = writeln!(err, "(ctxbound check {file} says more)");
     }
+    status
 }
 
 /// Explains a schedule of the guest program in a file, in this form.

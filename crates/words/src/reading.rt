@@ -6,9 +6,11 @@ ghost use Rattle.report.specs.Promises.{IsSearch};
 
 use crate::fault::WordsFault;
 use answering::{
-    CheckForm, CheckRequest, DEFAULT_BOUND, ExplainRequest, Exploration, Form, GuestRequest, LIMIT,
-    Limits, PrefixesRequest, Request, STEPS, SuiteRequest, VerifyRequest, WIDTH,
+    CheckForm, CheckRequest, DEFAULT_BOUND, ExplainRequest, Exploration, Form, GuestRequest,
+    JoinRequest, LIMIT, Limits, PrefixesRequest, Request, STEPS, SuiteRequest, UnderRequest,
+    VerifyRequest, WIDTH, is_standard_input,
 };
+use clap::error::ErrorKind;
 use clap::{Arg, ArgAction, ArgMatches, Command, value_parser};
 use report::limits::{BOUND, QUOTA};
 use report::{Options, Search};
@@ -30,6 +32,9 @@ const DEFAULT_PREFIXES: u32 = 64;
 /// is printed; more than this is no better balance on any number of machines.
 const PREFIXES: u32 = 1 << 20;
 
+/// What is said where standard input would be both the guest program and its parts.
+const READ_TWICE: &str = "standard input can't be both the guest program and the parts";
+
 /// What the help of each command ends with.
 pub const HELP_END: &str = "Examples:
   ctxbound verify examples/lock_order_fixed.guest
@@ -48,7 +53,7 @@ Statuses:
   0  no schedule is bad, or a suite's files are as expected; a replay that is done, or not complete
   1  a schedule is bad: it failed or got stuck; so did a replay
   2  words, text, program or schedule refused; help or version shown
-  3  the search was cut short
+  3  the search was cut short, or parts of one are missing
   4  out of memory, or the file can't be read or the output written";
 
 /// The command words that the system gave. The first is the program's own name.
@@ -135,6 +140,21 @@ fn search_command<'a>(
         .arg(quick)
 }
 
+/// The prefix to search under. What is found there is a part of a report, which names no trace, and
+/// of which nothing may be left out.
+fn under_arg<'a>(alloc: Global) -> Result<Arg<'a>, AllocError> {
+    Ok(
+        Arg::new(alloc, "under")
+            .long("under")
+            .value_name("PREFIX")
+            .conflicts_with("quick")?
+            .conflicts_with("trace")?
+            .help(
+                "Run the schedules that begin with this one, and print a line a bound for `join`",
+            ),
+    )
+}
+
 fn explore_command<'a>(alloc: Global) -> Result<Command<'a>, AllocError> {
     search_command(
         alloc,
@@ -142,7 +162,8 @@ fn explore_command<'a>(alloc: Global) -> Result<Command<'a>, AllocError> {
         "Runs a guest program under all schedules, those with fewest preemptions first",
     )?
     .arg(bound_arg(alloc))?
-    .arg(trace_arg(alloc))
+    .arg(trace_arg(alloc))?
+    .arg(under_arg(alloc)?)
 }
 
 fn unbounded_command<'a>(alloc: Global) -> Result<Command<'a>, AllocError> {
@@ -151,7 +172,8 @@ fn unbounded_command<'a>(alloc: Global) -> Result<Command<'a>, AllocError> {
         "unbounded",
         "Runs a guest program under all schedules that sleep sets leave",
     )?
-    .arg(trace_arg(alloc))
+    .arg(trace_arg(alloc))?
+    .arg(under_arg(alloc)?)
 }
 
 /// The schedule to explain. Where it is given nothing is searched, so the words of a search would
@@ -350,6 +372,20 @@ fn prefixes_command<'a>(alloc: Global) -> Result<Command<'a>, AllocError> {
         .arg(unbounded)
 }
 
+fn join_command<'a>(alloc: Global) -> Result<Command<'a>, AllocError> {
+    let parts = Arg::new(alloc, "PART").num_args(1..).help(
+        "Files of lines that `explore --under` prints; `-`, or none, is standard input",
+    );
+    let unbounded = unbounded_arg(alloc)?.help("Join parts of a search without a bound");
+    Command::new(alloc, "join")
+        .about("Joins what was found under prefixes to the report of the whole search")
+        .after_help(HELP_END)
+        .arg(file_arg(alloc))?
+        .arg(parts)?
+        .arg(bound_arg(alloc))?
+        .arg(unbounded)
+}
+
 fn command<'a>(alloc: Global) -> Result<Command<'a>, AllocError> {
     Command::new(alloc, "ctxbound")
         .about("Looks for schedules under which a guest program fails or gets stuck")
@@ -363,7 +399,8 @@ fn command<'a>(alloc: Global) -> Result<Command<'a>, AllocError> {
         .subcommand(check_command(alloc)?)?
         .subcommand(suite_command(alloc)?)?
         .subcommand(verify_command(alloc)?)?
-        .subcommand(prefixes_command(alloc)?)
+        .subcommand(prefixes_command(alloc)?)?
+        .subcommand(join_command(alloc)?)
 }
 
 /// How far the search of a command goes.
@@ -437,28 +474,36 @@ fn form_of(given: &ArgMatches<'_>) -> Form {
     }
 }
 
+/// The command that searches as the words of another command ask for.
+fn command_asked_for(given: &ArgMatches<'_>) -> &'static str {
+    if given.get_flag("unbounded") {
+        "unbounded"
+    } else {
+        "explore"
+    }
+}
+
 /// The explanation that the words of a command ask for.
 fn explain_of(alloc: Global, given: &ArgMatches<'_>) -> Result<ExplainRequest, AllocError> {
     let schedule = match given.get_str("SCHEDULE") {
         Some(schedule) => Some(String::from_str(alloc, schedule)?),
         None => None,
     };
-    let command = if given.get_flag("unbounded") {
-        "unbounded"
-    } else {
-        "explore"
-    };
     Ok(ExplainRequest {
         file: String::from_str(alloc, given.get_str("FILE").unwrap_or(""))?,
         schedule,
-        search: exploration_of(command, given),
+        search: exploration_of(command_asked_for(given), given),
     })
 }
 
-/// The files that the words of a command name.
-fn files_named(alloc: Global, given: &ArgMatches<'_>) -> Result<Vec<String>, AllocError> {
+/// The files that the words of a command give this argument.
+fn files_named(
+    alloc: Global,
+    given: &ArgMatches<'_>,
+    argument: &str,
+) -> Result<Vec<String>, AllocError> {
     let mut files = Vec::new(alloc);
-    for file in given.get_strs("FILE").unwrap_or(&[]) {
+    for file in given.get_strs(argument).unwrap_or(&[]) {
         files.push(String::from_str(alloc, file)?)?;
     }
     Ok(files)
@@ -483,7 +528,7 @@ fn check_of(alloc: Global, given: &ArgMatches<'_>) -> Result<CheckRequest, Alloc
         None
     };
     Ok(CheckRequest {
-        files: files_named(alloc, given)?,
+        files: files_named(alloc, given, "FILE")?,
         strict: given.get_flag("strict"),
         depth,
         remarks: given.get_flag("remarks"),
@@ -506,7 +551,7 @@ fn limits_of(given: &ArgMatches<'_>, bound: u32) -> Limits {
 fn suite_of(alloc: Global, given: &ArgMatches<'_>) -> Result<SuiteRequest, AllocError> {
     let bound: u32 = given.get_one("bound").unwrap_or(DEFAULT_BOUND);
     Ok(SuiteRequest {
-        files: files_named(alloc, given)?,
+        files: files_named(alloc, given, "FILE")?,
         limits: limits_of(given, bound),
         json: given.get_flag("json"),
         progress: given.get_flag("progress"),
@@ -530,6 +575,50 @@ fn prefixes_of(alloc: Global, given: &ArgMatches<'_>) -> Result<PrefixesRequest,
     })
 }
 
+/// The search under this prefix that the words of a command ask for.
+fn under_of(
+    alloc: Global,
+    name: &str,
+    prefix: &str,
+    given: &ArgMatches<'_>,
+) -> Result<UnderRequest, AllocError> {
+    Ok(UnderRequest {
+        file: String::from_str(alloc, given.get_str("FILE").unwrap_or(""))?,
+        prefix: String::from_str(alloc, prefix)?,
+        search: exploration_of(name, given),
+    })
+}
+
+/// The files of parts that the words of a command name; standard input where they name none.
+fn parts_named(alloc: Global, given: &ArgMatches<'_>) -> Result<Vec<String>, AllocError> {
+    let mut parts = files_named(alloc, given, "PART")?;
+    if parts.is_empty() {
+        parts.push(String::from_str(alloc, "-")?)?;
+    }
+    Ok(parts)
+}
+
+/// The parts that the words of a command ask to be joined.
+fn join_of(alloc: Global, given: &ArgMatches<'_>) -> Result<JoinRequest, WordsFault> {
+    let request = JoinRequest {
+        file: String::from_str(alloc, given.get_str("FILE").unwrap_or(""))?,
+        parts: parts_named(alloc, given)?,
+        search: search_of(command_asked_for(given), given),
+    };
+    if is_read_twice(&request) {
+        let mut command = join_command(alloc)?.bin_name("ctxbound join")?;
+        let error = command.error(ErrorKind::ArgumentConflict, READ_TWICE)?;
+        return Err(WordsFault::Said(error));
+    }
+    Ok(request)
+}
+
+/// Whether standard input would be both the program and parts.
+fn is_read_twice(request: &JoinRequest) -> bool {
+    let mut parts = request.parts.iter();
+    is_standard_input(request.file.as_str()) && parts.any(|part| is_standard_input(part.as_str()))
+}
+
 /// What the command words ask for. The first word is the program's own name.
 ///
 /// # Errors
@@ -550,6 +639,12 @@ pub fn request(alloc: Global, words: &[String]) -> Result<Request, WordsFault> {
     }
     if name == "prefixes" {
         return Ok(Request::Prefixes(prefixes_of(alloc, given)?));
+    }
+    if name == "join" {
+        return Ok(Request::Join(join_of(alloc, given)?));
+    }
+    if let Some(prefix) = given.get_str("under") {
+        return Ok(Request::Under(under_of(alloc, name, prefix, given)?));
     }
     if name == "explain" {
         return Ok(Request::Explain {

@@ -1,0 +1,39 @@
+-- What is told of parts that are joined.
+use Rattle.std.specs.Prelude.{◌≡◌, ℕ, List, ◌++◌, codes, false, if◌then◌else◌}
+use Rattle.guest_code.specs.Program.{Program}
+use Rattle.report.specs.declared.options.Search.{Search}
+use Rattle.report.specs.declared.report.Report.{Report}
+use Rattle.report.specs.Promises.{IsReport}
+use Rattle.report.specs.ReportText.{report_text}
+use Rattle.parts.specs.declared.part.Part.{Part}
+use Rattle.joining.specs.declared.error.JoinError.{JoinError}
+use Rattle.joining.specs.declared.error.JoinError.TheVariants.{OutOfMemory}
+use Rattle.joining.specs.ErrorTexts.{join_error_text, needs_work}
+use Rattle.joining.specs.Parts.{AreHonest, options_of}
+use Rattle.answering.specs.declared.answer.Printed.{Printed}
+use Rattle.answering.specs.Status.{verdict_status}
+
+-- the text of a report and a line feed, and the status of its verdict; where the parts are honest
+-- it is a report of the program
+pub record IsJoined (p : Program) (search : Search) (parts : List Part) (printed : Printed) :
+    Type 0 where
+  pub report : Report
+  pub of : AreHonest p parts → IsReport false p (options_of search) report
+  pub output : printed.output.items ≡ report_text report ++ codes "\n"
+  pub status : printed.status ≡ verdict_status report.verdict
+
+-- the line of an error
+abbrev pub error_begin : JoinError → List ℕ
+error_begin OutOfMemory = codes "ctxbound: "
+error_begin e = codes "ctxbound: parts: "
+
+abbrev pub error_line : JoinError → List ℕ
+error_line e = error_begin e ++ join_error_text e ++ codes "\n"
+
+-- its status: 3 where more parts would help
+abbrev pub refusal_status : JoinError → ℕ
+refusal_status OutOfMemory = 4
+refusal_status e = 2
+
+abbrev pub error_status : JoinError → ℕ
+error_status e = if needs_work e then 3 else refusal_status e

@@ -1,0 +1,174 @@
+//! The commands `explore` and `unbounded` with `--under`.
+
+ghost use Rattle.std.specs.Prelude.{◌≡◌, IfOk, IfErr};
+ghost use Rattle.std.specs.Arc.{arc_value};
+ghost use Rattle.std.specs.List.{flat_map};
+ghost use Rattle.answering.specs.Answer.{FaultMeans};
+ghost use Rattle.ctxbound.specs.Under.{prefix_mode, AreLevelsUnder, level_line, level_status};
+ghost use Rattle.ctxbound.specs.Under.{last_status, nothing_found, IsNoItem, IsSearchUnder};
+
+use crate::prefixes::mode_of;
+use answering::{
+    Exploration, Fault, Printed, Teller, UnderRequest, read_file, report_device, write_named,
+};
+use cover::item_under;
+use guest_code::program::Program;
+use items::mode::Mode;
+use parts::{Guest, Part, part_line};
+use replay::schedule_from;
+use report::{Level, Options, Search};
+use runner::explore_under;
+use std::alloc::{Alloc, AllocError, Global};
+use std::fs::Files;
+use std::io::{Eprint, Input, Write};
+use std::sync::{Arc, Wait};
+use std::thread::Threads;
+use summary::Summary;
+use verify::program_of;
+
+/// Searches what is under a prefix of the schedules of the guest program in a file, and prints a
+/// line for each bound. Nothing is printed before the search has ended, so that what is printed is
+/// never a part that its end is missing of. Answers the status.
+pub fn serve_under<H, W: Write, E: Write>(
+    rt: &H,
+    request: &UnderRequest,
+    out: &mut W,
+    err: &mut E,
+) -> u8
+where
+    H: Threads + Wait + Sync + Eprint + Files + Input + Alloc<A = Global>,
+{
+    let text = match read_file(rt, request.file.as_str()) {
+        Ok(text) => text,
+        Err(error) => return report_device(err, request.file.as_str(), &error),
+    };
+    let prefix = request.prefix.as_bytes();
+    match under_text(rt, text.as_slice(), prefix, request.search) {
+        Ok(printed) => write_named(out, err, printed.output.as_slice(), printed.status),
+        Err(fault) => fault.report(err),
+    }
+}
+
+// What is printed of a search under a prefix, or what is wrong first: with the text, with the
+// program that it spells, with the prefix's text, or with a step of the prefix.
+fn under_text<H>(rt: &H, text: &[u8], prefix: &[u8], search: Exploration) -> Result<Printed, Fault>
+where
+    H: Threads + Wait + Sync + Eprint + Alloc<A = Global>,
+    ensures printed { IfOk result (IsSearchUnder text.now prefix.now search.options) }
+    ensures fault { IfErr result (FaultMeans text.now prefix.now) }
+{
+    let alloc = rt.alloc();
+    let program = program_of(alloc, text)?;
+    let prefix = schedule_from(alloc, prefix)?;
+    let levels = levels_under(rt, program, prefix.as_slice(), search)?;
+    let status = status_after(levels.as_slice());
+    let guest = Guest::of_text(text);
+    let output = level_lines(alloc, guest, prefix.as_slice(), levels.as_slice())?;
+    Ok(Printed { output, status })
+}
+
+// The levels of what is under a prefix, or why it doesn't run.
+fn levels_under<H>(
+    rt: &H,
+    program: Arc<Program>,
+    prefix: &[u8],
+    search: Exploration,
+) -> Result<Vec<Level>, Fault>
+where
+    H: Threads + Wait + Sync + Eprint + Alloc<A = Global>,
+    ensures levels { IfOk result (λ v.
+        AreLevelsUnder (arc_value program) search.options prefix.now v.items) }
+    ensures fault { IfErr result (IsNoItem (arc_value program) prefix.now) }
+{
+    let alloc = rt.alloc();
+    let mode = prefix_mode(search.options.search);
+    let Some(item) = item_under(alloc, program, mode, prefix)? else {
+        let mut levels = Vec::new(alloc);
+        levels.push(nothing_found(alloc))?;
+        return Ok(levels);
+    };
+    let gate = Teller::new(rt, search.progress);
+    Ok(explore_under(rt, alloc, item, search.options, search.workers, &gate)?)
+}
+
+// The mode of the prefixes of a search.
+fn prefix_mode(search: Search) -> Mode
+    ensures { result ≡ prefix_mode search }
+{
+    match search {
+        Search::UpTo(_) => mode_of(false),
+        Search::Unbounded => mode_of(true),
+    }
+}
+
+// What is found where no schedule is under a prefix.
+fn nothing_found(alloc: Global) -> Level
+    ensures { result ≡ nothing_found }
+{
+    Level {
+        bound: None,
+        summary: Summary::empty(alloc),
+        cause: None,
+    }
+}
+
+// The status after these levels: that of the last one.
+fn status_after(levels: &[Level]) -> u8
+    ensures { result ≡ last_status levels.now }
+{
+    match levels.last() {
+        Some(level) => level_status(level),
+        None => 0,
+    }
+}
+
+// The status after a level: 3 where it was cut short, 1 where it has a bad schedule.
+fn level_status(level: &Level) -> u8
+    ensures { result ≡ level_status level.now }
+{
+    match (level.cause, level.summary.first_bad()) {
+        (Some(_), _) => 3,
+        (None, Some(_)) => 1,
+        (None, None) => 0,
+    }
+}
+
+// The lines of the levels of a prefix.
+fn level_lines(
+    alloc: Global,
+    guest: Guest,
+    prefix: &[u8],
+    levels: &[Level],
+) -> Result<Vec<u8>, AllocError>
+    ensures { IfOk result (λ text.
+        text.items ≡ flat_map (level_line guest prefix.now) levels.now) }
+{
+    let mut text = Vec::new(alloc);
+    for level in levels {
+        text.extend_from_slice(line_of_level(alloc, guest, prefix, level)?.as_slice())?;
+    }
+    Ok(text)
+}
+
+// The line of a level of a prefix.
+fn line_of_level(
+    alloc: Global,
+    guest: Guest,
+    prefix: &[u8],
+    level: &Level,
+) -> Result<Vec<u8>, AllocError>
+    ensures { IfOk result (λ line. line.items ≡ level_line guest prefix.now level.now) }
+{
+    let part = Part {
+        under: prefix.to_vec(alloc)?,
+        level: Level {
+            bound: level.bound,
+            summary: level.summary.try_clone(alloc)?,
+            cause: level.cause,
+        },
+        guest,
+    };
+    let mut line = part_line(alloc, &part)?;
+    line.push(b'\n')?;
+    Ok(line)
+}

@@ -1,0 +1,194 @@
+#!/usr/bin/env python3
+"""Tries the scripts of share/machines, and the pipeline at the head of docs/MACHINES.md: each has to print what one search does.
+
+Usage: tests/machines.py BINARY
+
+In each the first search of a part is killed, and the same command again takes it up. Slurm's daemons are started here, for
+this machine alone, in a folder of their own. What isn't on this machine is left out and named: `parallel`, `make`, Slurm.
+
+The last line is `N passed, M failed`.
+"""
+import os
+import re
+import shutil
+import signal
+import socket
+import subprocess
+import sys
+import tempfile
+import time
+from pathlib import Path
+
+ROOT = Path(__file__).resolve().parent.parent
+SCRIPTS = ROOT / "share" / "machines"
+SECONDS = 120
+GUESTS = {"my guest": ("lost_update.guest", "2"), "fixed.guest": ("lost_update_fixed.guest", "3")}
+SLURM = ("munged", "slurmctld", "slurmd", "sinfo", "sbatch")
+
+# What stands before the program: where the folder isn't there yet, a search under a prefix makes it and is killed.
+KILLED = """#!/bin/sh
+case "$*" in *--under*) mkdir "$KILLED" 2> "$KILLED.err" && kill -9 $$;; esac
+exec "%s" "$@"
+"""
+
+CONF = """ClusterName=here
+SlurmctldHost=%(host)s(127.0.0.1)
+SlurmctldPort=%(ports)d
+SlurmdPort=%(node_port)d
+AuthType=auth/munge
+AuthInfo=socket=%(there)s/munge.socket
+CredType=cred/munge
+SlurmUser=root
+StateSaveLocation=%(there)s/state
+SlurmdSpoolDir=%(there)s/spool
+SlurmctldPidFile=%(there)s/slurmctld.pid
+SlurmdPidFile=%(there)s/slurmd.pid
+SlurmctldLogFile=%(there)s/slurmctld.log
+SlurmdLogFile=%(there)s/slurmd.log
+ProctrackType=proctrack/linuxproc
+TaskPlugin=task/none
+SelectType=select/cons_res
+SelectTypeParameters=CR_CPU
+JobAcctGatherType=jobacct_gather/none
+SchedulerParameters=sched_interval=1,sched_min_interval=0,batch_sched_delay=0
+NodeName=%(host)s NodeAddr=127.0.0.1 CPUs=4 State=UNKNOWN
+PartitionName=here Nodes=ALL Default=YES MaxTime=INFINITE State=UP
+"""
+
+
+def free_port():
+    with socket.socket() as one:
+        one.bind(("127.0.0.1", 0))
+        return one.getsockname()[1]
+
+
+class Tester:
+    def __init__(self, binary, folder):
+        self.binary, self.folder, self.passed, self.failed, self.left_out = binary, folder, 0, 0, []
+        (folder / "bin").mkdir()
+        (folder / "bin" / "ctxbound").write_text(KILLED % binary)
+        (folder / "bin" / "ctxbound").chmod(0o755)
+        self.environment = dict(os.environ, PATH="%s:%s" % (folder / "bin", os.environ["PATH"]), HOME=str(folder),
+                                LC_ALL="C", PARTS="20")
+        for name, (example, _) in GUESTS.items():
+            shutil.copy(ROOT / "examples" / example, folder / name)
+
+    def expect(self, what, holds, *told):
+        self.passed += bool(holds)
+        self.failed += not holds
+        if not holds:
+            print("\n    ".join([what] + [str(one)[:2000] for one in told]))
+
+    def run(self, *words, kills=None, **more):
+        """A command, in which the first search under a prefix is killed where it is said which folder tells so."""
+        killed = str(self.folder / kills) if kills else "/"
+        return subprocess.run([str(word) for word in words], cwd=self.folder, stdin=subprocess.DEVNULL, capture_output=True,
+                              timeout=SECONDS, env=dict(self.environment, KILLED=killed, **more))
+
+    def wanted(self, name, bound):
+        done = self.run(self.binary, "explore", name, "--bound", bound)
+        return done.stdout, done.returncode
+
+    def has(self, *tools):
+        gone = [tool for tool in tools if not shutil.which(tool)]
+        self.left_out += gone
+        return not gone
+
+    def taken_up(self, what, name, bound, *words, **more):
+        """A script says that a part which was killed is missing, and the same command again takes it up."""
+        done = self.run(*words, kills=what, **more)
+        self.expect(what + ": a part was killed", done.returncode not in (0, 1) and not done.stdout, done.returncode,
+                    done.stdout, done.stderr)
+        self.expect(what + ": it was", (self.folder / what).is_dir())
+        done = self.run(*words, kills=what, **more)
+        self.expect(what, (done.stdout, done.returncode) == self.wanted(name, bound), done.stdout, done.stderr, done.returncode)
+
+    def by_parallel(self):
+        if not self.has("parallel"):
+            return
+        shown = re.search(r"^```sh\n(.*?)^```$", (ROOT / "docs" / "MACHINES.md").read_text(), re.M | re.S)[1]
+        shutil.copy(self.folder / "my guest", self.folder / "my.guest")
+        done = self.run("sh", "-c", shown)
+        self.expect("the pipeline that is shown", (done.stdout, done.returncode) == self.wanted("my.guest", "4"), done.stdout,
+                    done.stderr)
+        for name, (_, bound) in GUESTS.items():
+            self.taken_up("parallel of " + name, name, bound, "sh", SCRIPTS / "search_by_parallel.sh", name, bound, "4/:")
+
+    def by_make(self):
+        if not self.has("make"):
+            return
+        words = ["make", "-s", "-j", "4", "-f", SCRIPTS / "Makefile", "GUEST=fixed.guest", "BOUND=3"]
+        self.taken_up("make", "fixed.guest", "3", *words)
+        shutil.copy(self.folder / "fixed.guest", self.folder / "kept")
+        (self.folder / "fixed.guest").write_text((self.folder / "kept").read_text() + "# other\n")
+        done = self.run(*words)
+        self.expect("make, where the guest is newer", (done.stdout, done.returncode) == self.wanted("fixed.guest", "3"),
+                    done.stdout, done.stderr)
+        shutil.copy(self.folder / "kept", self.folder / "fixed.guest")
+
+    def by_slurm(self):
+        if not self.has(*SLURM) or os.geteuid():
+            return
+        there = self.folder / "slurm"
+        for part in ("", "state", "spool"):
+            (there / part).mkdir(mode=0o700)
+        (there / "key").write_bytes(os.urandom(64))
+        (there / "key").chmod(0o600)
+        host = socket.gethostname().split(".")[0]
+        (there / "slurm.conf").write_text(CONF % {"host": host, "there": there, "ports": free_port(), "node_port": free_port()})
+        self.environment["SLURM_CONF"] = str(there / "slurm.conf")
+        try:
+            if self.starts(there):
+                self.array()
+        finally:
+            for daemon in ("slurmd", "slurmctld", "munged"):
+                if (there / (daemon + ".pid")).exists():
+                    os.kill(int((there / (daemon + ".pid")).read_text()), signal.SIGTERM)
+
+    def starts(self, there):
+        """Starts the daemons. Where they don't come up, as where a machine forbids it, Slurm is left out."""
+        of_munge = {"key-file": "key", "socket": "munge.socket", "pid-file": "munged.pid", "log-file": "munged.log",
+                    "seed-file": "seed"}
+        self.run("munged", "--force", *("--%s=%s" % (word, there / file) for word, file in of_munge.items()))
+        self.run("slurmctld", "-c", "-i")
+        self.run("slurmd")
+        for _ in range(40):
+            if b"idle" in self.run("sinfo", "-h", "-o", "%T").stdout:
+                return True
+            time.sleep(0.25)
+        self.left_out.append("Slurm, which doesn't come up")
+        return False
+
+    def array(self):
+        words = ["sbatch", "--wait", "--output=/dev/null", "--array=1-4", SCRIPTS / "search.sbatch", "my guest", "2"]
+        done = self.run(*words, kills="slurm's")
+        self.expect("Slurm: a part was killed", done.returncode != 0, done.stderr)
+        self.expect("Slurm: it is missing", self.joined("my guest", "2").returncode == 3)
+        done = self.run(*words, kills="slurm's")
+        self.expect("Slurm: all jobs end well", done.returncode == 0, done.stdout, done.stderr)
+        done = self.joined("my guest", "2")
+        self.expect("Slurm", (done.stdout, done.returncode) == self.wanted("my guest", "2"), done.stdout, done.stderr)
+
+    def joined(self, name, bound):
+        return self.run("sh", "-c", 'cat "$0.$1.20"/*.part | ctxbound join "$0" --bound "$1"', name, bound)
+
+
+def main():
+    if len(sys.argv) != 2:
+        raise SystemExit(__doc__)
+    with tempfile.TemporaryDirectory() as folder:
+        tester = Tester(str(Path(sys.argv[1]).resolve(strict=True)), Path(folder))
+        tester.by_make()
+        tester.by_slurm()
+        # It keeps its parts in folders of the same names.
+        for kept in Path(folder).glob("*.20"):
+            shutil.rmtree(kept)
+        tester.by_parallel()
+    if tester.left_out:
+        print("not here: " + ", ".join(dict.fromkeys(tester.left_out)))
+    print("%d passed, %d failed" % (tester.passed, tester.failed))
+    raise SystemExit(1 if tester.failed or not tester.passed else 0)
+
+
+if __name__ == "__main__":
+    main()

@@ -1,0 +1,315 @@
+#!/usr/bin/env python3
+"""Tries that searches under prefixes join to what one search answers, and that what is missing is told.
+
+Usage: tests/parts.py BINARY [--programs N] [--seed S]
+
+Guests are those of examples/, examples/real/ and tests/explain/, and N made at random (200).
+
+- What `join` makes of the parts under the prefixes that `prefixes` lists, in a random order and some twice, is what
+  `explore` or `unbounded` answers: the same bytes, the same status.
+- Of small guests each line of a part is what is worked out here from all schedules, which the interpreter of
+  tests/simulator.py runs: it shares no code with the program. So are those under prefixes that nobody lists.
+- A line that is missing, cut, cut short by a limit, of another guest, or of other prefixes is told in one line, and
+  nothing is printed. A line in which a byte is another one is refused, or read as the same.
+- Words that ask for nothing are refused, and the comparison notices each field that is another.
+
+The last line is `N passed, M failed`.
+"""
+import argparse
+import hashlib
+import json
+import os
+import random
+import subprocess
+import tempfile
+from collections import namedtuple
+from concurrent.futures import ThreadPoolExecutor
+from pathlib import Path
+
+from prefixes import TooMany, nodes, run_of
+from simulator import FOLDERS, ROOT, Guest, Maker, schedule_of, schedule_text
+
+SECONDS = 60
+# How many prefixes are asked for, and of how many guests one is asked for so many.
+COUNTS = ((1, 1), (7, 1), (64, 8), (1000, 60))
+BOUNDS = (2, 1, 0)
+LIMIT = 20000
+MOST_PREFIXES = 150
+Complete = namedtuple("Complete", "schedule preemptions kind values")
+# A search: the command, its words, and those of `prefixes` and `join` for it.
+Search = namedtuple("Search", "command words listed joined")
+
+
+def search_of(bound):
+    if bound is None:
+        return Search("unbounded", (), ("--unbounded",), ("--unbounded",))
+    words = ("--bound", str(bound))
+    return Search("explore", words, (), words)
+
+
+def complete(guest, schedule):
+    run = run_of(guest, schedule)
+    stops = any(thread.stop for thread in run.threads)
+    kind = "failed" if stops else "done" if all(thread.status == "ended" for thread in run.threads) else "stuck"
+    return Complete(schedule, run.preemptions, kind, tuple(run.values.values()))
+
+
+def completes(guest, pruned):
+    """The complete schedules, pruned or not, where there are few, in rising order."""
+    found = nodes(guest, pruned, MOST_PREFIXES)
+    return sorted(complete(guest, prefix) for prefix, is_complete in found if is_complete)
+
+
+def level(tried, beyond, bound, prefix, text):
+    """The line on what was tried under a prefix at a bound."""
+    bad = [one.schedule for one in tried if one.kind != "done"]
+    ends = sorted({(one.kind, one.values) for one in tried})
+    told = {"beyond": beyond, "bound": bound, "ends": [{"kind": kind, "vars": list(values)} for kind, values in ends],
+            "failed": sum(one.kind == "failed" for one in tried), "stuck": sum(one.kind == "stuck" for one in tried),
+            "guest": {"bytes": len(text), "sha256": hashlib.sha256(text).hexdigest()}, "tried": len(tried),
+            "schedule": schedule_text(bad[0]) if bad else None, "under": schedule_text(prefix)}
+    return json.dumps(told, sort_keys=True, separators=(",", ":")) + "\n"
+
+
+def levels(everything, bound, prefix, text):
+    """The lines of a part, and its status."""
+    under = [one for one in everything if one.schedule[:len(prefix)] == prefix]
+    if bound is None:
+        return level(under, False, None, prefix, text), int(any(one.kind != "done" for one in under))
+    lines = ""
+    for at in range(bound + 1):
+        tried = [one for one in under if one.preemptions <= at]
+        is_bad, beyond = any(one.kind != "done" for one in tried), len(tried) < len(under)
+        lines += level(tried, beyond, at, prefix, text)
+        if is_bad or not beyond:
+            break
+    return lines, int(is_bad)
+
+
+def begun_by_none(prefix, others):
+    """The shortest beginning of a prefix with which none of the others begins."""
+    others = list(others)
+    return next(prefix[:length] for length in range(len(prefix) + 1)
+                if not any(other[:length] == prefix[:length] for other in others))
+
+
+class Tester:
+    def __init__(self, binary, chance, folder):
+        self.binary, self.chance, self.folder = binary, chance, folder
+        self.passed, self.failed, self.guests, self.lines = 0, 0, 0, 0
+        self.pool = ThreadPoolExecutor(os.cpu_count() or 1)
+
+    def expect(self, what, holds, *detail):
+        self.passed += bool(holds)
+        self.failed += not holds
+        if not holds:
+            print("\n    ".join([what] + [str(one)[:400] for one in detail]))
+
+    def asked(self, *words, text=b""):
+        done = subprocess.run([self.binary, *map(str, words)], input=text, capture_output=True, timeout=SECONDS)
+        return done.stdout, done.stderr.decode(), done.returncode
+
+    def prefixes(self, path, search, count):
+        return self.asked("prefixes", path, "--at-least", count, *search.listed)[0].decode().split()
+
+    def under(self, path, search, prefix, *more):
+        return self.asked(search.command, path, *search.words, "--under", prefix, *more)
+
+    def parts(self, path, search, prefixes, *more):
+        return list(self.pool.map(lambda prefix: self.under(path, search, prefix, *more), prefixes))
+
+    def join(self, path, search, lines):
+        return self.asked("join", path, *search.joined, text=b"".join(lines))
+
+    # ---- whole searches
+
+    def guest(self, path):
+        for bound in (self.bound_for(path), None):
+            if bound is None and self.asked("unbounded", path, "--limit", LIMIT)[2] == 3:
+                continue
+            search = search_of(bound)
+            for count, of in COUNTS:
+                if self.guests % of == 0:
+                    self.whole(path, search, count)
+            self.small(path, bound)
+        self.guests += 1
+
+    def bound_for(self, path):
+        """A bound up to which a guest is searched soon."""
+        fits = (bound for bound in BOUNDS if self.asked("explore", path, "--bound", bound, "--limit", LIMIT)[2] != 3)
+        return next(fits, 0)
+
+    def whole(self, path, search, count):
+        wanted = self.asked(search.command, path, *search.words)
+        prefixes = self.prefixes(path, search, count)
+        parts = self.parts(path, search, prefixes)
+        name = "%s %s %s in %d parts" % (search.command, path, " ".join(search.words), len(prefixes))
+        bad = [b'"schedule":"' in out for out, _, _ in parts]
+        self.expect(name + ": a status", [part[1:] for part in parts] == [("", int(one)) for one in bad], parts)
+        lines = [line for out, _, _ in parts for line in out.splitlines(True)]
+        lines += self.chance.sample(lines, min(3, len(lines)))
+        self.chance.shuffle(lines)
+        got = self.join(path, search, lines)
+        self.expect(name, got == wanted, got, wanted)
+
+    def small(self, path, bound):
+        """The lines of parts of a guest with few schedules."""
+        text, search = path.read_bytes(), search_of(bound)
+        guest = Guest(text.decode())
+        try:
+            everything = completes(guest, bound is None)
+            all_prefixes = [prefix for prefix, _ in nodes(guest, False, MOST_PREFIXES)]
+        except TooMany:
+            return
+        tried = self.chance.sample(all_prefixes, min(6, len(all_prefixes)))
+        for prefix, got in zip(tried, self.parts(path, search, map(schedule_text, tried))):
+            lines, status = levels(everything, bound, prefix, text)
+            name = "%s %s --under %s" % (search.command, path, schedule_text(prefix))
+            self.expect(name, got == (lines.encode(), "", status), got, (lines, status))
+            self.lines += lines.count("\n")
+
+    # ---- what is missing or refused
+
+    def refused(self, what, path, search, lines, told, status):
+        got = self.join(path, search, lines)
+        self.expect(what, got == (b"", "ctxbound: %s\n" % told, status), got, told)
+
+    def missing(self, path, search):
+        prefixes = self.prefixes(path, search, 7)
+        parts = [out.splitlines(True) for out, _, _ in self.parts(path, search, prefixes)]
+        lines = [line for part in parts for line in part]
+        for at, prefix in enumerate(prefixes):
+            left = [line for part in parts[:at] + parts[at + 1:] for line in part]
+            bare = begun_by_none(schedule_of(prefix), map(schedule_of, prefixes[:at] + prefixes[at + 1:]))
+            self.refused("%s is missing" % prefix, path, search, left, "parts: nothing under " + schedule_text(bare), 3)
+            more = self.under(path, search, schedule_text(bare))[0]
+            self.expect("%s is found" % schedule_text(bare),
+                        self.join(path, search, left + [more]) == self.join(path, search, lines))
+        self.refused("all is missing", path, search, [], "parts: nothing under -", 3)
+        longest = max(parts, key=len)
+        self.refused("a bound is missing", path, search, [line for line in lines if line != longest[1]],
+                     "parts: nothing at bound 1 under " + prefixes[parts.index(longest)], 3)
+        self.limited(path, search, prefixes, lines, parts.index(longest))
+        self.disagree(path, search, prefixes, lines)
+        whole = self.under(path, search, "-")[0].splitlines(True)
+        self.expect("the whole as a part", self.join(path, search, whole) == self.join(path, search, lines))
+        self.refused("a prefix and one under it", path, search, whole + lines, "parts: - holds %s too" % prefixes[0], 2)
+
+    def limited(self, path, search, prefixes, lines, at):
+        """A part that is cut short, alone and beside what it lacks."""
+        prefix = prefixes[at]
+        out, err, status = self.under(path, search, prefix, "--limit", 1)
+        self.expect("a part that is cut short", (err, status) == ("", 3) and b'"cause":"limit"' in out.splitlines()[-1],
+                    out, err, status)
+        others = [line for line in lines if json.loads(line)["under"] != prefix]
+        self.refused("one was cut short", path, search, others + [out], "parts: cut short at bound 0 under " + prefix, 3)
+        self.expect("cut short, and made whole", self.join(path, search, [out] + lines) == self.join(path, search, lines),
+                    self.join(path, search, [out] + lines))
+
+    def disagree(self, path, search, prefixes, lines):
+        told = json.loads(lines[0])
+        other = json.dumps(dict(told, tried=told["tried"] + 1), sort_keys=True, separators=(",", ":")).encode() + b"\n"
+        self.refused("two that differ", path, search, lines + [other],
+                     "parts: two parts disagree at bound %s under %s" % (told["bound"], told["under"]), 2)
+
+    def of_another(self, path, search, other):
+        lines = [out for out, _, _ in self.parts(other, search, self.prefixes(other, search, 1))]
+        out, err, status = self.join(path, search, lines)
+        self.expect("another guest", (out, err, status) == (b"", "ctxbound: -: another guest under -\n", 2), out, err)
+
+    def hostile(self, path, search):
+        """Each byte of a line is another one, beside the line as it is; and the line ends at each place."""
+        lines = [out for out, _, _ in self.parts(path, search, self.prefixes(path, search, 3))]
+        line = max((one for out in lines for one in out.splitlines()), key=len)
+        wanted = self.join(path, search, lines)
+        changed = [(at, line[:at] + bytes([byte]) + line[at + 1:]) for at in range(len(line))
+                   for byte in (0, 9, 34, 44, 45, 48, 57, 92, 120, 125, 128, 255)]
+        cut = [(at, line[:at]) for at in range(1, len(line))]
+        tried = self.pool.map(lambda one: self.join(path, search, lines + [one[1] + b"\n"]), changed + cut)
+        for (at, text), got in zip(changed + cut, tried):
+            is_refused = (got[0], got[2]) == (b"", 2) and got[1].startswith("ctxbound: ") and got[1].count("\n") == 1
+            self.expect("a line with another byte at %d" % at, is_refused or got == wanted, text, got)
+            if len(text) < len(line):
+                self.expect("a line that ends at %d is taken" % at, is_refused, text, got)
+
+    # ---- words
+
+    def words(self, path):
+        for words in (["explore", path, "--under"], ["explore", path, "--under", "-", "--quick"],
+                      ["unbounded", path, "--under", "-", "--quick"], ["explore", path, "--under", "-", "--trace"],
+                      ["explain", path, "--under", "-"], ["join"], ["join", path, "--bound", "1", "--unbounded"],
+                      ["join", path, "--bound", "65"], ["join", path, "--workers", "2"], ["join", "-"],
+                      ["join", "-", "-"], ["join", "-", "a", "-"]):
+            out, err, status = self.asked(*words)
+            self.expect("%s: taken" % words, (status, out) == (2, b"") and err, out, err)
+        for prefix, told in (("0,", "Q1"), ("x", "Q1"), ("99", "P1 NoSuchThread at 0"), ("0x99", "P2 NotEnabled at ")):
+            out, err, status = self.asked("explore", path, "--under", prefix)
+            self.expect("under %s" % prefix, (out, status) == (b"", 2) and err.startswith("ctxbound: schedule " + told),
+                        out, err)
+        self.expect("no file", self.asked("explore", "no/such", "--under", "-") == (
+            b"", "ctxbound: no/such: No such file or directory (os error 2)\n", 4))
+        self.expect("no program", self.asked("explore", "-", "--under", "-", text=b"var") == (
+            b"", "ctxbound: syntax S3 Expected at 1:4\n", 2))
+        self.expect("a program from standard input", self.asked("explore", "-", "--under", "1", text=path.read_bytes())
+                    == self.asked("explore", path, "--under", "1"))
+
+    def files(self, path, search):
+        """Parts in files, beside standard input and with blank lines."""
+        outs = [out for out, _, _ in self.parts(path, search, self.prefixes(path, search, 3))]
+        wanted = self.asked(search.command, path, *search.words)
+        named = []
+        for at, out in enumerate(outs):
+            named.append(self.folder / ("%d.part" % at))
+            named[-1].write_bytes(b"\n" * at + out)
+        self.expect("files", self.asked("join", path, *named, *search.joined) == wanted)
+        self.expect("files and standard input",
+                    self.asked("join", path, "-", *named[1:], *search.joined, text=outs[0]) == wanted)
+        self.expect("the guest from standard input",
+                    self.asked("join", "-", *named, *search.joined, text=path.read_bytes()) == wanted)
+        named[1].write_bytes(b"\n\n" + outs[1][:-5] + b"\n")
+        out, err, status = self.asked("join", path, *named, *search.joined)
+        self.expect("the place of what is refused", (out, status) == (b"", 2) and err.startswith(
+            "ctxbound: %s:%d: " % (named[1], 2 + outs[1].count(b"\n"))) and err.count("\n") == 1, err)
+        gone = self.folder / "gone.part"
+        self.expect("a file that isn't there", self.asked("join", path, gone, *search.joined) == (
+            b"", "ctxbound: %s: No such file or directory (os error 2)\n" % gone, 4))
+
+    def notices(self):
+        """That another schedule, end, count or bound makes another line."""
+        one = Complete((0, 1), 1, "done", (1,))
+        wanted = levels([one, one._replace(preemptions=0)], 1, (0,), b"")
+        for other in (one._replace(kind="failed"), one._replace(values=(2,)), one._replace(preemptions=2),
+                      one._replace(schedule=(1, 0)), one._replace(kind="stuck")):
+            self.expect("%s isn't noticed" % (other,), levels([other, one._replace(preemptions=0)], 1, (0,), b"") != wanted)
+        self.expect("too few lines were compared", self.lines > 300, self.lines)
+
+
+def main():
+    parser = argparse.ArgumentParser(usage="tests/parts.py BINARY [--programs N] [--seed S]")
+    parser.add_argument("binary", type=Path)
+    parser.add_argument("--programs", type=int, default=200)
+    parser.add_argument("--seed", type=int, default=1)
+    given = parser.parse_args()
+    with tempfile.TemporaryDirectory() as folder:
+        tester = Tester(str(given.binary.resolve(strict=True)), random.Random(given.seed), Path(folder))
+        paths = [path for folder in FOLDERS for path in sorted((ROOT / folder).glob("*.guest"))]
+        maker = Maker(tester.chance)
+        for number in range(given.programs):
+            paths.append(tester.folder / ("made%d.guest" % number))
+            paths[-1].write_text(maker.guest())
+        for path in paths:
+            tester.guest(path)
+        first, fixed = ROOT / "examples" / "first.guest", ROOT / "examples" / "lost_update_fixed.guest"
+        tester.missing(fixed, search_of(2))
+        tester.of_another(fixed, search_of(2), first)
+        for bound in (2, None):
+            tester.hostile(first, search_of(bound))
+            tester.files(first, search_of(bound))
+        tester.words(first)
+        tester.notices()
+    print("%d passed, %d failed" % (tester.passed, tester.failed))
+    raise SystemExit(1 if tester.failed or not tester.passed else 0)
+
+
+if __name__ == "__main__":
+    main()
