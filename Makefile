@@ -205,6 +205,7 @@ bench:
 	@cd crates/tools && rt run -- walk data/race.guest 1 > ../../build/log 2>&1 || { cat ../../build/log; exit 1; }
 	@python3 bench/walk.py
 	@test ! -x build/ctxbound || python3 bench/workers.py build/ctxbound
+	@test ! -x build/ctxbound || python3 bench/parts.py build/ctxbound
 	@test ! -x build/ctxbound || python3 bench/beside.py build/ctxbound
 	@test ! -x build/ctxbound || python3 bench/spin.py build/ctxbound
 	@test ! -x build/ctxbound || python3 bench/explanations.py build/ctxbound
