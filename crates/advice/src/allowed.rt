@@ -100,9 +100,5 @@ fn is_word_at(text: &[u8], word: &[u8], at: usize) -> bool
 fn is_blank_at(text: &[u8], at: usize) -> bool
     ensures { result ≡ is_blank_at text.now at }
 {
-    if at < text.len() {
-        text[at].is_ascii_whitespace()
-    } else {
-        true
-    }
+    text.get(at).copied().unwrap_or(b' ').is_ascii_whitespace()
 }

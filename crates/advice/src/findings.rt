@@ -1,207 +1,120 @@
-//! Warnings with their places and their words, in the order of the text.
+//! Warnings with their places.
 
-ghost use Rattle.std.specs.Prelude.{◌<◌};
-ghost use Rattle.guest_code.specs.SourceMap.{IsMapOf};
-
-use guest_code::program::{Instruction, Program};
-use guest_code::source_map::SourceMap;
-use guest_syntax::pieces::Piece;
+use crate::remarks::title;
+use crate::source::Source;
 use guest_syntax::place::Pos;
 use guest_syntax::tree::Tree;
-use hints::declared::kind_of;
+use hints::declared::Sort;
+use hints::pieces::{START, is_boundary, piece_at};
 use lint::uses::Use;
 use lint::warning::{Kind, Warning};
 use lint::warnings::all_warnings;
-use std::alloc::{AllocError, Global};
+use messages::message::{Advice, Grade};
+use std::alloc::AllocError;
 
-/// A warning, and the place of the statement or the declaration that it is of.
-#[derive(Clone, Copy, Debug)]
-pub struct Finding {
-    pub warning: Warning,
-    pub at: Pos,
-}
-
-/// A program, and where its parts are in its text.
+/// A warning, and what it marks.
 #[derive(Clone, Copy)]
-pub struct Source<'a> {
-    pub tree: &'a Tree,
-    pub program: &'a Program,
-    pub map: &'a SourceMap,
-    pub pieces: &'a [Piece<'a>],
-    ghost fits: { IsMapOf map.now program.now },
+struct Finding {
+    warning: Warning,
+    at: Pos,
 }
 
-/// Where the object of a kind and a number is declared.
-fn declared_at(tree: &Tree, kind: &str, number: usize) -> Pos {
-    let mut left = number;
-    for declaration in tree.declarations() {
-        if kind_of(declaration.object) == kind {
-            if left == 0 {
-                return declaration.name.at;
-            }
-            left -= 1;
-        }
-    }
-    Pos { line: 1, col: 1 }
+/// What a warning is of, but for its number.
+enum Subject {
+    /// A local of a thread, where it is first used like this.
+    Local(u8, Use),
+    /// An instruction of a thread.
+    Instruction(u8),
+    /// An object.
+    Object(Sort),
 }
 
-/// The thread of a kind of warnings.
-fn thread_of(kind: Kind) -> Option<u8> {
+/// What a kind of warnings is of.
+fn subject_of(kind: Kind) -> Subject {
     match kind {
-        Kind::NeverSet(thread)
-        | Kind::NeverRead(thread)
-        | Kind::Constant(thread)
+        Kind::NeverSet(thread) => Subject::Local(thread, Use::Reads),
+        Kind::NeverRead(thread) => Subject::Local(thread, Use::Fills),
+        Kind::Constant(thread)
         | Kind::Unreached(thread)
         | Kind::MayKeep(thread)
         | Kind::MayLack(thread)
         | Kind::LocksAgain(thread)
         | Kind::WaitNotLookedAtAgain(thread)
-        | Kind::WaitsElsewhere(thread) => Some(thread),
-        _ => None,
+        | Kind::WaitsElsewhere(thread) => Subject::Instruction(thread),
+        Kind::UnusedVariable | Kind::NeverStored | Kind::NeverLoaded => {
+            Subject::Object(Sort::Variable)
+        }
+        Kind::UnusedMutex => Subject::Object(Sort::Mutex),
+        Kind::UnusedCondition | Kind::NeverSignalled | Kind::NeverWaitedFor => {
+            Subject::Object(Sort::Condition)
+        }
+        Kind::UnusedSemaphore | Kind::NeverReleased => Subject::Object(Sort::Semaphore),
     }
 }
 
-/// The kind of object that a warning is of, if it is of one.
-fn object_of(kind: Kind) -> &'static str {
-    match kind {
-        Kind::UnusedMutex => "mutex",
-        Kind::UnusedCondition | Kind::NeverSignalled | Kind::NeverWaitedFor => "condition",
-        Kind::UnusedSemaphore | Kind::NeverReleased => "semaphore",
-        _ => "variable",
-    }
+/// Where the object of a sort and a number is declared; the start of the text if it is not.
+fn declared_at(tree: &Tree, sort: Sort, number: usize) -> Pos {
+    let objects = tree.declarations().iter();
+    let mut of_sort = objects.filter(|object| Sort::from(object.object) == sort);
+    of_sort.nth(number).map_or(START, |object| object.name.at)
 }
 
-impl<'a> Source<'a> {
-    /// The code of a thread; none of one that is not there.
-    pub fn code(&self, thread: u8) -> &'a [Instruction] {
-        if thread < self.program.threads() {
-            self.program.code(thread)
-        } else {
-            &[]
-        }
-    }
-
-    /// The place of an instruction.
-    pub fn place(&self, thread: u8, at: usize) -> Pos {
-        if thread < self.program.threads() && at < self.program.code(thread).len() {
-            return self.map.place(thread, at);
-        }
-        Pos { line: 1, col: 1 }
-    }
-
-    /// How many locals a thread has.
-    pub fn locals(&self, thread: u8) -> usize {
-        if thread < self.program.threads() {
-            self.program.locals(thread)
-        } else {
-            0
-        }
-    }
-
-    /// The name of a thread; none of one that is not there.
-    pub fn thread_name(&self, thread: u8) -> &'a [u8] {
-        if thread < self.program.threads() {
-            self.program.thread_name(thread)
-        } else {
-            b""
-        }
-    }
-
-    /// The name of a local; none of one that is not there.
-    pub fn local_name(&self, thread: u8, local: usize) -> &'a [u8] {
-        if thread < self.program.threads() && local < self.program.locals(thread) {
-            self.map.local(thread, local)
-        } else {
-            b""
-        }
-    }
-
+impl Source<'_> {
     /// The place of the first instruction of a thread that makes a use of a local.
     fn first_use(&self, thread: u8, use_: Use, local: usize) -> Pos {
-        for (at, instruction) in self.code(thread).iter().enumerate() {
-            if use_.is_made(local, instruction) {
-                return self.place(thread, at);
+        let mut code = self.code(thread).iter();
+        let first = code.position(|instruction| use_.is_made(local, instruction));
+        self.place(thread, first.unwrap_or(0))
+    }
+
+    /// The place of a name in the statement at a place, or the statement's own.
+    fn name_in(&self, at: Pos, name: &str) -> Pos {
+        let pieces = self.pieces.iter().skip(piece_at(self.pieces, at));
+        let mut statement = pieces.take_while(|piece| !is_boundary(piece));
+        let found = statement.find(|piece| piece.text == name.as_bytes());
+        found.map_or(at, |piece| piece.at)
+    }
+
+    /// A warning with its place: of a local its name, else the statement or the declaration.
+    fn placed(&self, warning: Warning) -> Finding {
+        let number = warning.number;
+        let at = match subject_of(warning.kind) {
+            Subject::Local(thread, use_) => {
+                let statement = self.first_use(thread, use_, number);
+                self.name_in(statement, self.local_name(thread, number))
             }
-        }
-        Pos { line: 1, col: 1 }
+            Subject::Instruction(thread) => self.place(thread, number),
+            Subject::Object(sort) => declared_at(self.tree, sort, number),
+        };
+        Finding { warning, at }
     }
 
-    /// Where a warning is.
-    fn place_of(&self, warning: Warning) -> Pos {
-        match warning.kind {
-            Kind::NeverSet(thread) => self.first_use(thread, Use::Reads, warning.number),
-            Kind::NeverRead(thread) => self.first_use(thread, Use::Fills, warning.number),
-            kind => match thread_of(kind) {
-                Some(thread) => self.place(thread, warning.number),
-                None => declared_at(self.tree, object_of(kind), warning.number),
-            },
-        }
-    }
-
-    /// How many instructions of a thread a statement has.
-    fn copies(&self, thread: u8, at: Pos) -> usize {
-        let mut count = 0_usize;
-        for i in 0..self.code(thread).len() {
-            if self.place(thread, i) == at {
-                count = count.saturating_add(1);
-            }
-        }
-        count
-    }
-
-    /// Whether all instructions of a statement have a warning.
-    fn has_all(&self, all: &[Finding], found: Finding) -> bool {
-        let Some(thread) = thread_of(found.warning.kind) else {
+    /// Whether all instructions of a statement have a warning, of those of which it is told only
+    /// then: a statement is unreached where all its instructions are, and a `wait` isn't looked at
+    /// again where none is, since in the last turn of a `repeat` none is.
+    fn is_told(&self, all: &[Finding], found: Finding) -> bool {
+        let kind = found.warning.kind;
+        let (Kind::Unreached(thread) | Kind::WaitNotLookedAtAgain(thread)) = kind else {
             return true;
         };
-        let mut count = 0_usize;
-        for other in all {
-            if other.at == found.at && other.warning.kind == found.warning.kind {
-                count = count.saturating_add(1);
+        let is_such = |other: &&Finding| other.at == found.at && other.warning.kind == kind;
+        let code = 0..self.code(thread).len();
+        let copies = code.filter(|i| self.place(thread, *i) == found.at).count();
+        all.iter().filter(is_such).count() == copies
+    }
+
+    /// Adds the warnings, each statement's and each kind's once.
+    pub fn add_warnings(&self, all: &mut Vec<Advice>) -> Result<(), AllocError> {
+        let alloc = *all.allocator();
+        let warnings = all_warnings(alloc, self.program)?;
+        let found: Vec<Finding> = warnings.iter().map(|w| self.placed(*w)).collect(alloc)?;
+        for finding in &found {
+            if self.is_told(&found, *finding) {
+                let told = self.told(alloc, finding.warning)?;
+                let title = (Grade::Warning, title(finding.warning.kind));
+                self.add(all, title, finding.at, told)?;
             }
         }
-        count == self.copies(thread, found.at)
+        Ok(())
     }
-
-    /// The warnings with their places.
-    fn placed(&self, alloc: Global) -> Result<Vec<Finding>, AllocError> {
-        let mut all = Vec::new(alloc);
-        for warning in &all_warnings(alloc, self.program)? {
-            let at = self.place_of(*warning);
-            all.push(Finding {
-                warning: *warning,
-                at,
-            })?;
-        }
-        Ok(all)
-    }
-
-    /// The warnings, each statement's and each kind's once. A statement is unreached where all its
-    /// instructions are, and a `wait` isn't looked at again where none is: in the last turn of a
-    /// `repeat` none is.
-    pub fn findings(&self, alloc: Global) -> Result<Vec<Finding>, AllocError> {
-        let all = self.placed(alloc)?;
-        let mut some = Vec::new(alloc);
-        for found in &all {
-            let is_of_all = matches!(
-                found.warning.kind,
-                Kind::Unreached(_) | Kind::WaitNotLookedAtAgain(_)
-            );
-            let is_told = !is_of_all || self.has_all(&all, *found);
-            if is_told && !is_among(&some, *found) {
-                some.push(*found)?;
-            }
-        }
-        Ok(some)
-    }
-}
-
-/// Whether a statement has a warning of this kind already.
-fn is_among(some: &[Finding], found: Finding) -> bool {
-    let is_of_local = matches!(found.warning.kind, Kind::NeverSet(_) | Kind::NeverRead(_));
-    some.iter().any(|other| {
-        other.at == found.at
-            && other.warning.kind == found.warning.kind
-            && (!is_of_local || other.warning.number == found.warning.number)
-    })
 }

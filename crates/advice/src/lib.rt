@@ -11,14 +11,13 @@
 //! Which words an advice has, and all that schedules show, is shown by tests.
 #![tactic(auto)]
 
-ghost use Rattle.std.specs.Prelude.{◌≡◌, ◌≢◌, IfOk, MatchBool, All, false};
+ghost use Rattle.std.specs.Prelude.{◌≡◌, ◌≢◌, IfOk, All, false};
 ghost use Rattle.std.specs.List.{list_any};
 ghost use Rattle.guest_syntax.specs.Answers.{RefusalIn};
 ghost use Rattle.guest_syntax.specs.Grammar.{Spells};
 ghost use Rattle.guest_syntax.specs.Place.{start};
 ghost use Rattle.guest_syntax.specs.Tree.{Tree, tree_view};
 ghost use Rattle.guest_syntax.specs.declared.error.SyntaxError.TheVariants as syntax;
-ghost use Rattle.guest_code.specs.declared.error.CheckError.TheVariants as checks;
 ghost use Rattle.guest_code.specs.Code.{code};
 ghost use Rattle.guest_code.specs.Fault.{fault, Refuses};
 ghost use Rattle.advice.specs.Allowed.{is_allowed};
@@ -29,12 +28,13 @@ mod depths;
 mod findings;
 mod origin;
 mod remarks;
+mod source;
 mod spins;
 
 use crate::allowed::is_allowed;
 pub use crate::depths::Depth;
-use crate::findings::Source;
 use crate::origin::{put_all, put_told};
+use crate::source::Source;
 use guest_code::error::CheckError;
 use guest_code::lowering::lower;
 use guest_code::program::Program;
@@ -97,25 +97,13 @@ fn refused_text(alloc: Global, text: &[u8], error: SyntaxError) -> Result<Checke
     requires place { RefusalIn start text.now error }
     ensures { IfOk result (Tells text.now) }
 {
-    if is_memory_for_text(error) {
-        return Err(AllocError);
+    match error {
+        SyntaxError::OutOfMemory => Err(AllocError),
+        _ => {
+            let advice = syntax_advice(alloc, text, error)?;
+            Ok(Checked::Refused(advice))
+        }
     }
-    let advice = syntax_advice(alloc, text, error)?;
-    Ok(Checked::Refused(advice))
-}
-
-/// Whether memory ran out while a text was read.
-fn is_memory_for_text(error: SyntaxError) -> bool
-    ensures { MatchBool result (error ≡ syntax.OutOfMemory) (error ≢ syntax.OutOfMemory) }
-{
-    error == SyntaxError::OutOfMemory
-}
-
-/// Whether memory ran out while a tree was checked.
-fn is_memory_for_tree(error: CheckError) -> bool
-    ensures { MatchBool result (error ≡ checks.OutOfMemory) (error ≢ checks.OutOfMemory) }
-{
-    error == CheckError::OutOfMemory
 }
 
 /// That memory ran out, or why a tree is refused with this.
@@ -129,11 +117,13 @@ fn refused_tree(
     requires refused { Refuses error (fault (tree_view tree.now)) }
     ensures { IfOk result (Tells text.now) }
 {
-    if is_memory_for_tree(error) {
-        return Err(AllocError);
+    match error {
+        CheckError::OutOfMemory => Err(AllocError),
+        _ => {
+            let advice = check_advice(alloc, text, tree, error)?;
+            Ok(Checked::Refused(advice))
+        }
     }
-    let advice = check_advice(alloc, text, tree, error)?;
-    Ok(Checked::Refused(advice))
 }
 
 /// Why a text that spells a tree is refused, or what is odd about its program.
@@ -177,11 +167,9 @@ fn all_advice(
         pieces: &pieces,
     };
     let mut all = Vec::new(alloc);
-    for found in &source.findings(alloc)? {
-        all.push(source.advice(alloc, *found)?)?;
-    }
+    source.add_warnings(&mut all)?;
     if let Some(depth) = depth {
-        source.depths(alloc, depth, &mut all)?;
+        source.add_depths(depth, &mut all)?;
     }
     all.retain(|advice| !is_allowed(text, advice));
     all.sort_by_key(|advice| advice.place())?;

@@ -1,31 +1,17 @@
 //! Where a mark says that the line of an advice comes from.
 
-ghost use Rattle.std.specs.Prelude.{map};
 ghost use Rattle.text_lines.specs.Marks.{origins_in};
-ghost use Rattle.messages.specs.Lines.{shown};
 ghost use Rattle.messages.specs.Puts.{Puts};
 ghost use Rattle.advice.specs.Told.{all_told, origin_row, told_lines};
 
-use messages::message::{Advice, Span, shown};
-use messages::words::decimal;
+use messages::message::{Advice, Span, put_shown};
 use std::alloc::AllocError;
 use text_lines::Marks;
-
-/// Adds bytes, each as it is shown.
-fn put_shown(out: &mut Vec<u8>, bytes: &[u8]) -> Result<(), AllocError>
-    ensures { Puts result out.old out.new (map shown bytes.now) }
-{
-    for byte in bytes {
-        out.push(shown(*byte))?;
-    }
-    Ok(())
-}
 
 /// Adds where the line of a place comes from, if a mark says so.
 fn put_origin(out: &mut Vec<u8>, marks: &Marks, span: Option<Span>) -> Result<(), AllocError>
     ensures { Puts result out.old out.new (origin_row (origins_in marks.now) span) }
 {
-    let alloc = *out.allocator();
     let Some(span) = span else {
         return Ok(());
     };
@@ -33,11 +19,8 @@ fn put_origin(out: &mut Vec<u8>, marks: &Marks, span: Option<Span>) -> Result<()
         return Ok(());
     };
     put_shown(out, origin.file())?;
-    out.push(b':')?;
-    out.extend_from_slice(decimal(alloc, origin.line() as u64)?.as_bytes())?;
-    out.push(b':')?;
-    out.extend_from_slice(decimal(alloc, span.at.col as u64)?.as_bytes())?;
-    out.extend_from_slice(b":\n")
+    let place = format!(in *out.allocator(); ":{}:{}:\n", origin.line(), span.at.col)?;
+    out.extend_from_slice(place.as_bytes())
 }
 
 /// Adds where an advice comes from, and its lines.

@@ -8,9 +8,12 @@
 #![tactic(auto)]
 
 pub mod braces;
+mod context;
 pub mod declared;
-pub mod forms;
+mod faults;
+mod forms;
 pub mod pieces;
 pub mod refusal;
 mod slips;
+mod syntax;
 pub mod told;

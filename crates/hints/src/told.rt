@@ -1,43 +1,60 @@
-//! Words and remarks of an advice.
+//! What is told beside the short form.
 
-use messages::message::Note;
-use messages::words::joined;
+ghost use Rattle.std.specs.Prelude.{◌≡◌};
+
+use messages::message::{Advice, Grade, Note, Span};
 use std::alloc::{AllocError, Global};
+use std::fmt::Display;
 
-/// A remark without a place.
-pub fn note(alloc: Global, parts: &[&[u8]]) -> Result<Note, AllocError> {
-    Ok(Note {
-        span: None,
-        text: joined(alloc, parts)?,
-    })
-}
-
-/// What is told beside the short form.
+/// A message, and notes on it.
 #[derive(Debug, Drop)]
 pub struct Told {
-    pub message: Vec<u8>,
-    pub notes: Vec<Note>,
+    message: String,
+    notes: Vec<Note>,
 }
 
 impl Told {
     /// A message with no note.
-    pub fn new(alloc: Global, parts: &[&[u8]]) -> Result<Told, AllocError> {
+    pub fn new(alloc: Global, message: impl Display + Drop) -> Result<Told, AllocError> {
         Ok(Told {
-            message: joined(alloc, parts)?,
+            message: message.to_string(alloc)?,
             notes: Vec::new(alloc),
         })
     }
 
-    /// A message with a note.
-    pub fn with(alloc: Global, parts: &[&[u8]], more: &[&[u8]]) -> Result<Told, AllocError> {
-        let mut told = Told::new(alloc, parts)?;
-        told.add(note(alloc, more)?)?;
-        Ok(told)
+    /// Where its memory comes from.
+    pub fn alloc(&self) -> Global {
+        *self.notes.allocator()
     }
 
-    /// One more note.
-    pub fn add(&mut self, note: Note) -> Result<(), AllocError> {
-        self.notes.push(note)?;
-        Ok(())
+    /// The same with one more note.
+    pub fn with(self, note: impl Display + Drop) -> Result<Told, AllocError> {
+        self.noted(None, note)
+    }
+
+    /// The same with one more note, which is of a place.
+    pub fn with_at(self, span: Span, note: impl Display + Drop) -> Result<Told, AllocError> {
+        self.noted(Some(span), note)
+    }
+
+    /// The same with one more note.
+    fn noted(mut self, span: Option<Span>, note: impl Display + Drop) -> Result<Told, AllocError> {
+        let text = note.to_string(self.alloc())?.into_bytes();
+        self.notes.push(Note { span, text })?;
+        Ok(self)
+    }
+
+    /// An advice that tells this.
+    pub fn advice(self, grade: Grade, headline: String, span: Option<Span>) -> Advice
+        ensures headline { result.headline ≡ headline }
+        ensures span { result.span ≡ span }
+    {
+        Advice {
+            grade,
+            headline,
+            span,
+            message: self.message.into_bytes(),
+            notes: self.notes,
+        }
     }
 }

@@ -1,13 +1,14 @@
 //! Advice as a value, and its lines.
 
-ghost use Rattle.std.specs.Prelude.{◌≡◌, ◌-◌, ◌≤◌, [], length, map, take, drop, replicate, string_bytes};
+ghost use Rattle.std.specs.Prelude.{◌≡◌, ◌-◌, ◌≤◌, [], length, map, take, replicate, string_bytes};
 ghost use Rattle.std.specs.List.{prefix_len, before_first, after_first};
 ghost use Rattle.messages.specs.Lines.{is_blank, code_number, code_name, from_line, goes_on, line_of, first_line, shown, left_out, margin, said_line, source_line, marks_line};
 ghost use Rattle.messages.specs.Puts.{Puts};
 
 use crate::words::decimal;
 use guest_syntax::place::Pos;
-use std::alloc::{AllocError, Global};
+use std::alloc::AllocError;
+use std::fmt;
 
 pub mod texts;
 
@@ -43,6 +44,16 @@ pub enum Grade {
     Remark,
 }
 
+impl fmt::Display for Grade {
+    fn fmt<W: fmt::Write>(&self, f: &mut fmt::Formatter<W>) -> fmt::Result {
+        f.write_str(match self {
+            Grade::Refusal => "error",
+            Grade::Warning => "warning",
+            Grade::Remark => "remark",
+        })
+    }
+}
+
 /// What a person is told of a refusal or a warning.
 #[derive(Debug, Drop)]
 pub struct Advice {
@@ -72,10 +83,8 @@ impl Advice {
 
     /// The line and the column; past all others where it has no place.
     pub fn place(&self) -> (u32, u32) {
-        match self.span {
-            Some(span) => (span.at.line, span.at.col),
-            None => (u32::MAX, u32::MAX),
-        }
+        self.span
+            .map_or((u32::MAX, u32::MAX), |span| (span.at.line, span.at.col))
     }
 }
 
@@ -167,17 +176,17 @@ fn put_many(out: &mut Vec<u8>, byte: u8, count: usize) -> Result<(), AllocError>
 }
 
 /// Adds the margin of a source line, with its number to the right.
-fn put_margin(alloc: Global, out: &mut Vec<u8>, line: u32) -> Result<(), AllocError>
+fn put_margin(out: &mut Vec<u8>, line: u32) -> Result<(), AllocError>
     ensures { Puts result out.old out.new (margin line) }
 {
-    let number = decimal(alloc, line as u64)?;
+    let number = decimal(*out.allocator(), line as u64)?;
     put_many(out, b' ', 5_usize.saturating_sub(number.len()))?;
     out.extend_from_slice(number.as_bytes())?;
     out.extend_from_slice(b" | ")
 }
 
 /// Adds bytes, each as it is shown.
-fn put_shown(out: &mut Vec<u8>, bytes: &[u8]) -> Result<(), AllocError>
+pub fn put_shown(out: &mut Vec<u8>, bytes: &[u8]) -> Result<(), AllocError>
     ensures { Puts result out.old out.new (map shown bytes.now) }
 {
     for byte in bytes {
@@ -195,21 +204,13 @@ fn first_bytes(rest: &[u8]) -> &[u8]
     &rest[..end]
 }
 
-/// The part of a line that is shown, from a byte on.
-fn shown_part(line: &[u8], from: usize) -> &[u8]
-    requires { from ≤ length line.now }
-    ensures { result.now ≡ take SHOWN (drop from line.now) }
-{
-    let (_, rest) = line.split_at(from);
-    first_bytes(rest)
-}
-
 /// Adds the part of a source line that is shown, from a byte on.
 fn put_source(out: &mut Vec<u8>, line: &[u8], from: usize) -> Result<(), AllocError>
     requires { from ≤ length line.now }
     ensures { Puts result out.old out.new (source_line line.now from) }
 {
-    put_shown(out, shown_part(line, from))?;
+    let (_, rest) = line.split_at(from);
+    put_shown(out, first_bytes(rest))?;
     out.push(b'\n')?;
     Ok(())
 }

@@ -6,7 +6,7 @@ ghost use Rattle.messages.specs.Puts.{Puts};
 use crate::message::{
     Advice, Note, Span, left_out, line_of, put_margin, put_marks, put_said, put_source,
 };
-use std::alloc::{AllocError, Global};
+use std::alloc::AllocError;
 
 /// Adds the source line of a span, and below it marks under its bytes, and what is said of them.
 fn put_span(
@@ -18,11 +18,10 @@ fn put_span(
 ) -> Result<(), AllocError>
     ensures { Puts result out.old out.new (span_lines text.now span mark said.now) }
 {
-    let alloc = *out.allocator();
     let line = line_of(text, span.at.line);
     let column = (span.at.col as usize).saturating_sub(1);
     let from = left_out(line.len(), column);
-    put_margin(alloc, out, span.at.line)?;
+    put_margin(out, span.at.line)?;
     put_source(out, line, from)?;
     put_marks(out, column.saturating_sub(from), span.length, mark)?;
     put_said(out, b" ", said)
