@@ -34,6 +34,8 @@ CASES = [
     (HERE, "stops.guest", ["2"], 0, "sem_full.txt"),
     (HERE, "stops.guest", ["3,0"], 2, "after_assert.txt"),
     (HERE, "start.guest", ["0"], 1, "start.txt"),
+    (HERE, "unchanged.guest", ["0,1"], 1, "unchanged.txt"),
+    (HERE, "far_lines.guest", ["0,1"], 1, "far_lines.txt"),
     (HERE, "stops.guest", ["0,3"], 2, "refused.txt"),
     (HERE, "stops.guest", ["0,16"], 2, "no_thread.txt"),
     (HERE, "waits.guest", ["0x2,1x2,2x5"], 1, "retake.txt"),

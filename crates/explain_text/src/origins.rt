@@ -1,6 +1,6 @@
 //! Where values came from.
 
-use crate::text::{Site, Teller};
+use crate::text::Teller;
 use causes::Event;
 use explain::{Object, Reading};
 use guest_code::program::{Expression, Instruction, Value};
@@ -22,12 +22,12 @@ pub struct Shown {
     pub is_later_told: bool,
 }
 
-// A local of the thread of an event, whose value before that is asked for.
+// A local, whose value before an event is asked for, and the column from which it is told.
 #[derive(Clone, Copy)]
 struct Asked {
     at: usize,
     local: usize,
-    depth: usize,
+    indent: usize,
 }
 
 impl Teller<'_> {
@@ -40,175 +40,125 @@ impl Teller<'_> {
         expression: Expression,
         shown: Shown,
     ) -> Result<(), AllocError> {
+        let thread = self.event(at).map_or(0, |event| event.thread);
         let mut stack = Vec::new(self.alloc);
-        put_locals(&mut stack, at, 0, expression)?;
+        put_locals(&mut stack, at, shown.indent, expression)?;
         for _ in 0..shown.most {
-            let Some(asked) = stack.pop() else {
+            let Some(Asked { at, local, indent }) = stack.pop() else {
                 return Ok(());
             };
-            let indent = asked
-                .depth
-                .saturating_mul(DEEPER)
-                .saturating_add(shown.indent);
-            let words = self.origin(asked, shown.is_later_told)?;
+            let name = self.local(thread, local);
+            let setting = self.found(self.causes.setter(at, thread, local));
+            let words = self.origin(name, setting, shown.is_later_told)?;
             page.put_indented(words.as_str(), indent, indent.saturating_add(FURTHER))?;
-            if let Some((at, event)) = self.setting_of(asked) {
-                if let Instruction::Set { value, .. } = event.statement {
-                    put_locals(&mut stack, at, asked.depth.saturating_add(1), value)?;
-                }
+            if let Some((at, event)) = setting
+                && let Instruction::Set { value, .. } = event.statement
+            {
+                put_locals(&mut stack, at, indent.saturating_add(DEEPER), value)?;
             }
         }
         Ok(())
     }
 
-    // The event that set a local, and its place.
-    fn setting_of(&self, asked: Asked) -> Option<(usize, Event)> {
-        let user = self.event(asked.at)?;
-        let at = self.causes.setter(asked.at, user.thread, asked.local)?;
-        Some((at, self.event(at)?))
+    // The event at a place, and the place.
+    fn found(&self, at: Option<usize>) -> Option<(usize, Event)> {
+        Some((at?, self.event(at?)?))
     }
 
-    // A local with its value, and where that came from.
-    fn origin(&self, asked: Asked, is_later_told: bool) -> Result<String, AllocError> {
-        let thread = match self.event(asked.at) {
-            Some(user) => user.thread,
-            None => 0,
-        };
-        let name = self.local(thread, asked.local);
-        let Some((at, event)) = self.setting_of(asked) else {
+    // A local with its value, and where that came from: the event that set it.
+    fn origin(
+        &self,
+        name: &str,
+        setting: Option<(usize, Event)>,
+        is_later_told: bool,
+    ) -> Result<String, AllocError> {
+        let Some((at, event)) = setting else {
             return format!(in self.alloc; "{name} = 0   from the start");
         };
-        let mut words = format!(in self.alloc; "{name} = {}   ", event.value())?;
-        let Site {
-            step,
-            line,
-            statement,
-            ..
-        } = self.site(&event);
+        let (value, step, site) = (event.value(), event.step.unwrap_or(0), self.site_of(&event));
+        let mut words = format!(in self.alloc; "{name} = {value}   ")?;
+        let Some(variable) = event.variable_read() else {
+            write!(words, "set in {site}")?;
+            return Ok(words);
+        };
+        let x = self.object(Object::Variable(variable));
         match event.statement {
-            Instruction::Load { .. } => write!(words, "loaded in step {step} ({line})")?,
-            Instruction::Add { .. } => {
-                write!(words, "read in step {step} ({line}: {statement})")?;
+            Instruction::Load { .. } => {
+                write!(words, "loaded in step {step} ({}) from {x}", site.line)?;
             }
             Instruction::Cas { .. } => {
-                let outcome = if event.value() == 0 { "missed" } else { "hit" };
-                write!(words, "since step {step} {outcome} ({line}: {statement})")?;
+                let outcome = if value == 0 { "missed" } else { "hit" };
+                let (old, _) = self.change_of(&event);
+                write!(words, "since step {step} {outcome} ({site}): {x} was {old}")?;
             }
-            _ => write!(words, "set in {line}: {statement}")?,
+            _ => write!(words, "read in step {step} ({site}) from {x}")?,
         }
-        if let Some(variable) = event.variable_read() {
-            self.put_found(&mut words, &event)?;
-            self.put_history(&mut words, at, variable)?;
-            if is_later_told || self.causes.writer(at, variable).is_none() {
-                self.put_later(&mut words, at, variable)?;
-            }
+        words.push_str(self.history(event.thread, at, variable)?.as_str())?;
+        if is_later_told || self.causes.writer(at, variable).is_none() {
+            words.push_str(self.later(event.thread, at, variable)?.as_str())?;
         }
         Ok(words)
     }
 
-    // The variable that was read, and of a `cas` what it found there.
-    fn put_found(&self, words: &mut String, event: &Event) -> Result<(), AllocError> {
-        match (event.statement, self.change_of(event)) {
-            (Instruction::Cas { .. }, Some((x, old, _))) => {
-                write!(words, ": {} was {old}", self.object(x))
-            }
-            (_, Some((x, _, _))) => write!(words, " from {}", self.object(x)),
-            (_, None) => Ok(()),
-        }
-    }
-
-    // Who wrote a variable last before an event, and what it was before that.
-    fn put_history(
-        &self,
-        words: &mut String,
-        at: usize,
-        variable: usize,
-    ) -> Result<(), AllocError> {
-        let writer = self.causes.writer(at, variable);
-        let (Some(reader), Some(writer)) = (self.event(at), writer) else {
-            return words.push_str(", which nobody had written before");
+    // Who wrote a variable last before a thread read it, and what it was before that.
+    fn history(&self, reader: u8, at: usize, variable: usize) -> Result<String, AllocError> {
+        let Some((at, event)) = self.found(self.causes.writer(at, variable)) else {
+            return ", which nobody had written before".to_string(self.alloc);
         };
-        let Some(event) = self.event(writer) else {
-            return Ok(());
+        let is_own = reader == event.thread;
+        let itself = if is_own { " itself" } else { "" };
+        let (step, site) = (event.step.unwrap_or(0), self.site_of(&event));
+        let (name, x) = (site.name, self.object(Object::Variable(variable)));
+        let (old, _) = self.change_of(&event);
+        let since = match self.found(self.causes.writer(at, variable)) {
+            Some((_, earlier)) => self.since(&earlier)?,
+            None => " from the start".to_string(self.alloc)?,
         };
-        let Site {
-            name,
-            step,
-            line,
-            statement,
-        } = self.site(&event);
-        let itself = if reader.thread == event.thread {
-            " itself"
-        } else {
-            ""
-        };
-        write!(
-            words,
-            ", which {name}{itself} set in step {step} ({line}: {statement})"
-        )?;
-        let Some((x, old, _)) = self.change_of(&event) else {
-            return Ok(());
-        };
-        write!(words, "; before, {} was {old}", self.object(x))?;
-        match self.causes.writer(writer, variable) {
-            Some(earlier) => self.put_since(words, earlier),
-            None => words.push_str(" from the start"),
-        }
+        format!(in self.alloc;
+            ", which {name}{itself} set in step {step} ({site}); before, {x} was {old}{since}"
+        )
     }
 
     // By which event a variable was written, and who was interrupted there.
-    fn put_since(&self, words: &mut String, at: usize) -> Result<(), AllocError> {
-        let Some(event) = self.event(at) else {
-            return Ok(());
-        };
-        let Site {
-            name,
-            step,
-            line,
-            ..
-        } = self.site(&event);
-        write!(words, " since step {step} ({name}, {line})")?;
-        match self.interrupted(step) {
-            Some(other) => write!(words, ", where {} was interrupted", self.thread(other)),
-            None => Ok(()),
+    fn since(&self, event: &Event) -> Result<String, AllocError> {
+        let (step, site) = (event.step.unwrap_or(0), self.site_of(event));
+        let (name, line) = (site.name, site.line);
+        let mut words = format!(in self.alloc; " since step {step} ({name}, {line})")?;
+        if let Some(before) = step.checked_sub(1)
+            && self.is_interrupted(before)
+            && let Some(other) = self.thread_of(before)
+        {
+            write!(words, ", where {} was interrupted", self.thread(other))?;
         }
+        Ok(words)
     }
 
-    // Who wrote a variable first after another thread read it.
-    fn put_later(&self, words: &mut String, at: usize, variable: usize) -> Result<(), AllocError> {
-        let Some(reader) = self.event(at) else {
-            return Ok(());
-        };
+    // Who first changed a variable after another thread read it, if one did.
+    fn later(&self, reader: u8, at: usize, variable: usize) -> Result<String, AllocError> {
         let mut later = self.causes.events().iter().skip(at);
         let next = later.find(|event| event.variable_written() == Some(variable)
-            && event.thread != reader.thread);
+            && event.thread != reader
+            && self.is_change(event));
         let Some(event) = next else {
-            return Ok(());
+            return Ok(String::new(self.alloc));
         };
-        match self.change_of(event) {
-            Some((_, _, new)) => {
-                let Site { name, step, .. } = self.site(event);
-                write!(words, "; {name} made it {new} in step {step}")
-            }
-            None => Ok(()),
-        }
+        let (name, step) = (self.thread(event.thread), event.step.unwrap_or(0));
+        let (_, new) = self.change_of(event);
+        format!(in self.alloc; "; {name} made it {new} in step {step}")
     }
 
-    // The variable of an event's step with its values before and after it.
-    fn change_of(&self, event: &Event) -> Option<(Object, i64, i64)> {
-        let step = self.step(event.step?)?;
-        match (step.old, step.new) {
-            (Reading::Value(old), Reading::Value(new)) => Some((step.object, old, new)),
-            _ => None,
-        }
+    // Whether an event's step left its variable with another value than it had before.
+    fn is_change(&self, event: &Event) -> bool {
+        let (old, new) = self.change_of(event);
+        old != new
     }
 
-    // The thread that was interrupted by the step at a place, if one was.
-    fn interrupted(&self, at: usize) -> Option<u8> {
-        if self.step(at)?.line.preempting {
-            Some(self.step(at.checked_sub(1)?)?.line.thread)
-        } else {
-            None
+    // The values of the variable of an event's step before and after it.
+    fn change_of(&self, event: &Event) -> (i64, i64) {
+        let step = event.step.and_then(|at| self.step(at));
+        match step.map(|step| (step.old, step.new)) {
+            Some((Reading::Value(old), Reading::Value(new))) => (old, new),
+            _ => (0, 0),
         }
     }
 }
@@ -217,20 +167,20 @@ impl Teller<'_> {
 fn put_locals(
     stack: &mut Vec<Asked>,
     at: usize,
-    depth: usize,
+    indent: usize,
     expression: Expression,
 ) -> Result<(), AllocError> {
     let (first, second) = match expression {
         Expression::Single(a) => (a, a),
         Expression::Both(a, _, b) => (a, b),
     };
-    for value in [second, first] {
-        if let Value::Local(local) = value {
-            stack.push(Asked { at, local, depth })?;
-        }
-        if first == second {
-            return Ok(());
-        }
+    if let Value::Local(local) = second
+        && first != second
+    {
+        stack.push(Asked { at, local, indent })?;
+    }
+    if let Value::Local(local) = first {
+        stack.push(Asked { at, local, indent })?;
     }
     Ok(())
 }

@@ -1,15 +1,14 @@
 //! The rows of the table.
 
-use crate::text::Teller;
-use explain::{Object, Reading, Reason, Setting, Step, op_text};
+use crate::text::{Teller, put_listed};
+use explain::{Object, Reading, Standing, Step, op_text};
 use guest_code::program::{Expression, Instruction, Value};
 use replay::Act;
 use semantics::state::Stop;
 use semantics::view::Kind;
 use std::alloc::AllocError;
 use text_lines::{
-    COLUMN, Count, FileLine, GAP, InLine, Page, STEP, line_cell, pad_to, put_cut, put_times,
-    width_of,
+    COLUMN, Count, GAP, InLine, Page, STEP, line_cell, pad_to, put_cut, put_times, width_of,
 };
 
 /// The fewest columns of a name that is cut, where it shares a column with its statement.
@@ -21,40 +20,46 @@ impl Teller<'_> {
         self.put_header(page)?;
         self.put_opening_stops(page)?;
         let steps = self.explanation.steps().len();
-        let mut told = 0;
+        let mut folded = 0_usize;
         let mut next = 0;
         for at in 0..steps {
             if steps <= self.shape.steps || self.is_told(at) {
-                told = usize::saturating_add(told, self.put_gap(page, next, at)?);
+                folded = folded.saturating_add(self.put_gap(page, next, at)?);
                 self.put_step_rows(page, at)?;
-                told = told.saturating_add(1);
                 next = at + 1;
             }
         }
-        told = told.saturating_add(self.put_gap(page, next, steps)?);
+        folded = folded.saturating_add(self.put_gap(page, next, steps)?);
         self.put_end_rows(page)?;
-        Ok(told)
+        Ok(steps.saturating_sub(folded))
     }
 
     /// Columns of the widest line that the table has with the name of its file.
     pub fn widest_line(&self) -> Result<usize, AllocError> {
+        let steps = self.explanation.steps().iter();
+        let threads = 0..self.source.program.threads();
+        let places = steps
+            .map(|step| (step.line.thread, step.instruction))
+            .chain(threads.map(|thread| (thread, self.place_at_end(thread))));
         let mut widest = 0;
-        for step in self.explanation.steps() {
-            let line = self.line(step.line.thread, step.instruction);
-            widest = self.named_width(line)?.max(widest);
-        }
-        for t in 0..self.source.program.threads() {
-            widest = self.named_width(self.line_at_end(t))?.max(widest);
+        for (thread, instruction) in places {
+            let line = self.line(thread, instruction);
+            if line.is_named {
+                widest = width_of(line_cell(self.alloc, line)?.as_str()).max(widest);
+            }
         }
         Ok(widest)
     }
 
-    // Columns of a line that has the name of its file.
-    fn named_width(&self, line: FileLine<'_>) -> Result<usize, AllocError> {
-        if !line.is_named {
-            return Ok(0);
-        }
-        Ok(width_of(line_cell(self.alloc, line)?.as_str()))
+    /// The thread of a step.
+    pub fn thread_of(&self, at: usize) -> Option<u8> {
+        self.step(at).map(|step| step.line.thread)
+    }
+
+    /// Whether the thread of a step is interrupted after it.
+    pub fn is_interrupted(&self, at: usize) -> bool {
+        let next = self.step(at.saturating_add(1));
+        next.is_some_and(|next| next.line.preempting)
     }
 
     // Whether a step is in the cause.
@@ -65,52 +70,37 @@ impl Teller<'_> {
     // Whether a step is told where others are folded: where it is in the cause, the first of a run
     // after a switch, or beside a preemption.
     fn is_told(&self, at: usize) -> bool {
-        let after = self.step(at.wrapping_add(1));
-        let before = match at.checked_sub(1) {
-            Some(at) => self.step(at),
-            None => None,
-        };
         self.is_in_cause(at)
-            || after.is_some_and(|next| next.line.preempting)
-            || match (before, self.step(at)) {
-                (Some(last), Some(step)) => last.line.thread != step.line.thread,
-                _ => false,
-            }
+            || self.is_interrupted(at)
+            || self.thread_of(at.saturating_sub(1)) != self.thread_of(at)
     }
 
     // The names of the columns, and a rule under each.
     fn put_header(&self, page: &mut Page) -> Result<(), AllocError> {
-        let mut names = String::from_str(self.alloc, "step line")?;
-        let mut rules = String::from_str(self.alloc, "----")?;
-        put_rule(
-            &mut rules,
-            STEP,
-            self.columns.margin.saturating_sub(STEP + GAP),
-        )?;
-        for t in 0..self.source.program.threads() {
-            if self.has_column(t) {
-                pad_to(&mut names, self.columns.start(t as usize))?;
-                put_cut(&mut names, self.thread(t), COLUMN)?;
-                put_rule(&mut rules, self.columns.start(t as usize), COLUMN)?;
-            }
+        let columns = self.columns;
+        let mut header = Header {
+            names: String::new(self.alloc),
+            rules: String::new(self.alloc),
+        };
+        header.put(0, STEP - 1, "step")?;
+        header.put(STEP, columns.margin.saturating_sub(STEP + GAP), "line")?;
+        for t in (0..self.source.program.threads()).take(columns.own) {
+            let mut name = String::new(self.alloc);
+            put_cut(&mut name, self.thread(t), COLUMN)?;
+            header.put(columns.start(t as usize), COLUMN, name.as_str())?;
         }
-        let start = self.columns.start(self.columns.own);
-        if self.columns.is_shared {
-            let alone = self.columns.own == 0;
-            pad_to(&mut names, start)?;
-            names.push_str(if alone {
-                "thread and step"
-            } else {
-                "other threads"
-            })?;
-            put_rule(&mut rules, start, self.columns.end().saturating_sub(start))?;
+        if columns.is_shared {
+            let start = columns.start(columns.own);
+            let name = match columns.own {
+                0 => "thread and step",
+                _ => "other threads",
+            };
+            header.put(start, columns.end().saturating_sub(start), name)?;
         }
-        let rest = self.columns.width.saturating_sub(self.columns.changes);
-        pad_to(&mut names, self.columns.changes)?;
-        names.push_str("what changed")?;
-        put_rule(&mut rules, self.columns.changes, rest)?;
-        page.put_whole(names.as_str())?;
-        page.put_whole(rules.as_str())
+        let rest = columns.width.saturating_sub(columns.changes);
+        header.put(columns.changes, rest, "what changed")?;
+        page.put_whole(header.names.as_str())?;
+        page.put_whole(header.rules.as_str())
     }
 
     // A row for each thread that stopped before its first step.
@@ -125,49 +115,44 @@ impl Teller<'_> {
     }
 
     // A row for the steps from one place up to another, which are of one thread, or the row of the
-    // step where it is a single one. The answer is how many of them are told.
+    // step where it is a single one. The answer is how many are folded.
     fn put_gap(&self, page: &mut Page, from: usize, to: usize) -> Result<usize, AllocError> {
-        let steps = to.saturating_sub(from);
-        let Some(step) = self.step(from) else {
-            return Ok(0);
-        };
-        if steps < 2 {
-            if steps == 1 {
+        let steps = self.explanation.steps().get(from..to).unwrap_or(&[]);
+        let [first, .., _] = steps else {
+            if from < to {
                 self.put_step_rows(page, from)?;
             }
-            return Ok(steps);
-        }
-        let last = to.saturating_sub(1);
+            return Ok(0);
+        };
+        let (last, name) = (to.saturating_sub(1), self.thread(first.line.thread));
         let mut row = format!(in self.alloc; "{from}-{last}")?;
         pad_to(&mut row, self.columns.start(0))?;
-        let (steps, name) = (Count(steps, "step"), self.thread(step.line.thread));
-        let cell = format!(in self.alloc; ".. {steps} of {name} ..")?;
-        let room = self.columns.end().saturating_sub(width_of(row.as_str()));
-        put_cut(&mut row, cell.as_str(), room)?;
-        let changes = self.values_after(from, to)?;
-        self.put_row(page, row.as_str(), changes.as_str())?;
-        Ok(0)
+        let cell = format!(in self.alloc; ".. {} of {name} ..", Count(steps.len(), "step"))?;
+        self.put_fitting(&mut row, cell.as_str())?;
+        self.put_row(page, row.as_str(), self.values_after(steps)?.as_str())?;
+        Ok(steps.len())
     }
 
-    // The variables that the steps from one place up to another change, with their values then.
-    fn values_after(&self, from: usize, to: usize) -> Result<String, AllocError> {
-        let steps = self.explanation.steps().get(from..to).unwrap_or(&[]);
+    // The variables that steps change, with their values after them.
+    fn values_after(&self, steps: &[Step]) -> Result<String, AllocError> {
         let mut changes = String::new(self.alloc);
         for x in 0..self.source.program.variables() as usize {
             let x = Object::Variable(x);
-            let writes = steps
-                .iter()
-                .filter(|step| step.object == x && step.old != step.new);
-            let last = match writes.last() {
-                Some(step) => step.new,
-                None => Reading::Owner(None),
-            };
-            if let Reading::Value(value) = last {
-                let comma = if changes.is_empty() { "" } else { ", " };
-                write!(changes, "{comma}{} {value}", self.object(x))?;
+            let steps = steps.iter();
+            let writes = steps.filter(|step| step.object == x && step.old != step.new);
+            if let Some(step) = writes.last()
+                && let Reading::Value(value) = step.new
+            {
+                put_listed(&mut changes, format_args!("{} {value}", self.object(x)))?;
             }
         }
         Ok(changes)
+    }
+
+    // Adds words to a row, cut off where the columns of the threads end.
+    fn put_fitting(&self, row: &mut String, words: &str) -> Result<(), AllocError> {
+        let room = self.columns.end().saturating_sub(width_of(row.as_str()));
+        put_cut(row, words, room)
     }
 
     // A row with what changed.
@@ -175,31 +160,30 @@ impl Teller<'_> {
         page.put_columns(row, changes, self.columns.changes, self.columns.changes)
     }
 
-    // Adds the line and the statement of a thread to the beginning of a row. A name before it, where
-    // threads share a column, is cut off so far that the statement fits.
-    fn put_cell(
+    // Adds what a thread does at an instruction to the beginning of a row, after the line. A name
+    // before it, where threads share a column, is cut off so far that it fits.
+    fn put_deed(
         &self,
         row: &mut String,
         thread: u8,
-        line: FileLine<'_>,
-        statement: &str,
+        instruction: usize,
+        deed: &str,
     ) -> Result<(), AllocError> {
-        let line = line_cell(self.alloc, line)?;
+        let line = line_cell(self.alloc, self.line(thread, instruction))?;
         let end = self.columns.margin.saturating_sub(GAP);
         pad_to(row, end.saturating_sub(width_of(line.as_str())))?;
         row.push_str(line.as_str())?;
         pad_to(row, self.columns.start(thread as usize))?;
-        if !self.has_column(thread) {
+        if thread as usize >= self.columns.own {
             let room = self.columns.end().saturating_sub(width_of(row.as_str()));
-            let rest = room.saturating_sub(width_of(statement).saturating_add(2));
+            let rest = room.saturating_sub(width_of(deed).saturating_add(2));
             self.put_label(row, thread, rest.max(SHORTEST))?;
         }
-        let room = self.columns.end().saturating_sub(width_of(row.as_str()));
-        put_cut(row, statement, room)
+        self.put_fitting(row, deed)
     }
 
-    // Adds the name of a thread, or where it has more columns than these its beginning, or its number
-    // where another name begins alike.
+    // Adds the name of a thread, or where it has more columns than these its beginning, or its
+    // number where another name begins alike.
     fn put_label(&self, row: &mut String, thread: u8, room: usize) -> Result<(), AllocError> {
         let name = self.thread(thread);
         let begun = room.saturating_sub(2);
@@ -222,71 +206,70 @@ impl Teller<'_> {
         let Some(step) = self.step(at) else {
             return Ok(());
         };
-        self.put_step_row(page, at, step)?;
-        if step.line.stop == Some(Stop::Assert) {
-            let row = format!(in self.alloc; "{at:>4}")?;
-            self.put_stop_row(page, row, step.line.thread)?;
-        }
-        match self.step(at.wrapping_add(1)) {
-            Some(next) if next.line.preempting => self.put_interruption(page, step),
-            _ => Ok(()),
-        }
-    }
-
-    // The row of a step.
-    fn put_step_row(&self, page: &mut Page, at: usize, step: &Step) -> Result<(), AllocError> {
-        let mut row = format!(in self.alloc; "{at:>4}")?;
         let thread = step.line.thread;
-        let statement = match step.line.act {
-            Act::Retake(m) => format!(in self.alloc; "retake {}", self.object(Object::Mutex(m)))?,
-            _ => self
-                .statement(thread, step.instruction)
-                .to_string(self.alloc)?,
-        };
-        let line = self.line(thread, step.instruction);
-        self.put_cell(&mut row, thread, line, statement.as_str())?;
-        let mut changes = self.changes(step)?;
-        self.put_between(&mut changes, at)?;
-        self.put_row(page, row.as_str(), changes.as_str())
+        let retakes = matches!(step.line.act, Act::Retake(_));
+        let deed = self.deed(thread, step.instruction, retakes)?;
+        let mut row = format!(in self.alloc; "{at:>4}")?;
+        self.put_deed(&mut row, thread, step.instruction, deed.as_str())?;
+        self.put_row(page, row.as_str(), self.changes(at, step)?.as_str())?;
+        if step.line.stop == Some(Stop::Assert) {
+            self.put_stop_row(page, format!(in self.alloc; "{at:>4}")?, thread)?;
+        }
+        if self.is_interrupted(at) {
+            self.put_interruption(page, step)?;
+        }
+        Ok(())
     }
 
-    // What a step changed.
-    fn changes(&self, step: &Step) -> Result<String, AllocError> {
+    // What a step changed; of a store in the cause also that another thread wrote the variable
+    // after its own thread used it.
+    fn changes(&self, at: usize, step: &Step) -> Result<String, AllocError> {
+        let thread = step.line.thread;
         let mut changes = self.object_change(step)?;
         for setting in step.settings.iter() {
-            self.put_setting(&mut changes, step, *setting)?;
+            if !changes.is_empty() {
+                changes.push_str("; ")?;
+            }
+            if setting.instruction != step.instruction {
+                let line = InLine(self.line(thread, setting.instruction));
+                write!(changes, "{line}: ")?;
+            }
+            let (name, value) = (self.local(thread, setting.local), setting.value);
+            write!(changes, "{name} = {value}")?;
+        }
+        if let Some((writer, since)) = self.written_between(at, step) {
+            let name = self.thread(writer);
+            write!(changes, "; {name} wrote it since step {since}")?;
         }
         Ok(changes)
     }
 
     // What a step changed of its object, or why it changed nothing.
     fn object_change(&self, step: &Step) -> Result<String, AllocError> {
+        let (thread, name) = (self.thread(step.line.thread), self.object(step.object));
         match (step.line.act, step.line.stop) {
             (Act::Unlock(m) | Act::Wait { mutex: m, .. }, Some(Stop::NotHeld)) => {
-                let (name, m) = (self.thread(step.line.thread), self.object(Object::Mutex(m)));
-                format!(in self.alloc; "FALSE: {name} doesn't own {m}")
+                let m = self.object(Object::Mutex(m));
+                format!(in self.alloc; "FALSE: {thread} doesn't own {m}")
             }
-            (_, Some(Stop::SemFull)) => {
-                String::from_str(self.alloc, "FALSE: its count can't rise")
-            }
+            (_, Some(Stop::SemFull)) => "FALSE: its count can't rise".to_string(self.alloc),
             (Act::Load { .. }, _) => Ok(String::new(self.alloc)),
-            (Act::Wait { condition, mutex }, _) => {
-                let (c, m) = (Object::Condition(condition), Object::Mutex(mutex));
-                format!(in self.alloc; "{} is free; waits for {}", self.object(m), self.object(c))
+            (Act::Wait { mutex: m, .. }, _) => {
+                let m = self.object(Object::Mutex(m));
+                format!(in self.alloc; "{m} is free; waits for {name}")
             }
             (Act::Signal(_) | Act::Broadcast(_), _) if step.woken.is_empty() => {
-                String::from_str(self.alloc, "nobody waits")
+                "nobody waits".to_string(self.alloc)
             }
             (Act::Signal(_) | Act::Broadcast(_), _) => {
                 format!(in self.alloc; "wakes {}", self.names(step.woken.as_slice())?)
             }
-            _ => self.readings(step),
+            _ => self.readings(name, step),
         }
     }
 
-    // The object of a step before and after it.
-    fn readings(&self, step: &Step) -> Result<String, AllocError> {
-        let name = self.object(step.object);
+    // The object of this name before and after a step.
+    fn readings(&self, name: &str, step: &Step) -> Result<String, AllocError> {
         match (step.old, step.new) {
             (_, Reading::Owner(Some(owner))) => {
                 format!(in self.alloc; "{name} -> {}", self.thread(owner))
@@ -305,119 +288,54 @@ impl Teller<'_> {
         }
     }
 
-    // A local that was set: in the step itself, or after it with the line.
-    fn put_setting(
-        &self,
-        changes: &mut String,
-        step: &Step,
-        setting: Setting,
-    ) -> Result<(), AllocError> {
-        let thread = step.line.thread;
-        if !changes.is_empty() {
-            changes.push_str("; ")?;
-        }
-        if setting.instruction != step.instruction {
-            write!(
-                changes,
-                "{}: ",
-                InLine(self.line(thread, setting.instruction))
-            )?;
-        }
-        write!(
-            changes,
-            "{} = {}",
-            self.local(thread, setting.local),
-            setting.value
-        )
-    }
-
-    // That another thread wrote the variable of a store between this and its own last use of it,
-    // where the store is in the cause.
-    fn put_between(&self, changes: &mut String, at: usize) -> Result<(), AllocError> {
-        if !self.is_in_cause(at) {
-            return Ok(());
-        }
-        match self.written_between(at) {
-            Some((writer, since)) => {
-                write!(
-                    changes,
-                    "; {} wrote it since step {since}",
-                    self.thread(writer)
-                )
-            }
-            None => Ok(()),
-        }
-    }
-
     // The other thread that wrote the variable of a store last, and the step before that by which
-    // the store's own thread used it last.
-    fn written_between(&self, at: usize) -> Option<(u8, usize)> {
-        let store = self.step(at)?;
-        let Act::Store { .. } = store.line.act else {
+    // the store's own thread used it last, where the store is in the cause.
+    fn written_between(&self, at: usize, store: &Step) -> Option<(u8, usize)> {
+        if !self.is_in_cause(at) || !matches!(store.line.act, Act::Store { .. }) {
             return None;
-        };
-        let mut writer = None;
-        for earlier in (0..at).rev() {
-            let step = self.step(earlier)?;
-            if step.object == store.object {
-                if step.line.thread == store.line.thread {
-                    return Some((writer?, earlier));
-                }
-                if writer.is_none() && writes(step.line.act) {
-                    writer = Some(step.line.thread);
-                }
-            }
         }
-        None
+        let (object, thread) = (store.object, store.line.thread);
+        let before = self.explanation.steps().get(..at)?;
+        let own = |step: &Step| step.object == object && step.line.thread == thread;
+        let since = before.iter().rposition(own)?;
+        let between = before.iter().skip(since.saturating_add(1));
+        let writes = between.filter(|step| step.object == object && is_write(step.line.act));
+        Some((writes.last()?.line.thread, since))
     }
 
     // The row of a thread's assertion that failed, after its beginning.
-    fn put_stop_row(&self, page: &mut Page, row: String, thread: u8) -> Result<(), AllocError> {
-        let mut row = row;
-        let Some(standing) = self.standing(thread) else {
+    fn put_stop_row(&self, page: &mut Page, mut row: String, thread: u8) -> Result<(), AllocError> {
+        let Some(standing) = self.explanation.standing(thread) else {
             return Ok(());
         };
-        let line = self.line(thread, standing.instruction);
-        self.put_cell(&mut row, thread, line, "assert")?;
+        self.put_deed(&mut row, thread, standing.instruction, "assert")?;
         let changes = match self.source.instruction(thread, standing.instruction) {
-            Some(Instruction::Assert(e)) => self.comparison(thread, e)?,
+            Some(Instruction::Assert(e)) => self.comparison(standing, e)?,
             _ => String::new(self.alloc),
         };
         self.put_row(page, row.as_str(), changes.as_str())
     }
 
     // An assertion that failed, with the values of its locals.
-    fn comparison(&self, thread: u8, expression: Expression) -> Result<String, AllocError> {
-        match expression {
-            Expression::Single(a) => {
-                format!(in self.alloc; "FALSE: {}", self.value_at_end(thread, a))
-            }
+    fn comparison(&self, standing: &Standing, test: Expression) -> Result<String, AllocError> {
+        let value = |value: Value| match value {
+            Value::Literal(n) => n,
+            Value::Local(r) => standing.locals.get(r).copied().unwrap_or(0),
+        };
+        match test {
+            Expression::Single(a) => format!(in self.alloc; "FALSE: {}", value(a)),
             Expression::Both(a, op, b) => {
-                let (a, b) = (self.value_at_end(thread, a), self.value_at_end(thread, b));
-                format!(in self.alloc; "FALSE: {a} {} {b}", op_text(op))
+                format!(in self.alloc; "FALSE: {} {} {}", value(a), op_text(op), value(b))
             }
-        }
-    }
-
-    // The value of a thread's local at the end, or the number itself.
-    fn value_at_end(&self, thread: u8, value: Value) -> i64 {
-        match (value, self.standing(thread)) {
-            (Value::Literal(n), _) => n,
-            (Value::Local(r), Some(standing)) => standing.locals.get(r).copied().unwrap_or(0),
-            (Value::Local(_), None) => 0,
         }
     }
 
     // That the thread of a step was interrupted after it.
     fn put_interruption(&self, page: &mut Page, step: &Step) -> Result<(), AllocError> {
-        let thread = step.line.thread;
-        let column = self.columns.start(thread as usize);
-        let mut row = String::new(self.alloc);
-        pad_to(&mut row, column)?;
-        put_times(&mut row, '~', COLUMN)?;
-        let (name, line) = (self.thread(thread), InLine(self.line(thread, step.next)));
-        let statement = self.statement(thread, step.next);
-        let words = format!(in self.alloc; "{name} is interrupted before {line}: {statement}")?;
+        let column = self.columns.start(step.line.thread as usize);
+        let row = format!(in self.alloc; "{:column$}{:~<COLUMN$}", "", "")?;
+        let site = self.site(step.line.thread, step.next);
+        let words = format!(in self.alloc; "{} is interrupted before {site}", site.name)?;
         page.put_columns(row.as_str(), words.as_str(), 0, column)
     }
 
@@ -426,12 +344,10 @@ impl Teller<'_> {
         if self.explanation.kind() != Some(Kind::Stuck) || self.columns.own == 0 {
             return Ok(());
         }
-        let mut row = String::from_str(self.alloc, " end")?;
+        let mut row = " end".to_string(self.alloc)?;
         let mut under = String::new(self.alloc);
-        for t in 0..self.source.program.threads() {
-            if self.has_column(t) {
-                self.put_end(&mut row, &mut under, t)?;
-            }
+        for t in (0..self.source.program.threads()).take(self.columns.own) {
+            self.put_end(&mut row, &mut under, t)?;
         }
         page.put_whole(row.as_str())?;
         if under.is_empty() {
@@ -440,59 +356,46 @@ impl Teller<'_> {
         page.put_whole(under.as_str())
     }
 
-    // Whether a thread has a column of its own.
-    fn has_column(&self, thread: u8) -> bool {
-        (thread as usize) < self.columns.own
-    }
-
     // Where a thread is at the end, and what it can't do.
     fn put_end(&self, row: &mut String, under: &mut String, thread: u8) -> Result<(), AllocError> {
         let start = self.columns.start(thread as usize);
         pad_to(row, start)?;
-        let Some(reason) = self.explanation.reason(thread) else {
+        let Some(wait) = self.waits.of(thread) else {
             return row.push_str("ended");
         };
-        write!(row, "BLOCKED at {}", self.line_at_end(thread))?;
+        let blocked = format!(in self.alloc; "BLOCKED at {}", self.line_at_end(thread))?;
+        // The place of a line of another file may be wider than a column; it is told below.
+        row.push_str(if blocked.len() > COLUMN + 1 {
+            "BLOCKED"
+        } else {
+            blocked.as_str()
+        })?;
         pad_to(under, start)?;
-        put_cut(
-            under,
-            self.blocked_statement(thread, reason)?.as_str(),
-            COLUMN,
-        )
+        put_cut(under, self.blocked_deed(wait)?.as_str(), COLUMN)
     }
+}
 
-    /// The line at which a thread is at the end.
-    pub fn line_at_end(&self, thread: u8) -> FileLine<'_> {
-        match self.standing(thread) {
-            Some(standing) => self.line(thread, standing.instruction),
-            None => self.marks.told(self.file(), 0),
-        }
-    }
+// The two lines above a table.
+#[derive(Drop)]
+struct Header {
+    names: String,
+    rules: String,
+}
 
-    /// What a thread can't do at the end.
-    pub fn blocked_statement(&self, thread: u8, reason: Reason) -> Result<String, AllocError> {
-        if let Reason::Retake(m) = reason {
-            return format!(in self.alloc; "retake {}", self.object(Object::Mutex(m)));
-        }
-        match self.standing(thread) {
-            Some(standing) => self
-                .statement(thread, standing.instruction)
-                .to_string(self.alloc),
-            None => Ok(String::new(self.alloc)),
-        }
+impl Header {
+    // Adds a column that begins here, so wide: its name, and a rule under it.
+    fn put(&mut self, start: usize, width: usize, name: &str) -> Result<(), AllocError> {
+        pad_to(&mut self.names, start)?;
+        self.names.push_str(name)?;
+        pad_to(&mut self.rules, start)?;
+        put_times(&mut self.rules, '-', width)
     }
 }
 
 // Whether a step that did this wrote a variable.
-fn writes(act: Act) -> bool {
+fn is_write(act: Act) -> bool {
     matches!(
         act,
         Act::Store { .. } | Act::Add { .. } | Act::Cas { hit: Some(_), .. }
     )
-}
-
-// Adds a rule of this many columns from a column on.
-fn put_rule(row: &mut String, start: usize, columns: usize) -> Result<(), AllocError> {
-    pad_to(row, start)?;
-    put_times(row, '-', columns)
 }

@@ -1,7 +1,8 @@
 //! The explanation as text.
 
 use causes::{Causes, Event};
-use explain::{Explanation, Object, Source, Standing, Statement, Step, name_text};
+use explain::{Explanation, Object, Source, Statement, Step, name_text};
+use guest_code::program::Instruction;
 use replay::schedule_text;
 use std::alloc::{AllocError, Global};
 use std::fmt;
@@ -25,17 +26,17 @@ pub struct Shape {
 pub struct Teller<'a> {
     pub alloc: Global,
     pub explanation: &'a Explanation,
-    pub causes: &'a Causes,
-    pub waits: &'a Waits,
     pub source: &'a Source<'a>,
-    /// Where the lines of the text come from.
-    pub marks: &'a Marks,
     pub shape: Shape,
+    pub causes: Causes,
+    pub waits: Waits,
+    /// Where the lines of the text come from.
+    pub marks: Marks,
     pub columns: Columns,
 }
 
-/// The explanation as text: a column for each thread, at most as wide as the shape says. Only the last
-/// line, a command, may be longer.
+/// The explanation as text: a column for each thread, at most as wide as the shape says. Only the
+/// last line, a command, may be longer.
 ///
 /// # Errors
 ///
@@ -46,7 +47,7 @@ pub fn explanation_text(
     source: &Source<'_>,
     shape: Shape,
 ) -> Result<Vec<u8>, AllocError> {
-    told(alloc, explanation, source, shape, true)
+    Teller::new(alloc, explanation, source, shape)?.text(true)
 }
 
 /// How the schedule ends and why, in words, without the steps; the last line is the command that
@@ -61,99 +62,96 @@ pub fn why_text(
     source: &Source<'_>,
     shape: Shape,
 ) -> Result<Vec<u8>, AllocError> {
-    told(alloc, explanation, source, shape, false)
+    Teller::new(alloc, explanation, source, shape)?.text(false)
 }
 
-// How the schedule ends and why, with the table of its steps or without.
-fn told(
-    alloc: Global,
-    explanation: &Explanation,
-    source: &Source<'_>,
-    shape: Shape,
-    with_steps: bool,
-) -> Result<Vec<u8>, AllocError> {
-    let causes = Causes::of(alloc, source.program, explanation)?;
-    let waits = Waits::new(alloc, source.program, explanation)?;
-    let marks = Marks::new(alloc, source.text)?;
-    let mut teller = Teller {
-        alloc,
-        explanation,
-        causes: &causes,
-        waits: &waits,
-        source,
-        marks: &marks,
-        shape,
-        columns: Columns::new(shape.width, 0, 0),
-    };
-    let threads = explanation.standings().len();
-    teller.columns = Columns::new(shape.width, threads, teller.widest_line()?);
-    let mut page = Page::new(alloc, teller.columns.width);
-    teller.put_head(&mut page)?;
-    page.put_blank()?;
-    let mut shown = explanation.steps().len();
-    if with_steps {
-        shown = teller.put_table(&mut page)?;
-        page.put_blank()?;
-    }
-    teller.put_reasons(&mut page)?;
-    teller.put_count(&mut page, shown)?;
-    teller.put_replay(&mut page)?;
-    Ok(page.into_bytes())
-}
-
-/// A step and the line of its statement: `step 5, line 37`.
-#[derive(Clone, Copy)]
-pub struct Place<'a> {
-    pub at: usize,
-    pub line: InLine<'a>,
-}
-
-impl fmt::Display for Place<'_> {
-    fn fmt<W: fmt::Write>(&self, f: &mut fmt::Formatter<W>) -> fmt::Result {
-        write!(f, "step {}, {}", self.at, self.line)
-    }
-}
-
-/// An event as a sentence tells it.
+/// A statement of a thread as a sentence tells it, with its line: `line 12: lock m`.
 #[derive(Clone, Copy)]
 pub struct Site<'a> {
     /// The thread.
     pub name: &'a str,
-    /// The step that it is, or after which it was; 0 before the first one.
-    pub step: usize,
-    /// The line of its statement.
     pub line: InLine<'a>,
     pub statement: Statement<'a>,
 }
 
-/// A word as a shell reads it: in quotes where it has more than letters, digits and plain marks.
-#[derive(Clone, Copy)]
-struct Quoted<'a>(&'a str);
-
-impl fmt::Display for Quoted<'_> {
+impl fmt::Display for Site<'_> {
     fn fmt<W: fmt::Write>(&self, f: &mut fmt::Formatter<W>) -> fmt::Result {
-        if !self.0.is_empty() && self.0.as_bytes().iter().all(|b| is_plain(*b)) {
-            return f.write_str(self.0);
-        }
-        write!(f, "'")?;
-        for letter in self.0.chars() {
-            if letter == '\'' {
-                write!(f, "'\\''")?;
-            } else {
-                write!(f, "{letter}")?;
-            }
-        }
-        write!(f, "'")
+        write!(f, "{}: {}", self.line, self.statement)
     }
 }
 
-// Whether a byte stands for itself in a shell's word.
-fn is_plain(byte: u8) -> bool {
-    byte.is_ascii_alphanumeric()
-        || matches!(byte, b'_' | b'-' | b'.' | b'/' | b'+' | b',' | b'@' | b'%')
+/// Adds a word to a list of them.
+pub fn put_listed<D: fmt::Display + Drop>(list: &mut String, word: D) -> Result<(), AllocError> {
+    if !list.is_empty() {
+        list.push_str(", ")?;
+    }
+    list.write(word)
+}
+
+// A word as a shell reads it: in quotes where it has more than letters, digits and plain marks.
+fn quoted(alloc: Global, word: &str) -> Result<String, AllocError> {
+    let is_plain = |byte: &u8| byte.is_ascii_alphanumeric() || b"_-./+,@%".contains(byte);
+    if !word.is_empty() && word.as_bytes().iter().all(is_plain) {
+        return word.to_string(alloc);
+    }
+    format!(in alloc; "'{}'", word.replace(alloc, "'", "'\\''")?)
 }
 
 impl<'a> Teller<'a> {
+    // What the text of an explanation is made of.
+    fn new(
+        alloc: Global,
+        explanation: &'a Explanation,
+        source: &'a Source<'a>,
+        shape: Shape,
+    ) -> Result<Teller<'a>, AllocError> {
+        let mut teller = Teller {
+            alloc,
+            explanation,
+            source,
+            shape,
+            causes: Causes::of(alloc, source.program, explanation)?,
+            waits: Waits::new(alloc, source.program, explanation)?,
+            marks: Marks::new(alloc, source.text)?,
+            columns: Columns::new(shape.width, 0, 0),
+        };
+        let threads = explanation.standings().len();
+        teller.columns = Columns::new(shape.width, threads, teller.widest_line()?);
+        Ok(teller)
+    }
+
+    // How the schedule ends and why, with the table of its steps or without.
+    fn text(&self, with_steps: bool) -> Result<Vec<u8>, AllocError> {
+        let mut page = Page::new(self.alloc, self.columns.width);
+        self.put_head(&mut page)?;
+        page.put_blank()?;
+        let steps = self.explanation.steps().len();
+        let mut shown = steps;
+        if with_steps {
+            shown = self.put_table(&mut page)?;
+            page.put_blank()?;
+        }
+        self.put_reasons(&mut page)?;
+        if shown != steps {
+            let words = format!(in self.alloc;
+                "{shown} of {steps} steps are shown; --all shows each."
+            )?;
+            page.put_line(words.as_str(), 2)?;
+        }
+        page.put_whole(self.replay()?.as_str())?;
+        Ok(page.into_bytes())
+    }
+
+    // The command that replays the steps that ran.
+    fn replay(&self) -> Result<String, AllocError> {
+        let ran = self.explanation.steps().len();
+        let schedule = self.explanation.schedule().get(..ran).unwrap_or(&[]);
+        let spelled = schedule_text(self.alloc, schedule)?;
+        let schedule = from_utf8(spelled.as_slice()).unwrap_or("-");
+        let file = quoted(self.alloc, self.file())?;
+        format!(in self.alloc; "Replay: ctxbound replay {file} {schedule}")
+    }
+
     /// The name of the file.
     pub fn file(&self) -> &'a str {
         from_utf8(self.source.file).unwrap_or("?")
@@ -168,8 +166,7 @@ impl<'a> Teller<'a> {
     pub fn names(&self, threads: &[u8]) -> Result<String, AllocError> {
         let mut names = String::new(self.alloc);
         for thread in threads {
-            let comma = if names.is_empty() { "" } else { ", " };
-            write!(names, "{comma}{}", self.thread(*thread))?;
+            put_listed(&mut names, self.thread(*thread))?;
         }
         Ok(names)
     }
@@ -184,15 +181,6 @@ impl<'a> Teller<'a> {
         name_text(self.source.local(thread, local))
     }
 
-    /// The statement of an instruction.
-    pub fn statement(&self, thread: u8, instruction: usize) -> Statement<'a> {
-        Statement {
-            source: self.source,
-            thread,
-            instruction,
-        }
-    }
-
     /// The step at a place.
     pub fn step(&self, at: usize) -> Option<&'a Step> {
         self.explanation.steps().get(at)
@@ -203,65 +191,49 @@ impl<'a> Teller<'a> {
         self.causes.events().get(at).copied()
     }
 
-    /// What is told of an event.
-    pub fn site(&self, event: &Event) -> Site<'a> {
-        Site {
-            name: self.thread(event.thread),
-            step: event.step.unwrap_or(0),
-            line: InLine(self.line(event.thread, event.instruction)),
-            statement: self.statement(event.thread, event.instruction),
-        }
-    }
-
-    /// Whether a thread has stopped.
-    pub fn is_stopped(&self, thread: u8) -> bool {
-        match self.standing(thread) {
-            Some(standing) => standing.is_stopped(),
-            None => false,
-        }
-    }
-
     /// The line of an instruction of a thread.
-    pub fn line(&self, thread: u8, instruction: usize) -> FileLine<'a> {
+    pub fn line(&self, thread: u8, instruction: usize) -> FileLine<'_> {
         let line = self.source.line(thread, instruction);
         self.marks.told(self.file(), line)
     }
 
-    /// A step and its line.
-    pub fn place(&self, at: usize) -> Place<'a> {
-        let line = match self.step(at) {
-            Some(step) => self.line(step.line.thread, step.instruction),
-            None => self.marks.told(self.file(), 0),
-        };
-        Place {
-            at,
-            line: InLine(line),
+    /// The number of the instruction at which a thread is at the end.
+    pub fn place_at_end(&self, thread: u8) -> usize {
+        let standing = self.explanation.standing(thread);
+        standing.map_or(0, |standing| standing.instruction)
+    }
+
+    /// The line at which a thread is at the end.
+    pub fn line_at_end(&self, thread: u8) -> FileLine<'_> {
+        self.line(thread, self.place_at_end(thread))
+    }
+
+    /// The statement of an instruction, and its line.
+    pub fn site(&self, thread: u8, instruction: usize) -> Site<'_> {
+        Site {
+            name: self.thread(thread),
+            line: InLine(self.line(thread, instruction)),
+            statement: Statement {
+                source: self.source,
+                thread,
+                instruction,
+            },
         }
     }
 
-    /// Where a thread is at the end, if there is such a thread.
-    pub fn standing(&self, thread: u8) -> Option<&'a Standing> {
-        self.explanation.standing(thread)
+    /// The statement of an event, and its line.
+    pub fn site_of(&self, event: &Event) -> Site<'_> {
+        self.site(event.thread, event.instruction)
     }
 
-    // How many steps are told, where some are folded.
-    fn put_count(&self, page: &mut Page, told: usize) -> Result<(), AllocError> {
-        let all = self.explanation.steps().len();
-        if told == all {
-            return Ok(());
+    /// What a thread does or can't do at an instruction: its statement, or after a `wait` to take
+    /// the mutex again.
+    pub fn deed(&self, thread: u8, at: usize, retakes: bool) -> Result<String, AllocError> {
+        match self.source.instruction(thread, at) {
+            Some(Instruction::Wait { mutex: m, .. }) if retakes => {
+                format!(in self.alloc; "retake {}", self.object(Object::Mutex(m)))
+            }
+            _ => self.site(thread, at).statement.to_string(self.alloc),
         }
-        let words = format!(in self.alloc; "{told} of {all} steps are shown; --all shows each.")?;
-        page.put_line(words.as_str(), 2)
-    }
-
-    // The command that replays the steps that ran.
-    fn put_replay(&self, page: &mut Page) -> Result<(), AllocError> {
-        let ran = self.explanation.steps().len();
-        let schedule = self.explanation.schedule().get(..ran).unwrap_or(&[]);
-        let spelled = schedule_text(self.alloc, schedule)?;
-        let schedule = from_utf8(spelled.as_slice()).unwrap_or("-");
-        let file = Quoted(self.file());
-        let line = format!(in self.alloc; "Replay: ctxbound replay {file} {schedule}")?;
-        page.put_whole(line.as_str())
     }
 }
