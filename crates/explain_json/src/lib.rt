@@ -1,14 +1,17 @@
 //! The explanation of a schedule for programs: as JSON.
 //!
-//! `told` has the keys, `tell` and `reasons` fill them in, and `json` writes them.
+//! `facts` has what is told, and `scribe` writes it, key by key in the order of their bytes; the
+//! other modules write the parts. `docs/FORMATS.md` says what each key means.
 #![tactic(auto)]
 
+mod facts;
+mod failures;
 mod json;
 mod objects;
 mod places;
-mod reasons;
-mod tell;
-mod told;
+mod scribe;
+mod steps;
+mod threads;
 mod words;
 
 pub use crate::json::{explanation_json, nothing_json, page_json};

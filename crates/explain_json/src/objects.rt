@@ -1,85 +1,122 @@
 //! What the objects are, step after step.
 
+use crate::facts::Facts;
 use explain::{Object, Reading, Step};
-use guest_code::program::Program;
-use replay::Act;
-use std::alloc::{AllocError, Global};
+use serde::Serialize;
+use std::alloc::AllocError;
+use std::collections::BTreeMap;
 
-/// The objects of a program in a state: values, owners, who waits, and counts.
-#[derive(Drop)]
-pub struct Objects {
-    /// The value of each variable.
-    pub values: Vec<i64>,
-    /// The owner of each mutex.
-    pub owners: Vec<Option<u8>>,
-    /// Who waits for each condition, the one that waited longest first.
-    pub queues: Vec<Vec<u8>>,
-    /// The count of each semaphore.
-    pub counts: Vec<u16>,
+/// Values by the names of what has them.
+pub type Named<'a, T> = BTreeMap<&'a str, T>;
+
+/// The owner of a mutex, and since which step.
+#[derive(Clone, Copy, Drop, Serialize)]
+pub struct MutexOwner<'a> {
+    pub holder: &'a str,
+    pub since: usize,
 }
 
-impl Objects {
+/// The objects: who waits for each condition, the one that waited longest first, the owners of
+/// mutexes, counts and values.
+#[derive(Drop, Serialize)]
+pub struct ToldObjects<'a> {
+    pub conditions: Named<'a, Vec<&'a str>>,
+    pub mutexes: Named<'a, Option<MutexOwner<'a>>>,
+    pub semaphores: Named<'a, u16>,
+    pub variables: Named<'a, i64>,
+}
+
+impl<'a> ToldObjects<'a> {
     /// The objects before the first step.
-    ///
-    /// # Errors
-    ///
-    /// `AllocError` where memory runs out.
-    pub fn opening(alloc: Global, program: &Program) -> Result<Objects, AllocError> {
-        let mut values = Vec::new(alloc);
-        for x in 0..program.variables() as usize {
-            values.push(program.opening(x))?;
-        }
-        let mut counts = Vec::new(alloc);
-        for k in 0..program.semaphores() as usize {
-            counts.push(program.count(k))?;
-        }
-        let mut queues = Vec::new(alloc);
-        for _ in 0..program.conditions() {
-            queues.push(Vec::new(alloc))?;
-        }
-        Ok(Objects {
-            values,
-            owners: vec![in alloc; None; program.mutexes() as usize]?,
-            queues,
-            counts,
+    pub fn opening(facts: &'a Facts<'_>) -> Result<ToldObjects<'a>, AllocError> {
+        Ok(ToldObjects {
+            conditions: empty_queues(facts)?,
+            mutexes: free_mutexes(facts)?,
+            semaphores: opening_counts(facts)?,
+            variables: opening_values(facts)?,
         })
     }
 
-    /// The objects after a step.
-    ///
-    /// # Errors
-    ///
-    /// `AllocError` where memory runs out.
-    pub fn take(&mut self, step: &Step) -> Result<(), AllocError> {
-        match (step.object, step.new) {
-            (Object::Variable(x), Reading::Value(value)) => put(&mut self.values, x, value),
-            (Object::Mutex(m), Reading::Owner(owner)) => put(&mut self.owners, m, owner),
-            (Object::Semaphore(k), Reading::Count(count)) => put(&mut self.counts, k, count),
-            (Object::Condition(c), Reading::Waiting(_)) => return self.queue(step, c),
-            _ => {}
+    /// The objects after the last step.
+    pub fn end(facts: &'a Facts<'_>) -> Result<ToldObjects<'a>, AllocError> {
+        let mut objects = ToldObjects::opening(facts)?;
+        for (at, step) in facts.explanation.steps().iter().enumerate() {
+            objects.take(facts, at, step)?;
+        }
+        Ok(objects)
+    }
+
+    /// Goes on past the step at a place. Where its object is as it was, so are the others.
+    pub fn take(&mut self, facts: &'a Facts<'_>, at: usize, step: &Step) -> Result<(), AllocError> {
+        if step.old == step.new {
+            return Ok(());
+        }
+        let name = facts.object(step.object);
+        match step.new {
+            Reading::Value(value) => drop(self.variables.insert(name, value)?),
+            Reading::Count(count) => drop(self.semaphores.insert(name, count)?),
+            Reading::Owner(owner) => {
+                let owner = owner.map(|thread| MutexOwner {
+                    holder: facts.name(thread),
+                    since: at,
+                });
+                drop(self.mutexes.insert(name, owner)?);
+            }
+            Reading::Waiting(_) => self.queue(facts, name, step)?,
         }
         Ok(())
     }
 
-    // Who waits for a condition after a step on it.
-    fn queue(&mut self, step: &Step, condition: usize) -> Result<(), AllocError> {
-        let Some(queue) = self.queues.get_mut(condition) else {
+    // Who waits for a condition after a step that changed it.
+    fn queue(&mut self, facts: &'a Facts<'_>, name: &str, step: &Step) -> Result<(), AllocError> {
+        let Some(queue) = self.conditions.get_mut(name) else {
             return Ok(());
         };
-        match step.line.act {
-            Act::Wait { mutex, .. } if step.line.stop.is_none() => {
-                queue.push(step.line.thread)?;
-                put(&mut self.owners, mutex, None);
-            }
-            _ => queue.retain(|thread| !step.woken.as_slice().contains(thread)),
+        if let Some(mutex) = facts.mutex_beside(step) {
+            queue.push(facts.name(step.line.thread))?;
+            self.mutexes.insert(mutex, None)?;
+        } else {
+            let woken = facts.names(step.woken.as_slice())?;
+            queue.retain(|waiting| !woken.as_slice().contains(waiting));
         }
         Ok(())
     }
 }
 
-// Puts an item into its place, where there is one.
-fn put<T: Drop>(items: &mut Vec<T>, at: usize, item: T) {
-    if let Some(place) = items.get_mut(at) {
-        *place = item;
+// The conditions, for which nobody waits.
+fn empty_queues<'a>(facts: &'a Facts<'_>) -> Result<Named<'a, Vec<&'a str>>, AllocError> {
+    let mut queues = Named::new(facts.alloc);
+    for name in facts.conditions()? {
+        queues.insert(name, Vec::new(facts.alloc))?;
     }
+    Ok(queues)
+}
+
+// The mutexes, which nobody owns.
+fn free_mutexes<'a>(facts: &'a Facts<'_>) -> Result<Named<'a, Option<MutexOwner<'a>>>, AllocError> {
+    let mut owners = Named::new(facts.alloc);
+    for name in facts.mutexes()? {
+        owners.insert(name, None)?;
+    }
+    Ok(owners)
+}
+
+// The semaphores with their opening counts.
+fn opening_counts<'a>(facts: &'a Facts<'_>) -> Result<Named<'a, u16>, AllocError> {
+    let program = facts.source.program;
+    let mut counts = Named::new(facts.alloc);
+    for k in 0..program.semaphores() as usize {
+        counts.insert(facts.object(Object::Semaphore(k)), program.count(k))?;
+    }
+    Ok(counts)
+}
+
+// The variables with their opening values.
+fn opening_values<'a>(facts: &'a Facts<'_>) -> Result<Named<'a, i64>, AllocError> {
+    let program = facts.source.program;
+    let mut values = Named::new(facts.alloc);
+    for x in 0..program.variables() as usize {
+        values.insert(facts.object(Object::Variable(x)), program.opening(x))?;
+    }
+    Ok(values)
 }

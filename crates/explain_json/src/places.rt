@@ -1,69 +1,122 @@
-//! Where statements begin and end in the text.
+//! Where statements are, and where lines come from.
 
-use crate::told::Place;
+use crate::facts::Facts;
+use crate::scribe::{Scribe, Written};
+use explain::{Statement, name_text};
+use guest_syntax::Pos;
+use guest_syntax::pieces::Pieces;
+use serde::{Serialize, Serializer};
 use std::alloc::{AllocError, Global};
+use std::collections::BTreeMap;
 
-/// A text with its lines.
-#[derive(Drop)]
-pub struct Places<'a> {
-    text: &'a [u8],
-    // The offset of each line.
-    lines: Vec<usize>,
+/// A place in the text.
+#[derive(Clone, Copy, Drop, Serialize)]
+pub struct TextPlace {
+    column: u32,
+    line: u32,
 }
 
-impl<'a> Places<'a> {
-    /// The lines of a text.
-    ///
-    /// # Errors
-    ///
-    /// `AllocError` where memory runs out.
-    pub fn new(alloc: Global, text: &'a [u8]) -> Result<Places<'a>, AllocError> {
-        let mut lines = Vec::new(alloc);
-        lines.push(0)?;
-        for (at, byte) in text.iter().enumerate() {
-            if *byte == b'\n' {
-                lines.push(at.saturating_add(1))?;
-            }
+/// The place after each statement, by the line and the column where it begins.
+pub type Ends = BTreeMap<(u32, u32), TextPlace>;
+
+/// Where the statements of a text end: after the `;`, or, of one that has a block, after what comes
+/// before the `{`.
+pub fn ends_of(alloc: Global, text: &[u8]) -> Result<Ends, AllocError> {
+    let mut ends = Ends::new(alloc);
+    let mut begin = None;
+    let mut end = TextPlace { column: 1, line: 1 };
+    for piece in Pieces::new(text) {
+        let Pos { line, col } = piece.at;
+        let first = *begin.get_or_insert((line, col));
+        if !matches!(piece.text, b"{") {
+            let length = u32::try_from(piece.text.len()).unwrap_or(u32::MAX);
+            let column = col.saturating_add(length);
+            end = TextPlace { column, line };
         }
-        Ok(Places { text, lines })
+        if matches!(piece.text, b"{" | b"}" | b";") {
+            ends.insert(first, end)?;
+            begin = None;
+        }
+    }
+    Ok(ends)
+}
+
+/// The line of a file that a preprocessor's mark names.
+#[derive(Clone, Copy, Drop, PartialEq, Serialize)]
+pub struct FilePlace<'a> {
+    file: &'a str,
+    line: u32,
+}
+
+/// From a line of the text on, where the lines come from: this line of a file, and those after it.
+#[derive(Clone, Copy, Drop, Serialize)]
+pub struct FileRun<'a> {
+    at: u32,
+    #[serde(flatten)]
+    first: FilePlace<'a>,
+}
+
+impl Facts<'_> {
+    // Where a statement begins; nowhere at the end of a thread's code.
+    fn begin(&self, statement: Statement<'_>) -> Option<Pos> {
+        self.source.place(statement.thread, statement.instruction)
     }
 
-    /// The place after the statement that begins at a place: after its `;`, or, of one that has a
-    /// block, after the last byte before it that is neither blank nor of a comment.
-    pub fn end(&self, begin: Place) -> Place {
-        let line = (begin.line as usize).saturating_sub(1);
-        let first = self.lines.get(line).copied().unwrap_or(0);
-        let offset = first.saturating_add((begin.column as usize).saturating_sub(1));
-        let mut here = begin;
-        let mut end = begin;
-        let mut in_comment = false;
-        for byte in self.text.iter().skip(offset) {
-            here = after(here, *byte);
-            match *byte {
-                b'\n' => in_comment = false,
-                _ if in_comment => {}
-                b'#' => in_comment = true,
-                b'{' => return end,
-                b';' => return here,
-                b' ' | b'\t' | b'\r' => {}
-                _ => end = here,
+    // Where a line of the text comes from, if a mark says so.
+    fn origin(&self, line: u32) -> Option<FilePlace<'_>> {
+        let origin = self.marks.origin(line)?;
+        Some(FilePlace {
+            file: name_text(origin.file()),
+            line: origin.line(),
+        })
+    }
+
+    /// From which line of the text on the lines come from where, if marks say so.
+    pub fn file_runs(&self) -> Result<Option<Vec<FileRun<'_>>>, AllocError> {
+        let mut runs = Vec::new(self.alloc);
+        let mut due = None;
+        for (_, at) in self.source.text.split(|byte| *byte == b'\n').zip(1u32..) {
+            let origin = self.origin(at);
+            if let Some(first) = origin
+                && origin != due
+            {
+                runs.push(FileRun { at, first })?;
             }
+            due = origin.and_then(|origin| {
+                let line = origin.line.checked_add(1)?;
+                Some(FilePlace { line, ..origin })
+            });
         }
-        end
+        Ok(if runs.is_empty() { None } else { Some(runs) })
     }
 }
 
-// The place after a byte that is here.
-fn after(here: Place, byte: u8) -> Place {
-    if byte == b'\n' {
-        Place {
-            line: here.line.saturating_add(1),
-            column: 1,
-        }
-    } else {
-        Place {
-            line: here.line,
-            column: here.column.saturating_add(1),
-        }
+impl<S: Serializer> Scribe<'_, S> {
+    /// Writes where a statement is.
+    pub fn put_place(&mut self, statement: Statement<'_>) -> Written<S> {
+        self.put_extent(statement)?;
+        self.put_line(statement)
+    }
+
+    /// Writes the line of a statement. In a step a key comes before it.
+    pub fn put_line(&mut self, statement: Statement<'_>) -> Written<S> {
+        let begin = self.facts.begin(statement);
+        self.put("line", begin.map(|begin| begin.line))
+    }
+
+    /// Writes where a statement begins and ends, all but its line.
+    pub fn put_extent(&mut self, statement: Statement<'_>) -> Written<S> {
+        let facts = self.facts;
+        let begin = facts.begin(statement);
+        self.put("column", begin.map(|begin| begin.col))?;
+        let end = begin.and_then(|begin| facts.ends.get(&(begin.line, begin.col)));
+        self.put("end", end)?;
+        self.put_some("from", begin.and_then(|begin| facts.origin(begin.line)))
+    }
+
+    /// Writes a statement as a text.
+    pub fn put_text(&mut self, statement: Statement<'_>) -> Written<S> {
+        self.out.key("text")?;
+        self.out.collect_str(&statement)
     }
 }

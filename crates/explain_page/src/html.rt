@@ -1,6 +1,6 @@
 //! The explanation as a page.
 
-use crate::page::{PAGE_BEGIN, PAGE_END, SENTENCE_BEGIN, SENTENCE_END, SENTENCE_TITLE};
+use crate::page::{HEAD, PAGE_BEGIN, PAGE_END, SENTENCE_BEGIN, SENTENCE_END, SENTENCE_TITLE};
 use explain::{Explanation, Source};
 use explain_json::page_json;
 use serde_json::Value;
@@ -25,7 +25,8 @@ pub fn explanation_html<'a>(
     why: &'a str,
 ) -> Result<Vec<u8>, AllocError> {
     let data = page_json(alloc, explanation, source, search, why)?;
-    let mut page = Vec::from_slice(alloc, PAGE_BEGIN.as_bytes())?;
+    let mut page = Vec::from_slice(alloc, HEAD.as_bytes())?;
+    page.extend_from_slice(PAGE_BEGIN.as_bytes())?;
     put_data(&mut page, alloc, data.as_slice())?;
     page.extend_from_slice(PAGE_END.as_bytes())?;
     Ok(page)
@@ -37,7 +38,8 @@ pub fn explanation_html<'a>(
 ///
 /// `AllocError` where memory runs out.
 pub fn nothing_html(alloc: Global, file: &str, sentence: &str) -> Result<Vec<u8>, AllocError> {
-    let mut page = Vec::from_slice(alloc, SENTENCE_BEGIN.as_bytes())?;
+    let mut page = Vec::from_slice(alloc, HEAD.as_bytes())?;
+    page.extend_from_slice(SENTENCE_BEGIN.as_bytes())?;
     put_escaped(&mut page, file)?;
     page.extend_from_slice(SENTENCE_TITLE.as_bytes())?;
     put_escaped(&mut page, sentence)?;
@@ -69,7 +71,10 @@ fn put_data(page: &mut Vec<u8>, alloc: Global, data: &[u8]) -> Result<(), AllocE
         } else {
             put_number(page, number.as_slice())?;
             number.clear();
-            put_byte(page, *byte)?;
+            match *byte {
+                b'<' => page.extend_from_slice(b"\\u003c")?,
+                byte => page.push(byte)?,
+            }
         }
         is_text = is_text != (*byte == b'"' && !is_escaped);
         is_escaped = is_text && *byte == b'\\' && !is_escaped;
@@ -79,19 +84,8 @@ fn put_data(page: &mut Vec<u8>, alloc: Global, data: &[u8]) -> Result<(), AllocE
 
 // A number, as text where it has more digits than a script keeps.
 fn put_number(page: &mut Vec<u8>, number: &[u8]) -> Result<(), AllocError> {
-    if number.len() <= DIGITS {
-        return page.extend_from_slice(number);
-    }
-    page.push(b'"')?;
+    let quote = if number.len() > DIGITS { "\"" } else { "" };
+    page.extend_from_slice(quote.as_bytes())?;
     page.extend_from_slice(number)?;
-    Ok(page.push(b'"')?)
-}
-
-// A byte of JSON. A `<` is spelled by its number.
-fn put_byte(page: &mut Vec<u8>, byte: u8) -> Result<(), AllocError> {
-    if byte == b'<' {
-        page.extend_from_slice(b"\\u003c")
-    } else {
-        Ok(page.push(byte)?)
-    }
+    page.extend_from_slice(quote.as_bytes())
 }

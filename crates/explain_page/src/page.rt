@@ -1,13 +1,16 @@
 //! The template of the page: all but its data.
 
-/// The page up to its data.
-pub const PAGE_BEGIN: &str = r##"<!DOCTYPE html>
+/// Each page up to its title or its style.
+pub const HEAD: &str = r##"<!DOCTYPE html>
 <html lang="en">
 <head>
 <meta charset="utf-8">
 <meta name="viewport" content="width=device-width, initial-scale=1">
 <link rel="icon" href="data:,">
-<title>ctxbound</title>
+"##;
+
+/// The page from there up to its data.
+pub const PAGE_BEGIN: &str = r##"<title>ctxbound</title>
 <style>
 :root { color-scheme: light dark; --ink: #1c2430; --soft: #5b6675; --line: #d7dce3; --paper: #fff; --back: #f5f6f8;
   --bad: #c62828; --held: #c3cad6; --now: #fff3c4; --chosen: #ffd54f; --arrow: #8a94a6;
@@ -424,13 +427,7 @@ show(failure === null ? steps.length : ran);
 "##;
 
 /// The page where a search found no bad schedule, up to the name of the file.
-pub const SENTENCE_BEGIN: &str = r##"<!DOCTYPE html>
-<html lang="en">
-<head>
-<meta charset="utf-8">
-<meta name="viewport" content="width=device-width, initial-scale=1">
-<link rel="icon" href="data:,">
-<style>
+pub const SENTENCE_BEGIN: &str = r##"<style>
 :root { color-scheme: light dark; }
 body { margin: 16px; font: 15px/1.5 system-ui, sans-serif; }
 p { white-space: pre-wrap; overflow-wrap: anywhere; }

@@ -1,0 +1,130 @@
+//! The threads that stopped, and where the values of a failed assertion came from.
+
+use crate::facts::Facts;
+use crate::scribe::{Scribe, Written};
+use crate::words::stop_word;
+use causes::Event;
+use explain::Object;
+use guest_code::program::{Expression, Instruction, Value};
+use semantics::state::Stop;
+use serde::Serializer;
+use std::alloc::AllocError;
+use std::collections::BTreeSet;
+
+impl Facts<'_> {
+    // The places of the events from which the value of a local came that a thread uses at a place:
+    // by which it set that and the locals that it made it of, and which wrote what these read.
+    fn origins(&self, end: usize, thread: u8, local: usize) -> Result<BTreeSet<usize>, AllocError> {
+        let mut wanted = BTreeSet::new(self.alloc);
+        let mut origins = BTreeSet::new(self.alloc);
+        wanted.insert(local)?;
+        for (at, event) in self.causes.events().iter().enumerate().take(end).rev() {
+            let set = event.local_set().filter(|_| event.thread == thread);
+            if set.is_some_and(|local| wanted.remove(&local)) {
+                origins.insert(at)?;
+                let read = event.variable_read();
+                origins.extend(read.and_then(|x| self.causes.writer(at, x)))?;
+                if let Instruction::Set { value, .. } = event.statement {
+                    wanted.extend(locals_of(value).into_iter().flatten())?;
+                }
+            }
+        }
+        Ok(origins)
+    }
+}
+
+impl<S: Serializer> Scribe<'_, S> {
+    /// Writes each thread that stopped, in the order in which they did.
+    pub fn put_failures(&mut self) -> Written<S> {
+        self.begin_list("failures")?;
+        for (at, event) in self.facts.causes.events().iter().enumerate() {
+            if let Some(stop) = event.stop() {
+                self.put_failure(at, event, stop)?;
+            }
+        }
+        self.out.end_seq()
+    }
+
+    // The thread that stopped by an event. At an `unlock` or a `wait` it didn't own the mutex.
+    fn put_failure(&mut self, at: usize, event: &Event, stop: Stop) -> Written<S> {
+        let facts = self.facts;
+        let statement = facts.statement(event.thread, event.instruction);
+        let mutex = match event.statement {
+            Instruction::Unlock(mutex) | Instruction::Wait { mutex, .. } => Some(mutex),
+            _ => None,
+        };
+        let taken = mutex.and_then(|m| facts.causes.taker(at, m));
+        let owner = taken.and_then(|place| facts.causes.events().get(place));
+        let ran = event.step.map_or(0, |step| step.saturating_add(1));
+        let steps = facts.explanation.steps().iter().take(ran);
+        let preempting = steps.filter(|step| step.line.preempting);
+        self.out.begin_map(None)?;
+        self.put_place(statement)?;
+        self.put("mutex", mutex.map(|m| facts.object(Object::Mutex(m))))?;
+        self.put("name", facts.name(event.thread))?;
+        self.put("owner", owner.map(|owner| facts.name(owner.thread)))?;
+        self.put("preemptions", preempting.count())?;
+        self.put("step", event.step)?;
+        self.put("stop", stop_word(stop))?;
+        self.put_text(statement)?;
+        self.put("thread", event.thread)?;
+        self.put_values(at, event)?;
+        self.out.end_map()
+    }
+
+    // The locals of the assertion at a place, in its order, each once.
+    fn put_values(&mut self, at: usize, event: &Event) -> Written<S> {
+        let facts = self.facts;
+        let locals = match event.statement {
+            Instruction::Assert(test) => locals_of(test),
+            _ => [None, None],
+        };
+        self.begin_list("values")?;
+        for local in locals.into_iter().flatten() {
+            let standing = facts.explanation.standing(event.thread);
+            let value = standing.and_then(|standing| standing.locals.get(local));
+            self.out.begin_map(None)?;
+            self.put("local", facts.local(event.thread, local))?;
+            self.put_origins(at, event.thread, local)?;
+            self.put("value", value.copied().unwrap_or(0))?;
+            self.out.end_map()?;
+        }
+        self.out.end_seq()
+    }
+
+    // The statements that the value of a local came from which a thread uses at a place.
+    fn put_origins(&mut self, at: usize, thread: u8, local: usize) -> Written<S> {
+        let facts = self.facts;
+        let origins = self.made(facts.origins(at, thread, local))?;
+        self.begin_list("origins")?;
+        for event in origins
+            .iter()
+            .filter_map(|at| facts.causes.events().get(*at))
+        {
+            let statement = facts.statement(event.thread, event.instruction);
+            self.out.begin_map(None)?;
+            self.put_place(statement)?;
+            self.put("name", facts.name(event.thread))?;
+            self.put("step", event.step)?;
+            self.put_text(statement)?;
+            self.out.end_map()?;
+        }
+        self.out.end_seq()
+    }
+}
+
+// The locals of an expression, each once.
+fn locals_of(expression: Expression) -> [Option<usize>; 2] {
+    match expression {
+        Expression::Both(a, _, b) if a != b => [local_of(a), local_of(b)],
+        Expression::Single(a) | Expression::Both(a, _, _) => [local_of(a), None],
+    }
+}
+
+// The local that an operand is, if it is one.
+fn local_of(operand: Value) -> Option<usize> {
+    match operand {
+        Value::Local(local) => Some(local),
+        Value::Literal(_) => None,
+    }
+}

@@ -1,0 +1,110 @@
+//! The steps, one after the other.
+
+use crate::objects::ToldObjects;
+use crate::scribe::{Scribe, Written};
+use crate::words::{act_word, stop_word};
+use explain::{Object, Reading, Setting, Step};
+use guest_code::program::Instruction;
+use serde::Serializer;
+
+impl<S: Serializer> Scribe<'_, S> {
+    /// Writes each step.
+    pub fn put_steps(&mut self) -> Written<S> {
+        let facts = self.facts;
+        let mut objects = self.made(ToldObjects::opening(facts))?;
+        self.begin_list("steps")?;
+        for (at, step) in facts.explanation.steps().iter().enumerate() {
+            self.made(objects.take(facts, at, step))?;
+            self.put_step(at, step, &objects)?;
+        }
+        self.out.end_seq()
+    }
+
+    // A step, after which the objects are these.
+    fn put_step(&mut self, at: usize, step: &Step, objects: &ToldObjects<'_>) -> Written<S> {
+        let facts = self.facts;
+        let thread = step.line.thread;
+        let statement = facts.statement(thread, step.instruction);
+        let held = step.held.iter().map(|m| facts.object(Object::Mutex(*m)));
+        self.out.begin_map(None)?;
+        self.put("act", act_word(step.line.act))?;
+        self.put_after(step, objects)?;
+        self.put("cause", facts.causes.steps().get(at).copied() == Some(true))?;
+        self.put_extent(statement)?;
+        self.put_made("held", held.collect::<Vec<&str>>(facts.alloc))?;
+        self.put_line(statement)?;
+        self.put_some("mutex", facts.mutex_beside(step))?;
+        self.put("name", facts.name(thread))?;
+        self.put_reading("new", step.new)?;
+        self.put_next(thread, step.next)?;
+        self.put("object", facts.object(step.object))?;
+        self.put_reading("old", step.old)?;
+        self.put("preempting", step.line.preempting)?;
+        self.put_sets(thread, step.settings.as_slice())?;
+        self.put("step", at)?;
+        self.put("stop", step.line.stop.map(stop_word))?;
+        self.put("thread", thread)?;
+        self.put_made("woken", facts.names(step.woken.as_slice()))?;
+        self.out.end_map()
+    }
+
+    // The objects that a step touched, as they are after it. A name is that of one object.
+    fn put_after(&mut self, step: &Step, objects: &ToldObjects<'_>) -> Written<S> {
+        let touched = Some(self.facts.object(step.object));
+        let beside = self.facts.mutex_beside(step);
+        let names = [touched.min(beside), touched.max(beside)];
+        self.begin_object("after")?;
+        for name in names.into_iter().flatten() {
+            let owner = objects.mutexes.get(name).copied();
+            self.put_some(name, objects.conditions.get(name))?;
+            self.put_some(name, owner.map(|owner| owner.map(|owner| owner.holder)))?;
+            self.put_some(name, objects.semaphores.get(name))?;
+            self.put_some(name, objects.variables.get(name))?;
+        }
+        self.out.end_map()
+    }
+
+    // What an object was.
+    fn put_reading(&mut self, key: &str, reading: Reading) -> Written<S> {
+        let facts = self.facts;
+        match reading {
+            Reading::Value(value) => self.put(key, value),
+            Reading::Owner(owner) => self.put(key, owner.map(|thread| facts.name(thread))),
+            Reading::Waiting(count) => self.put(key, count),
+            Reading::Count(count) => self.put(key, count),
+        }
+    }
+
+    /// Writes the statement at which a thread is; nothing at the end of its code. Woken or not, a
+    /// thread at a `wait` isn't about to take anything when it comes there.
+    pub fn put_next(&mut self, thread: u8, instruction: usize) -> Written<S> {
+        let facts = self.facts;
+        self.out.key("next")?;
+        let wanted = match facts.source.instruction(thread, instruction) {
+            Some(Instruction::Lock(m)) => Some(Object::Mutex(m)),
+            Some(Instruction::Acquire(k)) => Some(Object::Semaphore(k)),
+            Some(_) => None,
+            None => return self.out.unit(),
+        };
+        let statement = facts.statement(thread, instruction);
+        self.out.begin_map(None)?;
+        self.put_place(statement)?;
+        self.put_text(statement)?;
+        self.put_some("wants", wanted.map(|object| facts.object(object)))?;
+        self.out.end_map()
+    }
+
+    /// Writes the locals that a thread set.
+    pub fn put_sets(&mut self, thread: u8, settings: &[Setting]) -> Written<S> {
+        let facts = self.facts;
+        self.begin_list("sets")?;
+        for setting in settings {
+            self.out.begin_map(None)?;
+            self.put_place(facts.statement(thread, setting.instruction))?;
+            self.put("local", facts.local(thread, setting.local))?;
+            self.put("value", setting.value)?;
+            self.out.end_map()?;
+        }
+        self.out.end_seq()
+    }
+}
