@@ -61,7 +61,7 @@ COMPILING = echo "Compiling without proofs, which takes about a minute .."
 NEEDS_PROGRAM = test -x "$(PROGRAM)" || \
 	{ echo "$(PROGRAM) isn't there: run \`make build\` first" >&2; exit 2; }
 
-VERSION = $(shell sed -n 's/^pub const VERSION: &str = "\(.*\)";/\1/p' crates/words/src/reading.rt)
+VERSION = $(shell sed -n 's/^pub const VERSION: &str = "\(.*\)";/\1/p' crates/words/src/commands.rt)
 NAMED = ctxbound-$(VERSION)
 SHARE = $(DESTDIR)$(PREFIX)/share
 

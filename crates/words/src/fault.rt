@@ -1,7 +1,10 @@
 //! Why command words ask for nothing.
 
 ghost use Rattle.std.specs.Prelude.{◌≡◌};
-ghost use Rattle.words.specs.Words.{words_status};
+ghost use Rattle.std.specs.IoError.{error_kind};
+ghost use Rattle.clap.specs.Values.{kind_of};
+ghost use Rattle.words.specs.declared.fault.WordsFault.TheVariants.{OutOfMemory};
+ghost use Rattle.words.specs.Words.{of_clap, of_words_error, words_status};
 
 use clap::Error;
 use clap::error::ErrorKind;
@@ -46,12 +49,9 @@ impl WordsFault {
 }
 
 impl From<Error> for WordsFault {
-    ghost use Rattle.std.specs.Prelude.{◌≡◌};
-    ghost use Rattle.clap.specs.Values.{kind_of};
-    ghost use Rattle.words.specs.Words.{of_clap};
-
     ghost from_gives = { λ e fault. fault ≡ of_clap (kind_of e) e };
 
+    // Out of memory, or what `clap` says.
     fn from(error: Error) -> WordsFault {
         match error.kind() {
             ErrorKind::OutOfMemory => WordsFault::OutOfMemory,
@@ -61,12 +61,9 @@ impl From<Error> for WordsFault {
 }
 
 impl From<io::Error> for WordsFault {
-    ghost use Rattle.std.specs.Prelude.{◌≡◌};
-    ghost use Rattle.std.specs.IoError.{error_kind};
-    ghost use Rattle.words.specs.Words.{of_words_error};
-
     ghost from_gives = { λ e fault. fault ≡ of_words_error (error_kind e) };
 
+    // Out of memory, or a word that is no text.
     fn from(error: io::Error) -> WordsFault {
         match error.kind() {
             io::ErrorKind::OutOfMemory => WordsFault::OutOfMemory,
@@ -76,11 +73,9 @@ impl From<io::Error> for WordsFault {
 }
 
 impl From<AllocError> for WordsFault {
-    ghost use Rattle.std.specs.Prelude.{◌≡◌};
-    ghost use Rattle.words.specs.declared.fault.WordsFault.TheVariants.{OutOfMemory};
-
     ghost from_gives = { λ _ fault. fault ≡ OutOfMemory };
 
+    // Out of memory.
     fn from(_error: AllocError) -> WordsFault {
         WordsFault::OutOfMemory
     }

@@ -4,6 +4,7 @@
 //! - [`WordsFault`] is why they ask for nothing, what the user is told, and the status.
 #![tactic(auto)]
 
+mod commands;
 mod fault;
 mod reading;
 
