@@ -1,6 +1,6 @@
 //! Books.
 
-ghost use Rattle.std.specs.Prelude.{true, false, None, count_by, ◌≡◌, ◌<◌, ◌≤◌, ◌+◌, ◌-◌, ◌&&◌, ◌↔◌, [], length, drop, is_ok, if◌then◌else◌, IfOk, OnOk, IfErr, OnErr, Ok, IfSome, IfNone, IsTrue, slice_get, Some, All};
+ghost use Rattle.std.specs.Prelude.{true, false, None, count_by, ◌≡◌, ◌<◌, ◌≤◌, ◌+◌, ◌-◌, ◌↔◌, [], length, drop, is_ok, if◌then◌else◌, IfOk, OnOk, IfErr, OnErr, Ok, IfSome, IfNone, IsTrue, slice_get, Some, All};
 ghost use Rattle.std.specs.Arc.{arc_value};
 ghost use Rattle.std.specs.List.{remove};
 ghost use Rattle.items.specs.declared.limits.TheConstants.{BOUND};
@@ -157,11 +157,11 @@ impl Book {
     }
 
     /// How many items are open.
-    pub fn open_length(&self) -> usize
+    pub fn open_len(&self) -> usize
         ensures length { result ≡ length self.now.open_items }
         ensures kept { Keeps self.now }
     {
-        self.open_items.length()
+        self.open_items.len()
     }
 
     /// A copy of the open item at a place, counted from 0.
@@ -184,10 +184,10 @@ impl Book {
     }
 
     /// How many items wait for the next bound.
-    pub fn deferred_length(&self) -> usize
+    pub fn deferred_len(&self) -> usize
         ensures { result ≡ length self.now.deferred }
     {
-        self.deferred.length()
+        self.deferred.len()
     }
 
     /// A copy of the item at a place among those that wait for the next bound, counted from 0.
@@ -246,7 +246,7 @@ impl Book {
         ensures program { AreOf self.old.of.program items.new.items }
         ensures book { self.new ≡ self.old }
     {
-        let first = self.open_items.length().saturating_sub(ROUND);
+        let first = self.open_items.len().saturating_sub(ROUND);
         self.open_items.look_from(first);
         self.open_items
             .copy_last(alloc, self.of.shared_program(), ROUND, items)
@@ -260,7 +260,7 @@ impl Book {
         ensures none { IfNone result (self.now.quick ≡ false → self.now.open_items ≡ [] → ⊥) }
         ensures whole { IfSome result (λ s. s.now ≡ item_sum self.now.mode self.now.of) }
     {
-        if !self.quick && self.open_items.length() == 0 {
+        if !self.quick && self.open_items.len() == 0 {
             Some(&self.finished)
         } else {
             None
@@ -307,7 +307,7 @@ impl Book {
     fn is_closed(&self, program: &Program, mode: Mode) -> bool
         ensures { IsTrue result ↔ IsClosed self.now program.now mode }
     {
-        self.open_items.length() == 0 && same_modes(self.mode, mode) && is_root(&self.of, program)
+        self.open_items.len() == 0 && same_modes(self.mode, mode) && is_root(&self.of, program)
     }
 
     /// Whether the book drops an item that is open: it is quick, and each schedule of the item
@@ -361,13 +361,11 @@ impl Book {
             return Err(SettleError::Stranger);
         }
         let (item, mut found) = walked.into_parts();
-        let Some(place) = self.open_items.place_of(&item) else {
+        let Some(place) = self.open_items.position(&item) else {
             return Err(SettleError::NotOpen);
         };
-        match self.take_over(alloc, &mut found, place, &[place]) {
-            Ok(()) => Ok(()),
-            Err(AllocError) => Err(SettleError::OutOfMemory),
-        }
+        self.settle_at(alloc, &mut found, place, &[place])?;
+        Ok(())
     }
 
     /// Settles at once what walks of items of the book's last round found, in its mode and one
@@ -401,14 +399,14 @@ impl Book {
         if self.lists && !found.lists {
             return Ok(false);
         }
-        let Some(stand) = self
+        let Some(open_at) = self
             .open_items
             .places_of(alloc, self.of.shared_program(), items, places)?
         else {
             return Ok(false);
         };
-        let first = self.open_items.packed_length();
-        self.take_over(alloc, found, first, stand.as_slice())?;
+        let first = self.open_items.packed_len();
+        self.settle_at(alloc, found, first, open_at.as_slice())?;
         Ok(true)
     }
 
@@ -433,7 +431,7 @@ impl Book {
         ensures ok { OnOk result (HasWalkedRound self.old quota self.new) }
         ensures err { IfErr result (λ _. self.new ≡ self.old) }
     {
-        let end = self.open_items.length();
+        let end = self.open_items.len();
         let first = end.saturating_sub(ROUND);
         self.open_items
             .unpack_from(alloc, self.of.shared_program(), first)?;
@@ -443,14 +441,14 @@ impl Book {
             walker.walk_on(alloc, found, item, self.mode, quota)?;
         }
         let places = [first; ROUND];
-        self.take_over(alloc, found, first, &places[..end - first])
+        self.settle_at(alloc, found, first, &places[..end - first])
     }
 
     // Settles what walks of the open items at these places, each counted without those before it,
     // found, of which the memory is left; none stands before the first one. First there is memory
     // for what is left open, and what is put off is listed; then the sum is joined, which is the
     // last that can be refused; then items come and go.
-    fn take_over(
+    fn settle_at(
         &mut self,
         alloc: Global,
         found: &mut Found,
@@ -469,22 +467,22 @@ impl Book {
         let packs = is_packed(self.quick, &self.finished, &found.part);
         self.open_items
             .unpack_from(alloc, program, first_unpacked(packs, first))?;
-        let deferred_length = self.deferred.length();
+        let deferred_len = self.deferred.len();
         self.deferred
-            .unpack_from(alloc, program, first_unpacked(packs, deferred_length))?;
+            .unpack_from(alloc, program, first_unpacked(packs, deferred_len))?;
         let quiet = is_quiet(found);
-        self.open_items.make_room(found.rest.len())?;
+        self.open_items.reserve(found.rest.len())?;
         let none = Prefixes::new(alloc);
         let listed = listed_of(self.lists, &found.deferred, &none);
         self.deferred
             .append_prefixes(alloc, program, listed, packs)?;
         if let Err(error) = self.finished.join_in_by(&mut self.hints, &mut found.part) {
-            self.deferred.truncate(deferred_length);
+            self.deferred.truncate(deferred_len);
             return Err(error);
         }
         self.open_items.append(alloc, &mut found.rest);
         self.open_items.remove_each(places);
-        self.swept = both(self.swept, quiet);
+        self.swept &= quiet;
         Ok(())
     }
 
@@ -509,7 +507,7 @@ impl Book {
         ensures ok { OnOk result (Raises self.old self.new) }
         ensures err { IfErr result (λ e. (self.new ≡ self.old) × IsNotRaised self.old e) }
     {
-        if self.open_items.length() > 0 {
+        if self.open_items.len() > 0 {
             return Err(RaiseError::StillOpen);
         }
         if self.dropped {
@@ -586,13 +584,6 @@ pub(crate) fn first_unpacked(packs: bool, place: usize) -> usize
     ensures none { packs ≡ false → result ≡ 0 }
 {
     if packs { place } else { 0 }
-}
-
-// Whether both hold.
-fn both(first: bool, second: bool) -> bool
-    ensures { result ≡ (first && second) }
-{
-    first && second
 }
 
 // Whether walks found no bad schedule and left nothing.

@@ -65,7 +65,7 @@ impl ItemList {
     }
 
     // How many items there are.
-    pub(crate) fn length(&self) -> usize
+    pub(crate) fn len(&self) -> usize
         ensures { (p : Program) → result ≡ length (all_of p self.now) }
     {
         self.packed.length() + self.unpacked.len()
@@ -125,7 +125,7 @@ impl ItemList {
     }
 
     // The place of an item of the list's program.
-    pub(crate) fn place_of(&self, item: &Item) -> Option<usize>
+    pub(crate) fn position(&self, item: &Item) -> Option<usize>
         requires { AreOf item.now.program self.now.unpacked }
         ensures some { IfSome result (λ k.
             (k < length (all_of item.now.program self.now)) ×
@@ -133,14 +133,14 @@ impl ItemList {
         ensures none { IfNone result
             (All (λ i. i ≡ item.now → ⊥) (all_of item.now.program self.now)) }
     {
-        match find_behind(&self.unpacked, 0, item) {
+        match position_from(&self.unpacked, 0, item) {
             Some(place) => Some(self.packed.length() + place),
-            None => self.packed_place_of(item),
+            None => self.packed_position(item),
         }
     }
 
     // The place of an item of the list's program among the packed ones.
-    fn packed_place_of(&self, item: &Item) -> Option<usize>
+    fn packed_position(&self, item: &Item) -> Option<usize>
         ensures some { IfSome result (λ k. (k < length self.now.packed) ×
             (slice_get (items_at item.now.program self.now.packed) k ≡ Some item.now)) }
         ensures none { IfNone result
@@ -193,7 +193,7 @@ impl ItemList {
     }
 
     // How many items are packed.
-    pub(crate) fn packed_length(&self) -> usize
+    pub(crate) fn packed_len(&self) -> usize
         ensures { result ≡ length self.now.packed }
     {
         self.packed.length()
@@ -233,7 +233,7 @@ impl ItemList {
         if let Some(found) = self.places_from(alloc, self.hint, items, places)? {
             return Ok(Some(found));
         }
-        let first = self.length().saturating_sub(ROUND);
+        let first = self.len().saturating_sub(ROUND);
         self.unpack_from(alloc, program, first)?;
         if let Some(found) = self.places_from(alloc, self.hint, items, places)? {
             return Ok(Some(found));
@@ -264,7 +264,7 @@ impl ItemList {
         let mut found = Vec::with_capacity(alloc, places.len())?;
         let mut start = first.min(self.unpacked.len());
         for k in 0..places.len() {
-            let Some(place) = find_behind(&self.unpacked, start, &items[places[k]]) else {
+            let Some(place) = position_from(&self.unpacked, start, &items[places[k]]) else {
                 return Ok(None);
             };
             found.push(packed + place - k)?;
@@ -296,7 +296,7 @@ impl ItemList {
         ensures packed { self.new.packed ≡ self.old.packed }
     {
         if let Some(first) = only_place(places) {
-            let _length = self.length();
+            let _length = self.len();
             return self.remove(first, first + places.len());
         }
         let packed = self.packed.length();
@@ -310,7 +310,7 @@ impl ItemList {
     // # Errors
     //
     // `AllocError` where memory runs out.
-    pub(crate) fn make_room(&mut self, more: usize) -> Result<(), AllocError>
+    pub(crate) fn reserve(&mut self, more: usize) -> Result<(), AllocError>
         ensures packed { self.new.packed ≡ self.old.packed }
         ensures unpacked { self.new.unpacked ≡ self.old.unpacked }
         ensures room { OnOk result (length self.new.unpacked + more ≤ self.new.room) }
@@ -355,7 +355,7 @@ impl ItemList {
         }
         let mut items = Vec::new(alloc);
         last_items(alloc, program, prefixes, prefixes.length(), &mut items)?;
-        self.make_room(items.len())?;
+        self.reserve(items.len())?;
         self.append(alloc, &mut items);
         Ok(())
     }
@@ -377,7 +377,7 @@ impl ItemList {
         ensures packed { self.new.packed ≡ self.old.packed }
     {
         other.unpack_from(alloc, program, 0)?;
-        self.make_room(other.unpacked.len())?;
+        self.reserve(other.unpacked.len())?;
         let _ = self.unpacked.append(&mut other.unpacked);
         Ok(())
     }
@@ -449,9 +449,9 @@ impl ItemList {
             return Ok(true);
         }
         let mut items = Vec::new(alloc);
-        self.copy_last(alloc, program, self.length(), &mut items)?;
+        self.copy_last(alloc, program, self.len(), &mut items)?;
         let mut others = Vec::new(alloc);
-        other.copy_last(alloc, program, other.length(), &mut others)?;
+        other.copy_last(alloc, program, other.len(), &mut others)?;
         Ok(same_items(&VecDeque::from_vec(items), &VecDeque::from_vec(others)))
     }
 
@@ -522,7 +522,7 @@ fn push_copies(
 }
 
 // The first place from a place on where an item stands among others of its program.
-fn find_behind(items: &VecDeque<Item>, start: usize, item: &Item) -> Option<usize>
+fn position_from(items: &VecDeque<Item>, start: usize, item: &Item) -> Option<usize>
     requires { AreOf item.now.program items.now.items }
     ensures some { IfSome result (λ k. (start ≤ k) ×
         (k < length items.now.items) × (slice_get items.now.items k ≡ Some item.now)) }

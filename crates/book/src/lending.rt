@@ -115,9 +115,9 @@ impl LendingBook {
             free.append_list(alloc, program, &mut list)?;
         }
         let packs = is_packed(quick, &finished, &finished);
-        let first = first_unpacked(packs, free.length());
+        let first = first_unpacked(packs, free.len());
         free.unpack_from(alloc, program, first)?;
-        let first = first_unpacked(packs, deferred.length());
+        let first = first_unpacked(packs, deferred.len());
         deferred.unpack_from(alloc, program, first)?;
         Ok(Book {
             of,
@@ -142,10 +142,10 @@ impl LendingBook {
     }
 
     /// How many open items nobody has.
-    pub fn free_length(&self) -> usize
+    pub fn free_len(&self) -> usize
         ensures { result ≡ length self.now.free }
     {
-        self.free.length()
+        self.free.len()
     }
 
     /// How far the search is. Its open items are counted up to 2^64 - 1.
@@ -154,16 +154,16 @@ impl LendingBook {
             IsProgressOf b (record result { open_items = length b.open_items }) }
         ensures open_items { result.open_items ≡ cut (length (as_book self.now).open_items) }
     {
-        let mut open_items = self.free.length();
+        let mut open_items = self.free.len();
         for list in &self.lent {
-            open_items = open_items.saturating_add(list.length());
+            open_items = open_items.saturating_add(list.len());
         }
         Progress {
             bound: mode_bound(self.mode),
             tried: self.finished.tried(),
             bad: self.finished.failed().saturating_add(self.finished.stuck()),
             open_items,
-            deferred: self.deferred.length(),
+            deferred: self.deferred.len(),
             lists: self.lists,
         }
     }
@@ -192,7 +192,7 @@ impl LendingBook {
         let Some(lent) = self.lent.get_mut(worker) else {
             return Ok(false);
         };
-        if lent.length() > 0 {
+        if lent.len() > 0 {
             return Ok(false);
         }
         self.free.split_last(most, lent)?;
@@ -240,13 +240,13 @@ impl LendingBook {
         if !lent.is_same(alloc, program, &loan.list)? {
             return Ok(false);
         }
-        self.free.make_room(found.rest.len())?;
-        let deferred_length = self.deferred.length();
+        self.free.reserve(found.rest.len())?;
+        let deferred_len = self.deferred.len();
         let none = Prefixes::new(alloc);
         let listed = listed_of(self.lists, &found.deferred, &none);
         self.deferred.append_prefixes(alloc, program, listed, true)?;
         if let Err(error) = self.finished.join_in_by(&mut self.hints, &mut found.part) {
-            self.deferred.truncate(deferred_length);
+            self.deferred.truncate(deferred_len);
             return Err(error);
         }
         self.free.append(alloc, &mut found.rest);

@@ -54,7 +54,7 @@ impl Loan {
         ensures items { OnOk result (items.new.items ≡ all_of (arc_value program.now) self.now) }
         ensures program { AreOf (arc_value program.now) items.new.items }
     {
-        let most = self.list.length();
+        let most = self.list.len();
         self.list.copy_last(alloc, program, most, items)
     }
 }

@@ -43,8 +43,8 @@ impl Progress {
             bound: mode_bound(book.mode()),
             tried: finished.tried(),
             bad: finished.failed().saturating_add(finished.stuck()),
-            open_items: book.open_length(),
-            deferred: book.deferred_length(),
+            open_items: book.open_len(),
+            deferred: book.deferred_len(),
             lists: book.lists(),
         }
     }

@@ -118,7 +118,7 @@ fn search_bound<G: Gate>(
 {
     loop {
         lone.walk_round(alloc, book, options.quota)?;
-        let _open = book.open_length();
+        let _open = book.open_len();
         gate.round_ended(Progress::of(book));
         match judge(options, book, false) {
             Next::Again => {}

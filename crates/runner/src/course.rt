@@ -198,7 +198,7 @@ fn keep_level(
     ensures kept { Keeps book.now }
     ensures error { IfErr result (λ e. e ≡ OutOfMemory) }
 {
-    let _open = book.open_length();
+    let _open = book.open_len();
     match levels {
         Some(levels) => {
             levels.push(level_of(alloc, book, None)?)?;

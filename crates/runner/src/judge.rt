@@ -82,7 +82,7 @@ pub(crate) fn judge(options: Options, book: &Book, stopped: bool) -> Next
     requires { IsModeOf options.search book.now.mode }
     ensures { Comes stopped options book.now result }
 {
-    let is_open = book.open_length() > 0;
+    let is_open = book.open_len() > 0;
     if !is_open && !goes_on(options.search, book.mode(), book.finished()) {
         return Next::End(Ending::Whole);
     }

@@ -1,4 +1,4 @@
 //! The limits of a search, beside those of a walk.
 
 pub use report::limits::{BOUND, QUOTA};
-pub use workers::limits::{SETTLED_WALKS, SPINS, WORKERS, YIELDS};
+pub use workers::limits::{SPINS, WORKERS, YIELDS};

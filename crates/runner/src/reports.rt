@@ -145,7 +145,7 @@ fn found<'a>(book: &'a Book, program: &Program, mode: Mode) -> Option<&'a Summar
     ensures found { IfSome result (λ s. IsFound book.now.quick program.now mode s.now) }
     ensures kept { Keeps book.now }
 {
-    let _open = book.open_length();
+    let _open = book.open_len();
     if book.is_quick() {
         book.closed_quick(program, mode)
     } else {

@@ -89,7 +89,7 @@ fn steps(items: &[Item]) -> usize {
 // Copies of the open items of a book.
 fn open_items(alloc: Global, book: &Book) -> Result<Vec<Item>, AllocError> {
     let mut items = Vec::new(alloc);
-    for place in 0..book.open_length() {
+    for place in 0..book.open_len() {
         items.push(book.open_item(alloc, place)?)?;
     }
     Ok(items)
@@ -98,7 +98,7 @@ fn open_items(alloc: Global, book: &Book) -> Result<Vec<Item>, AllocError> {
 // Copies of the items of a book that wait for the next bound.
 fn deferred_items(alloc: Global, book: &Book) -> Result<Vec<Item>, AllocError> {
     let mut items = Vec::new(alloc);
-    for place in 0..book.deferred_length() {
+    for place in 0..book.deferred_len() {
         items.push(book.deferred_item(alloc, place)?)?;
     }
     Ok(items)

@@ -27,7 +27,7 @@ use Rattle.walk.specs.inner.WalkerInvariant.{item_of, here, left_above, still_op
 use Rattle.walk.specs.inner.WalkerInvariant.{turns_from, turns_into, is_kept_at, is_past_at}
 use Rattle.walk.specs.inner.WalkerInvariant.{IsWithinAt, open_from, IsPlace}
 use Rattle.walk.proofs.Puts.{put_none, put_same, put_more}
-use Rattle.walk.specs.inner.WalkerInvariant.{HasPut, IsWalkedOn, IsSearch, IsKept, IsOpened}
+use Rattle.walk.specs.inner.WalkerInvariant.{HasPut, IsWalkedOn, IsSearch, IsPushedIfOpen, IsPushed}
 use Rattle.walk.specs.inner.WalkerInvariant.{open_here, open_below, open_next}
 use Rattle.std.proofs.Math.Bool.{or-false}
 use Rattle.semantics.proofs.Masks.{empty_has, members_over}
@@ -41,7 +41,7 @@ use Rattle.semantics.proofs.WorkFalls.{work-step}
 use Rattle.schedules.proofs.UnfoldingUnderPrefix.{state_after-push}
 use Rattle.items.proofs.Turns.{costs-append, cost_two, children_cost, turns_more}
 
--- these are enabled where it stands
+-- these are enabled at the path's node
 abbrev pub AreOn : Program → Path → Mask → Type 0
 AreOn p t e = HasEnabled e p (state_at p t.steps.items)
 
@@ -185,7 +185,7 @@ past_deferred {b} mode i w n f g e past above h node of more passed part rest pu
     beside : List ℕ → List (List ℕ)
     beside ts = map (λ u. w ++ u ∷ []) ts
 
--- so the walk stands at its first child
+-- so the walk is at its first child
 pub expanded_node : {b : Found} (mode : Mode) (i : ItemView) (old new : Path) (f : Found) (e : Mask)
     (u : ℕ) (us : List ℕ) → IsSearch b mode i old f (open_here mode i.program old) →
     AreOn i.program old e → IsTurned old new →
@@ -280,7 +280,7 @@ tried_added a w v = least (a.tried + 1) greatest_count
     least : (m n : ℕ) → min m n ≤ m
     least m n = grind arith
 
--- the first child that is open is entered
+-- the walk takes the branch to the first child that is open
 pub child_enabled : (mode : Mode) (p : Program) (t : Path) (u : ℕ)
     → IsItem (child_of mode (here p t) u) → is_enabled p (state_at p t.steps.items) u ≡ true
 child_enabled mode p t u i = step_enabled p t.steps.items u i
@@ -316,30 +316,30 @@ below_turns mode p old new u o on =
     let k = ap (λ fs. length fs) o.frames in
     omega (arith, same, less, left, k)
 
--- a frame for the node, or none
-pub opened_place : (p : Program) (old new : Path) → IsPlace p old → IsPath p new
-    → IsOpened p old new → IsPlace p new
-opened_place p old new h path o = record {
+-- a frame is pushed for the node, or none
+pub pushed_place : (p : Program) (old new : Path) → IsPlace p old → IsPath p new
+    → IsPushed p old new → IsPlace p new
+pushed_place p old new h path o = record {
   path = path;
   some = let s = h.some in let e = o.base in omega (arith, s, e);
   base = let b = h.base in let e = o.base in let d = o.depth in omega (arith, b, e, d);
 }
 
-pub opened_kept : (p : Program) (old new : Path) → IsPlace p old → IsOpened p old new
-    → IsKept p old new
-opened_kept p old new h o = record {
+pub pushed_if_open : (p : Program) (old new : Path) → IsPlace p old → IsPushed p old new
+    → IsPushedIfOpen p old new
+pushed_if_open p old new h o = record {
   steps = o.steps;
   node = o.node;
   depth = let d = o.depth in omega (arith, d);
   left = λ mode. o.left mode h.base;
 }
 
-pub kept_search : {b : Found} (mode : Mode) (i : ItemView) (old new : Path) (f : Found) (u : ℕ) →
+pub pushed_search : {b : Found} (mode : Mode) (i : ItemView) (old new : Path) (f : Found) (u : ℕ) →
     IsSearch b mode i old f
     (child_of mode (here i.program old) u ∷ still_open mode i.program old) →
-    IsPlace i.program new → IsKept i.program old new
+    IsPlace i.program new → IsPushedIfOpen i.program old new
     → IsSearch b mode i new f (open_below mode i.program new u)
-kept_search {b} mode i old new f u h place e =
+pushed_search {b} mode i old new f u h place e =
     let p : Program = i.program in
     record {
       place = place;
@@ -349,24 +349,24 @@ kept_search {b} mode i old new f u h place e =
       shared = shared_same old.steps.items new.steps.items f h.shared e.steps;
     }
 
-pub kept_turns : (mode : Mode) (p : Program) (old new : Path) (u : ℕ) → IsKept p old new →
+pub pushed_turns : (mode : Mode) (p : Program) (old new : Path) (u : ℕ) → IsPushedIfOpen p old new →
     turns_into mode p new u ≤ cost_of (child_of mode (here p old) u) + turns_left mode p old + 1
 unfolding turns_left turns_into
-kept_turns mode p old new u e =
+pushed_turns mode p old new u e =
     let same : cost_of (child_of mode (here p new) u) ≡ cost_of (child_of mode (here p old) u) =
     λ k. cost_of (child_of mode (item_of p (e.steps k) (e.node k)) u) in
     let b = ap costs (e.left mode) in
     let k = e.depth in
     omega (arith, same, b, k)
 
--- it goes back to a node above
-pub gone_up_search : {b : Found} (mode : Mode) (i : ItemView) (old new : Path) (f g : Found)
+-- it backtracks to a node above
+pub popped_search : {b : Found} (mode : Mode) (i : ItemView) (old new : Path) (f g : Found)
     (n : ℕ) → IsSearch b mode i old f (still_open mode i.program old) → IsPlace i.program new
     → still_open mode i.program new ≡ still_open mode i.program old
     → new.steps.items ≡ take (length new.steps.items) old.steps.items → n ≡ length new.steps.items
     → g ≡ record f { shared = min f.shared n }
     → IsSearch b mode i new g (still_open mode i.program new)
-gone_up_search {b} mode i old new f g n h place same steps long found =
+popped_search {b} mode i old new f g n h place same steps long found =
     subst (λ (x : Found). IsSearch b mode i new x (still_open mode i.program new)) (sym found)
     (record {
       place = place;

@@ -1,5 +1,4 @@
--- The way from the start of a program to where a walk stands, as it opens a frame, goes back to
--- one and takes a step.
+-- The path of a walk, as a frame is pushed, frames are popped, and it is extended by a run.
 use Rattle.std.proofs.Common.{◌≡◌, ℕ, ℤ, zero, suc, ◌+◌, ◌-◌, ◌*◌, ◌<◌, ◌≤◌}
 use Rattle.std.proofs.Common.{not, ◌&&◌, nat_eq, List, [], ◌∷◌, ◌++◌, length, take, drop}
 use Rattle.std.proofs.Common.{Some, None, Option, refl, ap, ◌∙◌, sym, subst}
@@ -70,10 +69,10 @@ pub front_of : {A : Type 0} (u v : List A) (k : ℕ) → take (length u) v ≡ u
 front_of u v k front l = sym (take-take k (length u) v l) ∙ ap (take k) front
 
 -- the frames lie on a longer way, too
-pub copies_go : (p : Program) (w v : List ℕ) (shape : Shape) (size : ℕ) (fs : List Frame)
+pub copies_extended : (p : Program) (w v : List ℕ) (shape : Shape) (size : ℕ) (fs : List Frame)
     (ws : List ℤ) → AreCopies p w shape size fs ws → 0 < length fs → take (length w) v ≡ w
     → AreCopies p v shape size fs ws
-copies_go p w v shape size fs ws h some front = record {
+copies_extended p w v shape size fs ws h some front = record {
   each = λ k l. subst (λ u. IsCopy p u shape (frame_at fs k) (words_at size ws k))
       (sym (front_of w v (frame_at fs k).steps front (h.within k l))) (h.each k l);
   within = λ k l. let a = h.within k l in
@@ -100,17 +99,17 @@ path_on p old new h some front reaches shows values shape size frames words room
   size = size ∙ (h.size ∙ sym values);
   frames = transport (λ i. AreCopies p new.steps.items (sym shape i) (sym size i)
       (sym frames i) (sym words i))
-      (copies_go p old.steps.items new.steps.items old.machine.shape old.size
+      (copies_extended p old.steps.items new.steps.items old.machine.shape old.size
       (used_frames old) old.words.items h.frames some front);
   room = room;
   count = length-take-le new.depth new.frames.items room;
 }
 
-pub left_goes : (mode : Mode) (p : Program) (old : Path) (v : List ℕ) → IsPath p old
+pub left_extended : (mode : Mode) (p : Program) (old : Path) (v : List ℕ) → IsPath p old
     → old.base ≤ length (used_frames old) → take (length old.steps.items) v ≡ old.steps.items
     → open_from mode p v (used_frames old) old.base (length (used_frames old) - old.base)
     ≡ left_above mode p old
-left_goes mode p old v h above front =
+left_extended mode p old v h above front =
     open_same mode p v old.steps.items (used_frames old)
     (used_frames old) old.base (length (used_frames old) - old.base) (λ k l. refl)
     (λ k l. front_of old.steps.items v (frame_at (used_frames old) k).steps front
@@ -118,10 +117,10 @@ left_goes mode p old v h above front =
 
 -- back to the last frame
 
-pub copies_leave : (p : Program) (w : List ℕ) (shape : Shape) (size : ℕ) (fs : List Frame)
+pub copies_popped : (p : Program) (w : List ℕ) (shape : Shape) (size : ℕ) (fs : List Frame)
     (ws : List ℤ) (n m : ℕ) → AreCopies p w shape size fs ws → n < length fs → n ≤ m
     → m ≤ n + 1 → AreCopies p (take (frame_at fs n).steps w) shape size (take m fs) ws
-copies_leave p w shape size fs ws n m h long low high = record {
+copies_popped p w shape size fs ws n m h long low high = record {
   each = λ k l. let b = below k l in
       subst (λ (g : Frame). IsCopy p (take g.steps (take (frame_at fs n).steps w)) shape g
       (words_at size ws k)) (sym (same k b))
@@ -156,7 +155,7 @@ copies_leave p w shape size fs ws n m h long low high = record {
     same : (k : ℕ) → k < m → frame_at (take m fs) k ≡ frame_at fs k
     same k l = get_or-take m fs k no_frame l
 
-pub path_left : (p : Program) (old new : Path) (n m : ℕ) (f : Frame) → IsPath p old
+pub path_popped : (p : Program) (old new : Path) (n m : ℕ) (f : Frame) → IsPath p old
     → n < length (used_frames old) → n ≤ m → m ≤ n + 1
     → f ≡ frame_at (used_frames old) n → new.steps.items ≡ take f.steps old.steps.items
     → new.node ≡ f.node → Shows p new.machine (state_at p (take f.steps old.steps.items))
@@ -164,7 +163,7 @@ pub path_left : (p : Program) (old new : Path) (n m : ℕ) (f : Frame) → IsPat
     → new.machine.shape ≡ old.machine.shape → new.size ≡ old.size
     → (used_frames new) ≡ take m (used_frames old)
     → new.words.items ≡ old.words.items → new.depth ≤ length new.frames.items → IsPath p new
-path_left p old new n m f h long low high e steps node shows values shape size frames words
+path_popped p old new n m f h long low high e steps node shows values shape size frames words
     room = record {
       well_formed = h.well_formed;
       reaches = transport (λ i. ReachesNode p (sym here i)
@@ -173,7 +172,7 @@ path_left p old new n m f h long low high e steps node shows values shape size f
       size = size ∙ (h.size ∙ sym values);
       frames = transport (λ i. AreCopies p (sym here i) (sym shape i) (sym size i)
           (sym frames i) (sym words i))
-          (copies_leave p old.steps.items old.machine.shape old.size
+          (copies_popped p old.steps.items old.machine.shape old.size
           (used_frames old) old.words.items n m h.frames long low high);
       room = room;
       count = length-take-le new.depth new.frames.items room;
@@ -185,14 +184,14 @@ path_left p old new n m f h long low high e steps node shows values shape size f
     here : new.steps.items ≡ w
     here = steps ∙ ap (λ (g : Frame). take g.steps old.steps.items) e
 
-pub left_left : (mode : Mode) (p : Program) (old : Path) (n : ℕ) (f : Frame) (v : List ℕ)
+pub left_popped : (mode : Mode) (p : Program) (old : Path) (n : ℕ) (f : Frame) (v : List ℕ)
     (gs : List Frame)
     → IsPath p old → n + 1 ≡ length (used_frames old) → f ≡ frame_at (used_frames old) n
     → v ≡ take f.steps old.steps.items → gs ≡ take n (used_frames old)
     → old.base < length (used_frames old)
     → open_at mode p v f.node ++ open_from mode p v gs old.base (length gs - old.base)
     ≡ left_above mode p old
-left_left mode p old n f v gs h long e steps frames above =
+left_popped mode p old n f v gs h long e steps frames above =
     (λ i. head i ++ rest i)
     ∙ ap (λ k. open_from mode p w fs old.base k) (let z : suc (n - old.base) ≡ length fs
     - old.base = omega (arith, long, above) in z)
@@ -268,13 +267,13 @@ path_words p old new h steps last used machine size frames room = record {
 
 -- one more frame
 
-pub copies_open : (p : Program) (w : List ℕ) (shape : Shape) (size : ℕ) (fs : List Frame)
+pub copies_push : (p : Program) (w : List ℕ) (shape : Shape) (size : ℕ) (fs : List Frame)
     (ws new : List ℤ) (f : Frame)
     → AreCopies p w shape size fs ws → f.steps ≡ length w
     → IsCopy p w shape f (words_at size new (length fs))
     → ((m : ℕ) → m ≤ length fs * size → take m new ≡ take m ws)
     → length fs * size + size ≤ length new → AreCopies p w shape size (fs ++ f ∷ []) new
-copies_open p w shape size fs ws new f h steps copy same long = record {
+copies_push p w shape size fs ws new f h steps copy same long = record {
   each = λ k l. elim (cases_order k (length fs)) [
     | inl e ↦ subst (λ j. IsCopy p (take (frame_at (fs ++ f ∷ []) j).steps w) shape
         (frame_at (fs ++ f ∷ []) j) (words_at size new j)) (sym e)
@@ -341,13 +340,13 @@ copies_open p w shape size fs ws new f h steps copy same long = record {
       | inr (inr a) ↦ absurd (omega (arith, l, a))
     ]
 
-pub left_opened : (mode : Mode) (p : Program) (old : Path) (f : Frame) (gs : List Frame)
+pub left_pushed : (mode : Mode) (p : Program) (old : Path) (f : Frame) (gs : List Frame)
     → IsPath p old
     → f.steps ≡ length old.steps.items → f.node ≡ old.node → gs ≡ (used_frames old) ++ f ∷ []
     → old.base ≤ length (used_frames old)
     → open_from mode p old.steps.items gs old.base (length gs - old.base)
     ≡ open_at mode p old.steps.items old.node ++ left_above mode p old
-left_opened mode p old f gs h steps todo frames above =
+left_pushed mode p old f gs h steps todo frames above =
     (λ i. open_from mode p w (frames i) old.base (length (frames i) - old.base))
     ∙ (ap (λ k. open_from mode p w (fs ++ f ∷ []) old.base k) count ∙ (λ i. head i ++ rest i))
   where
@@ -377,22 +376,22 @@ left_opened mode p old f gs h steps todo frames above =
     rest = open_same mode p w w (fs ++ f ∷ []) fs old.base (length fs - old.base)
         (λ k l. get_or_append_left fs (f ∷ []) no_frame k (omega (arith, l, at))) (λ k l. refl)
 
-pub copies_opened : (p : Program) (old : Path) (f : Frame) (new : List ℤ) → IsPath p old
+pub copies_pushed : (p : Program) (old : Path) (f : Frame) (new : List ℤ) → IsPath p old
     → f.steps ≡ length old.steps.items → f.node ≡ old.node → f.control ≡ old.machine.control
     → ((m : ℕ) → m ≤ length (used_frames old) * old.size → take m new ≡ take m old.words.items)
     → length (used_frames old) * old.size + old.size ≤ length new
     → words_at old.size new (length (used_frames old)) ≡ old.machine.values.items
     → AreCopies p old.steps.items old.machine.shape old.size
     ((used_frames old) ++ f ∷ []) new
-copies_opened p old f new h steps node control same long words =
-    copies_open p old.steps.items old.machine.shape old.size (used_frames old)
+copies_pushed p old f new h steps node control same long words =
+    copies_push p old.steps.items old.machine.shape old.size (used_frames old)
     old.words.items new f h.frames steps (record {
       reaches = subst (λ m. ReachesNode p old.steps.items m) (sym node) h.reaches;
       shows = transport (λ i. IsShown p old.machine.shape (sym control i)
           (sym words i) (state_at p old.steps.items)) h.shows;
     }) same long
 
-pub path_opened : (p : Program) (old new : Path) (f : Frame) (q : ℕ) (I mine : List ℤ)
+pub path_pushed : (p : Program) (old new : Path) (f : Frame) (q : ℕ) (I mine : List ℤ)
     → IsPath p old
     → new.steps.items ≡ old.steps.items → new.node ≡ old.node → new.machine ≡ old.machine
     → new.size ≡ old.size → (used_frames new) ≡ (used_frames old) ++ f ∷ []
@@ -402,13 +401,13 @@ pub path_opened : (p : Program) (old new : Path) (f : Frame) (q : ℕ) (I mine :
     → q * old.size + old.size ≤ length I
     → ((m : ℕ) → m ≤ length old.words.items → take m I ≡ take m old.words.items)
     → mine ≡ old.machine.values.items → new.depth ≤ length new.frames.items → IsPath p new
-path_opened p old new f q I mine h steps node machine size frames fs fn fc here wrote many inside
+path_pushed p old new f q I mine h steps node machine size frames fs fn fc here wrote many inside
     same own room =
     path_words p old new h steps (ap (λ (m : Node). m.last) node) (ap (λ (m : Node). m.used) node)
     machine size
     (subst (λ (gs : List Frame). AreCopies p old.steps.items old.machine.shape
     old.size gs new.words.items) (sym frames)
-    (copies_opened p old f new.words.items h fs fn fc
+    (copies_pushed p old f new.words.items h fs fn fc
     (λ m l. wrote.before m (subst (λ n. m ≤ n * old.size) (sym here) l)
     ∙ same m (let r = h.frames.room in omega (arith, l, r)))
     (let there = subst (λ n. n * old.size + old.size ≤ length I) here inside in

@@ -114,7 +114,7 @@ pub run_enabled : (p : Program) (w : List ℕ) (t k : ℕ) (e : Mask)
 run_enabled p w t k e h = subst (HasEnabled e p) (sym (state_over p (start p) w (replicate k t))) h
 
 -- the way after it
-pub path_gone : (p : Program) (old new : Path) (t n : ℕ) → IsPath p old
+pub path_extended : (p : Program) (old new : Path) (t n : ℕ) → IsPath p old
     → 0 < length (used_frames old) → is_enabled p (state_at p old.steps.items) t ≡ true
     → new.node.used ≡ old.node.used
     + one_if (preempts p (state_at p old.steps.items) old.node.last t)
@@ -127,7 +127,7 @@ pub path_gone : (p : Program) (old new : Path) (t n : ℕ) → IsPath p old
     → new.machine.shape ≡ old.machine.shape → new.size ≡ old.size
     → (used_frames new) ≡ (used_frames old) → new.words.items ≡ old.words.items
     → new.depth ≤ length new.frames.items → IsPath p new
-path_gone p old new t n h some enabled used last on one steps shows values shape size frames
+path_extended p old new t n h some enabled used last on one steps shows values shape size frames
     words room = path_on p old new h some (run_front w new.steps.items t n steps)
     (subst (λ (v : List ℕ). ReachesNode p v new.node) (sym steps)
     (run_reaches p w t n old.node new.node h.reaches enabled used last on n one (omega arith)))

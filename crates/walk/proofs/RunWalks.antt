@@ -29,23 +29,23 @@ use Rattle.walk.specs.declared.path.Path.{Path}
 use Rattle.walk.specs.inner.Paths.{used_frames, state_at, IsNode, IsPath}
 use Rattle.walk.specs.inner.WalkerInvariant.{item_of, here, left_above, at_bound, open_here}
 use Rattle.walk.specs.inner.WalkerInvariant.{open_below, turns_from, turns_into, IsPlace, IsShared}
-use Rattle.walk.specs.inner.WalkerInvariant.{HasPut, IsWalkedOn, IsSearch, IsAlong, IsGone}
+use Rattle.walk.specs.inner.WalkerInvariant.{HasPut, IsWalkedOn, IsSearch, IsAlong, IsExtended}
 use Rattle.walk.proofs.SharedSteps.{shared_entered}
 use Rattle.walk.proofs.PathSteps.{path_same}
 use Rattle.walk.proofs.RunSteps.{run_take, run_push, reached_of}
 use Rattle.walk.proofs.Expansions.{IsTurned, search_turned, here_turned, left_turned}
 use Rattle.walk.proofs.LoneSteps.{and_left, and_right, at_bound_is, lone_walked}
 
--- the node after the first step is the child that was entered
+-- the node after the first step is the child to which the branch was taken
 
 first_step : (p : Program) (mode : Mode) (old new : Path) (u : ℕ) (asleep : Mask) (run : Run)
-    → IsGone p mode old new u asleep run
+    → IsExtended p mode old new u asleep run
     → take (length old.steps.items + 1) new.steps.items ≡ old.steps.items ++ u ∷ []
 first_step p mode old new u asleep run h =
     run_take old.steps.items new.steps.items u run.steps 1 h.steps h.some
 
 first_item : (p : Program) (mode : Mode) (old new : Path) (u : ℕ) (asleep : Mask) (run : Run)
-    → IsGone p mode old new u asleep run → asleep ≡ mask_after mode (here p old) u
+    → IsExtended p mode old new u asleep run → asleep ≡ mask_after mode (here p old) u
     → item_of p (take (length old.steps.items + 1) new.steps.items) new.node
     ≡ child_of mode (here p old) u
 first_item p mode old new u asleep run h mask = λ k. record {
@@ -56,15 +56,15 @@ first_item p mode old new u asleep run h mask = λ k. record {
 
 pub along_begun : {b : Found} (mode : Mode) (i : ItemView) (old new : Path) (f : Found) (u : ℕ)
     (asleep : Mask) (run : Run) → IsSearch b mode i old f (open_below mode i.program old u)
-    → IsGone i.program mode old new u asleep run
+    → IsExtended i.program mode old new u asleep run
     → asleep ≡ mask_after mode (here i.program old) u
     → IsAlong b mode i new f (length old.steps.items + 1)
-along_begun {b} mode i old new f u asleep run h gone mask = record {
+along_begun {b} mode i old new f u asleep run h extended mask = record {
   walked = subst (IsWalkedOn b mode i f)
-      (λ k. sym (first_item i.program mode old new u asleep run gone mask) k
-      ∷ sym (gone.left mode h.place.base) k) h.walked;
+      (λ k. sym (first_item i.program mode old new u asleep run extended mask) k
+      ∷ sym (extended.left mode h.place.base) k) h.walked;
   shared = shared_entered old.steps.items _ u f h.shared
-      (first_step i.program mode old new u asleep run gone);
+      (first_step i.program mode old new u asleep run extended);
 }
 
 -- at a node between, the steps of the others are put off, and it gives way to the next
@@ -129,7 +129,7 @@ noted_once f g more same = (λ k. (ap (λ (s : SummaryView). s.beyond) same k ||
     twice false true = refl
     twice false false = refl
 
--- where it ends the walk stands
+-- where the run ends
 pub along_done : {b : Found} (mode : Mode) (i : ItemView) (t new : Path) (f : Found) (place : ℕ)
     → IsAlong b mode i t f place → place ≡ length t.steps.items → IsPlace i.program t
     → IsTurned t new → new.depth ≤ length new.frames.items
@@ -147,26 +147,26 @@ along_done {b} mode i t new f place h long at o room =
     all = take_all place t.steps.items (omega (arith, long))
 
 pub along_turns : (mode : Mode) (p : Program) (old t new : Path) (u : ℕ) (asleep : Mask)
-    (run : Run) (place : ℕ) → IsGone p mode old t u asleep run
+    (run : Run) (place : ℕ) → IsExtended p mode old t u asleep run
     → asleep ≡ mask_after mode (here p old) u → old.base ≤ length (used_frames old)
     → cost_of (item_of p (take place t.steps.items) t.node)
     ≤ cost_of (item_of p (take (length old.steps.items + 1) t.steps.items) t.node)
     → place ≡ length t.steps.items → IsTurned t new
     → turns_from mode p new ≤ turns_into mode p old u
 unfolding turns_from turns_into
-along_turns mode p old t new u asleep run place gone mask within falls long o =
+along_turns mode p old t new u asleep run place extended mask within falls long o =
     let all : take place t.steps.items ≡ t.steps.items =
     take_all place t.steps.items (omega (arith, long)) in
-    let first = ap cost_of (first_item p mode old t u asleep run gone mask) in
+    let first = ap cost_of (first_item p mode old t u asleep run extended mask) in
     let last = ap cost_of (here_turned p t new o) in
     let same = ap (λ (w : List ℕ). cost_of (item_of p w t.node)) all in
-    let left = ap costs (left_turned mode p t new o ∙ gone.left mode within) in
-    let frames = ap (λ fs. length fs) (o.frames ∙ gone.frames) in
+    let left = ap costs (left_turned mode p t new o ∙ extended.left mode within) in
+    let frames = ap (λ fs. length fs) (o.frames ∙ extended.frames) in
     omega (arith, falls, first, last, same, left, frames)
 
 -- the way is longer by then
 pub run_further : (p : Program) (mode : Mode) (old new : Path) (u : ℕ) (asleep : Mask) (run : Run)
-    → IsGone p mode old new u asleep run
+    → IsExtended p mode old new u asleep run
     → length new.steps.items ≡ length old.steps.items + run.steps
 run_further p mode old new u asleep run h =
     let a = ap (λ (w : List ℕ). length w) h.steps in
@@ -176,7 +176,7 @@ run_further p mode old new u asleep run h =
 
 -- at a place between its steps
 module _ (p : Program) (mode : Mode) (old t : Path) (u : ℕ) (asleep : Mask) (run : Run)
-    (place : ℕ) (path : IsPath p t) (h : IsGone p mode old t u asleep run)
+    (place : ℕ) (path : IsPath p t) (h : IsExtended p mode old t u asleep run)
     (from : length old.steps.items + 1 ≤ place) (inside : place < length t.steps.items) where
   abbrev gap : ℕ
   gap = place - length old.steps.items
@@ -237,7 +237,7 @@ same_path p t l steps same items h =
 
 -- from a place between, where all that is put off is noted already
 module _ (mode : Mode) (i c : ItemView) (old t : Path) (u : ℕ) (asleep : Mask) (run : Run)
-    (path : IsPath i.program t) (h : IsGone i.program mode old t u asleep run)
+    (path : IsPath i.program t) (h : IsExtended i.program mode old t u asleep run)
     (mask : t.node.asleep ≡ mask_after mode c u) (past : Mask) (out : has past u ≡ false)
     (others : (v : ℕ) → v ≢ u → has past v ≡ has run.among v) where
   pub along_rest : {b : Found} (f : Found) (n place : ℕ) → length old.steps.items + 1 ≤ place
@@ -280,10 +280,11 @@ module _ (mode : Mode) (i c : ItemView) (old t : Path) (u : ℕ) (asleep : Mask)
       let rest = falls_rest n (place + 1) (omega (arith, from)) (omega (arith, to)) in
       omega (arith, less, rest)
 
--- where the walk stands on from its place
-pub gone_place : (p : Program) (mode : Mode) (old new : Path) (u : ℕ) (asleep : Mask) (run : Run)
-    → IsPlace p old → IsPath p new → IsGone p mode old new u asleep run → IsPlace p new
-gone_place p mode old new u asleep run h path e = record {
+-- what the path of a place is extended to
+pub extended_place : (p : Program) (mode : Mode) (old new : Path) (u : ℕ) (asleep : Mask)
+    (run : Run)
+    → IsPlace p old → IsPath p new → IsExtended p mode old new u asleep run → IsPlace p new
+extended_place p mode old new u asleep run h path e = record {
   path = path;
   some = let s = h.some in let k = e.base in omega (arith, s, k);
   base = let b = h.base in let k = e.base in let d = ap (λ fs. length fs) e.frames in
@@ -293,7 +294,7 @@ gone_place p mode old new u asleep run h path e = record {
 -- without a bound it is one step
 
 pub way_more : (p : Program) (old new : Path) (w : List ℕ) (place : ℕ) (asleep : Mask) (run : Run)
-    → IsGone p Reduced old new (get_or w place 0) asleep run → old.steps.items ≡ take place w
+    → IsExtended p Reduced old new (get_or w place 0) asleep run → old.steps.items ≡ take place w
     → place < length w → new.steps.items ≡ take (place + 1) w
 way_more p old new w place asleep run h same inside =
     h.steps ∙ ((λ k. same k ++ replicate (one (cases_lt 1 run.steps) k) (get_or w place 0))

@@ -1,5 +1,5 @@
-//! The way from the start of a program to where a walk stands, with copies of the states of nodes
-//! on it.
+//! The path of a walk: the steps from the start of a program to a node, and a stack of frames that
+//! copy the states of nodes on the way.
 
 ghost use Rattle.std.specs.Prelude.{◌≡◌, ◌+◌, ◌*◌, ◌-◌, ◌<◌, ◌≤◌, ◌^◌, ◌++◌, ℕ, true, None, IfOk, OnOk, length, take, replicate, vec_len, vec_capacity};
 ghost use Rattle.semantics.specs.Machine.{start, is_enabled};
@@ -7,7 +7,7 @@ ghost use Rattle.schedules.specs.Schedules.{runs};
 ghost use Rattle.semantics.specs.Mask.{one_if};
 ghost use Rattle.walk.specs.inner.Paths.{IsPath, used_frames, frame_at, is_preempting, state_at};
 ghost use Rattle.items.specs.declared.mode.Mode.{Mode};
-ghost use Rattle.walk.specs.inner.WalkerInvariant.{IsOpened, IsGone, left_above, still_open, at_bound};
+ghost use Rattle.walk.specs.inner.WalkerInvariant.{IsPushed, IsExtended, left_above, still_open, at_bound};
 
 use guest_code::laws::programs_are_well_formed;
 use guest_code::limits::INSTRUCTIONS;
@@ -19,7 +19,7 @@ use semantics::mask::Mask;
 use std::alloc::{AllocError, Global};
 use summary::EndMemory;
 
-/// A node of the tree of schedules: how it was come to, who sleeps, whose step is still to be
+/// A node of the tree of schedules: its last step, who sleeps, and whose steps are still to be
 /// tried.
 #[derive(Clone, Copy, Debug)]
 pub struct Node {
@@ -32,7 +32,7 @@ pub struct Node {
     pub used: u32,
 }
 
-/// A node above the one where a walk stands, to which it can go back.
+/// A node on the way to the path's node, to which a walk can backtrack.
 #[derive(Clone, Copy, Debug)]
 pub struct Frame {
     pub node: Node,
@@ -42,8 +42,8 @@ pub struct Frame {
     pub control: Control,
 }
 
-/// The way from the start of a program: its steps, the state that they lead to, the node there, and
-/// some nodes above it, whose states' values are the words, `size` for each.
+/// The steps from the start of a program, the state and the node that they lead to, and a stack of
+/// frames. The values of their states are the words, `size` for each frame.
 #[derive(Drop)]
 pub struct Path {
     pub machine: Machine,
@@ -115,8 +115,8 @@ fn make_words(words: &mut Vec<i64>, count: usize) -> Result<(), AllocError>
     ensures same { (n : ℕ) → n ≤ length words.old.items
         → take n words.new.items ≡ take n words.old.items }
 {
-    while words.len() < count {
-        words.push(0)?;
+    if words.len() < count {
+        words.resize(count, 0)?;
     }
     Ok(())
 }
@@ -153,7 +153,7 @@ fn make_frame(frames: &mut Vec<Frame>, depth: usize, machine: &Machine) -> Resul
 }
 
 impl Path {
-    /// The way of no step.
+    /// The path of no step.
     ///
     /// # Errors
     ///
@@ -177,16 +177,16 @@ impl Path {
         })
     }
 
-    /// The node where it stands gets a frame.
+    /// Pushes a frame for the path's node.
     ///
     /// # Errors
     ///
     /// `AllocError` where memory runs out.
     #[inline(always)]
-    pub fn open(&mut self, _program: &Program) -> Result<(), AllocError>
+    pub fn push_frame(&mut self, _program: &Program) -> Result<(), AllocError>
         requires { IsPath _program.now self.old }
         ensures path { IsPath _program.now self.new }
-        ensures opened { OnOk result (IsOpened _program.now self.old self.new) }
+        ensures pushed { OnOk result (IsPushed _program.now self.old self.new) }
     {
         let depth = self.depth;
         let at = depth * self.size;
@@ -203,9 +203,10 @@ impl Path {
         Ok(())
     }
 
-    /// Goes back to the node of a frame, which is one no more; it may be taken as one again.
+    /// Pops the frames from this depth on, and goes back to the node of the first of them, which
+    /// may be taken as a frame again.
     #[inline(always)]
-    pub fn leave(&mut self, _program: &Program, depth: usize)
+    pub fn pop_to(&mut self, _program: &Program, depth: usize)
         requires path { IsPath _program.now self.old }
         requires frame { depth < self.old.depth }
         ensures path { IsPath _program.now self.new }
@@ -228,14 +229,14 @@ impl Path {
         self.depth = depth;
     }
 
-    /// A run of an enabled thread, after whose first step these threads sleep: one step, or more
-    /// where the node is at the mode's bound then.
+    /// Extends the path by a run of an enabled thread, after whose first step these threads sleep:
+    /// one step, or more where the node is at the mode's bound then.
     ///
     /// # Errors
     ///
     /// `AllocError` where memory runs out; no step is taken then.
     #[inline(always)]
-    pub fn go(
+    pub fn extend(
         &mut self,
         program: &Program,
         mode: Mode,
@@ -247,7 +248,8 @@ impl Path {
         requires enabled { is_enabled program.now
             (state_at program.now self.old.steps.items) thread ≡ true }
         ensures path { IsPath program.now self.new }
-        ensures gone { IfOk result (IsGone program.now mode self.old self.new thread asleep) }
+        ensures extended { IfOk result
+            (IsExtended program.now mode self.old self.new thread asleep) }
     {
         self.steps.reserve(2 * INSTRUCTIONS)?;
         let enabled = self.machine.enabled();
@@ -258,9 +260,9 @@ impl Path {
         Ok(run)
     }
 
-    // Goes back to the node of the last frame at most this many steps from the start. It keeps the
+    // Goes back to the node of the last frame at most this many steps from the start, and keeps the
     // frame.
-    fn go_back(&mut self, program: &Program, count: usize)
+    fn rewind(&mut self, program: &Program, count: usize)
         requires path { IsPath program.now self.old }
         requires frames { 0 < self.old.depth }
         ensures path { IsPath program.now self.new }
@@ -276,14 +278,14 @@ impl Path {
         while self.frames[depth].steps > count {
             depth -= 1;
         }
-        self.leave(program, depth);
+        self.pop_to(program, depth);
         self.depth = depth + 1;
     }
 
-    // Takes the step of a schedule at this place, and no more: without a bound nobody is alone.
-    // Every second node on the way gets a frame, but the last: so half the copies are saved, and to
-    // go back takes a step or two again.
-    fn go_along(
+    // Replays the step of a schedule at this place, and no more: without a bound nobody is alone.
+    // Every second node gets a frame, but the last: so half the copies are saved, and to rewind
+    // costs a step or two more.
+    fn replay_step(
         &mut self,
         program: &Program,
         schedule: &[u8],
@@ -298,20 +300,20 @@ impl Path {
         ensures frames { OnOk result (0 < self.new.depth) }
         ensures steps { OnOk result (self.new.steps.items ≡ take (place + 1) schedule.now) }
     {
-        self.go(program, Mode::Reduced, schedule[place], Mask::empty())?;
+        self.extend(program, Mode::Reduced, schedule[place], Mask::empty())?;
         if place + 1 < schedule.len() && place % 2 == 1 {
-            self.open(program)
+            self.push_frame(program)
         } else {
             Ok(())
         }
     }
 
-    /// Goes to where a schedule leads: back to what it shares with the steps so far, and then on.
+    /// Replays a schedule: rewinds to what it shares with the steps so far, and takes the others.
     ///
     /// # Errors
     ///
     /// `AllocError` where memory runs out.
-    pub fn go_to(&mut self, program: &Program, schedule: &[u8]) -> Result<(), AllocError>
+    pub fn replay(&mut self, program: &Program, schedule: &[u8]) -> Result<(), AllocError>
         requires path { IsPath program.now self.old }
         requires runs { runs program.now (start program.now) schedule.now ≡ true }
         ensures path { IsPath program.now self.new }
@@ -319,12 +321,12 @@ impl Path {
         ensures steps { OnOk result (self.new.steps.items ≡ schedule.now) }
     {
         if self.depth == 0 {
-            self.open(program)?;
+            self.push_frame(program)?;
         }
         let shared = shared_length(self.steps.as_slice(), schedule);
-        self.go_back(program, shared);
+        self.rewind(program, shared);
         for place in self.steps.len()..schedule.len() {
-            self.go_along(program, schedule, place)?;
+            self.replay_step(program, schedule, place)?;
         }
         Ok(())
     }

@@ -1,4 +1,4 @@
-//! The turns of a walk: down into the next open child, or back to the node above.
+//! The depth-first search of a walk: down into the next branch, or back to the node of a frame.
 
 ghost use Rattle.std.specs.Prelude.{◌≡◌, ◌+◌, ◌-◌, ◌++◌, ◌∷◌, ◌<◌, ◌≤◌, ◌&&◌, ◌||◌, not, [], ℕ, true, false, map, IfOk, Some, OnOk, IsTrue, IsFalse, length, take, min, All};
 ghost use Rattle.guest_code.specs.declared.limits.TheConstants.{THREADS};
@@ -10,7 +10,7 @@ ghost use Rattle.summary.specs.Summaries.{with_beyond, greatest_count};
 ghost use Rattle.items.specs.Children.{child_of, mask_after, cost_of};
 ghost use Rattle.walk.specs.inner.Paths.{IsPath, used_frames, state_at};
 ghost use Rattle.walk.specs.Founds.{HasAdded};
-ghost use Rattle.walk.specs.inner.WalkerInvariant.{IsPlace, Searches, GoesOn, IsKept, here, open_here, open_below, still_open, turns_left, turns_from, turns_into, turns_next, open_next, is_kept_at, is_past_at, is_past_here, IsFree, at_bound, IsShared, HasPut};
+ghost use Rattle.walk.specs.inner.WalkerInvariant.{IsPlace, Searches, GoesOn, IsPushedIfOpen, here, open_here, open_below, still_open, turns_left, turns_from, turns_into, turns_next, open_next, is_kept_at, is_past_at, is_past_here, IsFree, at_bound, IsShared, HasPut};
 
 use crate::found::Found;
 use crate::path::{Node, Path};
@@ -138,11 +138,11 @@ impl Found {
         self.part.tried() < limit
     }
 
-    // Goes back with the walk to a node above, at this depth.
-    fn go_back(&mut self, depth: usize)
-        ensures { self.new ≡ record self.old { shared = min self.old.shared depth } }
+    // The walk backtracks to a node after so many of its steps.
+    fn backtrack(&mut self, steps: usize)
+        ensures { self.new ≡ record self.old { shared = min self.old.shared steps } }
     {
-        self.shared = self.shared.min(depth);
+        self.shared = self.shared.min(steps);
     }
 }
 
@@ -157,8 +157,8 @@ fn without_first(set: Mask, first: u8) -> Mask
 }
 
 impl Node {
-    // The steps that are kept are still to be tried. None passes the bound.
-    fn open(&mut self, enabled: Mask, mode: Mode)
+    // Expands the node: the steps that are kept are still to be tried. None passes the bound.
+    fn expand(&mut self, enabled: Mask, mode: Mode)
         requires { (t : ℕ) → (has enabled t && is_past_at mode enabled self.old t) ≡ false }
         ensures kept { (t : ℕ) → has self.new.todo t
             ≡ (has enabled t && is_kept_at mode enabled self.old t) }
@@ -217,7 +217,7 @@ impl Path {
             found.new.part.tried ≡ found.old.part.tried) }
     {
         let enabled = self.machine.enabled();
-        self.node.open(enabled, mode);
+        self.node.expand(enabled, mode);
         match enabled.first_from(0) {
             Some(_) => Ok(()),
             None => {
@@ -234,9 +234,10 @@ impl Path {
         }
     }
 
-    // Whether the thread of the last step alone may go on. Steps of the others are deferred then.
+    // Defers the steps of the others where the thread of the last step alone may go on. Answers
+    // whether it may.
     #[inline(always)]
-    fn goes_on(
+    fn defer_others(
         &mut self,
         found: &mut Found,
         _item: &Item,
@@ -294,7 +295,7 @@ impl Path {
         let program = item.program();
         let asleep = self.sleepers(program, mode, thread);
         let from = self.steps.len();
-        let run = self.go(program, mode, thread, asleep)?;
+        let run = self.extend(program, mode, thread, asleep)?;
         let others = run.among.with(thread, false);
         let last = found.last_place(from + 2, self.steps.len());
         for place in from + 1..last {
@@ -326,13 +327,13 @@ impl Path {
         let mut going = true;
         while going {
             self.run_once(found, item, mode, thread)?;
-            going = self.goes_on(found, item, mode, thread)?;
+            going = self.defer_others(found, item, mode, thread)?;
         }
         Ok(())
     }
 
-    // Where the thread of the last step alone may go on, it does.
-    fn resume(&mut self, found: &mut Found, item: &Item, mode: Mode) -> Result<(), AllocError>
+    // Runs the thread of the last step, where it alone may go on.
+    fn run_last(&mut self, found: &mut Found, item: &Item, mode: Mode) -> Result<(), AllocError>
         requires search { Searches mode item.now self.old found.old
             (open_here mode item.now.program self.old) }
         ensures path { IsPath item.now.program self.new }
@@ -345,29 +346,29 @@ impl Path {
         let Some(thread) = self.node.last else {
             return Ok(());
         };
-        if self.goes_on(found, item, mode, thread)? {
+        if self.defer_others(found, item, mode, thread)? {
             self.run(found, item, mode, thread)?;
         }
         Ok(())
     }
 
-    // The node gets a frame, unless nothing is to be tried there.
+    // Pushes a frame for the node, unless nothing is to be tried there.
     #[inline(always)]
-    fn keep(&mut self, program: &Program) -> Result<(), AllocError>
+    fn push_if_open(&mut self, program: &Program) -> Result<(), AllocError>
         requires { IsPlace program.now self.old }
         ensures path { IsPath program.now self.new }
         ensures place { OnOk result (IsPlace program.now self.new) }
-        ensures kept { OnOk result (IsKept program.now self.old self.new) }
+        ensures pushed { OnOk result (IsPushedIfOpen program.now self.old self.new) }
     {
         match self.node.todo.first_from(0) {
-            Some(_) => self.open(program),
+            Some(_) => self.push_frame(program),
             None => Ok(()),
         }
     }
 
-    // Enters an open child, and expands the node that the run comes to.
+    // Takes the branch to an open child, and expands the node that the run comes to.
     #[inline(always)]
-    fn enter(
+    fn take_branch(
         &mut self,
         alloc: Global,
         found: &mut Found,
@@ -389,14 +390,14 @@ impl Path {
         ensures more { OnOk result (is_empty (members_from self.new.node.todo 0) ≡ false →
             found.new.part.tried ≡ found.old.part.tried) }
     {
-        self.keep(item.program())?;
+        self.push_if_open(item.program())?;
         self.run(found, item, mode, thread)?;
         self.expand(alloc, found, item, mode)
     }
 
-    // Goes up to the node of the last frame. False where that is above the item's own node.
+    // Pops the last frame. False where its node is above the item's own.
     #[inline(always)]
-    fn go_up(&mut self, program: &Program, _mode: Mode) -> bool
+    fn pop_frame(&mut self, program: &Program, _mode: Mode) -> bool
         requires place { IsPlace program.now self.old }
         requires done { members_from self.old.node.todo 0 ≡ [] }
         ensures place { IsPlace program.now self.new }
@@ -414,7 +415,7 @@ impl Path {
         if depth == self.base {
             return false;
         }
-        self.leave(program, depth - 1);
+        self.pop_to(program, depth - 1);
         true
     }
 
@@ -434,13 +435,13 @@ impl Path {
             turns_left mode item.now.program self.new ≡ turns_left mode item.now.program self.old }
         ensures tried { found.new.part.tried ≡ found.old.part.tried }
     {
-        let more = self.go_up(item.program(), mode);
-        found.go_back(self.steps.len());
+        let more = self.pop_frame(item.program(), mode);
+        found.backtrack(self.steps.len());
         more
     }
 
-    // Enters open children, and backtracks where there is none, until as many schedules as the
-    // limit are tried or nothing is open.
+    // Takes the branches to open children, and backtracks where there is none, until as many
+    // schedules as the limit are tried or nothing is open.
     #[inline(always)]
     fn search_in(
         &mut self,
@@ -466,7 +467,7 @@ impl Path {
             match self.node.todo.first_from(0) {
                 Some(thread) => {
                     self.node.todo = without_first(self.node.todo, thread);
-                    self.enter(alloc, found, item, mode, thread)?;
+                    self.take_branch(alloc, found, item, mode, thread)?;
                 }
                 None => going = self.backtrack(found, item, mode),
             }
@@ -503,8 +504,8 @@ impl Path {
         }
     }
 
-    // Makes an item of the next open child, or goes up. False where nothing is open.
-    fn give_back(
+    // Makes an item of the next open child, or pops a frame. False where nothing is open.
+    fn drain_one(
         &mut self,
         alloc: Global,
         item: &Item,
@@ -525,7 +526,7 @@ impl Path {
             turns_left mode item.now.program self.new ≡ turns_left mode item.now.program self.old) }
     {
         match self.node.todo.first_from(0) {
-            None => Ok(self.go_up(item.program(), mode)),
+            None => Ok(self.pop_frame(item.program(), mode)),
             Some(thread) => {
                 self.node.todo = without_first(self.node.todo, thread);
                 let asleep = self.sleepers(item.program(), mode, thread);
@@ -537,7 +538,7 @@ impl Path {
     }
 
     // Makes items of all that is open, after others.
-    fn give_all_back(
+    fn drain(
         &mut self,
         alloc: Global,
         item: &Item,
@@ -552,12 +553,12 @@ impl Path {
     {
         let mut going = true;
         while going {
-            going = self.give_back(alloc, item, mode, rest)?;
+            going = self.drain_one(alloc, item, mode, rest)?;
         }
         Ok(())
     }
 
-    // Goes to an item's prefix.
+    // Seeks an item's prefix, at which the walk begins.
     fn seek(&mut self, item: &Item) -> Result<(), AllocError>
         requires { IsPath item.now.program self.old }
         ensures path { IsPath item.now.program self.new }
@@ -566,7 +567,7 @@ impl Path {
         ensures base { OnOk result (self.new.base ≡ length (used_frames self.new)) }
         ensures todo { OnOk result (self.new.node.todo ≡ no_threads) }
     {
-        self.go_to(item.program(), item.prefix())?;
+        self.replay(item.program(), item.prefix())?;
         self.node.asleep = item.mask();
         self.node.todo = Mask::empty();
         self.base = self.depth;
@@ -606,9 +607,9 @@ impl Path {
             return Ok(());
         }
         found.begin(&self.steps);
-        self.resume(found, item, mode)?;
+        self.run_last(found, item, mode)?;
         self.expand(alloc, found, item, mode)?;
         self.search(alloc, found, item, mode, limit)?;
-        self.give_all_back(alloc, item, mode, &mut found.rest)
+        self.drain(alloc, item, mode, &mut found.rest)
     }
 }

@@ -12,14 +12,14 @@ use std::thread::Threads;
 
 /// What one thread draws.
 #[derive(Drop)]
-struct Worker {
+struct Drawer {
     seat: Seat,
     drawn: Vec<u64>,
     refused: bool,
 }
 
 /// Draws until all are drawn, or memory ran out.
-fn draw(board: &Board, worker: &mut Worker)
+fn draw(board: &Board, worker: &mut Drawer)
     requires { worker.old.seat.board ≡ board.now.id }
     ensures { worker.new.seat.board ≡ worker.old.seat.board }
 {
@@ -34,14 +34,15 @@ fn draw(board: &Board, worker: &mut Worker)
     }
 }
 
-fn workers(alloc: Global, board: &Board, seats: Vec<Seat>) -> Result<Vec<Worker>, AllocError>
+/// A drawer for each seat.
+fn workers(alloc: Global, board: &Board, seats: Vec<Seat>) -> Result<Vec<Drawer>, AllocError>
     requires { All (λ s. s.board ≡ board.now.id) seats.items }
     ensures all { IfOk result (λ v. All (λ w. w.seat.board ≡ board.now.id) v.items) }
     ensures len { IfOk result (λ v. vec_len v ≡ vec_len seats) }
 {
     let mut workers = Vec::new(alloc);
     for seat in seats {
-        workers.push(Worker {
+        workers.push(Drawer {
             seat,
             drawn: Vec::new(alloc),
             refused: false,
@@ -50,7 +51,8 @@ fn workers(alloc: Global, board: &Board, seats: Vec<Seat>) -> Result<Vec<Worker>
     Ok(workers)
 }
 
-fn draw_all<R: Threads + Sync>(rt: &R, board: &Board, workers: &mut Vec<Worker>)
+/// Lets all draw, each in a thread.
+fn draw_all<R: Threads + Sync>(rt: &R, board: &Board, workers: &mut Vec<Drawer>)
     requires { All (λ w. w.seat.board ≡ board.now.id) workers.old.items }
     ensures all { All (λ w. w.seat.board ≡ board.now.id) workers.new.items }
     ensures len { vec_len workers.new ≡ vec_len workers.old }
@@ -62,7 +64,7 @@ fn draw_all<R: Threads + Sync>(rt: &R, board: &Board, workers: &mut Vec<Worker>)
 fn ended(
     alloc: Global,
     board: &Board,
-    workers: Vec<Worker>,
+    workers: Vec<Drawer>,
 ) -> Result<(Vec<Seat>, Vec<u64>), AllocError>
     requires { All (λ w. w.seat.board ≡ board.now.id) workers.items }
     ensures all { IfOk result (λ r. All (λ s. s.board ≡ board.now.id) r.0.items) }
@@ -71,7 +73,7 @@ fn ended(
     let mut seats = Vec::new(alloc);
     let mut drawn = Vec::new(alloc);
     for worker in workers {
-        let Worker {
+        let Drawer {
             seat,
             drawn: mine,
             ..

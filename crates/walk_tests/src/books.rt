@@ -76,7 +76,7 @@ fn add_prefix(alloc: Global, line: &mut String, word: &str, item: &Item) -> Resu
 
 /// Adds the prefixes of the open items to a line.
 fn add_open(alloc: Global, line: &mut String, book: &Book) -> Result<(), AllocError> {
-    for place in 0..book.open_length() {
+    for place in 0..book.open_len() {
         let item = book.open_item(alloc, place)?;
         add_prefix(alloc, line, "open", &item)?;
     }
@@ -85,7 +85,7 @@ fn add_open(alloc: Global, line: &mut String, book: &Book) -> Result<(), AllocEr
 
 /// Adds the prefixes of the items that wait for the next bound to a line.
 fn add_deferred(alloc: Global, line: &mut String, book: &Book) -> Result<(), AllocError> {
-    for place in 0..book.deferred_length() {
+    for place in 0..book.deferred_len() {
         let item = book.deferred_item(alloc, place)?;
         add_prefix(alloc, line, "deferred", &item)?;
     }
@@ -390,7 +390,7 @@ fn start(alloc: Global, book: &mut Book) -> Result<(), Fail> {
 
 /// Whether a quick book has items open, and drops all of them as later ones.
 fn drops_all(book: &mut Book) -> bool {
-    let open = book.open_length();
+    let open = book.open_len();
     open > 0 && book.drop_later() == open as u64 && book.has_dropped()
 }
 
@@ -452,10 +452,7 @@ fn check_lending(rt: &(impl Abort + Alloc<A = Global>), book: Book) -> Result<()
     let mut lending = LendingBook::new(rt.alloc(), book, 2)?;
     let line = lent(rt.alloc(), &mut lending, &program, 1)?;
     assert_eq!(rt; line.as_str(), "false lent [1] lent [2]");
-    assert_eq!(rt;
-        (lending.free_length(), lending.progress().open_items),
-        (1, 3)
-    );
+    assert_eq!(rt; (lending.free_len(), lending.progress().open_items), (1, 3));
     let book = lending.into_book(rt.alloc())?;
     shows(rt, &book, "1 false open [0, 2] open [1] open [2]")?;
     Ok(())

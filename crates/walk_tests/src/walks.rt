@@ -76,8 +76,8 @@ fn counted(
     Ok((
         part.tried(),
         part.stuck(),
-        walked.rest_length(),
-        walked.deferred_length(),
+        walked.rest_len(),
+        walked.deferred_len(),
     ))
 }
 

@@ -1,4 +1,4 @@
--- What a batch keeps of a round, and what it settles.
+-- What a worker keeps of a round, and what it settles.
 use Rattle.std.proofs.Common.{◌≡◌, ℕ, Bool, true, false, List, [], ◌∷◌, flat_map}
 use Rattle.std.proofs.Common.{refl, sym, subst, Result, Ok, Err}
 use Rattle.std.specs.declared.alloc.AllocError.{AllocError}

@@ -14,8 +14,8 @@ pub record IsOf (b : BookView) (i : ItemView) (m : Mode) (q l : Bool) : Type 0 w
   pub quick : b.quick ≡ q
   pub lists : b.lists ≡ l
 
--- as many batches as a search may have workers, each with a walker of the program
+-- as many workers as a search may have, each with a walker of the program
 pub record IsTeam (p : Program) (t : Team) : Type 0 where
-  pub some : 0 < vec_len t.batches
-  pub few : vec_len t.batches ≤ WORKERS
-  pub of : All (λ b. b.walker ≡ p) t.batches.items
+  pub some : 0 < vec_len t.workers
+  pub few : vec_len t.workers ≤ WORKERS
+  pub of : All (λ b. b.walker ≡ p) t.workers.items

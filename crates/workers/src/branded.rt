@@ -8,8 +8,8 @@ ghost use Rattle.workers.specs.Teams.{IsOf};
 ghost use Rattle.workers.specs.declared.round.Round.{Round};
 ghost use Rattle.workers.specs.inner.Rounds.{IsRoundOf, AreKept, GoesOn};
 
-use crate::batch::Batch;
 use crate::round::Round;
+use crate::worker::Worker;
 use book::books::Book;
 use items::item::Item;
 use std::alloc::{AllocError, Global};
@@ -97,9 +97,9 @@ impl<N: SearchBrand> BrandedBook<N> {
         self.book
     }
 
-    /// Settles the walks of a round that a batch keeps, all at once, and the batch keeps none then.
-    /// They are given up where their items aren't open in that order, or what they put off isn't
-    /// listed and the book lists it.
+    /// Settles the walks of a round that a worker keeps, all at once, and it keeps none then. They
+    /// are given up where their items aren't open in that order, or what they put off isn't listed
+    /// and the book lists it.
     ///
     /// # Errors
     ///
@@ -107,24 +107,26 @@ impl<N: SearchBrand> BrandedBook<N> {
     pub fn settle(
         &mut self,
         alloc: Global,
-        batch: &mut Batch,
+        worker: &mut Worker,
         round: &Round,
     ) -> Result<(), AllocError>
         requires round { IsRoundOf N.of.program N.mode round.now }
-        requires walker { batch.old.walker ≡ N.of.program }
-        requires kept { AreKept round.now batch.old }
-        ensures settled { let ks = batch.old.places.items in
-            (f : HaveFound N.of.program N.mode round.now.items.items ks batch.old.found) →
+        requires walker { worker.old.walker ≡ N.of.program }
+        requires kept { AreKept round.now worker.old }
+        ensures settled { let ks = worker.old.places.items in
+            (f : HaveFound N.of.program N.mode round.now.items.items ks worker.old.found) →
             OnOk result (HaveSettled self.old f.walks self.new
-            ⊎ AreNotTaken self.old round.now.items.items ks batch.old.found) }
+            ⊎ AreNotTaken self.old round.now.items.items ks worker.old.found) }
         ensures refused { OnErr result (self.new ≡ self.old) }
-        ensures walker { batch.new.walker ≡ batch.old.walker }
-        ensures places { batch.new.places.items ≡ [] }
-        ensures kept { (r : Round) → AreKept r batch.new }
+        ensures walker { worker.new.walker ≡ worker.old.walker }
+        ensures places { worker.new.places.items ≡ [] }
+        ensures kept { (r : Round) → AreKept r worker.new }
     {
-        let (items, places) = (round.items.as_slice(), batch.places.as_slice());
-        let settled = self.book.settle_all(alloc, items, places, &mut batch.found);
-        batch.forget(round.lists);
+        let (items, places) = (round.items.as_slice(), worker.places.as_slice());
+        let settled = self
+            .book
+            .settle_all(alloc, items, places, &mut worker.found);
+        worker.forget(round.lists);
         let _is_taken = settled?;
         Ok(())
     }
@@ -137,7 +139,7 @@ impl<N: SearchBrand> BrandedBook<N> {
         ensures answer { IsTrue result ↔ GoesOn limit own_from self.new }
     {
         let _number = self.book.drop_later();
-        let open = self.book.open_length();
+        let open = self.book.open_len();
         if open == 0 || open >= own_from {
             return false;
         }

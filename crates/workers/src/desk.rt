@@ -59,7 +59,6 @@ impl<N: SearchBrand> Desk<N> {
         requires quota { 1 ≤ options.quota }
     {
         let none = Round {
-            apart: [0; APART],
             mode: book.mode(),
             quick: book.is_quick(),
             lists: book.lists(),
@@ -136,7 +135,6 @@ impl<N: SearchBrand> Desk<N> {
         self.book.next_round(alloc, &mut items)?;
         let before = &self.round;
         let round = Round {
-            apart: [0; APART],
             mode: before.mode,
             quick: before.quick,
             lists: before.lists,

@@ -6,13 +6,13 @@ ghost use Rattle.book.specs.ItemLists.{all_of};
 ghost use Rattle.book.specs.Books.{HaveFound, HaveSettled, places_from};
 ghost use Rattle.book.specs.Lending.{as_book, IsLoanOf};
 ghost use Rattle.workers.specs.Teams.{IsOf};
-ghost use Rattle.workers.specs.declared.lender.Next.TheVariants.{Walk, Leave};
+ghost use Rattle.workers.specs.declared.lender.Task.TheVariants.{Walk, Quit};
 ghost use Rattle.workers.specs.inner.Loans.{IsLent, MayLend};
 
-use crate::batch::Batch;
 use crate::branded::SearchBrand;
 use crate::gate::Gate;
 use crate::limits::{APART, SHARES};
+use crate::worker::Worker;
 use book::books::Book;
 use book::lending::LendingBook;
 use book::limits::ROUND;
@@ -22,13 +22,13 @@ use std::marker::PhantomData;
 
 /// What a worker does next.
 #[derive(Clone, Copy)]
-pub(crate) enum Next {
+pub(crate) enum Task {
     /// It walks what it was lent.
     Walk,
     /// It waits for this turn to end.
     Wait(u64),
-    /// It leaves: nothing more is lent in this stretch.
-    Leave,
+    /// It quits: nothing more is lent in this stretch.
+    Quit,
 }
 
 /// A book that lends each worker rounds of its own.
@@ -102,33 +102,33 @@ impl<N: SearchBrand> Lender<N> {
         ensures { result ≤ ROUND }
     {
         let shares = self.workers.saturating_mul(SHARES);
-        let share = self.book.free_length().checked_div(shares);
+        let share = self.book.free_len().checked_div(shares);
         share.unwrap_or(1).max(1).min(ROUND)
     }
 
     /// Lends a worker a round of its own, if anything is free. Answers what it does next.
-    pub fn lend(&mut self, alloc: Global, worker: u32, loan: &mut Loan) -> Next
+    pub fn lend(&mut self, alloc: Global, worker: u32, loan: &mut Loan) -> Task
         ensures walk { result ≡ Walk → (self.old.ends ≡ false) × IsLent N.of.program loan.new }
-        ensures leave { result ≡ Leave → (self.new.ends ≡ true)
+        ensures quit { result ≡ Quit → (self.new.ends ≡ true)
             ⊎ ((self.old.walking ≡ 0) × (length self.old.book.free ≡ 0)) }
     {
-        let is_free = self.book.free_length() > 0;
+        let is_free = self.book.free_len() > 0;
         if self.ends || (!is_free && self.walking == 0) {
-            return Next::Leave;
+            return Task::Quit;
         }
         if !is_free {
             self.waits = true;
-            return Next::Wait(self.turn.wrapping_add(1));
+            return Task::Wait(self.turn.wrapping_add(1));
         }
         let most = self.share();
         let lent = self.book.lend(alloc, worker as usize, most, loan);
         if lent == Ok(true) {
             self.walking = self.walking.saturating_add(1);
-            return Next::Walk;
+            return Task::Walk;
         }
         self.refused = self.refused || lent.is_err();
         self.ends = true;
-        Next::Leave
+        Task::Quit
     }
 
     // Whether more is lent: the limit isn't reached, and a quick search found no bad schedule.
@@ -147,7 +147,7 @@ impl<N: SearchBrand> Lender<N> {
 
     /// Settles what a worker's walks of all that it was lent found. The gate is told how far the
     /// search is where it goes on: else nothing more is lent.
-    pub fn settle<G: Gate>(&mut self, alloc: Global, worker: &mut Batch, loan: &Loan, gate: &G)
+    pub fn settle<G: Gate>(&mut self, alloc: Global, worker: &mut Worker, loan: &Loan, gate: &G)
         requires loan { IsLoanOf N.of.program loan.now }
         requires walked { let items = all_of N.of.program loan.now in
             HaveFound N.of.program N.mode items (places_from 0 (length items)) worker.old.found }
@@ -166,7 +166,7 @@ impl<N: SearchBrand> Lender<N> {
         if settled != Ok(true) || !self.goes_on() {
             self.ends = true;
         }
-        if !self.ends && (self.walking > 0 || self.book.free_length() > 0) {
+        if !self.ends && (self.walking > 0 || self.book.free_len() > 0) {
             gate.round_ended(self.book.progress());
         }
     }
@@ -185,7 +185,7 @@ impl<N: SearchBrand> Lender<N> {
         ensures { IfNone result (self.old.waits ≡ true → (0 < self.old.walking)
             × (self.old.ends ≡ false) × (length self.old.book.free ≡ 0)) }
     {
-        let goes_on = self.walking > 0 && !self.ends && self.book.free_length() == 0;
+        let goes_on = self.walking > 0 && !self.ends && self.book.free_len() == 0;
         if !self.waits || goes_on {
             return None;
         }

@@ -5,23 +5,24 @@
 //!   then; all else that is known of the book is in its type.
 //! - Workers share each round, or, where many items are open, each is lent rounds of its own.
 //! - Each worker asks a [`Gate`] before it walks an item, and stops where it says so.
-//! - [`Ending`] is how the workers ended.
+//! - [`Exit`] is how the workers ended.
 #![tactic(auto)]
 
-mod batch;
 mod branded;
 mod desk;
+mod exit;
 mod gate;
 mod lender;
 pub mod limits;
-mod lock;
+mod monitor;
 mod own;
 mod round;
+mod seated_worker;
 mod stretch;
 mod team;
 mod worker;
 
+pub use exit::Exit;
 pub use gate::{Answer, Gate, Open};
 pub use limits::WORKERS;
 pub use team::Team;
-pub use worker::Ending;

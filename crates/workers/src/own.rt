@@ -6,17 +6,17 @@ ghost use Rattle.std.specs.List.{All};
 ghost use Rattle.items.specs.Items.{AreOf};
 ghost use Rattle.book.specs.ItemLists.{all_of};
 ghost use Rattle.book.specs.Books.{HaveFound, places_from};
-ghost use Rattle.workers.specs.declared.lender.Next.TheVariants.{Walk};
+ghost use Rattle.workers.specs.declared.lender.Task.TheVariants.{Walk};
 ghost use Rattle.workers.specs.Teams.{IsOf, IsTeam};
 ghost use Rattle.workers.specs.inner.Loans.{IsLent};
 
-use crate::batch::Batch;
 use crate::branded::SearchBrand;
 use crate::gate::{Answer, Gate};
-use crate::lender::{Lender, Next};
+use crate::lender::{Lender, Task};
 use crate::limits::WORKERS;
-use crate::lock::Lock;
+use crate::monitor::Monitor;
 use crate::team::Team;
+use crate::worker::Worker;
 use book::loan::Loan;
 use guest_code::program::Program;
 use items::item::Item;
@@ -36,7 +36,7 @@ pub(crate) struct Lending<'a, N: SearchBrand, G: Gate> {
     pub lists: bool,
     pub quota: u32,
     pub gate: &'a G,
-    pub lock: Lock<Lender<N>>,
+    pub monitor: Monitor<Lender<N>>,
     ghost of: { (arc_value program ≡ N.of.program) × (mode ≡ N.mode) × (1 ≤ quota) },
     ghost open: { G.stops gate.now ≡ false },
 }
@@ -45,7 +45,7 @@ impl<N: SearchBrand, G: Gate> Lending<'_, N, G> {
     // Walks what a worker was lent, in its order, written over other items, if it gets memory.
     fn walk_loan(
         &self,
-        worker: &mut Batch,
+        worker: &mut Worker,
         loan: &Loan,
         items: &mut Vec<Item>,
     ) -> Result<(), AllocError>
@@ -77,10 +77,10 @@ impl<N: SearchBrand, G: Gate> Lending<'_, N, G> {
     fn walk_round<R: Wait>(
         &self,
         rt: &R,
-        worker: &mut Batch,
+        worker: &mut Worker,
         loan: &mut Loan,
         items: &mut Vec<Item>,
-    ) -> Next
+    ) -> Task
         requires walker { worker.old.walker ≡ N.of.program }
         requires lent { IsLent N.of.program loan.old }
         requires items { AreOf N.of.program items.old.items }
@@ -89,7 +89,7 @@ impl<N: SearchBrand, G: Gate> Lending<'_, N, G> {
         ensures lent { result ≡ Walk → IsLent N.of.program loan.new }
     {
         let walked = self.walk_loan(worker, loan, items);
-        let mut lender = self.lock.desk(rt);
+        let mut lender = self.monitor.lock(rt);
         match walked {
             Ok(()) => lender.settle(self.alloc, worker, loan, self.gate),
             Err(AllocError) => lender.give_up(),
@@ -98,29 +98,29 @@ impl<N: SearchBrand, G: Gate> Lending<'_, N, G> {
         let ended = lender.end_turn();
         drop(lender);
         if let Some(turn) = ended {
-            self.lock.tell_end(turn);
+            self.monitor.notify(turn);
         }
         next
     }
 
     // A worker walks rounds of its own, until nothing more is lent.
-    fn work<R: Wait>(&self, rt: &R, worker: &mut Batch)
+    fn work<R: Wait>(&self, rt: &R, worker: &mut Worker)
         requires { worker.old.walker ≡ N.of.program }
         ensures { worker.new.walker ≡ N.of.program }
     {
         let mut loan = Loan::new(self.alloc);
         let mut items = Vec::new(self.alloc);
         // That turn has ended before there is any.
-        let mut next = Next::Wait(0);
+        let mut next = Task::Wait(0);
         for _ in rt.forever() {
             next = match next {
-                Next::Walk => self.walk_round(rt, worker, &mut loan, &mut items),
-                Next::Wait(turn) => {
-                    self.lock.wait_for_end(rt, turn);
-                    let mut lender = self.lock.desk(rt);
+                Task::Walk => self.walk_round(rt, worker, &mut loan, &mut items),
+                Task::Wait(turn) => {
+                    self.monitor.wait(rt, turn);
+                    let mut lender = self.monitor.lock(rt);
                     lender.lend(self.alloc, worker.number, &mut loan)
                 }
-                Next::Leave => return,
+                Task::Quit => return,
             };
         }
         unreachable!()
@@ -131,13 +131,13 @@ impl<N: SearchBrand, G: Gate> Lending<'_, N, G> {
 fn work_all<N: SearchBrand + Send + Sync, G: Gate, R: Threads + Wait + Sync>(
     rt: &R,
     lending: &Lending<N, G>,
-    workers: &mut Vec<Batch>,
+    workers: &mut Vec<Worker>,
 )
     requires { All (λ b. b.walker ≡ N.of.program) workers.old.items }
     ensures walkers { All (λ b. b.walker ≡ N.of.program) workers.new.items }
     ensures count { vec_len workers.new ≡ vec_len workers.old }
 {
-    let one = |_: usize, w: &mut Batch|
+    let one = |_: usize, w: &mut Worker|
         requires { w.old.walker ≡ N.of.program }
         ensures { w.new.walker ≡ N.of.program }
     { lending.work(rt, w) };
@@ -164,7 +164,7 @@ pub(crate) fn walk_own_rounds<N: SearchBrand + Send + Sync, G: Gate, R: Threads 
     ensures book { IfOk result (λ t. IsOf t.book N.of N.mode N.quick N.lists) }
     ensures team { IfOk result (IsTeam N.of.program) }
 {
-    let Team { book, mut batches } = team;
+    let Team { book, mut workers } = team;
     let lending = Lending {
         alloc,
         program: Arc::try_clone(book.program())?,
@@ -172,10 +172,10 @@ pub(crate) fn walk_own_rounds<N: SearchBrand + Send + Sync, G: Gate, R: Threads 
         lists: book.lists(),
         quota: options.quota,
         gate,
-        lock: Lock::new(Lender::<N>::new(alloc, book, batches.len(), options.limit)?),
+        monitor: Monitor::new(Lender::<N>::new(alloc, book, workers.len(), options.limit)?),
     };
-    work_all(rt, &lending, &mut batches);
-    let Lending { lock, .. } = lending;
-    let book = lock.mutex.into_inner().into_book(alloc)?;
-    Ok(Team { book, batches })
+    work_all(rt, &lending, &mut workers);
+    let Lending { monitor, .. } = lending;
+    let book = monitor.mutex.into_inner().into_book(alloc)?;
+    Ok(Team { book, workers })
 }

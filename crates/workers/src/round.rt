@@ -3,7 +3,6 @@
 ghost use Rattle.std.specs.Prelude.{◌≡◌, ◌<◌, ◌≤◌, ◌+◌, ◌⊎◌, ◌↔◌, vec_len, IfSome, IfNone, IsTrue};
 ghost use Rattle.workers.specs.inner.Rounds.{rank};
 
-use crate::limits::APART;
 use board::NONE_TOLD;
 use items::item::Item;
 use items::mode::Mode;
@@ -11,8 +10,6 @@ use items::mode::Mode;
 /// The items of a round, and how they are walked. Nobody changes it while workers have it.
 #[derive(Drop)]
 pub(crate) struct Round {
-    /// What stands before it in memory is the count of its owners.
-    pub apart: [u64; APART],
     pub mode: Mode,
     pub quick: bool,
     /// Whether what its walks put off is listed.

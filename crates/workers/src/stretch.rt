@@ -2,17 +2,18 @@
 
 ghost use Rattle.std.specs.Prelude.{◌≡◌, ◌≤◌, true, vec_len, IfOk};
 ghost use Rattle.std.specs.List.{All};
-ghost use Rattle.workers.specs.declared.worker.Ending.TheVariants.{Stopped};
+ghost use Rattle.workers.specs.declared.exit.Exit.TheVariants.{Stopped};
 ghost use Rattle.workers.specs.Teams.{IsOf, IsTeam};
 ghost use Rattle.workers.specs.inner.Rounds.{IsOn, IsStretch};
 
-use crate::batch::Batch;
 use crate::branded::SearchBrand;
 use crate::desk::Desk;
+use crate::exit::Exit;
 use crate::gate::Gate;
-use crate::lock::Lock;
+use crate::monitor::Monitor;
+use crate::seated_worker::{SeatedWorker, Shared, exit_of, work_all};
 use crate::team::Team;
-use crate::worker::{Ending, Shared, Worker, ending_of, work_all};
+use crate::worker::Worker;
 use board::{Board, Seat};
 use book::books::Book;
 use guest_code::program::Program;
@@ -26,62 +27,59 @@ use std::thread::Threads;
 pub(crate) struct Stretch {
     pub book: Book,
     pub board: Board,
-    pub workers: Vec<Worker>,
+    pub seated: Vec<SeatedWorker>,
 }
 
-// A worker for each seat, with a batch each.
+// Gives each worker a seat.
 fn assign_seats(
     alloc: Global,
     board: &Board,
     program: &Program,
     seats: Vec<Seat>,
-    mut batches: Vec<Batch>,
-) -> Result<Vec<Worker>, AllocError>
-    requires count { vec_len batches ≡ vec_len seats }
+    mut workers: Vec<Worker>,
+) -> Result<Vec<SeatedWorker>, AllocError>
+    requires count { vec_len workers ≡ vec_len seats }
     requires seats { All (λ s. s.board ≡ board.now.id) seats.items }
-    requires batches { All (λ b. b.walker ≡ program.now) batches.items }
+    requires workers { All (λ b. b.walker ≡ program.now) workers.items }
     ensures seated { IfOk result (λ v. All (IsOn board.now.id program.now) v.items) }
     ensures count { IfOk result (λ v. vec_len v ≡ vec_len seats) }
 {
-    let mut workers = Vec::new(alloc);
-    let mut number = 0u32;
+    let mut seated = Vec::new(alloc);
     for seat in seats {
-        let Some(batch) = batches.pop() else {
+        let Some(worker) = workers.pop() else {
             unreachable!()
         };
-        workers.push(Worker {
-            number,
+        seated.push(SeatedWorker {
             seat,
-            batch,
+            worker,
             ahead: None,
             drawn: 0,
-            ending: Ending::Drawn,
+            exit: Exit::Drawn,
         })?;
-        number = number.wrapping_add(1);
     }
-    Ok(workers)
+    Ok(seated)
 }
 
-// The seats of workers, which go back to the board, and their batches, which are kept.
+// The seats of workers, which go back to the board, and the workers, which are kept.
 fn collect_seats<N: SearchBrand>(
     alloc: Global,
     board: &Board,
-    workers: Vec<Worker>,
-) -> Result<(Vec<Seat>, Vec<Batch>), AllocError>
-    requires { All (IsOn board.now.id N.of.program) workers.items }
+    seated: Vec<SeatedWorker>,
+) -> Result<(Vec<Seat>, Vec<Worker>), AllocError>
+    requires { All (IsOn board.now.id N.of.program) seated.items }
     ensures seats { IfOk result (λ r. All (λ s. s.board ≡ board.now.id) r.0.items) }
-    ensures count { IfOk result (λ r. vec_len r.0 ≡ vec_len workers) }
-    ensures batches { IfOk result (λ r. All (λ b. b.walker ≡ N.of.program) r.1.items) }
-    ensures kept { IfOk result (λ r. vec_len r.1 ≡ vec_len workers) }
+    ensures count { IfOk result (λ r. vec_len r.0 ≡ vec_len seated) }
+    ensures workers { IfOk result (λ r. All (λ b. b.walker ≡ N.of.program) r.1.items) }
+    ensures kept { IfOk result (λ r. vec_len r.1 ≡ vec_len seated) }
 {
     let mut seats = Vec::new(alloc);
-    let mut batches = Vec::new(alloc);
-    for worker in workers {
-        let Worker { seat, batch, .. } = worker;
+    let mut workers = Vec::new(alloc);
+    for one in seated {
+        let SeatedWorker { seat, worker, .. } = one;
         seats.push(seat)?;
-        batches.push(batch)?;
+        workers.push(worker)?;
     }
-    Ok((seats, batches))
+    Ok((seats, workers))
 }
 
 impl Stretch {
@@ -95,17 +93,17 @@ impl Stretch {
         requires team { IsTeam team.book.of.program team }
         requires seats { All (λ s. s.board ≡ board.id) seats.items }
         requires count { vec_len seats ≡ board.seats }
-        requires batches { vec_len team.batches ≡ vec_len seats }
+        requires workers { vec_len team.workers ≡ vec_len seats }
         ensures book { IfOk result (λ s. s.book ≡ team.book) }
         ensures stretch { IfOk result (λ s. IsStretch s.book.of.program s) }
     {
-        let Team { book, batches } = team;
+        let Team { book, workers } = team;
         let program = Arc::try_clone(book.program())?;
-        let workers = assign_seats(alloc, &board, &program, seats, batches)?;
+        let seated = assign_seats(alloc, &board, &program, seats, workers)?;
         Ok(Stretch {
             book,
             board,
-            workers,
+            seated,
         })
     }
 
@@ -118,7 +116,7 @@ impl Stretch {
         gate: &G,
         options: Options,
         own_from: usize,
-    ) -> Result<(Team, Ending), AllocError>
+    ) -> Result<(Team, Exit), AllocError>
         requires quota { 1 ≤ options.quota }
         requires stretch { IsStretch N.of.program self }
         requires book { IsOf self.book N.of N.mode N.quick N.lists }
@@ -129,21 +127,21 @@ impl Stretch {
         let Stretch {
             book,
             board,
-            mut workers,
+            mut seated,
         } = self;
         let desk = Desk::<N>::new(alloc, book, options, own_from)?;
         let shared = Shared {
             alloc,
             gate,
             board,
-            lock: Lock::new(desk),
+            monitor: Monitor::new(desk),
         };
-        work_all(rt, &shared, &mut workers);
-        let ending = ending_of(workers.as_slice());
-        let Shared { board, lock, .. } = shared;
-        let (seats, batches) = collect_seats::<N>(alloc, &board, workers)?;
+        work_all(rt, &shared, &mut seated);
+        let exit = exit_of(seated.as_slice());
+        let Shared { board, monitor, .. } = shared;
+        let (seats, workers) = collect_seats::<N>(alloc, &board, seated)?;
         let _claims = board.gather(seats);
-        let book = lock.mutex.into_inner().into_book();
-        Ok((Team { book, batches }, ending))
+        let book = monitor.mutex.into_inner().into_book();
+        Ok((Team { book, workers }, exit))
     }
 }

@@ -3,14 +3,14 @@
 ghost use Rattle.std.specs.Prelude.{◌≡◌, ◌<◌, ◌≤◌, true, false, IfOk, IfErr, IfSome};
 ghost use Rattle.workers.specs.declared.limits.TheConstants.{WORKERS};
 ghost use Rattle.report.specs.declared.error.ExploreError.TheVariants.{OutOfMemory};
-ghost use Rattle.workers.specs.declared.worker.Ending.TheVariants.{Stopped};
+ghost use Rattle.workers.specs.declared.exit.Exit.TheVariants.{Stopped};
 ghost use Rattle.workers.specs.Teams.{IsOf, IsTeam};
 
-use crate::batch::Batch;
+use crate::exit::Exit;
 use crate::gate::{Answer, Gate};
 use crate::own::walk_own_rounds;
 use crate::stretch::Stretch;
-use crate::worker::Ending;
+use crate::worker::Worker;
 use board::Board;
 use book::books::Book;
 use book::errors::SettleError;
@@ -22,12 +22,12 @@ use std::sync::{Arc, Wait};
 use std::thread::Threads;
 use walk::walker::walk;
 
-/// A search's book, and a batch for each worker: all that is kept from one stretch to the next.
+/// A search's book and its workers: all that is kept from one stretch to the next.
 #[derive(Drop)]
 pub struct Team {
     /// The book.
     pub book: Book,
-    pub(crate) batches: Vec<Batch>,
+    pub(crate) workers: Vec<Worker>,
 }
 
 // Walks a round of a book in its items' order, and settles each walk, as the first worker.
@@ -40,7 +40,7 @@ fn walk_in_order<G: Gate>(
     gate: &G,
     book: &mut Book,
     quota: u32,
-) -> Result<Ending, AllocError>
+) -> Result<Exit, AllocError>
     requires quota { 1 ≤ quota }
     ensures book { let b = book.old in
         IsOf book.new b.of b.mode b.quick b.lists }
@@ -49,7 +49,7 @@ fn walk_in_order<G: Gate>(
     let items = book.round(alloc)?;
     for k in 0..items.len() {
         if gate.before(0, k as u64) == Answer::Stop {
-            return Ok(Ending::Stopped);
+            return Ok(Exit::Stopped);
         }
         let walked = walk(alloc, &items[k], book.mode(), quota)?;
         gate.walked(0, k as u64);
@@ -57,7 +57,7 @@ fn walk_in_order<G: Gate>(
             return Err(AllocError);
         }
     }
-    Ok(Ending::Drawn)
+    Ok(Exit::Drawn)
 }
 
 // From how many open items on each worker has rounds of its own, if they may have any.
@@ -74,17 +74,17 @@ fn own_from<G: Gate>(gate: &G, book: &Book, workers: usize) -> Option<usize>
 
 impl Team {
     /// A team of workers for the search of a book.
-    pub fn new(alloc: Global, book: Book, workers: u32) -> Result<Team, AllocError>
-        requires { (0 < workers) × (workers ≤ WORKERS) }
+    pub fn new(alloc: Global, book: Book, count: u32) -> Result<Team, AllocError>
+        requires { (0 < count) × (count ≤ WORKERS) }
         ensures book { IfOk result (λ t. t.book ≡ book) }
         ensures team { IfOk result (IsTeam book.of.program) }
     {
-        let mut batches = Vec::new(alloc);
-        for number in 0..workers {
+        let mut workers = Vec::new(alloc);
+        for number in 0..count {
             let program = Arc::try_clone(book.program())?;
-            batches.push(Batch::new(alloc, program, number)?)?;
+            workers.push(Worker::new(alloc, program, number)?)?;
         }
-        Ok(Team { book, batches })
+        Ok(Team { book, workers })
     }
 
     /// Walks a stretch of rounds, at least one, and settles the walks, until what follows the last
@@ -99,7 +99,7 @@ impl Team {
         alloc: Global,
         gate: &G,
         options: Options,
-    ) -> Result<(Team, Ending), ExploreError>
+    ) -> Result<(Team, Exit), ExploreError>
         requires quota { 1 ≤ options.quota }
         requires team { IsTeam self.book.of.program self }
         ensures book { let b = self.book in
@@ -108,17 +108,17 @@ impl Team {
         ensures stopped { IfOk result (λ r. r.1 ≡ Stopped → G.stops gate.now ≡ true) }
         ensures error { IfErr result (λ e. e ≡ OutOfMemory) }
     {
-        let own_from = match own_from(gate, &self.book, self.batches.len()) {
-            Some(from) if self.book.open_length() >= from => {
+        let own_from = match own_from(gate, &self.book, self.workers.len()) {
+            Some(from) if self.book.open_len() >= from => {
                 let team = walk_own_rounds::<Brand, G, R>(self, rt, alloc, gate, options)?;
-                return Ok((team, Ending::Drawn));
+                return Ok((team, Exit::Drawn));
             }
             Some(from) => from,
             None => usize::MAX,
         };
-        let Ok((board, seats)) = Board::new(alloc, u32::MAX, self.batches.len() as u32) else {
-            let ending = walk_in_order(alloc, gate, &mut self.book, options.quota)?;
-            return Ok((self, ending));
+        let Ok((board, seats)) = Board::new(alloc, u32::MAX, self.workers.len() as u32) else {
+            let exit = walk_in_order(alloc, gate, &mut self.book, options.quota)?;
+            return Ok((self, exit));
         };
         let stretch = Stretch::new(alloc, self, board, seats)?;
         Ok(stretch.walk::<Brand, G, R>(rt, alloc, gate, options, own_from)?)

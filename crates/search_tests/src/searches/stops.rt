@@ -161,7 +161,7 @@ fn two_walks_are_out_at_once(rt: HostRuntime) -> Result<(), Fail> {
 fn first_walks(alloc: Global) -> Result<u64, Fail> {
     let program = program_of(alloc, FOUR)?;
     let walked = walk(alloc, &Item::root(alloc, program)?, Mode::Bounded(0), 1)?;
-    Ok((walked.rest_length() as u64).saturating_add(1))
+    Ok((walked.rest_len() as u64).saturating_add(1))
 }
 
 /// The report of the four threads where nothing stops its search.

@@ -1,4 +1,4 @@
--- The way from the start of a program to where a walk stands, with copies of states on it.
+-- The path of a walk from the start of a program, with copies of states on the way.
 use Rattle.std.specs.Prelude.{◌≡◌, ℕ, ◌*◌, ◌≤◌, ◌<◌, ℤ, Bool, false, not, ◌&&◌, nat_eq, List}
 use Rattle.std.specs.Prelude.{[], length, take, drop, get_or, Option, Some, None}
 use Rattle.guest_code.specs.Program.{Program, IsWellFormed}

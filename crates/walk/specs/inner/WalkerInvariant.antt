@@ -22,7 +22,7 @@ use Rattle.walk.specs.inner.Paths.{used_frames, is_preempting, frame_at, state_a
 abbrev pub item_of : Program → List ℕ → Node → ItemView
 item_of p w n = record { program = p; prefix = w; mask = n.asleep }
 
--- the item of the node where a walk stands
+-- the item of the path's node
 abbrev pub here : Program → Path → ItemView
 here p t = item_of p t.steps.items t.node
 
@@ -38,7 +38,7 @@ open_from mode p w fs base (suc n) =
     open_at mode p (take (frame_at fs (base + n)).steps w) (frame_at fs (base + n)).node
     ++ open_from mode p w fs base n
 
--- what is open above the node where a walk stands, down from the item's own node
+-- what is open above the path's node, down from the item's own node
 abbrev pub left_above : Mode → Program → Path → List ItemView
 left_above mode p t =
     open_from mode p t.steps.items (used_frames t) t.base (length (used_frames t) - t.base)
@@ -47,7 +47,7 @@ left_above mode p t =
 abbrev pub still_open : Mode → Program → Path → List ItemView
 still_open mode p t = open_at mode p t.steps.items t.node ++ left_above mode p t
 
--- what is open: the node where a walk stands, and what is open above it
+-- what is open: the path's node, and what is open above it
 abbrev pub open_here : Mode → Program → Path → List ItemView
 open_here mode p t = here p t ∷ left_above mode p t
 
@@ -55,7 +55,7 @@ open_here mode p t = here p t ∷ left_above mode p t
 abbrev pub open_below : Mode → Program → Path → ℕ → List ItemView
 open_below mode p t u = child_of mode (here p t) u ∷ left_above mode p t
 
--- the thread's step is the next one, or the walk stays there
+-- the thread's step is the next one, or the walk stays at the node
 abbrev pub open_next : Mode → Program → Path → ℕ → Bool → List ItemView
 open_next mode p t u true = open_below mode p t u
 open_next mode p t u false = open_here mode p t
@@ -94,7 +94,7 @@ pub record IsWalkedOn (before : Found) (mode : Mode) (i : ItemView) (f : Found)
   pub rest : f.rest.items ≡ before.rest.items
   pub deferred : HasPut before put f
 
--- a walk of the item stands at a place where these items are open
+-- a walk of the item is at a node where these items are open
 pub record IsSearch (before : Found) (mode : Mode) (i : ItemView) (t : Path) (f : Found)
     (open_items : List ItemView) : Type 0 where
   pub place : IsPlace i.program t
@@ -109,11 +109,11 @@ pub record IsAlong (before : Found) (mode : Mode) (i : ItemView) (t : Path) (f :
       (item_of i.program (take place t.steps.items) t.node ∷ left_above mode i.program t)
   pub shared : IsShared (take place t.steps.items) f
 
--- so it does, whatever was found before
+-- so it is, whatever was found before
 abbrev pub Searches : Mode → ItemView → Path → Found → List ItemView → Type 0
 Searches mode i t f open_items = (before : Found) × IsSearch before mode i t f open_items
 
--- and goes on from there to another place, where those are open
+-- and goes on from there to another node, where those are open
 abbrev pub GoesOn : Mode → ItemView → Path → Found → List ItemView → Path → Found → List ItemView →
     Type 0
 GoesOn mode i t f open_items u g others =
@@ -123,11 +123,11 @@ GoesOn mode i t f open_items u g others =
 unfoldable pub turns_left : Mode → Program → Path → ℕ
 turns_left mode p t = costs (still_open mode p t) + length (used_frames t)
 
--- more turns than are to be taken from where it stands on, and for what is open above
+-- more turns than are to be taken from the path's node on, and for what is open above
 unfoldable pub turns_from : Mode → Program → Path → ℕ
 turns_from mode p t = cost_of (here p t) + costs (left_above mode p t) + length (used_frames t)
 
--- and where it goes into this child
+-- and on the branch to this child
 unfoldable pub turns_into : Mode → Program → Path → ℕ → ℕ
 turns_into mode p t u =
     cost_of (child_of mode (here p t) u) + costs (left_above mode p t) + length (used_frames t)
@@ -173,8 +173,8 @@ abbrev pub IsFree : Mode → Program → Path → Type 0
 IsFree mode p t = (e : Mask) → HasEnabled e p (state_at p t.steps.items) → (u : ℕ)
     → (has e u && is_past_at mode e t.node u) ≡ false
 
--- a frame more: what was open at the node is open above
-pub record IsOpened (p : Program) (old new : Path) : Type 0 where
+-- a frame was pushed: what was open at the node is open above
+pub record IsPushed (p : Program) (old new : Path) : Type 0 where
   pub steps : new.steps.items ≡ old.steps.items
   pub node : new.node ≡ old.node
   pub base : new.base ≡ old.base
@@ -182,8 +182,8 @@ pub record IsOpened (p : Program) (old new : Path) : Type 0 where
   pub left : (mode : Mode) → old.base ≤ length (used_frames old)
       → left_above mode p new ≡ still_open mode p old
 
--- a frame more or none: what was open at the node is open above
-pub record IsKept (p : Program) (old new : Path) : Type 0 where
+-- it was, or nothing was open at the node: what was is open above
+pub record IsPushedIfOpen (p : Program) (old new : Path) : Type 0 where
   pub steps : new.steps.items ≡ old.steps.items
   pub node : new.node ≡ old.node
   pub depth : length (used_frames new) ≤ length (used_frames old) + 1
@@ -191,7 +191,8 @@ pub record IsKept (p : Program) (old new : Path) : Type 0 where
 
 -- a run of a thread further, after whose first step these sleep: what was open above is so. At each
 -- node between its steps the walk is at the bound and these are enabled, the thread among them
-pub record IsGone (p : Program) (mode : Mode) (old new : Path) (t : ℕ) (sleepers : Mask) (run : Run)
+pub record IsExtended (p : Program) (mode : Mode) (old new : Path) (t : ℕ) (sleepers : Mask)
+    (run : Run)
     : Type 0 where
   pub some : 1 ≤ run.steps
   pub steps : new.steps.items ≡ old.steps.items ++ replicate run.steps t

@@ -76,39 +76,39 @@ fn walks_after_one_step(rt: HostRuntime) -> Result<(), Fail> {
 
 /// A prefix, a bound, and what the walk of the schedules after the prefix finds within the bound,
 /// with what the bound puts off.
-struct Row {
+struct PrefixRow {
     prefix: &'static [u8],
     bound: u32,
     found: &'static str,
 }
 
-const PUT_OFF: [Row; 6] = [
-    Row {
+const PUT_OFF: [PrefixRow; 6] = [
+    PrefixRow {
         prefix: &[0, 1],
         bound: 0,
         found: "0 0 0 true None",
     },
-    Row {
+    PrefixRow {
         prefix: &[],
         bound: 0,
         found: "2 0 0 true None Done [2]; Some([1, 0]); Some([0, 1])",
     },
-    Row {
+    PrefixRow {
         prefix: &[0, 1],
         bound: 1,
         found: "1 0 0 true None Done [1]; Some([0, 1, 0])",
     },
-    Row {
+    PrefixRow {
         prefix: &[1, 0],
         bound: 1,
         found: "1 0 0 true None Done [1]; Some([1, 0, 1])",
     },
-    Row {
+    PrefixRow {
         prefix: &[0, 1, 0],
         bound: 2,
         found: "1 0 0 false None Done [1]",
     },
-    Row {
+    PrefixRow {
         prefix: &[1, 0, 1],
         bound: 2,
         found: "1 0 0 false None Done [1]",

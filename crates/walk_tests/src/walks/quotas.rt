@@ -86,7 +86,7 @@ fn parts_make_the_whole(rt: HostRuntime) -> Result<(), Fail> {
 
 /// How many items a walk leaves and how many prefixes it puts off.
 fn left_and_put_off(walked: &Walked) -> (usize, usize) {
-    (walked.rest_length(), walked.deferred_length())
+    (walked.rest_len(), walked.deferred_len())
 }
 
 /// How many schedules a walk tried, how many items it left and how many prefixes it put off, by its

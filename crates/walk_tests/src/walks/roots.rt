@@ -22,139 +22,139 @@ const THREE: &str =
     "var x; var y; thread A { store x 1; store y 1; store x 0; } thread B { store x 2; store y 2; store x 0; } thread C { load r x; assert r == 0; store y 3; }";
 
 /// A program, a mode, and what the walk of all its schedules finds.
-struct Row {
+struct ProgramRow {
     text: &'static str,
     mode: Mode,
     found: &'static str,
 }
 
-const ROWS: [Row; 26] = [
-    Row {
+const ROWS: [ProgramRow; 26] = [
+    ProgramRow {
         text: "thread A { assert 0; }",
         mode: Mode::Bounded(0),
         found: "1 1 0 false Some([]) Failed []",
     },
-    Row {
+    ProgramRow {
         text: "thread A { }",
         mode: Mode::Bounded(0),
         found: "1 0 0 false None Done []",
     },
-    Row {
+    ProgramRow {
         text: "sem s = 0; thread A { acquire s; }",
         mode: Mode::Bounded(0),
         found: "1 0 1 false Some([]) Stuck []",
     },
-    Row {
+    ProgramRow {
         text: "mutex m; thread A { lock m; lock m; }",
         mode: Mode::Bounded(0),
         found: "1 0 1 false Some([0]) Stuck []",
     },
-    Row {
+    ProgramRow {
         text: SECOND_FAILS,
         mode: Mode::Bounded(0),
         found: "2 1 0 false Some([0, 1]) Done [1] Failed [1]",
     },
-    Row {
+    ProgramRow {
         text: COUNTERS,
         mode: Mode::Bounded(0),
         found: "2 0 0 true None Done [2]",
     },
-    Row {
+    ProgramRow {
         text: COUNTERS,
         mode: Mode::Bounded(1),
         found: "4 0 0 true None Done [1] Done [2]",
     },
-    Row {
+    ProgramRow {
         text: COUNTERS,
         mode: Mode::Bounded(2),
         found: "6 0 0 false None Done [1] Done [2]",
     },
-    Row {
+    ProgramRow {
         text: COUNTERS,
         mode: Mode::Bounded(BOUND),
         found: "6 0 0 false None Done [1] Done [2]",
     },
-    Row {
+    ProgramRow {
         text: COUNTERS,
         mode: Mode::Reduced,
         found: "4 0 0 false None Done [1] Done [2]",
     },
-    Row {
+    ProgramRow {
         text: BETWEEN,
         mode: Mode::Bounded(0),
         found: "2 0 0 true None Done [0]",
     },
-    Row {
+    ProgramRow {
         text: BETWEEN,
         mode: Mode::Bounded(1),
         found: "3 1 0 false Some([0, 1, 0]) Done [0] Failed [0]",
     },
-    Row {
+    ProgramRow {
         text: CROSSED,
         mode: Mode::Bounded(0),
         found: "2 0 0 true None Done []",
     },
-    Row {
+    ProgramRow {
         text: CROSSED,
         mode: Mode::Bounded(1),
         found: "6 0 2 false Some([0, 1]) Done [] Stuck []",
     },
-    Row {
+    ProgramRow {
         text: CROSSED,
         mode: Mode::Reduced,
         found: "3 0 1 false Some([0, 1]) Done [] Stuck []",
     },
-    Row {
+    ProgramRow {
         text: CALLED,
         mode: Mode::Bounded(0),
         found: "2 0 1 false Some([1, 1, 1, 0, 0]) Done [] Stuck []",
     },
-    Row {
+    ProgramRow {
         text: CALLED,
         mode: Mode::Reduced,
         found: "2 0 1 false Some([1, 1, 1, 0, 0]) Done [] Stuck []",
     },
-    Row {
+    ProgramRow {
         text: LATE,
         mode: Mode::Bounded(0),
         found: "2 1 0 true Some([1, 0, 0]) Done [1, 1] Failed [1, 1]",
     },
-    Row {
+    ProgramRow {
         text: LATE,
         mode: Mode::Bounded(1),
         found: "3 2 0 false Some([0, 1, 0]) Done [1, 1] Failed [1, 1]",
     },
-    Row {
+    ProgramRow {
         text: LATE,
         mode: Mode::Reduced,
         found: "2 1 0 false Some([0, 1, 0]) Done [1, 1] Failed [1, 1]",
     },
-    Row {
+    ProgramRow {
         text: APART,
         mode: Mode::Reduced,
         found: "1 0 0 false None Done [1, 1, 1]",
     },
-    Row {
+    ProgramRow {
         text: ALL_KINDS,
         mode: Mode::Bounded(0),
         found: "4 0 1 true Some([1, 1, 1, 1, 1, 2, 2, 0, 0]) Done [1] Stuck [1]",
     },
-    Row {
+    ProgramRow {
         text: ALL_KINDS,
         mode: Mode::Bounded(1),
         found: "11 0 2 true Some([1, 1, 1, 1, 1, 0, 2, 2, 0]) Done [1] Stuck [1]",
     },
-    Row {
+    ProgramRow {
         text: ALL_KINDS,
         mode: Mode::Bounded(4),
         found: "30 0 4 false Some([1, 1, 1, 1, 0, 1, 2, 2, 0]) Done [1] Stuck [1]",
     },
-    Row {
+    ProgramRow {
         text: THREE,
         mode: Mode::Bounded(1),
         found: "36 12 0 true Some([0, 0, 0, 1, 1, 2, 1]) Done [0, 1] Done [0, 2] Done [0, 3] Failed [0, 1] Failed [0, 2]",
     },
-    Row {
+    ProgramRow {
         text: THREE,
         mode: Mode::Bounded(6),
         found: "296 74 0 false Some([0, 0, 0, 1, 1, 2, 1]) Done [0, 1] Done [0, 2] Done [0, 3] Failed [0, 1] Failed [0, 2]",

@@ -9,9 +9,9 @@ use Rattle.book.specs.declared.limits.TheConstants.{ROUND}
 use Rattle.book.specs.Books.{BookView, HaveFound}
 use Rattle.report.specs.Reports.{IsReached}
 use Rattle.workers.specs.declared.limits.TheConstants.{WORKERS}
-use Rattle.workers.specs.declared.batch.Batch.{Batch}
-use Rattle.workers.specs.declared.round.Round.{Round}
 use Rattle.workers.specs.declared.worker.Worker.{Worker}
+use Rattle.workers.specs.declared.round.Round.{Round}
+use Rattle.workers.specs.declared.seated_worker.SeatedWorker.{SeatedWorker}
 use Rattle.workers.specs.declared.stretch.Stretch.{Stretch}
 
 -- the round's mode is this one, its items are of this program, and its quota is not 0
@@ -42,18 +42,18 @@ pub record Follows (b : BookView) (last round : Round) : Type 0 where
   pub first : round.first ≡ (last.first + vec_len last.items) % 2 ^ 64
 
 -- the worker's seat is of this board, and its walker of this program
-pub record IsOn (board : BoardId) (p : Program) (w : Worker) : Type 0 where
+pub record IsOn (board : BoardId) (p : Program) (w : SeatedWorker) : Type 0 where
   pub seat : w.seat.board ≡ board
-  pub walker : w.batch.walker ≡ p
+  pub walker : w.worker.walker ≡ p
 
--- what a batch keeps was found by walks of the round's items at its places
-pub record AreKept (r : Round) (b : Batch) : Type 0 where
+-- what a worker keeps was found by walks of the round's items at its places
+pub record AreKept (r : Round) (b : Worker) : Type 0 where
   pub found : HaveFound b.walker r.mode r.items.items b.places.items b.found
   pub few : b.found.part.tried ≤ vec_len b.places * 2 ^ 32
 
 -- as many workers as a search may have, one for each seat of the board
 pub record IsStretch (p : Program) (s : Stretch) : Type 0 where
-  pub some : 0 < vec_len s.workers
-  pub few : vec_len s.workers ≤ WORKERS
-  pub seated : vec_len s.workers ≡ s.board.seats
-  pub on : All (IsOn s.board.id p) s.workers.items
+  pub some : 0 < vec_len s.seated
+  pub few : vec_len s.seated ≤ WORKERS
+  pub seated : vec_len s.seated ≡ s.board.seats
+  pub on : All (IsOn s.board.id p) s.seated.items

@@ -2,7 +2,7 @@ use Rattle.std.proofs.Common.{◌≡◌, ◌∙◌, ap, sym, subst, refl, true, 
 use Rattle.items.specs.Items.{ItemView}
 use Rattle.runner.specs.declared.judge.Ending.{Ending}
 use Rattle.runner.specs.inner.Judging.{IsAt, Ends}
-use Rattle.workers.proofs.Teams.{same_batches}
+use Rattle.workers.proofs.Teams.{same_workers}
 use Rattle.runner.proofs.AfterRounds.{kept_on, ends_weaker}
 use Rattle.runner.proofs.together.search.Goals as goal
 
@@ -44,6 +44,6 @@ loop-preserved g c =
           refl (c.in_ok-next-2.ensures.levels keeps
           (kept_on keeps i mid.of c.loop.team.book.mode mid.mode c.loop.levels of same.mode
           (c.loop.invariant.3 keeps levels))),
-      same_batches c.loop.team.book.of.program i.program c.in_ok-next.next _ refl
+      same_workers c.loop.team.book.of.program i.program c.in_ok-next.next _ refl
           (ap (λ (x : ItemView). x.program) c.loop.invariant.2.is.of) c.in_ok-next.ensures.team,
     )

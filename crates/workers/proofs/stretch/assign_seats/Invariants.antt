@@ -6,8 +6,8 @@ use Rattle.workers.proofs.stretch.assign_seats.Given as goal
 abbrev pub invariant-loop-seat : goal.invariant-loop-seat
 invariant-loop-seat l = let rest = l.seat-iterator.rest.items in record {
   left : All (λ s. s.board ≡ l.board.id) rest;
-  batches : All (λ b. b.walker ≡ l.program) l.batches.items;
-  as_many : vec_len l.batches ≡ length rest;
-  done : All (IsOn l.board.id l.program) l.workers.items;
-  many : vec_len l.workers + length rest ≡ vec_len l.fn.seats;
+  workers : All (λ b. b.walker ≡ l.program) l.workers.items;
+  as_many : vec_len l.workers ≡ length rest;
+  done : All (IsOn l.board.id l.program) l.seated.items;
+  many : vec_len l.seated + length rest ≡ vec_len l.fn.seats;
 }

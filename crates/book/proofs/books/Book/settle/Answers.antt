@@ -34,8 +34,8 @@ taken c place =
     ((λ k. found_walk (in_mode c k) c.args.walked.item c.into_parts-item.result.1)
     ∙ c.into_parts-item.ensures.found)
 
-pub place_of-requires : goal.place_of-requires
-place_of-requires c =
+pub position-requires : goal.position-requires
+position-requires c =
     subst (λ (p : Program). AreOf p c.self.inside.open_items.unpacked)
     (ap (λ (z : BookView). z.of.program) c.self.view_is
     ∙ (own c ∙ ap (λ (i : ItemView). i.program) (sym c.into_parts-item.ensures.item)))
@@ -58,11 +58,11 @@ at c same =
     × (slice_get (all_of i.program c.self.inside.open_items) c.in-Some.place ≡ Some i)) item
     c.in-Some.ensures.some)
 
-pub take_over-requires : goal.take_over-requires
-take_over-requires c =
+pub settle_at-requires : goal.settle_at-requires
+settle_at-requires c =
     let b = c.args.self.now in
-    let before = (goal.at.take_over-requires c).After-item-1 in
-    let there = at (goal.at.take_over-requires c).In-Some (own before) in
+    let before = (goal.at.settle_at-requires c).After-item-1 in
+    let there = at (goal.at.settle_at-requires c).In-Some (own before) in
     record {
       first = All-cons (λ k. c.in-Some.place ≤ k) c.in-Some.place [] (omega arith)
           (All-nil (λ k. c.in-Some.place ≤ k));
@@ -72,12 +72,12 @@ take_over-requires c =
           c.into_parts-item.ensures.walked (in_mode before, own before) there);
     }
 
-pub returns-in-Ok-clause-ok : goal.returns-in-Ok-clause-ok
-returns-in-Ok-clause-ok c =
-    let before = (goal.at.returns-in-Ok-clause-ok c).After-item-1 in
+pub returns-clause-ok : goal.returns-clause-ok
+returns-clause-ok c =
+    let before = (goal.at.returns-clause-ok c).After-item-1 in
     record {
       of = (in_mode before, own before);
       place = c.in-Some.place;
-      is_open = at (goal.at.returns-in-Ok-clause-ok c).In-Some (own before);
-      book = c.in-Ok.ensures.book ∙ taken before c.in-Some.place;
+      is_open = at (goal.at.returns-clause-ok c).In-Some (own before);
+      book = c.in_ok-settle_at.ensures.book ∙ taken before c.in-Some.place;
     }

@@ -40,9 +40,9 @@ there c =
     c.as_slice.result.now) c.self.view_is
     (subst at (sym c.as_slice.ensures.value)
     (subst (λ o. IfSome o (λ v. at v.items)) c.in-Some.is
-    (subst (λ p. IfSome c.in_ok-stand.field-0 (λ v. AreOpenAt (all_of p c.self.inside.open_items)
+    (subst (λ p. IfSome c.in_ok-open_at.field-0 (λ v. AreOpenAt (all_of p c.self.inside.open_items)
     c.args.items.now c.args.places.now v.items)) c.shared_program.ensures
-    c.in_ok-stand.ensures.there)))
+    c.in_ok-open_at.ensures.there)))
 
 -- to unpack items changes nothing in the book
 moved : (c : After-as_slice) →
@@ -50,15 +50,15 @@ moved : (c : After-as_slice) →
 moved c =
     ap (λ is. record (book_of c.self.inside) { open_items = is })
     (same_of c.places_of.new.self c.self.inside.open_items c.shared_program.ensures
-    c.in_ok-stand.ensures.same)
+    c.in_ok-open_at.ensures.same)
     ∙ c.self.view_is
 
 -- the walks list what the book lists
 lists : (c : After-as_slice) → (c.args.self.now.lists && not c.args.found.now.lists) ≡ false
 lists c = search rules
 
-pub take_over-requires-clause-within : goal.take_over-requires-clause-within
-take_over-requires-clause-within c =
+pub settle_at-requires-clause-within : goal.settle_at-requires-clause-within
+settle_at-requires-clause-within c =
     subst (λ (z : BookView). AreWithin z.open_items c.as_slice.result.now) (sym (moved c))
     (open_within c.args.self.now.open_items c.args.items.now c.args.places.now
     c.as_slice.result.now (there c))
@@ -67,8 +67,8 @@ take_over-requires-clause-within c =
 abbrev taken : (c : After-as_slice) → BookView → BookView
 taken c z = taken_in z (remove_each z.open_items c.as_slice.result.now) c.args.found.now
 
-pub take_over-requires-clause-keeps : goal.take_over-requires-clause-keeps
-take_over-requires-clause-keeps c =
+pub settle_at-requires-clause-keeps : goal.settle_at-requires-clause-keeps
+settle_at-requires-clause-keeps c =
     subst (λ (z : BookView). Keeps (taken c z)) (sym (moved c))
     (settled_together c.args.items.now c.args.places.now _ c.args.found.now c.args.self.now
     c.requires.program (subst Keeps c.self.view_is c.self.invariant.0) (there c) (lists c)
@@ -78,7 +78,7 @@ pub returns-clause-taken : goal.returns-clause-taken
 returns-clause-taken c = λ f is_taken.
     let before = (goal.at.returns-clause-taken c).After-as_slice in
     subst (HaveSettled c.args.self.now f.walks)
-    (ap (taken before) (sym (moved before)) ∙ sym c.in_ok-take_over.ensures.book)
+    (ap (taken before) (sym (moved before)) ∙ sym c.in_ok-settle_at.ensures.book)
     (settled_together c.args.items.now c.args.places.now _ c.args.found.now c.args.self.now
     c.requires.program (subst Keeps c.self.view_is c.self.invariant.0) (there before)
     (lists before) f).0
@@ -92,5 +92,6 @@ returns-in_default-clause-not_taken c = λ e. inr
     c.self.view_is
     (subst (λ o. IfNone o (StandInOrder (book_of c.self.inside).open_items c.args.items.now
     c.args.places.now → ⊥)) c.in_default.is
-    (subst (λ p. IfNone c.in_ok-stand.field-0 (StandInOrder (all_of p c.self.inside.open_items)
-    c.args.items.now c.args.places.now → ⊥)) c.shared_program.ensures c.in_ok-stand.ensures.none)))
+    (subst (λ p. IfNone c.in_ok-open_at.field-0 (StandInOrder (all_of p c.self.inside.open_items)
+    c.args.items.now c.args.places.now → ⊥)) c.shared_program.ensures
+    c.in_ok-open_at.ensures.none)))

@@ -27,7 +27,7 @@ walk_on-requires-clause-program c =
     let at = open_at b _ _ c.loop-place.place _ c.self.invariant.0
     (same_of c.unpack_from.new.self c.self.inside.open_items c.shared_program.ensures
     c.unpack_from.ensures.same)
-    (c.length-end.ensures b.of.program) c.loop-place-test.true
+    (c.len-end.ensures b.of.program) c.loop-place-test.true
     (c.unpacked_item-item.ensures b.of.program) in
     sym at.1
     ∙ (ap (λ (z : BookView). z.of.program) c.self.view_is ∙ (sym c.requires.walker
@@ -43,7 +43,7 @@ loop-place-preserved c =
     let at = open_at b _ _ c.loop-place.place item c.self.invariant.0
     (same_of c.unpack_from.new.self c.self.inside.open_items c.shared_program.ensures
     c.unpack_from.ensures.same)
-    (c.length-end.ensures b.of.program) c.loop-place-test.true
+    (c.len-end.ensures b.of.program) c.loop-place-test.true
     (c.unpacked_item-item.ensures b.of.program) in
     let more = added_tried c.self.inside.mode item c.args.quota c.loop-place.found
     c.walk_on.new.found c.in_ok-walk_on.ensures.added in
@@ -61,11 +61,11 @@ loop-place-preserved c =
           (sym c.self.view_is) c.loop-place.invariant.walked));
     }
 
-pub take_over-requires-clause-first : goal.take_over-requires-clause-first
-take_over-requires-clause-first c =
+pub settle_at-requires-clause-first : goal.settle_at-requires-clause-first
+settle_at-requires-clause-first c =
     let first = c.saturating_sub-first.result in
     All-weaker (λ k. k ≡ first) (λ k. first ≤ k) (λ k e. omega (arith, e)) _
-    (All-take (λ k. k ≡ first) (c.length-end.result - first) _
+    (All-take (λ k. k ≡ first) (c.len-end.result - first) _
     (All-replicate (λ k. k ≡ first) 64 first refl))
 
 -- to unpack items changes nothing in the book
@@ -79,7 +79,7 @@ moved c =
 -- the places of the round's items, each counted without those before it
 abbrev places : After-loop-place → List ℕ
 places c =
-    take (c.length-end.result - c.saturating_sub-first.result)
+    take (c.len-end.result - c.saturating_sub-first.result)
     (replicate 64 c.saturating_sub-first.result)
 
 -- the book where what was found is settled
@@ -93,25 +93,25 @@ walked : (c : After-loop-place) → let b = c.args.self.now in
 walked c =
     round_settles c.args.self.now _ _ c.loop-place.place c.args.quota c.loop-place.found
     (subst Keeps c.self.view_is c.self.invariant.0) c.saturating_sub-first.ensures
-    (c.length-end.ensures c.self.inside.of.program
+    (c.len-end.ensures c.self.inside.of.program
     ∙ ap (λ (z : BookView). length z.open_items) c.self.view_is)
     (at_end _ c.loop-place.place _ c.saturating_sub-first.ensures c.loop-place.auto.place-end
     c.loop-place-test.false) c.loop-place.invariant.lists c.loop-place.invariant.walked
 
-pub take_over-requires-clause-within : goal.take_over-requires-clause-within
-take_over-requires-clause-within c =
-    let d = (goal.at.take_over-requires-clause-within c).After-loop-place in
+pub settle_at-requires-clause-within : goal.settle_at-requires-clause-within
+settle_at-requires-clause-within c =
+    let d = (goal.at.settle_at-requires-clause-within c).After-loop-place in
     subst (λ (z : BookView). AreWithin z.open_items (places d)) (sym (moved d)) (walked d).0
 
-pub take_over-requires-clause-keeps : goal.take_over-requires-clause-keeps
-take_over-requires-clause-keeps c =
-    let d = (goal.at.take_over-requires-clause-keeps c).After-loop-place in
+pub settle_at-requires-clause-keeps : goal.settle_at-requires-clause-keeps
+settle_at-requires-clause-keeps c =
+    let d = (goal.at.settle_at-requires-clause-keeps c).After-loop-place in
     subst (λ (z : BookView). Keeps (taken d z)) (sym (moved d)) (walked d).1
 
 pub returns-clause-ok : goal.returns-clause-ok
 returns-clause-ok c =
     let d = (goal.at.returns-clause-ok c).After-loop-place in
-    on_settled c.take_over.result c.take_over.new.self _ _
-    (HasWalkedRound c.args.self.now c.args.quota c.take_over.new.self) c.take_over.ensures.book
+    on_settled c.settle_at.result c.settle_at.new.self _ _
+    (HasWalkedRound c.args.self.now c.args.quota c.settle_at.new.self) c.settle_at.ensures.book
     (λ is. subst (HasWalkedRound c.args.self.now c.args.quota)
     (ap (taken d) (sym (moved d)) ∙ sym is) (walked d).2)

@@ -6,11 +6,11 @@ use Rattle.book.proofs.BoundedSums.{closed_sum, never_dropped}
 use Rattle.book.proofs.Lists.{no_items}
 use Rattle.book.proofs.books.Book.whole.Goals as goal
 
-pub returns-then-length-eq0-clause-whole : goal.returns-then-length-eq0-clause-whole
-returns-then-length-eq0-clause-whole c =
+pub returns-then-len-eq0-clause-whole : goal.returns-then-len-eq0-clause-whole
+returns-then-len-eq0-clause-whole c =
     let b = book_of c.self.inside in
     let q : b.quick ≡ false = search rules in
     let none : b.open_items ≡ [] =
-    no_items b.open_items (omega (arith, c.length.ensures b.of.program, c.if-length-eq0.true)) in
+    no_items b.open_items (omega (arith, c.len.ensures b.of.program, c.if-len-eq0.true)) in
     closed_sum b c.self.invariant.0 (never_dropped b c.self.invariant.0 q) none
     ∙ ap (λ (z : BookView). item_sum z.mode z.of) c.self.view_is

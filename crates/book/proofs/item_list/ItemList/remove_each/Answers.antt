@@ -55,8 +55,8 @@ remove-requires-clause-end c =
 pub overflow_add-first : goal.overflow_add-first
 overflow_add-first c =
     let p = c.requires.within.0 in
-    let all = c.length-length.ensures p in
-    let fits = c.length-length.type_inv in
+    let all = c.len-length.ensures p in
+    let fits = c.len-length.type_inv in
     let some = c.in-Some.ensures in
     let most = within_same (all_of p c.args.self.now) c.in-Some.first c.args.places.now some.1 some.0
     c.requires.within.1 in

@@ -19,7 +19,7 @@ idle c =
     let there : c.args.worker < length i.lent.items = search rules in
     let at : c.in-Some.lent.now ≡ get_or i.lent.items c.args.worker c.in-Some.lent.now = search rules in
     let none : all_of p c.in-Some.lent.now ≡ [] =
-    no_items _ (omega (arith, c.length.ensures p, c.if-length-gt0.false)) in
+    no_items _ (omega (arith, c.len.ensures p, c.if-len-gt0.false)) in
     subst (Has (lending_of i) c.args.worker) none
     (lent_at p i.lent.items c.args.worker c.in-Some.lent.now there at)
 

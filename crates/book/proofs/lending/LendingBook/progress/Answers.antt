@@ -25,7 +25,7 @@ loop-list-preserved c =
     let more = counted_more b.lent k (all_of p l) b.free (lent_at p i.lent.items k l there at) in
     subst (λ (z : LendingView). c.saturating_add-open_items.result
     ≡ cut (length (all_lent (take (k + 1) z.lent) ++ z.free))) c.self.view_is
-    (omega (arith, before, more, c.saturating_add-open_items.ensures, c.length.ensures p))
+    (omega (arith, before, more, c.saturating_add-open_items.ensures, c.len.ensures p))
 
 pub returns-clause-open_items : goal.returns-clause-open_items
 returns-clause-open_items c =

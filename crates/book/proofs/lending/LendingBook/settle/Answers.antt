@@ -14,7 +14,7 @@ use Rattle.book.proofs.Lent.{lent_at, set_same, of_worker, is_loan, came_back, s
 use Rattle.book.proofs.OpenItems.{waiting_run, run_of, same_of, more_of}
 use Rattle.book.proofs.TakenOver.{grown, still_there, taken_back}
 use Rattle.book.proofs.lending.LendingBook.settle.Goals as goal
-use Rattle.book.proofs.lending.LendingBook.settle.Goals.{In_ok-make_room, After-drop-none-inside-in-Err-2, After-drop-none-inside-3}
+use Rattle.book.proofs.lending.LendingBook.settle.Goals.{In_ok-reserve, After-drop-none-inside-in-Err-2, After-drop-none-inside-3}
 
 pub is_same-requires-clause-run : goal.is_same-requires-clause-run
 is_same-requires-clause-run c =
@@ -61,7 +61,7 @@ returns-then-not-branch-clause-not_taken c = λ e. inr (λ has.
     absurd (cc))
 
 -- the worker has the items of the loan
-has : (c : In_ok-make_room) →
+has : (c : In_ok-reserve) →
     Has c.args.self.now c.args.worker (all_of c.args.self.now.of.program c.args.loan.now)
 has c =
     let i = c.self.inside in
@@ -78,15 +78,15 @@ has c =
     (subst (Has (lending_of i) c.args.worker) same
     (lent_at p i.lent.items c.args.worker lent there at))
 
-lists : (c : In_ok-make_room) → (c.args.self.now.lists && not c.args.found.now.lists) ≡ false
+lists : (c : In_ok-reserve) → (c.args.self.now.lists && not c.args.found.now.lists) ≡ false
 lists c = search rules
 
-keeps : (c : In_ok-make_room) → Keeps (as_book c.args.self.now)
+keeps : (c : In_ok-reserve) → Keeps (as_book c.args.self.now)
 keeps c = subst (λ (z : LendingView). Keeps (as_book z)) c.self.view_is c.self.invariant
 
 pub append_prefixes-requires : goal.append_prefixes-requires
 append_prefixes-requires c =
-    let d = (goal.at.append_prefixes-requires c).In_ok-make_room in
+    let d = (goal.at.append_prefixes-requires c).In_ok-reserve in
     let v : LendingView = c.args.self.now in
     let found = c.args.found.now in
     let after = came_back v c.args.worker found in
@@ -104,7 +104,7 @@ append_prefixes-requires c =
 
 -- the book is as before where the sum was refused
 not_joined : (c : After-drop-none-inside-in-Err-2) → lending_view c.self.inside.of
-    c.self.inside.mode c.join_in_by.new.self c.make_room.new.self
+    c.self.inside.mode c.join_in_by.new.self c.reserve.new.self
     (set c.self.inside.lent.items c.args.worker c.in-Some.lent.now) c.truncate.new.self
     c.self.inside.lists c.self.inside.quick ≡ lending_of c.self.inside
 not_joined c =
@@ -114,17 +114,17 @@ not_joined c =
     let lent : ListView = c.in-Some.lent.now in
     let there : c.args.worker < length i.lent.items = search rules in
     let at : lent ≡ get_or i.lent.items c.args.worker lent = search rules in
-    let free = still_there p i.free c.make_room.new.self b.free refl c.make_room.ensures.packed
-    c.make_room.ensures.unpacked in
+    let free = still_there p i.free c.reserve.new.self b.free refl c.reserve.ensures.packed
+    c.reserve.ensures.unpacked in
     let mine = map-set (all_of p) i.lent.items c.args.worker lent
     ∙ set_same b.lent c.args.worker (all_of p lent)
     (lent_at p i.lent.items c.args.worker lent there at) in
     let put_off = taken_back b.deferred (items_at p c.listed_of-listed.result.now)
     (all_of p c.append_prefixes.new.self) (all_of p c.truncate.new.self)
-    c.length-deferred_length.result
+    c.len-deferred_len.result
     (more_of c.append_prefixes.new.self i.deferred c.listed_of-listed.result.now
     c.shared_program-program.ensures c.in_ok-append_prefixes.ensures.all)
-    (c.length-deferred_length.ensures p) (c.truncate.ensures.items p) in
+    (c.len-deferred_len.ensures p) (c.truncate.ensures.items p) in
     λ k. record b {
       finished = c.in-Err.ensures.joined k;
       free = free k;
@@ -150,11 +150,11 @@ settled c =
     let p = i.of.program in
     let b = lending_of i in
     let found = c.args.found.now in
-    let free = grown p c.make_room.new.self c.append.new.self found.rest.items
+    let free = grown p c.reserve.new.self c.append.new.self found.rest.items
     c.append.ensures.packed c.append.ensures.unpacked
     ∙ ap (λ is. is ++ found.rest.items)
-    (still_there p i.free c.make_room.new.self b.free refl c.make_room.ensures.packed
-    c.make_room.ensures.unpacked) in
+    (still_there p i.free c.reserve.new.self b.free refl c.reserve.ensures.packed
+    c.reserve.ensures.unpacked) in
     let none : all_of p c.clear.new.self ≡ [] =
     λ k. items_at p (c.clear.ensures.packed k) ++ c.clear.ensures.unpacked k in
     let mine = map-set (all_of p) i.lent.items c.args.worker c.clear.new.self
@@ -173,14 +173,14 @@ settled c =
 
 pub invariant_of-self-2 : goal.invariant_of-self-2
 invariant_of-self-2 c =
-    let d = (goal.at.invariant_of-self-2 c).In_ok-make_room in
+    let d = (goal.at.invariant_of-self-2 c).In_ok-reserve in
     subst (λ (z : LendingView). Keeps (as_book z)) (sym (settled c))
     (settled_loan c.args.self.now c.args.worker _ c.args.found.now (has d) (keeps d) (lists d)
     c.requires.walked).1
 
 pub returns-clause-taken : goal.returns-clause-taken
 returns-clause-taken c = λ f e.
-    let d = (goal.at.returns-clause-taken c).In_ok-make_room in
+    let d = (goal.at.returns-clause-taken c).In_ok-reserve in
     subst (λ (z : LendingView). HaveSettled (as_book c.args.self.now) f.walks (as_book z))
     (sym (settled c))
     (settled_loan c.args.self.now c.args.worker _ c.args.found.now (has d) (keeps d) (lists d) f).0

@@ -14,8 +14,8 @@ run_once-requires c = record {
   );
 }
 
-pub goes_on-requires-clause-search : goal.goes_on-requires-clause-search
-goes_on-requires-clause-search c = (
+pub defer_others-requires-clause-search : goal.defer_others-requires-clause-search
+defer_others-requires-clause-search c = (
   c.requires.search.0,
   c.in_ok-run_once.ensures.search c.requires.search.0
       (next_is c.args.mode c.args.item.now c.loop-going.self c.loop-going.found c.args.thread
@@ -49,7 +49,7 @@ loop-going-smaller c =
     let short = schedule_within p c.run_once.new.self.steps.items path.well_formed
     path.reaches.runs in
     let further = c.in_ok-run_once.ensures.further in
-    let same = ap (λ (w : List ℕ). length w) c.goes_on.ensures.steps in
+    let same = ap (λ (w : List ℕ). length w) c.defer_others.ensures.steps in
     omega (arith, short, further, same)
 
 pub returns-clause-search : goal.returns-clause-search

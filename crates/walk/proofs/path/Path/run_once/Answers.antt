@@ -13,13 +13,13 @@ use Rattle.items.specs.Items.{ItemView}
 use Rattle.walk.specs.declared.found.Found.{Found}
 use Rattle.walk.specs.declared.path.Path.{Path}
 use Rattle.walk.specs.inner.Paths.{state_at, IsPath}
-use Rattle.walk.specs.inner.WalkerInvariant.{left_above, here, item_of, at_bound, IsGone, IsAlong}
+use Rattle.walk.specs.inner.WalkerInvariant.{left_above, here, item_of, at_bound, IsExtended, IsAlong}
 use Rattle.walk.specs.inner.WalkerInvariant.{IsShared, HasPut}
 use Rattle.walk.proofs.Expansions.{search_enabled}
 use Rattle.walk.proofs.LoneSteps.{and_right}
 use Rattle.walk.proofs.RunWalks.{along_begun, along_next, along_falls, along_done, along_turns}
 use Rattle.walk.proofs.RunWalks.{run_further, more_at, node_at, of_at, alone_at, same_turned}
-use Rattle.walk.proofs.RunWalks.{same_room, same_path, gone_place}
+use Rattle.walk.proofs.RunWalks.{same_room, same_path, extended_place}
 use Rattle.walk.proofs.RunWalks.{IsNoted, noted_once, along_rest, falls_rest}
 use Rattle.walk.proofs.path.Path.run_once.Goals as goal
 
@@ -31,8 +31,8 @@ sleepers-asleep-requires-clause-enabled c =
     (search_enabled c.args.mode c.args.item.now t c.args.found.now c.args.thread
     (left_above c.args.mode c.args.item.now.program t) c.requires.search.1)
 
-pub go-requires-clause-enabled : goal.go-requires-clause-enabled
-go-requires-clause-enabled c =
+pub extend-requires-clause-enabled : goal.extend-requires-clause-enabled
+extend-requires-clause-enabled c =
     let t = c.args.self.now in
     subst (λ (q : Program). is_enabled q (state_at q t.steps.items) c.args.thread ≡ true)
     (sym c.program-program.ensures)
@@ -54,9 +54,9 @@ loop-place-init c = record {
   same = refl;
   steps = refl;
   within = let further = run_further c.program-program.result.now c.args.mode c.args.self.now
-      c.go.new.self c.args.thread c.sleepers-asleep.result c.in_ok-run.run'
-      c.in_ok-run.ensures.gone in
-      let some = c.in_ok-run.ensures.gone.some in
+      c.extend.new.self c.args.thread c.sleepers-asleep.result c.in_ok-run.run'
+      c.in_ok-run.ensures.extended in
+      let some = c.in_ok-run.ensures.extended.some in
       omega (arith, c.len-from.ensures, c.args.self.now.steps.ok.0, further, some);
   along = λ b h. h;
   falls = omega arith;
@@ -71,14 +71,15 @@ pub defer-requires-clause-shared : goal.defer-requires-clause-shared
 defer-requires-clause-shared c =
     let i = c.args.item.now in
     let old = c.args.self.now in
-    let new = c.go.new.self in
+    let new = c.extend.new.self in
     let m = c.args.mode in
-    let gone = subst (λ (q : Program). IsGone q m old new c.args.thread c.sleepers-asleep.result
-    c.in_ok-run.run') c.program-program.ensures c.in_ok-run.ensures.gone in
+    let extended = subst (λ (q : Program). IsExtended q m old new c.args.thread
+    c.sleepers-asleep.result
+    c.in_ok-run.run') c.program-program.ensures c.in_ok-run.ensures.extended in
     let mask = c.sleepers-asleep.ensures ∙ ap (λ (q : Program). mask_after m (here q old)
     c.args.thread) c.program-program.ensures in
     let begun = along_begun m i old new c.args.found.now c.args.thread c.sleepers-asleep.result
-    c.in_ok-run.run' c.requires.search.1 gone mask in
+    c.in_ok-run.run' c.requires.search.1 extended mask in
     let from : length old.steps.items ≡ c.len-from.result =
     omega (arith, c.len-from.ensures, old.steps.ok.0) in
     subst (λ (w : List ℕ). IsShared (take c.loop-place.place w) c.loop-place.found)
@@ -88,15 +89,16 @@ defer-requires-clause-shared c =
 
 pub returns-in_err-defer-clause-path : goal.returns-in_err-defer-clause-path
 returns-in_err-defer-clause-path c =
-    same_path c.args.item.now.program c.go.new.self c.loop-place.self c.defer.new.steps
+    same_path c.args.item.now.program c.extend.new.self c.loop-place.self c.defer.new.steps
     c.loop-place.invariant.same (c.defer.ensures.steps ∙ c.loop-place.invariant.steps)
-    (subst (λ (q : Program). IsPath q c.go.new.self) c.program-program.ensures c.go.ensures.path)
+    (subst (λ (q : Program). IsPath q c.extend.new.self) c.program-program.ensures
+    c.extend.ensures.path)
 
 pub loop-place-preserved : goal.loop-place-preserved
 loop-place-preserved c =
     let i = c.args.item.now in
     let old = c.args.self.now in
-    let new = c.go.new.self in
+    let new = c.extend.new.self in
     let m = c.args.mode in
     let u = c.args.thread in
     let run = c.in_ok-run.run' in
@@ -104,9 +106,10 @@ loop-place-preserved c =
     let f = c.loop-place.found in
     let g = c.defer.new.self in
     let past = c.with-others.result in
-    let path = subst (λ (q : Program). IsPath q new) c.program-program.ensures c.go.ensures.path in
-    let gone = subst (λ (q : Program). IsGone q m old new u c.sleepers-asleep.result run)
-    c.program-program.ensures c.in_ok-run.ensures.gone in
+    let path = subst (λ (q : Program). IsPath q new) c.program-program.ensures
+    c.extend.ensures.path in
+    let extended = subst (λ (q : Program). IsExtended q m old new u c.sleepers-asleep.result run)
+    c.program-program.ensures c.in_ok-run.ensures.extended in
     let mask = c.sleepers-asleep.ensures ∙ ap (λ (q : Program). mask_after m (here q old) u)
     c.program-program.ensures in
     let from : length old.steps.items + 1 ≤ place =
@@ -119,11 +122,11 @@ loop-place-preserved c =
       c.last_place-last.ensures.few,
       c.loop-place-test.true,
     ) in
-    let more = more_at i.program m old new u c.sleepers-asleep.result run place path gone from
+    let more = more_at i.program m old new u c.sleepers-asleep.result run place path extended from
     inside in
-    let node = node_at i.program m old new u c.sleepers-asleep.result run place path gone from
+    let node = node_at i.program m old new u c.sleepers-asleep.result run place path extended from
     inside in
-    let alone = alone_at i.program m old new u c.sleepers-asleep.result run place path gone from
+    let alone = alone_at i.program m old new u c.sleepers-asleep.result run place path extended from
     inside in
     let less = along_falls i.program new run.among u place more node
     (and_right (at_bound m new.node) (has run.among u) alone) in
@@ -135,10 +138,11 @@ loop-place-preserved c =
       within = omega (arith, inside);
       along = λ b h. along_next m i (here i.program old) new f g run.among past u place
           (c.loop-place.invariant.along b h) more node
-          (of_at i.program m old new u c.sleepers-asleep.result run place path gone from inside)
-          gone.last (gone.asleep ∙ mask) alone c.with-others.ensures.same
+          (of_at i.program m old new u c.sleepers-asleep.result run place path extended from inside)
+          extended.last (extended.asleep ∙ mask) alone c.with-others.ensures.same
           c.with-others.ensures.others c.in_ok-defer.ensures.part c.defer.ensures.rest
-          (subst (λ (w : List ℕ). HasPut f (map (λ v. take place w ++ v ∷ []) (members_from past 0)) g)
+          (subst (λ (w : List ℕ). HasPut f (map (λ v. take place w ++ v ∷ [])
+          (members_from past 0)) g)
           c.loop-place.invariant.steps c.in_ok-defer.ensures.put)
           (subst (λ (w : List ℕ). IsShared (take place w) g) c.loop-place.invariant.steps
           c.in_ok-defer.ensures.shared);
@@ -150,32 +154,33 @@ loop-place-preserved c =
 
 pub returns-clause-path : goal.returns-clause-path
 returns-clause-path c =
-    same_path c.args.item.now.program c.go.new.self c.loop-place.self c.loop-place.self.steps
+    same_path c.args.item.now.program c.extend.new.self c.loop-place.self c.loop-place.self.steps
     c.loop-place.invariant.same c.loop-place.invariant.steps
-    (subst (λ (q : Program). IsPath q c.go.new.self) c.program-program.ensures c.go.ensures.path)
+    (subst (λ (q : Program). IsPath q c.extend.new.self) c.program-program.ensures
+    c.extend.ensures.path)
 
 pub returns-clause-last : goal.returns-clause-last
 returns-clause-last c = ap (λ (x : Path). x.node.last) c.loop-place.invariant.same
-    ∙ c.in_ok-run.ensures.gone.last
+    ∙ c.in_ok-run.ensures.extended.last
 
 pub returns-clause-further : goal.returns-clause-further
 returns-clause-further c =
     let further = run_further c.program-program.result.now c.args.mode c.args.self.now
-    c.go.new.self c.args.thread c.sleepers-asleep.result c.in_ok-run.run'
-    c.in_ok-run.ensures.gone in
-    let some = c.in_ok-run.ensures.gone.some in
+    c.extend.new.self c.args.thread c.sleepers-asleep.result c.in_ok-run.run'
+    c.in_ok-run.ensures.extended in
+    let some = c.in_ok-run.ensures.extended.some in
     let same = ap (λ (w : List ℕ). length w) c.loop-place.invariant.steps in
     omega (arith, further, some, same)
 
 pub returns-clause-search : goal.returns-clause-search
 returns-clause-search c = λ b h. along_done m i new c.loop-place.self f (length new.steps.items)
-    (along_rest m i (here i.program old) old new u c.sleepers-asleep.result run path gone
-    (gone.asleep ∙ mask) past c.with-others.ensures.same c.with-others.ensures.others f
+    (along_rest m i (here i.program old) old new u c.sleepers-asleep.result run path extended
+    (extended.asleep ∙ mask) past c.with-others.ensures.same c.with-others.ensures.others f
     (length new.steps.items - place) place from (omega (arith, to)) seen
     (c.loop-place.invariant.along b
     (subst (λ n. IsAlong b m i new c.args.found.now (n + 1)) first
-    (along_begun m i old new c.args.found.now u c.sleepers-asleep.result run h gone mask))))
-    refl (gone_place i.program m old new u c.sleepers-asleep.result run h.place path gone)
+    (along_begun m i old new c.args.found.now u c.sleepers-asleep.result run h extended mask))))
+    refl (extended_place i.program m old new u c.sleepers-asleep.result run h.place path extended)
     (same_turned new c.loop-place.self c.loop-place.self.steps c.loop-place.invariant.same
     c.loop-place.invariant.steps)
     (same_room i.program new c.loop-place.self c.loop-place.invariant.same path)
@@ -187,7 +192,7 @@ returns-clause-search c = λ b h. along_done m i new c.loop-place.self f (length
     old = c.args.self.now
 
     new : Path
-    new = c.go.new.self
+    new = c.extend.new.self
 
     m : Mode
     m = c.args.mode
@@ -208,11 +213,11 @@ returns-clause-search c = λ b h. along_done m i new c.loop-place.self f (length
     past = c.with-others.result
 
     path : IsPath i.program new
-    path = subst (λ (q : Program). IsPath q new) c.program-program.ensures c.go.ensures.path
+    path = subst (λ (q : Program). IsPath q new) c.program-program.ensures c.extend.ensures.path
 
-    gone : IsGone i.program m old new u c.sleepers-asleep.result run
-    gone = subst (λ (q : Program). IsGone q m old new u c.sleepers-asleep.result run)
-        c.program-program.ensures c.in_ok-run.ensures.gone
+    extended : IsExtended i.program m old new u c.sleepers-asleep.result run
+    extended = subst (λ (q : Program). IsExtended q m old new u c.sleepers-asleep.result run)
+        c.program-program.ensures c.in_ok-run.ensures.extended
 
     mask : c.sleepers-asleep.result ≡ mask_after m (here i.program old) u
     mask = c.sleepers-asleep.ensures ∙ ap (λ (q : Program). mask_after m (here q old) u)
@@ -259,9 +264,10 @@ returns-clause-search c = λ b h. along_done m i new c.loop-place.self f (length
 pub returns-clause-falls : goal.returns-clause-falls
 returns-clause-falls c =
     along_turns m i.program old new c.loop-place.self u c.sleepers-asleep.result run
-    (length new.steps.items) gone mask c.requires.search.1.place.base
-    (let less = falls_rest m i (here i.program old) old new u c.sleepers-asleep.result run path gone
-    (gone.asleep ∙ mask) c.with-others.result c.with-others.ensures.same
+    (length new.steps.items) extended mask c.requires.search.1.place.base
+    (let less = falls_rest m i (here i.program old) old new u c.sleepers-asleep.result run path
+    extended
+    (extended.asleep ∙ mask) c.with-others.result c.with-others.ensures.same
     c.with-others.ensures.others (length new.steps.items - place) place from
     (omega (arith, to)) in
     let more = subst (λ n. cost_of (item_of i.program (take place new.steps.items) new.node)
@@ -277,7 +283,7 @@ returns-clause-falls c =
     old = c.args.self.now
 
     new : Path
-    new = c.go.new.self
+    new = c.extend.new.self
 
     m : Mode
     m = c.args.mode
@@ -292,11 +298,11 @@ returns-clause-falls c =
     place = c.loop-place.place
 
     path : IsPath i.program new
-    path = subst (λ (q : Program). IsPath q new) c.program-program.ensures c.go.ensures.path
+    path = subst (λ (q : Program). IsPath q new) c.program-program.ensures c.extend.ensures.path
 
-    gone : IsGone i.program m old new u c.sleepers-asleep.result run
-    gone = subst (λ (q : Program). IsGone q m old new u c.sleepers-asleep.result run)
-        c.program-program.ensures c.in_ok-run.ensures.gone
+    extended : IsExtended i.program m old new u c.sleepers-asleep.result run
+    extended = subst (λ (q : Program). IsExtended q m old new u c.sleepers-asleep.result run)
+        c.program-program.ensures c.in_ok-run.ensures.extended
 
     mask : c.sleepers-asleep.result ≡ mask_after m (here i.program old) u
     mask = c.sleepers-asleep.ensures ∙ ap (λ (q : Program). mask_after m (here q old) u)

@@ -4,8 +4,8 @@ use Rattle.walk.specs.inner.WalkerInvariant.{here, left_above, turns_left}
 use Rattle.walk.proofs.Expansions.{turned_here, search_turned}
 use Rattle.walk.proofs.path.Path.search_in.Goals as goal
 
-pub enter-requires : goal.enter-requires
-enter-requires c =
+pub take_branch-requires : goal.take_branch-requires
+take_branch-requires c =
     let p = c.args.item.now.program in
     let t = c.loop-going.self in
     let b = c.requires.search.0 in
@@ -26,7 +26,7 @@ loop-going-preserved-in-Continue-1 c =
     let t = c.loop-going.self in
     record {
       search = λ b k. let h = c.loop-going.invariant.search b k in
-          c.in_ok-enter-in-Some.ensures.search b
+          c.in_ok-take_branch-in-Some.ensures.search b
           (search_turned c.args.mode c.args.item.now t _ c.loop-going.found _ _ h
           (turned_here t _ refl refl refl refl refl refl refl) h.place.path.room
           (ap (λ (ts : List ℕ). children_of c.args.mode (here p t) ts
@@ -61,5 +61,5 @@ loop-going-smaller-in-Continue-1 c =
     let t = c.loop-going.self in
     let e = ap (λ (ts : List ℕ). costs (children_of c.args.mode (here p t) ts
     ++ left_above c.args.mode p t)) c.without_first-self.ensures in
-    let f = c.in_ok-enter-in-Some.ensures.further in
+    let f = c.in_ok-take_branch-in-Some.ensures.further in
     omega (arith, e, f)

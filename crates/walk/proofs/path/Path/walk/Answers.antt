@@ -12,8 +12,8 @@ returns-then-is_past-clause-added c =
     (sym c.is_past.ensures ∙ c.if-is_past.true) c.ends-ends.ensures.kept
     (λ k. record c.args.found.now { part = c.set_beyond.ensures k })
 
-pub resume-requires : goal.resume-requires
-resume-requires c = record {
+pub run_last-requires : goal.run_last-requires
+run_last-requires c = record {
   search = (
     c.args.found.now,
     search_begun c.args.mode c.args.item.now c.seek.new.self c.args.found.now c.begin.new.self
@@ -26,7 +26,7 @@ resume-requires c = record {
 pub expand-requires-clause-search : goal.expand-requires-clause-search
 expand-requires-clause-search c = (
   c.args.found.now,
-  c.in_ok-resume.ensures.search c.args.found.now
+  c.in_ok-run_last.ensures.search c.args.found.now
       (search_begun c.args.mode c.args.item.now c.seek.new.self c.args.found.now
       c.begin.new.self c.in_ok-seek.ensures.place c.in_ok-seek.ensures.item
       c.in_ok-seek.ensures.base (sym c.is_past.ensures ∙ c.if-is_past.false)
@@ -36,27 +36,29 @@ expand-requires-clause-search c = (
 pub search-requires-clause-search : goal.search-requires-clause-search
 search-requires-clause-search c = (
   c.args.found.now,
-  c.in_ok-expand.ensures.search c.args.found.now (c.in_ok-resume.ensures.search c.args.found.now
+  c.in_ok-expand.ensures.search c.args.found.now (c.in_ok-run_last.ensures.search c.args.found.now
       (search_begun c.args.mode c.args.item.now c.seek.new.self c.args.found.now
       c.begin.new.self c.in_ok-seek.ensures.place c.in_ok-seek.ensures.item
       c.in_ok-seek.ensures.base (sym c.is_past.ensures ∙ c.if-is_past.false)
       c.ends-ends.ensures.kept c.begin.ensures.same c.begin.ensures.shared)),
 )
 
-pub give_all_back-requires-clause-place : goal.give_all_back-requires-clause-place
-give_all_back-requires-clause-place c =
+pub drain-requires-clause-place : goal.drain-requires-clause-place
+drain-requires-clause-place c =
     (c.in_ok-search.ensures.search c.args.found.now
-    (c.in_ok-expand.ensures.search c.args.found.now (c.in_ok-resume.ensures.search c.args.found.now
+    (c.in_ok-expand.ensures.search c.args.found.now (c.in_ok-run_last.ensures.search
+    c.args.found.now
     (search_begun c.args.mode c.args.item.now c.seek.new.self c.args.found.now
     c.begin.new.self c.in_ok-seek.ensures.place c.in_ok-seek.ensures.item
     c.in_ok-seek.ensures.base (sym c.is_past.ensures ∙ c.if-is_past.false)
     c.ends-ends.ensures.kept c.begin.ensures.same c.begin.ensures.shared)))).place
 
-pub give_all_back-requires-clause-items : goal.give_all_back-requires-clause-items
-give_all_back-requires-clause-items c =
+pub drain-requires-clause-items : goal.drain-requires-clause-items
+drain-requires-clause-items c =
     items_run c.args.mode c.args.item.now c.search.new.found _
     (c.in_ok-search.ensures.search c.args.found.now
-    (c.in_ok-expand.ensures.search c.args.found.now (c.in_ok-resume.ensures.search c.args.found.now
+    (c.in_ok-expand.ensures.search c.args.found.now (c.in_ok-run_last.ensures.search
+    c.args.found.now
     (search_begun c.args.mode c.args.item.now c.seek.new.self c.args.found.now
     c.begin.new.self c.in_ok-seek.ensures.place c.in_ok-seek.ensures.item
     c.in_ok-seek.ensures.base (sym c.is_past.ensures ∙ c.if-is_past.false)
@@ -75,11 +77,11 @@ returns-clause-added c =
     let few = c.in_ok-search.ensures.few in
     let tried = c.tried.ensures in
     let quota = c.from.ensures in
-    on_ok_weaker c.give_all_back.result
+    on_ok_weaker c.drain.result
     (search_added c.args.mode i t.node t.steps.items c.search.new.self f g _ c.args.quota
     c.seek.ensures.path.reaches c.in_ok-seek.ensures.item past
     (c.in_ok-search.ensures.search f (c.in_ok-expand.ensures.search f
-    (c.in_ok-resume.ensures.search f begun)))
+    (c.in_ok-run_last.ensures.search f begun)))
     c.requires.room (omega (arith, few, tried, quota))
     (λ l. c.in_ok-search.ensures.all (omega (arith, l, tried, quota))) refl)
-    c.give_all_back.ensures.rest
+    c.drain.ensures.rest

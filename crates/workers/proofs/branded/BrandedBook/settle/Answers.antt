@@ -15,9 +15,9 @@ settle_all-settled-requires-clause-walked g c =
     let b = c.self.inside.book in
     let of = c.self.invariant in
     let round = c.args.round.now in
-    let batch = c.args.batch.now in
-    found_in batch.walker b.of.program round.mode b.mode round.items.items
-    c.as_slice-items.result.now batch.places.items c.as_slice-places.result.now batch.found
+    let worker = c.args.worker.now in
+    found_in worker.walker b.of.program round.mode b.mode round.items.items
+    c.as_slice-items.result.now worker.places.items c.as_slice-places.result.now worker.found
     (ap (λ (i : ItemView). i.program) of.of ∙ sym c.requires.walker)
     (of.mode ∙ sym c.requires.round.mode)
     c.as_slice-items.ensures.value c.as_slice-places.ensures.value c.requires.kept.found
@@ -27,9 +27,9 @@ invariant_of-self g c =
     let b = c.self.inside.book in
     let of = c.self.invariant in
     let round = c.args.round.now in
-    let batch = c.args.batch.now in
-    let found = found_in batch.walker b.of.program round.mode b.mode round.items.items
-    c.as_slice-items.result.now batch.places.items c.as_slice-places.result.now batch.found
+    let worker = c.args.worker.now in
+    let found = found_in worker.walker b.of.program round.mode b.mode round.items.items
+    c.as_slice-items.result.now worker.places.items c.as_slice-places.result.now worker.found
     (ap (λ (i : ItemView). i.program) of.of ∙ sym c.requires.walker)
     (of.mode ∙ sym c.requires.round.mode)
     c.as_slice-items.ensures.value c.as_slice-places.ensures.value c.requires.kept.found in
@@ -42,9 +42,9 @@ invariant_of-self-2 g c =
     let b = c.self.inside.book in
     let of = c.self.invariant in
     let round = c.args.round.now in
-    let batch = c.args.batch.now in
-    let found = found_in batch.walker b.of.program round.mode b.mode round.items.items
-    c.as_slice-items.result.now batch.places.items c.as_slice-places.result.now batch.found
+    let worker = c.args.worker.now in
+    let found = found_in worker.walker b.of.program round.mode b.mode round.items.items
+    c.as_slice-items.result.now worker.places.items c.as_slice-places.result.now worker.found
     (ap (λ (i : ItemView). i.program) of.of ∙ sym c.requires.walker)
     (of.mode ∙ sym c.requires.round.mode)
     c.as_slice-items.ensures.value c.as_slice-places.ensures.value c.requires.kept.found in
@@ -58,19 +58,20 @@ returns-clause-settled g c = λ f.
     let b = c.self.inside.book in
     let of = c.self.invariant in
     let round = c.args.round.now in
-    let batch = c.args.batch.now in
+    let worker = c.args.worker.now in
     let again = found_in g.N.SearchBrand.of.program b.of.program g.N.SearchBrand.mode b.mode
-    round.items.items c.as_slice-items.result.now batch.places.items c.as_slice-places.result.now
-    batch.found (ap (λ (i : ItemView). i.program) of.of) of.mode c.as_slice-items.ensures.value
+    round.items.items c.as_slice-items.result.now worker.places.items c.as_slice-places.result.now
+    worker.found (ap (λ (i : ItemView). i.program) of.of) of.mode c.as_slice-items.ensures.value
     c.as_slice-places.ensures.value f in
     elim c.in_ok-_is_taken._is_taken as (λ taken. c.settle_all-settled.result ≡ Ok taken
     → HaveSettled old f.walks c.settle_all-settled.new.self
-    ⊎ AreNotTaken old round.items.items batch.places.items batch.found) [
+    ⊎ AreNotTaken old round.items.items worker.places.items worker.found) [
       | true ↦ λ e. inl (subst (λ z. HaveSettled z f.walks c.settle_all-settled.new.self)
           c.self.view_is (c.settle_all-settled.ensures.taken again e))
-      | false ↦ λ e. inr (subst (λ z. AreNotTaken z round.items.items batch.places.items batch.found)
-          c.self.view_is (subst (λ ks. AreNotTaken b round.items.items ks batch.found)
+      | false ↦ λ e. inr (subst (λ z. AreNotTaken z round.items.items worker.places.items
+          worker.found)
+          c.self.view_is (subst (λ ks. AreNotTaken b round.items.items ks worker.found)
           c.as_slice-places.ensures.value
-          (subst (λ is. AreNotTaken b is c.as_slice-places.result.now batch.found)
+          (subst (λ is. AreNotTaken b is c.as_slice-places.result.now worker.found)
           c.as_slice-items.ensures.value (c.settle_all-settled.ensures.not_taken e))))
     ] c.in_ok-_is_taken.was

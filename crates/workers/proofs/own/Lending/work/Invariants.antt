@@ -1,6 +1,6 @@
 use Rattle.std.proofs.Common.{◌≡◌}
 use Rattle.items.specs.Items.{AreOf}
-use Rattle.workers.specs.declared.lender.Next.TheVariants.{Walk}
+use Rattle.workers.specs.declared.lender.Task.TheVariants.{Walk}
 use Rattle.workers.specs.inner.Loans.{IsLent}
 use Rattle.workers.proofs.own.Lending.work.Given as goal
 

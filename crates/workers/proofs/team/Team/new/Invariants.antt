@@ -4,6 +4,6 @@ use Rattle.workers.proofs.team.Team.new.Given as goal
 
 abbrev pub invariant-loop-number : goal.invariant-loop-number
 invariant-loop-number l = record {
-  of : All (λ b. b.walker ≡ l.fn.book.of.program) l.batches.items;
-  many : vec_len l.batches ≡ l.number;
+  of : All (λ b. b.walker ≡ l.fn.book.of.program) l.workers.items;
+  many : vec_len l.workers ≡ l.number;
 }

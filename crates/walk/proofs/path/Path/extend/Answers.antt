@@ -1,0 +1,94 @@
+use Rattle.std.proofs.Common.{◌≡◌, arith, ◌+◌, ◌∙◌, ◌<◌, ◌≤◌, ◌++◌, ◌&&◌, ℕ, Bool, true, false}
+use Rattle.std.proofs.Common.{List, replicate, refl, ap, sym}
+use Rattle.semantics.specs.Machine.{is_enabled}
+use Rattle.semantics.specs.Mask.{HasEnabled, has, one_if}
+use Rattle.schedules.specs.Schedules.{preempts}
+use Rattle.schedules.proofs.Executions.{reaches_few}
+use Rattle.schedules.proofs.ScheduleLengths.{schedule_within}
+use Rattle.walk.specs.inner.Paths.{state_at}
+use Rattle.walk.specs.inner.WalkerInvariant.{at_bound}
+use Rattle.walk.proofs.PathSteps.{left_extended, preempts_is}
+use Rattle.walk.proofs.RunSteps.{run_reaches, run_enabled, run_front, path_extended}
+use Rattle.walk.proofs.path.Path.extend.Goals as goal
+
+pub step-requires : goal.step-requires
+step-requires c =
+    let t = c.args.self.now in
+    let w = t.steps.items in
+    let few = reaches_few c.args.program.now w _ c.requires.path.reaches in
+    let short = schedule_within c.args.program.now w c.requires.path.well_formed
+    c.requires.path.reaches.runs in
+    omega (arith, few, short)
+
+-- what is known after the run
+
+steps_are : (c : goal.After-push_run) → c.push_run.new.steps.items
+    ≡ c.args.self.now.steps.items ++ replicate c.run-run.result.steps c.args.thread
+steps_are c = c.push_run.ensures ∙ ap (λ (w : List ℕ). w ++ replicate c.run-run.result.steps
+    c.args.thread) c.reserve.ensures.items
+
+used_is : (c : goal.After-push_run) → c.step.new.self.used ≡ c.args.self.now.node.used
+    + one_if (preempts c.args.program.now (state_at c.args.program.now c.args.self.now.steps.items)
+    c.args.self.now.node.last c.args.thread)
+used_is c =
+    let p = c.args.program.now in
+    let t = c.args.self.now in
+    c.step.ensures.used ∙ ap (λ b. t.node.used + one_if b)
+    (preempts_is p (state_at p t.steps.items) c.enabled-enabled.result t.node.last c.args.thread
+    (c.enabled-enabled.ensures p (state_at p t.steps.items) c.requires.path.shows))
+
+among_are : (c : goal.After-push_run) → (k : ℕ) → 1 ≤ k → k < c.run-run.result.steps
+    → HasEnabled c.run-run.result.among c.args.program.now
+    (state_at c.args.program.now (c.args.self.now.steps.items ++ replicate k c.args.thread))
+among_are c k some few =
+    let p = c.args.program.now in
+    let w = c.args.self.now.steps.items in
+    run_enabled p w c.args.thread k c.run-run.result.among
+    (c.run-run.ensures.among (state_at p w) c.requires.path.shows c.requires.enabled k some few)
+
+goes_on : (c : goal.After-push_run) → (k : ℕ) → 1 ≤ k → k < c.run-run.result.steps
+    → is_enabled c.args.program.now
+    (state_at c.args.program.now (c.args.self.now.steps.items ++ replicate k c.args.thread))
+    c.args.thread ≡ true
+goes_on c k some few = sym (among_are c k some few c.args.thread)
+    ∙ c.run-run.ensures.on (omega (arith, some, few))
+
+pub returns-clause-path : goal.returns-clause-path
+returns-clause-path c =
+    let p = c.args.program.now in
+    let t = c.args.self.now in
+    path_extended p t _ c.args.thread c.run-run.result.steps c.requires.path c.requires.frames
+    c.requires.enabled (used_is c) c.step.ensures.last (goes_on c) c.run-run.ensures.some
+    (steps_are c)
+    (c.run-run.ensures.shows (state_at p t.steps.items) c.requires.path.shows c.requires.enabled)
+    c.run-run.ensures.size c.run-run.ensures.shape refl refl refl
+    c.requires.path.room
+
+pub returns-clause-extended : goal.returns-clause-extended
+returns-clause-extended c =
+    let p = c.args.program.now in
+    let t = c.args.self.now in
+    record {
+      some = c.run-run.ensures.some;
+      steps = steps_are c;
+      last = c.step.ensures.last;
+      asleep = c.step.ensures.asleep;
+      base = refl;
+      frames = refl;
+      left = λ mode above. left_extended mode p t _ c.requires.path above
+          (run_front t.steps.items _ c.args.thread c.run-run.result.steps (steps_are c));
+      between = λ k some few. record {
+        reaches = run_reaches p t.steps.items c.args.thread c.run-run.result.steps t.node
+            c.step.new.self c.requires.path.reaches c.requires.enabled (used_is c)
+            c.step.ensures.last (goes_on c) k some (omega (arith, few));
+        enabled = among_are c k some few;
+      };
+      alone = λ more. both (at_bound c.args.mode c.step.new.self)
+          (has c.run-run.result.among c.args.thread) c.is_at_bound-alone.result
+          c.is_at_bound-alone.ensures (λ off. (let one = c.run-run.ensures.one off in
+          absurd (omega (arith, one, more)))) (c.run-run.ensures.on more);
+    }
+  where
+    both : (a b r : Bool) → r ≡ a → (r ≡ false → ⊥) → b ≡ true → (a && b) ≡ true
+    both true b r e h on = on
+    both false b r e h on = absurd (h e)

@@ -1,0 +1,282 @@
+//! Workers of rounds that all share, each in a thread of its own.
+
+ghost use Rattle.std.specs.Prelude.{◌≡◌, ◌<◌, ◌≤◌, ◌↔◌, ℕ, [], true, false, vec_len, Some, None, OnOk, IfSome, IfNone, IsTrue};
+ghost use Rattle.std.specs.List.{All, Any};
+ghost use Rattle.workers.specs.declared.limits.TheConstants.{KEPT_WALKS};
+ghost use Rattle.workers.specs.declared.exit.Exit.TheVariants.{Drawn, Stopped, OutOfMemory};
+ghost use Rattle.board.specs.Claims.{Draws, IsAnswered, marked, with_told};
+ghost use Rattle.workers.specs.inner.Rounds.{IsRoundOf, IsOn, AreKept, rank};
+
+use crate::branded::SearchBrand;
+use crate::desk::Desk;
+use crate::exit::Exit;
+use crate::gate::{Answer, Gate};
+use crate::limits::WORKERS;
+use crate::monitor::Monitor;
+use crate::round::Round;
+use crate::worker::Worker;
+use board::{Board, Seat};
+use items::item::Item;
+use std::alloc::{AllocError, Global};
+use std::sync::Wait;
+use std::thread::Threads;
+use std::{mem, thread};
+
+/// What the workers share: a gate, the board that numbers of items are drawn from, and the desk.
+#[derive(Drop)]
+pub(crate) struct Shared<'a, N: SearchBrand, G> {
+    pub alloc: Global,
+    pub gate: &'a G,
+    pub board: Board,
+    pub monitor: Monitor<Desk<N>>,
+}
+
+/// A worker of a stretch of rounds that all share, with its seat at the board.
+#[derive(Drop)]
+pub(crate) struct SeatedWorker {
+    pub seat: Seat,
+    /// The number that it drew last, where the item is of a later round.
+    pub ahead: Option<u64>,
+    /// How many items of the round it drew of which the desk has not taken note yet.
+    pub drawn: usize,
+    pub exit: Exit,
+    pub worker: Worker,
+}
+
+impl SeatedWorker {
+    // The next number: the one that it drew ahead, or one from the board.
+    fn draw(&mut self, board: &Board) -> Option<u64>
+        requires { self.old.seat.board ≡ board.now.id }
+        ensures ahead { IfSome self.old.ahead (λ k. (result ≡ Some k)
+            × (self.new.seat ≡ self.old.seat)) }
+        ensures drawn { self.old.ahead ≡ None →
+            IfSome result (λ k. Draws self.old.seat k self.new.seat) }
+        ensures all { self.old.ahead ≡ None → IfNone result (self.new.seat ≡ marked self.old.seat) }
+        ensures none { self.new.ahead ≡ None }
+        ensures board { self.new.seat.board ≡ self.old.seat.board }
+        ensures worker { self.new.worker ≡ self.old.worker }
+    {
+        match self.ahead.take() {
+            Some(number) => Some(number),
+            None => board.claim(&mut self.seat),
+        }
+    }
+
+    // Whether a quick search leaves an item out for now.
+    fn leaves_out(&mut self, board: &Board, round: &Round, item: &Item) -> bool
+        requires { self.old.seat.board ≡ board.now.id }
+        ensures whole { round.now.quick ≡ false → result ≡ false }
+        ensures quick { round.now.quick ≡ true → (least : ℕ)
+            × IsAnswered self.old.seat least self.new.seat
+            × (IsTrue result ↔ least < rank round.now.items.items item.now) }
+        ensures board { self.new.seat.board ≡ self.old.seat.board }
+        ensures worker { self.new.worker ≡ self.old.worker }
+    {
+        if !round.quick {
+            return false;
+        }
+        let least = board.least(&mut self.seat);
+        round.leaves_out(item, least)
+    }
+
+    // Tells the other workers that an item has a bad schedule.
+    fn tells_of(&mut self, board: &Board, round: &Round, item: &Item)
+        requires { self.old.seat.board ≡ board.now.id }
+        ensures told { self.new ≡ record self.old {
+          seat = with_told self.old.seat (rank round.now.items.items item.now);
+        } }
+    {
+        board.tell(&mut self.seat, round.rank_of(item));
+    }
+
+    // Works from round to round, until the stretch is over, the board has no number any more, the
+    // gate stops it or memory runs out.
+    fn work<N: SearchBrand, G: Gate, R: Wait>(&mut self, rt: &R, shared: &Shared<N, G>) -> Exit
+        requires { IsOn shared.now.board.id N.of.program self.old }
+        ensures on { IsOn shared.now.board.id N.of.program self.new }
+        ensures stopped { result ≡ Stopped → G.stops shared.now.gate.now ≡ true }
+    {
+        for _ in rt.forever() {
+            let Some(round) = shared.monitor.lock(rt).round() else {
+                return Exit::Drawn;
+            };
+            if let Some(exit) = self.work_round(rt, shared, &round) {
+                return exit;
+            }
+            shared.monitor.wait(rt, round.turn);
+        }
+        unreachable!()
+    }
+
+    // Works in a round, until all its items are drawn, and settles what it walked. Answers how it
+    // ended where it can't go on.
+    fn work_round<N: SearchBrand, G: Gate, R: Wait>(
+        &mut self,
+        rt: &R,
+        shared: &Shared<N, G>,
+        round: &Round,
+    ) -> Option<Exit>
+        requires round { IsRoundOf N.of.program N.mode round.now }
+        requires on { IsOn shared.now.board.id N.of.program self.old }
+        ensures on { IsOn shared.now.board.id N.of.program self.new }
+        ensures stopped { result ≡ Some Stopped → G.stops shared.now.gate.now ≡ true }
+    {
+        self.worker.forget(round.lists);
+        let exit = self.walk_items(rt, shared, round);
+        if self.drawn == 0 {
+            return exit;
+        }
+        match self.settle(rt, shared, round, exit.is_some()) {
+            Ok(()) => exit,
+            Err(AllocError) => Some(Exit::OutOfMemory),
+        }
+    }
+
+    // Settles the walks that it keeps of a round at the desk. Where the last items of the round are
+    // done then, it ends the round and tells those who wait.
+    //
+    // # Errors
+    //
+    // `AllocError` where memory runs out; the walks are given up then.
+    fn settle<N: SearchBrand, G: Gate, R: Wait>(
+        &mut self,
+        rt: &R,
+        shared: &Shared<N, G>,
+        round: &Round,
+        ends: bool,
+    ) -> Result<(), AllocError>
+        requires round { IsRoundOf N.of.program N.mode round.now }
+        requires on { IsOn shared.now.board.id N.of.program self.old }
+        requires kept { AreKept round.now self.old.worker }
+        ensures on { IsOn shared.now.board.id N.of.program self.new }
+        ensures kept { AreKept round.now self.new.worker }
+        ensures places { self.new.worker.places.items ≡ [] }
+    {
+        let drawn = mem::replace(&mut self.drawn, 0);
+        let mut desk = shared.monitor.lock(rt);
+        let settled = desk.book.settle(shared.alloc, &mut self.worker, round);
+        if !desk.note_done(drawn, ends || settled.is_err()) {
+            return settled;
+        }
+        let ended = desk.end_round(shared.alloc, shared.gate);
+        drop(desk);
+        shared.monitor.notify(round.turn);
+        settled?;
+        ended
+    }
+
+    // Settles the walks that it keeps before all items are drawn, where they are as many as it may
+    // keep, or the last one, of this item, found a bad schedule in a quick search. Then it tells
+    // the other workers of the item: that is of this round alone, so the stretch ends with it.
+    //
+    // # Errors
+    //
+    // `AllocError` where memory runs out; the walks are given up then.
+    fn settle_early<N: SearchBrand, G: Gate, R: Wait>(
+        &mut self,
+        rt: &R,
+        shared: &Shared<N, G>,
+        round: &Round,
+        item: &Item,
+        is_bad: bool,
+    ) -> Result<(), AllocError>
+        requires round { IsRoundOf N.of.program N.mode round.now }
+        requires on { IsOn shared.now.board.id N.of.program self.old }
+        requires kept { AreKept round.now self.old.worker }
+        ensures on { IsOn shared.now.board.id N.of.program self.new }
+        ensures kept { AreKept round.now self.new.worker }
+        ensures room { OnOk result (vec_len self.new.worker.places < KEPT_WALKS) }
+    {
+        let ends = round.quick && is_bad;
+        if !ends && !self.worker.is_full() {
+            return Ok(());
+        }
+        self.settle(rt, shared, round, ends)?;
+        if ends {
+            self.tells_of(&shared.board, round, item);
+        }
+        Ok(())
+    }
+
+    // Draws items of a round and walks them, until all are drawn. Answers how it ended where it
+    // can't go on.
+    fn walk_items<N: SearchBrand, G: Gate, R: Wait>(
+        &mut self,
+        rt: &R,
+        shared: &Shared<N, G>,
+        round: &Round,
+    ) -> Option<Exit>
+        requires round { IsRoundOf N.of.program N.mode round.now }
+        requires on { IsOn shared.now.board.id N.of.program self.old }
+        requires kept { AreKept round.now self.old.worker }
+        requires none { self.old.worker.places.items ≡ [] }
+        ensures on { IsOn shared.now.board.id N.of.program self.new }
+        ensures kept { AreKept round.now self.new.worker }
+        ensures stopped { result ≡ Some Stopped → G.stops shared.now.gate.now ≡ true }
+    {
+        for _ in rt.forever() {
+            let Some(number) = self.draw(&shared.board) else {
+                return Some(Exit::Drawn);
+            };
+            let Some(place) = round.place_of(number) else {
+                self.ahead = Some(number);
+                return None;
+            };
+            self.drawn = self.drawn.saturating_add(1);
+            let item = &round.items[place];
+            if self.leaves_out(&shared.board, round, item) {
+                continue;
+            }
+            if shared.gate.before(self.worker.number, place as u64) == Answer::Stop {
+                return Some(Exit::Stopped);
+            }
+            let Ok(is_bad) = self.worker.walk(shared.alloc, round, place) else {
+                return Some(Exit::OutOfMemory);
+            };
+            shared.gate.walked(self.worker.number, place as u64);
+            let settled = self.settle_early(rt, shared, round, item, is_bad);
+            if settled.is_err() {
+                return Some(Exit::OutOfMemory);
+            }
+        }
+        unreachable!()
+    }
+}
+
+/// Lets all workers work, each in a thread of its own. Those for which no thread can be made work
+/// one after another.
+pub(crate) fn work_all<N: SearchBrand + Send + Sync, G: Gate, R: Threads + Wait + Sync>(
+    rt: &R,
+    shared: &Shared<N, G>,
+    workers: &mut Vec<SeatedWorker>,
+)
+    requires { All (IsOn shared.now.board.id N.of.program) workers.old.items }
+    ensures on { All (IsOn shared.now.board.id N.of.program) workers.new.items }
+    ensures stopped { All (λ w. w.exit ≡ Stopped → G.stops shared.now.gate.now ≡ true)
+        workers.new.items }
+    ensures count { vec_len workers.new ≡ vec_len workers.old }
+{
+    let one = |_: usize, w: &mut SeatedWorker|
+        requires { IsOn shared.now.board.id N.of.program w.old }
+        ensures { IsOn shared.entry.now.board.id N.of.program w.new
+            × (w.new.exit ≡ Stopped → G.stops shared.entry.now.gate.now ≡ true) }
+    { w.exit = w.work(rt, shared) };
+    thread::for_each_mut(rt, workers.as_mut_slice(), WORKERS as usize, &one);
+}
+
+/// How the workers ended together: out of memory where one of them was, else stopped where one of
+/// them was.
+pub(crate) fn exit_of(workers: &[SeatedWorker]) -> Exit
+    ensures stopped { result ≡ Stopped → Any (λ w. w.exit ≡ Stopped) workers.now }
+    ensures memory { result ≡ OutOfMemory → Any (λ w. w.exit ≡ OutOfMemory) workers.now }
+    ensures none { (result ≡ OutOfMemory → ⊥) → All (λ w. w.exit ≡ OutOfMemory → ⊥) workers.now }
+    ensures drawn { result ≡ Drawn → All (λ w. w.exit ≡ Drawn) workers.now }
+{
+    if workers.iter().any(|w| w.exit == Exit::OutOfMemory) {
+        Exit::OutOfMemory
+    } else if workers.iter().any(|w| w.exit == Exit::Stopped) {
+        Exit::Stopped
+    } else {
+        Exit::Drawn
+    }
+}
