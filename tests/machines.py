@@ -3,8 +3,9 @@
 
 Usage: tests/machines.py BINARY
 
-In each the first search of a part is killed, and the same command again takes it up. Slurm's daemons are started here, for
-this machine alone, in a folder of their own. What isn't on this machine is left out and named: `parallel`, `make`, Slurm.
+In each the first search of a part is killed, and the same command again takes it up and does nothing twice. Slurm's daemons are
+started here, for this machine alone, in a folder of their own. What isn't on this machine is left out and named: `parallel`,
+`make`, Slurm.
 
 The last line is `N passed, M failed`.
 """
@@ -25,9 +26,12 @@ SECONDS = 120
 GUESTS = {"my guest": ("lost_update.guest", "2"), "fixed.guest": ("lost_update_fixed.guest", "3")}
 SLURM = ("munged", "slurmctld", "slurmd", "sinfo", "sbatch")
 
-# What stands before the program: where the folder isn't there yet, a search under a prefix makes it and is killed.
+# What stands before the program: the first search under a prefix, which makes the folder, is killed, and others are noted.
 KILLED = """#!/bin/sh
-case "$*" in *--under*) mkdir "$KILLED" 2> "$KILLED.err" && kill -9 $$;; esac
+case "$*" in *--under*)
+    mkdir "$KILLED" 2> "$KILLED.err" && kill -9 $$
+    echo "$*" >> "$KILLED.searches";;
+esac
 exec "%s" "$@"
 """
 
@@ -81,7 +85,7 @@ class Tester:
 
     def run(self, *words, kills=None, **more):
         """A command, in which the first search under a prefix is killed where it is said which folder tells so."""
-        killed = str(self.folder / kills) if kills else "/"
+        killed = str(self.folder / (kills or "bin"))
         return subprocess.run([str(word) for word in words], cwd=self.folder, stdin=subprocess.DEVNULL, capture_output=True,
                               timeout=SECONDS, env=dict(self.environment, KILLED=killed, **more))
 
@@ -102,6 +106,13 @@ class Tester:
         self.expect(what + ": it was", (self.folder / what).is_dir())
         done = self.run(*words, kills=what, **more)
         self.expect(what, (done.stdout, done.returncode) == self.wanted(name, bound), done.stdout, done.stderr, done.returncode)
+        self.nothing_twice(what, name)
+
+    def nothing_twice(self, what, name):
+        """Under each prefix that is listed one search wasn't killed."""
+        listed = self.run(self.binary, "prefixes", name, "--at-least", "20").stdout.decode().split()
+        searched = [line.split()[-1] for line in (self.folder / (what + ".searches")).read_text().splitlines()]
+        self.expect(what + ": each part is searched once", sorted(searched) == sorted(listed), searched)
 
     def by_parallel(self):
         if not self.has("parallel"):
@@ -168,6 +179,7 @@ class Tester:
         self.expect("Slurm: all jobs end well", done.returncode == 0, done.stdout, done.stderr)
         done = self.joined("my guest", "2")
         self.expect("Slurm", (done.stdout, done.returncode) == self.wanted("my guest", "2"), done.stdout, done.stderr)
+        self.nothing_twice("slurm's", "my guest")
 
     def joined(self, name, bound):
         return self.run("sh", "-c", 'cat "$0.$1.20"/*.part | ctxbound join "$0" --bound "$1"', name, bound)

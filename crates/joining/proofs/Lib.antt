@@ -1,2 +1,3 @@
+pub mod ByPrefix
 pub mod Sums
 pub mod Told

@@ -12,7 +12,7 @@ ghost use Rattle.joining.specs.Parts.{AreHonest, AreApart, IsTrue, Tells, JoinEr
 ghost use Rattle.joining.specs.inner.Sums.{TellSums, IsFirstOfPart, GoesOnAt};
 
 use crate::error::{JoinError, Place};
-use crate::lines::{check_agreement, is_cut, line_at};
+use crate::lines::{Lines, is_cut};
 use crate::schedules_told::check_schedules;
 use cover::cover_by;
 use guest_code::program::Program;
@@ -27,10 +27,10 @@ use summary::Summary;
 
 // Parts of a search of a program, and the items of their prefixes.
 #[derive(Clone, Copy)]
-struct Joining<'a> {
+struct Joining<'a, 'p> {
     program: &'a Program,
     search: Search,
-    parts: &'a [Part],
+    lines: &'a Lines<'p>,
     items: &'a [Item],
 }
 
@@ -55,7 +55,8 @@ pub fn join(
     ensures error { IfErr result (JoinErrorMeans (arc_value program.now) search parts.now) }
 {
     check_schedules(alloc, program, parts)?;
-    check_agreement(alloc, parts)?;
+    let lines = Lines::of(alloc, parts)?;
+    lines.check_agreement(alloc)?;
     let last = last_bound(search);
     let prefixes = prefixes_for(alloc, search, parts)?;
     let items = cover_by(
@@ -67,7 +68,7 @@ pub fn join(
     let joining = Joining {
         program,
         search,
-        parts,
+        lines: &lines,
         items: items.as_slice(),
     };
     if let Some(last) = last {
@@ -100,21 +101,21 @@ fn prefixes_for<'a>(
     Ok(prefixes)
 }
 
-impl Joining<'_> {
+impl Joining<'_, '_> {
     // The report of the search, if it ends at this bound.
     fn report_at(&self, alloc: Global, bound: Option<u32>) -> Result<Option<Report>, JoinError>
         requires of { IsModeOf self.now.search (mode_at bound) }
-        requires schedules { All (IsTrue self.now.program.now) self.now.parts.now }
+        requires schedules { All (IsTrue self.now.program.now) self.now.lines.now.parts.now }
         requires items { IsCoverBy (last_mode self.now.search) self.now.program.now
-            (prefixes_for self.now.search self.now.parts.now) self.now.items.now }
+            (prefixes_for self.now.search self.now.lines.now.parts.now) self.now.items.now }
         ensures some { IfOk result (λ o. IfSome o (λ r.
-            AreHonest self.now.program.now self.now.parts.now →
+            AreHonest self.now.program.now self.now.lines.now.parts.now →
             HasPassed (root_of self.now.program.now) (mode_at bound) →
             IsReport false self.now.program.now (options_of self.now.search) r)) }
         ensures none { IfOk result (λ o. IfNone o (GoesOnAt self.now.search bound
-            (AreHonest self.now.program.now self.now.parts.now) self.now.program.now)) }
+            (AreHonest self.now.program.now self.now.lines.now.parts.now) self.now.program.now)) }
         ensures error { IfErr result
-            (JoinErrorMeans self.now.program.now self.now.search self.now.parts.now) }
+            (JoinErrorMeans self.now.program.now self.now.search self.now.lines.now.parts.now) }
     {
         let sum = self.sum_at(alloc, bound)?;
         let options = Options::new(self.search);
@@ -127,13 +128,14 @@ impl Joining<'_> {
     // What parts tell of all items at the bound, as one.
     fn sum_at(&self, alloc: Global, bound: Option<u32>) -> Result<Summary, JoinError>
         requires of { IsModeOf self.now.search (mode_at bound) }
-        requires listed { All (λ i. Contains (prefixes_for self.now.search self.now.parts.now)
-            i.prefix) self.now.items.now }
-        ensures sum { TellSums bound self.now.parts.now self.now.items.now →
+        requires listed { All (λ i. Contains
+            (prefixes_for self.now.search self.now.lines.now.parts.now) i.prefix)
+            self.now.items.now }
+        ensures sum { TellSums bound self.now.lines.now.parts.now self.now.items.now →
             IfOk result (λ s. s ≡ item_sums (mode_at bound) self.now.items.now) }
-        ensures first { IfOk result (IsFirstOfPart self.now.parts.now) }
+        ensures first { IfOk result (IsFirstOfPart self.now.lines.now.parts.now) }
         ensures error { (p : Program) →
-            IfErr result (JoinErrorMeans p self.now.search self.now.parts.now) }
+            IfErr result (JoinErrorMeans p self.now.search self.now.lines.now.parts.now) }
     {
         let mut sum = Summary::empty(alloc);
         for item in self.items {
@@ -146,15 +148,15 @@ impl Joining<'_> {
     // The part that tells what is under the item's prefix at the bound.
     fn line_of(&self, alloc: Global, item: &Item, bound: Option<u32>) -> Result<&Part, JoinError>
         requires of { IsModeOf self.now.search (mode_at bound) }
-        requires listed { Contains (prefixes_for self.now.search self.now.parts.now)
+        requires listed { Contains (prefixes_for self.now.search self.now.lines.now.parts.now)
             item.now.prefix }
         ensures line { IfOk result (λ x.
-            Contains self.now.parts.now x.now × Tells item.now.prefix bound x.now) }
+            Contains self.now.lines.now.parts.now x.now × Tells item.now.prefix bound x.now) }
         ensures error { (p : Program) →
-            IfErr result (JoinErrorMeans p self.now.search self.now.parts.now) }
+            IfErr result (JoinErrorMeans p self.now.search self.now.lines.now.parts.now) }
     {
-        let Some(line) = line_at(self.parts, item.prefix(), bound) else {
-            return Err(lacking(alloc, self.parts, item.prefix(), bound)?);
+        let Some(line) = self.lines.line_at(item.prefix(), bound) else {
+            return Err(lacking(alloc, self.lines.parts, item.prefix(), bound)?);
         };
         Ok(line)
     }

@@ -1,30 +1,98 @@
 //! Which part tells what is under a prefix at a bound.
 
-ghost use Rattle.std.specs.Prelude.{◌≡◌, ◌≢◌, None, true, All, Contains, IfSome, IfNone, IfErr, OnOk};
+ghost use Rattle.std.specs.Prelude.{◌≡◌, ◌≢◌, None, true, All, Contains, IfSome, IfNone, IfOk, IfErr, OnOk};
 ghost use Rattle.std.specs.Bool.{Decides};
 ghost use Rattle.guest_code.specs.Program.{Program};
 ghost use Rattle.report.specs.declared.options.Search.{Search};
 ghost use Rattle.joining.specs.Parts.{IsSettled, Tells, IsOfPlace, Differ, AreApart, JoinErrorMeans};
+ghost use Rattle.joining.specs.inner.Lines.{AreByPrefix};
 
 use crate::error::{JoinError, Place};
 use parts::Part;
 use report::Level;
 use semantics::view::EndView;
-use std::alloc::Global;
+use std::alloc::{AllocError, Global};
+use std::collections::BTreeMap;
 use summary::Summary;
 
-/// The first part that tells what is under the prefix at the bound.
-pub fn line_at<'a>(parts: &'a [Part], under: &[u8], bound: Option<u32>) -> Option<&'a Part>
-    ensures some { IfSome result (λ x.
-        Contains parts.now x.now × Tells under.now bound x.now) }
-    ensures none { IfNone result (All (λ x. Tells under.now bound x → ⊥) parts.now) }
-{
-    for part in parts {
-        if tells(part, under, bound) {
-            return Some(part);
+/// Parts, and those of each prefix in their order.
+#[derive(Drop)]
+pub struct Lines<'a> {
+    /// All of them.
+    pub parts: &'a [Part],
+    // Those of each prefix.
+    by_prefix: BTreeMap<&'a [u8], Vec<&'a Part>>,
+    ghost valid: { AreByPrefix parts.now by_prefix },
+}
+
+impl<'a> Lines<'a> {
+    /// The parts by their prefixes.
+    pub fn of(alloc: Global, parts: &'a [Part]) -> Result<Lines<'a>, AllocError>
+        ensures { IfOk result (λ lines. lines.parts.now ≡ parts.now) }
+    {
+        let mut by_prefix: BTreeMap<&[u8], Vec<&Part>> = BTreeMap::new(alloc);
+        for part in parts {
+            by_prefix
+                .entry(part.under.as_slice())?
+                .or_default()
+                .push(part)?;
         }
+        Ok(Lines { parts, by_prefix })
     }
-    None
+
+    /// The first part that tells what is under the prefix at the bound.
+    pub fn line_at(&self, under: &[u8], bound: Option<u32>) -> Option<&'a Part>
+        ensures some { IfSome result (λ x.
+            Contains self.now.parts.now x.now × Tells under.now bound x.now) }
+        ensures none { IfNone result (All (λ x. Tells under.now bound x → ⊥) self.now.parts.now) }
+    {
+        let Some(lines) = self.by_prefix.get(under) else {
+            return None;
+        };
+        for line in lines {
+            if tells(line, under, bound) {
+                return Some(line);
+            }
+        }
+        None
+    }
+
+    /// Refuses parts of which two that weren't cut short tell different things of one place.
+    ///
+    /// # Errors
+    ///
+    /// `Disagree` with the first such place, `OutOfMemory` where memory runs out.
+    pub fn check_agreement(&self, alloc: Global) -> Result<(), JoinError>
+        ensures agree { OnOk result ((place : Place) → AreApart self.now.parts.now place → ⊥) }
+        ensures error { (p : Program) (search : Search) →
+            IfErr result (JoinErrorMeans p search self.now.parts.now) }
+    {
+        for part in self.parts {
+            if self.is_disputed(part) {
+                return Err(JoinError::Disagree(Place {
+                    under: part.under.as_slice().to_vec(alloc)?,
+                    bound: part.level.bound,
+                }));
+            }
+        }
+        Ok(())
+    }
+
+    // Whether one of the parts tells something else of the part's place.
+    fn is_disputed(&self, part: &Part) -> bool
+        ensures { Decides result
+            ((x : Part) × Contains self.now.parts.now x × Differ part.now x) }
+    {
+        let Some(lines) = self.by_prefix.get(part.under.as_slice()) else {
+            return false;
+        };
+        for other in lines {
+            if differ(part, other) {
+                return true;
+            }
+        }
+        false
+    }
 }
 
 // Whether the part tells what is under the prefix at the bound.
@@ -53,39 +121,6 @@ pub fn is_cut(parts: &[Part], place: &Place) -> bool
 {
     for part in parts {
         if is_of(part, place) && part.level.cause.is_some() {
-            return true;
-        }
-    }
-    false
-}
-
-/// Refuses parts of which two that weren't cut short tell different things of one place.
-///
-/// # Errors
-///
-/// `Disagree` with the first such place, `OutOfMemory` where memory runs out.
-pub fn check_agreement(alloc: Global, parts: &[Part]) -> Result<(), JoinError>
-    ensures agree { OnOk result ((place : Place) → AreApart parts.now place → ⊥) }
-    ensures error { (p : Program) (search : Search) →
-        IfErr result (JoinErrorMeans p search parts.now) }
-{
-    for part in parts {
-        if is_disputed(parts, part) {
-            return Err(JoinError::Disagree(Place {
-                under: part.under.as_slice().to_vec(alloc)?,
-                bound: part.level.bound,
-            }));
-        }
-    }
-    Ok(())
-}
-
-// Whether one of the parts tells something else of the part's place.
-fn is_disputed(parts: &[Part], part: &Part) -> bool
-    ensures { Decides result ((x : Part) × Contains parts.now x × Differ part.now x) }
-{
-    for other in parts {
-        if differ(part, other) {
             return true;
         }
     }

@@ -7,9 +7,10 @@
 //!   report is the same, whatever their number, unless the search was cut short; of a quick one
 //!   the counts and end views may be others.
 //! - [`explore_under`] searches what is under an item, and answers what it found at each bound.
-//!   [`report_of`] makes the report of such findings, where a search ends with them.
+//!   [`report_of`] makes the report of such findings, where a search ends with them; [`end_of`]
+//!   says how a schedule ends.
 //! - [`explore_text_alone`] and [`explore_text`] do the same from the bytes of a text on, or say
-//!   what is wrong with it.
+//!   what is wrong with it. [`program_of`] is the program that a text spells.
 //! - [`report_text`] prints a report: its text is the defined one, byte for byte.
 #![tactic(auto)]
 
@@ -28,7 +29,7 @@ pub use limits::{BOUND, QUOTA, WORKERS};
 pub use report::{
     Cause, ExploreError, Level, Options, Report, Search, Verdict, report_text, report_value,
 };
-pub use reports::report_of;
-pub use text::{explore_text, explore_text_alone};
+pub use reports::{end_of, report_of};
+pub use text::{explore_text, explore_text_alone, program_of};
 pub use together::{explore, explore_under};
 pub use workers::{Answer, Gate, Open};

@@ -1,8 +1,9 @@
 //! The report of a search, made when the search has ended.
 
-ghost use Rattle.std.specs.Prelude.{◌≡◌, Bool, [], true, false, Some, None, IfOk, IfErr, IfSome, IfNone};
+ghost use Rattle.std.specs.Prelude.{◌≡◌, Bool, [], true, false, Some, None, Contains, IfOk, IfErr, IfSome, IfNone};
 ghost use Rattle.semantics.specs.Machine.{start};
-ghost use Rattle.schedules.specs.Schedules.{runs};
+ghost use Rattle.schedules.specs.Schedules.{runs, complete_schedules, preemptions};
+ghost use Rattle.summary.specs.Summaries.{end_kind};
 ghost use Rattle.replay.specs.Run.{IsRunOf};
 ghost use Rattle.items.specs.Items.{root_of, whole};
 ghost use Rattle.book.specs.Books.{Keeps, IsClosed};
@@ -50,6 +51,26 @@ fn kind_of(run: &Run) -> Kind
     }
 }
 
+/// How a complete schedule ends, and its preemptions.
+///
+/// # Errors
+///
+/// `OutOfMemory` where memory runs out.
+pub fn end_of(
+    alloc: Global,
+    program: &Program,
+    schedule: &[u8],
+) -> Result<(Kind, u32), ExploreError>
+    requires { Contains (complete_schedules program.now (start program.now)) schedule.now }
+    ensures kind { IfOk result (λ x. x.0 ≡ end_kind program.now schedule.now) }
+    ensures preemptions { IfOk result (λ x. x.1 ≡ preemptions program.now schedule.now) }
+    ensures error { IfErr result (λ e. e ≡ OutOfMemory) }
+{
+    programs_are_well_formed(program);
+    let run = run_of(alloc, program, schedule)?;
+    Ok((kind_of(&run), run.preemptions() as u32))
+}
+
 // The verdict on a sum of all: on its bad schedule, or that there is none.
 fn verdict_on(alloc: Global, program: &Program, summary: &Summary) -> Result<Verdict, ExploreError>
     requires { IsOfProgram program.now summary.now.first_bad }
@@ -60,12 +81,11 @@ fn verdict_on(alloc: Global, program: &Program, summary: &Summary) -> Result<Ver
         let all = !summary.beyond();
         return Ok(Verdict::Clean { all });
     };
-    programs_are_well_formed(program);
-    let run = run_of(alloc, program, schedule)?;
+    let (kind, preemptions) = end_of(alloc, program, schedule)?;
     Ok(Verdict::Bad {
-        preemptions: run.preemptions() as u32,
+        preemptions,
         schedule: schedule.to_vec(alloc)?,
-        kind: kind_of(&run),
+        kind,
     })
 }
 

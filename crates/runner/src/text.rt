@@ -17,8 +17,13 @@ use std::sync::{Arc, Wait};
 use std::thread::Threads;
 use workers::Gate;
 
-// The program that a text spells.
-fn program_of(alloc: Global, text: &[u8]) -> Result<Arc<Program>, ExploreError>
+/// The program that a text spells.
+///
+/// # Errors
+///
+/// `Syntax` where the text spells no tree, `Check` with the first fault of the tree that it spells,
+/// `OutOfMemory` where memory runs out.
+pub fn program_of(alloc: Global, text: &[u8]) -> Result<Arc<Program>, ExploreError>
     ensures program { IfOk result (λ p. IsProgramOf text.now (arc_value p)) }
     ensures error { IfErr result (ExploreErrorMeans text.now) }
 {
@@ -30,8 +35,7 @@ fn program_of(alloc: Global, text: &[u8]) -> Result<Arc<Program>, ExploreError>
 ///
 /// # Errors
 ///
-/// `Syntax` where the text spells no tree, `Check` with the first fault of the tree that it spells,
-/// `OutOfMemory` where memory runs out.
+/// As those of [`program_of`].
 pub fn explore_text_alone(
     alloc: Global,
     text: &[u8],
@@ -50,7 +54,7 @@ pub fn explore_text_alone(
 ///
 /// # Errors
 ///
-/// As those of [`explore_text_alone`].
+/// As those of [`program_of`].
 pub fn explore_text<G: Gate, R: Threads + Wait + Sync>(
     rt: &R,
     alloc: Global,

@@ -6,15 +6,11 @@ ghost use Rattle.report.specs.declared.error.ExploreError.TheVariants.{OutOfMemo
 ghost use Rattle.report.specs.Promises.{IsSearch};
 ghost use Rattle.report.specs.Reports.{IsBadSchedule};
 ghost use Rattle.report.specs.ReportText.{named_schedule};
-ghost use Rattle.replay.specs.Run.{IsRunOf};
 ghost use Rattle.verify.specs.Shown.{options_of, clear_below, is_right, is_clean, IsBadOf, IsNamedBad, IsFound};
 
 use answering::Limits;
-use guest_code::laws::programs_are_well_formed;
 use guest_code::program::Program;
-use replay::laws::one_place_is_the_first_bad;
-use replay::{ReplayError, Run, replay};
-use runner::{ExploreError, Gate, Options, QUOTA, Report, Search, Verdict, explore};
+use runner::{ExploreError, Gate, Options, QUOTA, Report, Search, Verdict, end_of, explore};
 use semantics::view::Kind;
 use std::alloc::{Alloc, Global};
 use std::sync::{Arc, Wait};
@@ -96,44 +92,17 @@ fn options_of(search: Search, limit: u64) -> Options
     }
 }
 
-// The run of a bad schedule.
-fn run_of(alloc: Global, program: &Program, steps: &[u8]) -> Result<Run, ExploreError>
-    requires { IsBadSchedule program.now steps.now }
-    ensures run { IfOk result (IsRunOf program.now steps.now) }
-    ensures error { IfErr result (λ e. e ≡ OutOfMemory) }
-{
-    one_place_is_the_first_bad();
-    match replay(alloc, program, steps) {
-        Ok(run) => Ok(run),
-        Err(ReplayError::OutOfMemory) => Err(ExploreError::OutOfMemory),
-        Err(ReplayError::NoSuchThread(_)) => unreachable!(),
-        Err(ReplayError::NotEnabled(_)) => unreachable!(),
-    }
-}
-
-// How a run ends that is one of a complete schedule.
-fn kind_of(run: &Run) -> Kind
-    requires { run.now.kind ≡ None → ⊥ }
-    ensures { run.now.kind ≡ Some result }
-{
-    match run.kind() {
-        Some(kind) => kind,
-        None => unreachable!(),
-    }
-}
-
 // A bad schedule with what its replay shows.
 fn bad_of(alloc: Global, program: &Program, steps: &[u8]) -> Result<BadSchedule, ExploreError>
     requires { IsBadSchedule program.now steps.now }
     ensures bad { IfOk result (λ b. (b.steps.items ≡ steps.now) × IsBadOf program.now b) }
     ensures error { IfErr result (λ e. e ≡ OutOfMemory) }
 {
-    programs_are_well_formed(program);
-    let run = run_of(alloc, program, steps)?;
+    let (kind, preemptions) = end_of(alloc, program, steps)?;
     Ok(BadSchedule {
         steps: steps.to_vec(alloc)?,
-        preemptions: run.preemptions() as u32,
-        kind: kind_of(&run),
+        preemptions,
+        kind,
     })
 }
 

@@ -14,4 +14,5 @@ mod text;
 
 pub use answer::{Answer, Preemptions, verify};
 pub use found::{BadSchedule, Found, find};
-pub use text::{program_of, verify_text};
+pub use runner::program_of;
+pub use text::verify_text;

@@ -1,39 +1,4 @@
-use Rattle.std.proofs.Common.{◌≡◌, ◌∙◌, ap, arith, Some}
-use Rattle.std.specs.List.{Contains}
-use Rattle.semantics.specs.Machine.{start}
-use Rattle.schedules.specs.Schedules.{complete_schedules, preemptions}
-use Rattle.summary.specs.Summaries.{end_kind}
-use Rattle.replay.specs.Run.{Run}
-use Rattle.runner.proofs.Promises.{ends_somehow, runs_through}
-use Rattle.runner.proofs.Preemptions.{preemptions_fit}
 use Rattle.runner.proofs.reports.verdict_on.Goals as goal
-use Rattle.runner.proofs.reports.verdict_on.Goals.{In-Some}
 
--- the schedule that was found is a complete one
-complete : (c : In-Some) → Contains (complete_schedules c.args.program.now
-    (start c.args.program.now)) c.in-Some.schedule.now
-complete c = c.requires c.in-Some.schedule.now c.in-Some.ensures
-
-pub run_of-requires : goal.run_of-requires
-run_of-requires c =
-    runs_through c.args.program.now c.in-Some.schedule.now
-    (complete (goal.at.run_of-requires c).In-Some)
-
-pub overflow_cast-result : goal.overflow_cast-result
-overflow_cast-result c =
-    let p = c.args.program.now in
-    let w = c.in-Some.schedule.now in
-    let few = preemptions_fit p w c.programs_are_well_formed.ensures
-    (runs_through p w (complete (goal.at.overflow_cast-result c).In-Some)) in
-    let same : c.preemptions.result ≡ preemptions p w =
-    c.preemptions.ensures ∙ ap (λ (r : Run). r.preemptions) c.in_ok-run.ensures.run.same in
-    omega (arith, few, same)
-
-pub kind_of-requires : goal.kind_of-requires
-kind_of-requires c none =
-    let p = c.args.program.now in
-    let w = c.in-Some.schedule.now in
-    let some : c.in_ok-run.run'.kind ≡ Some (end_kind p w) =
-    ap (λ (r : Run). r.kind) c.in_ok-run.ensures.run.same
-    ∙ ends_somehow p w (complete (goal.at.kind_of-requires c).In-Some) in
-    cc
+pub end_of-requires : goal.end_of-requires
+end_of-requires c = c.requires c.in-Some.schedule.now c.in-Some.ensures

@@ -7,9 +7,9 @@ use Rattle.joining.proofs.joined.Joining.line_of.Goals as goal
 pub returns-in_default-clause-error : goal.returns-in_default-clause-error
 returns-in_default-clause-error c = λ p.
     c.in_ok-lacking.ensures p c.args.self.now.search c.requires.of
-    (subst (Contains (prefixes_for c.args.self.now.search c.args.self.now.parts.now))
+    (subst (Contains (prefixes_for c.args.self.now.search c.args.self.now.lines.now.parts.now))
     (sym c.prefix-in_default.ensures.prefix) c.requires.listed)
-    (subst (λ w. All (λ x. Tells w c.args.bound x → ⊥) c.args.self.now.parts.now)
+    (subst (λ w. All (λ x. Tells w c.args.bound x → ⊥) c.args.self.now.lines.now.parts.now)
     (c.prefix.ensures.prefix ∙ sym c.prefix-in_default.ensures.prefix)
     (subst (λ o. IfNone o (All (λ x. Tells c.prefix.result.now c.args.bound x → ⊥)
-    c.args.self.now.parts.now)) c.in_default.is c.line_at.ensures.none))
+    c.args.self.now.lines.now.parts.now)) c.in_default.is c.line_at.ensures.none))

@@ -4,7 +4,7 @@ use Rattle.std.proofs.lemmas.List.{take_more, take_all}
 use Rattle.std.proofs.lemmas.List.Elements.{All-push, All-contains}
 use Rattle.parts.specs.declared.part.Part.{Part}
 use Rattle.joining.specs.Parts.{Differ}
-use Rattle.joining.proofs.lines.check_agreement.Goals as goal
+use Rattle.joining.proofs.lines.Lines.check_agreement.Goals as goal
 
 abbrev IsAgreed : List Part → Part → Type 0
 IsAgreed parts y = ((x : Part) × Contains parts x × Differ y x) → ⊥
@@ -27,18 +27,20 @@ returns-then-is_disputed-clause-error c = λ p search.
 
 pub loop-part-preserved : goal.loop-part-preserved
 loop-part-preserved c =
-    subst (All (IsAgreed c.args.parts.now))
-    (ap (λ y. take c.loop-part.part-index c.args.parts.now ++ y ∷ []) c.part-item.is
-    ∙ sym (take_more c.args.parts.now c.loop-part.part-index c.part-item.result
+    subst (All (IsAgreed c.args.self.now.parts.now))
+    (ap (λ y. take c.loop-part.part-index c.args.self.now.parts.now ++ y ∷ []) c.part-item.is
+    ∙ sym (take_more c.args.self.now.parts.now c.loop-part.part-index c.part-item.result
     c.loop-part-test.true))
-    (All-push (IsAgreed c.args.parts.now) (take c.loop-part.part-index c.args.parts.now)
-    c.part-item.result c.loop-part.invariant (λ h.
+    (All-push (IsAgreed c.args.self.now.parts.now)
+    (take c.loop-part.part-index c.args.self.now.parts.now) c.part-item.result
+    c.loop-part.invariant (λ h.
     let f : true ≡ false =
     sym (c.is_disputed.ensures.1 h) ∙ c.if-is_disputed.false in absurd (cc)))
 
 pub returns-clause-agree : goal.returns-clause-agree
 returns-clause-agree c = λ place a.
-    All-contains (IsAgreed c.args.parts.now) c.args.parts.now a.one
-    (subst (All (IsAgreed c.args.parts.now)) (take_all c.loop-part.part-index c.args.parts.now
+    All-contains (IsAgreed c.args.self.now.parts.now) c.args.self.now.parts.now a.one
+    (subst (All (IsAgreed c.args.self.now.parts.now))
+    (take_all c.loop-part.part-index c.args.self.now.parts.now
     (omega (arith, c.loop-part-test.false))) c.loop-part.invariant) a.first
     (a.other, a.second, a.differ)
