@@ -182,10 +182,10 @@ def table_faults(text):
         if line.startswith("## "):
             owners = every & set(words(line))
         elif line.startswith("|"):
-            # The first cell of four is the promise, and the last names clauses of any crate.
+            # The first cell of three is the promise.
             cells = re.sub(r"the kit's `\w+`", "", LINK.sub("", line)).strip("|").split("|")
             crates = owners | every & set(words(" ".join(cells))) if owners else every
-            for at, cell in enumerate(cells[1:] if len(cells) == 4 else cells):
+            for at, cell in enumerate(cells[1:] if len(cells) == 3 else cells):
                 for word in words(cell):
                     if word not in every and not is_there(word, crates if at < 2 else every):
                         yield "docs/PROOFS.md names `%s`, which isn't there: %s" % (word, line[:60])
