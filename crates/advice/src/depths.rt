@@ -20,7 +20,8 @@ const CROWD: (&str, &str) = (
      a platform may wake another",
 );
 
-/// The same of a loop that runs out of turns in some schedule.
+/// What is told of a `repeat` that runs out of turns in some schedule: its number and name, and
+/// what is said.
 const RAN_OUT: (&str, &str) = (
     "W12 RanOut",
     "this `repeat` runs out of turns with no `leave` in some schedule",

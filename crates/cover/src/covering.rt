@@ -48,7 +48,7 @@ impl From<AllocError> for CoverError {
 
 /// The items of the schedules that begin with these prefixes, in any order, where each schedule of
 /// the program begins with exactly one of them; pruned, each that sleep sets leave, and each prefix
-/// is one that they enter. The same prefix twice is the same.
+/// is one that they enter. A prefix that is given twice counts once.
 ///
 /// # Errors
 ///

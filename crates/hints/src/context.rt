@@ -116,7 +116,7 @@ impl<'a> Context<'a> {
 }
 
 impl Told {
-    /// The same with how the statement is written.
+    /// Adds a note on how the statement is written.
     pub fn with_form(self, context: Context<'_>) -> Result<Told, AllocError> {
         let (keyword, written) = (context.keyword(), context.written());
         self.with(format_args!("`{keyword}` is written: {written}"))

@@ -55,12 +55,12 @@ fn without(word: &str) -> Option<&'static str> {
 }
 
 impl Told {
-    /// The same with what a word is likely to mean where a declaration or a thread would be.
+    /// Adds a note on what a word is likely to mean where a declaration or a thread would be.
     pub fn with_declaration(self, word: &str) -> Result<Told, AllocError> {
         self.with_keyword(word, declaring(word), &DECLARATIONS)
     }
 
-    /// The same with what a word is likely to mean where a statement would be.
+    /// Adds a note on what a word is likely to mean where a statement would be.
     pub fn with_statement(self, word: &str) -> Result<Told, AllocError> {
         match without(word) {
             Some(text) => self.with(text),
@@ -68,8 +68,8 @@ impl Told {
         }
     }
 
-    /// The same with how to write what this keyword begins; else with the keyword of these forms that
-    /// is nearest to the word, where one is near.
+    /// Adds a note on how to write what this keyword begins; without one, a note on which of these
+    /// forms' keywords is nearest to the word, where one is near.
     fn with_keyword(
         self,
         word: &str,

@@ -195,7 +195,7 @@ fn wanted(alloc: Global, context: Context<'_>) -> Result<Told, AllocError> {
 }
 
 impl Told {
-    /// The same with what is likely to be missing, or meant.
+    /// Adds notes on what is likely to be missing, or meant.
     fn with_hints(mut self, context: Context<'_>) -> Result<Told, AllocError> {
         let (keyword, slot) = (context.keyword(), context.slot());
         let (before, found) = (context.before(), context.found());

@@ -27,17 +27,17 @@ impl Told {
         *self.notes.allocator()
     }
 
-    /// The same with one more note.
+    /// Adds a note that is of no place.
     pub fn with(self, note: impl Display + Drop) -> Result<Told, AllocError> {
         self.noted(None, note)
     }
 
-    /// The same with one more note, which is of a place.
+    /// Adds a note that is of a place.
     pub fn with_at(self, span: Span, note: impl Display + Drop) -> Result<Told, AllocError> {
         self.noted(Some(span), note)
     }
 
-    /// The same with one more note.
+    /// Adds a note.
     fn noted(mut self, span: Option<Span>, note: impl Display + Drop) -> Result<Told, AllocError> {
         let text = note.to_string(self.alloc())?.into_bytes();
         self.notes.push(Note { span, text })?;

@@ -23,7 +23,7 @@ const MORE: u64 = 500;
 pub enum Does {
     /// It stops nobody and holds nobody.
     Open,
-    /// The same, and it is known that it never stops anybody.
+    /// It stops nobody and holds nobody, and that it never stops anybody is known.
     Never,
     /// It lets this many calls pass, and stops each later one.
     Pass(u64),
