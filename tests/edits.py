@@ -6,10 +6,9 @@ Usage: tests/edits.py [--list]
 Each edit in a crate's must-fail/ has a line `# says: ` on what it does, and a line `# by: ` on the clause that
 refuses it. tests/wrong_bodies.txt has the wrong bodies that tests refuse, and the mistakes that are easy to make.
 This fails where an edit has no such line or can't be applied; where a row names nothing, or a test, an edit, a
-function or a clause that isn't there; and where a table of the document links to a file of a crate that isn't there,
-or names a lemma that its file hasn't, or a definition, a function or a clause that the crates of its heading and its
-row haven't; and where docs/ARCHITECTURE.md leaves a file of definitions out. With --list it prints all wrong bodies
-as tables.
+function or a clause that isn't there; where a table of the document names a definition, a function or a clause that
+the crates of its heading and its row haven't; and where docs/ARCHITECTURE.md leaves a file of definitions out. With
+--list it prints all wrong bodies as tables.
 """
 import functools
 import re
@@ -20,8 +19,6 @@ ROOT = Path(__file__).resolve().parent.parent
 BOTH = "By a clause, and by a test"
 ALONE = "By a test alone"
 ROWS = "tests/rows.txt"
-# A link to a file of a crate, and the lemmas that are named after it.
-LINK = re.compile(r"\]\(\.\./(crates/[^)]+)\)((?:,? ?`[\w-]+`)*)")
 # What a file of definitions or lemmas begins a line with: those, and the fields of records.
 DEFINED = re.compile(r"^ *(?:pub )?(?:abbrev |record |data )?(?:pub )?([\w-]+)", re.M)
 # What a crate declares: its functions, types and traits, and its named clauses.
@@ -153,17 +150,6 @@ def has(crate):
     return declared(crate).union(*map(defined, ROOT.glob("crates/%s/specs/**/*.antt" % crate)))
 
 
-def link_faults(text):
-    """Which of the files that are linked to, and of the lemmas that are named after one, aren't there."""
-    for found in LINK.finditer(text):
-        file = ROOT / found[1]
-        if not file.exists():
-            yield "docs/PROOFS.md links to %s, which isn't there" % found[1]
-        elif file.suffix == ".antt":
-            for name in set(words(found[2])) - defined(file):
-                yield "docs/PROOFS.md names `%s` of %s, which hasn't it" % (name, found[1])
-
-
 def is_there(word, crates):
     """Whether one of the crates has this `Type::function`, `File.Definition` or file of definitions."""
     file, _, name = word.rpartition(".")
@@ -183,7 +169,7 @@ def table_faults(text):
             owners = every & set(words(line))
         elif line.startswith("|"):
             # The first cell of three is the promise.
-            cells = re.sub(r"the kit's `\w+`", "", LINK.sub("", line)).strip("|").split("|")
+            cells = re.sub(r"the kit's `\w+`", "", line).strip("|").split("|")
             crates = owners | every & set(words(" ".join(cells))) if owners else every
             for at, cell in enumerate(cells[1:] if len(cells) == 3 else cells):
                 for word in words(cell):
@@ -222,8 +208,7 @@ def main():
     by_tests = sum(len(found.get(kind, [])) for kind in (BOTH, ALONE))
     mistakes = sum(map(len, found.values())) - by_tests
     text = (ROOT / "docs/PROOFS.md").read_text(encoding="utf-8")
-    faults = [*edit_faults(), *row_faults(found), *link_faults(text), *table_faults(text),
-              *unlisted()]
+    faults = [*edit_faults(), *row_faults(found), *table_faults(text), *unlisted()]
     for fault in faults:
         print(fault)
     print("%d edits, %d wrong bodies that a test refuses and %d mistakes: all that they and the documents name is there"

@@ -7,7 +7,7 @@ use guest_syntax::tree::Tree;
 use hints::declared::Sort;
 use hints::pieces::{START, is_boundary, piece_at};
 use lint::uses::Use;
-use lint::warning::{Kind, Warning};
+use lint::warning::{Warning, WarningKind};
 use lint::warnings::all_warnings;
 use messages::message::{Advice, Grade};
 use std::alloc::AllocError;
@@ -30,25 +30,26 @@ enum Subject {
 }
 
 /// What a kind of warnings is of.
-fn subject_of(kind: Kind) -> Subject {
+fn subject_of(kind: WarningKind) -> Subject {
     match kind {
-        Kind::NeverSet(thread) => Subject::Local(thread, Use::Reads),
-        Kind::NeverRead(thread) => Subject::Local(thread, Use::Fills),
-        Kind::Constant(thread)
-        | Kind::Unreached(thread)
-        | Kind::MayKeep(thread)
-        | Kind::MayLack(thread)
-        | Kind::LocksAgain(thread)
-        | Kind::WaitNotLookedAtAgain(thread)
-        | Kind::WaitsElsewhere(thread) => Subject::Instruction(thread),
-        Kind::UnusedVariable | Kind::NeverStored | Kind::NeverLoaded => {
+        WarningKind::NeverSet(thread) => Subject::Local(thread, Use::Reads),
+        WarningKind::NeverRead(thread) => Subject::Local(thread, Use::Fills),
+        WarningKind::Constant(thread)
+        | WarningKind::Unreached(thread)
+        | WarningKind::MayKeep(thread)
+        | WarningKind::MayLack(thread)
+        | WarningKind::LocksAgain(thread)
+        | WarningKind::WaitNotLookedAtAgain(thread)
+        | WarningKind::WaitsElsewhere(thread) => Subject::Instruction(thread),
+        WarningKind::UnusedVariable | WarningKind::NeverStored | WarningKind::NeverLoaded => {
             Subject::Object(Sort::Variable)
         }
-        Kind::UnusedMutex => Subject::Object(Sort::Mutex),
-        Kind::UnusedCondition | Kind::NeverSignalled | Kind::NeverWaitedFor => {
-            Subject::Object(Sort::Condition)
-        }
-        Kind::UnusedSemaphore | Kind::NeverReleased => Subject::Object(Sort::Semaphore),
+        WarningKind::UnusedMutex => Subject::Object(Sort::Mutex),
+        WarningKind::UnusedCondition | WarningKind::NeverSignalled | WarningKind::NeverWaitedFor =>
+            { Subject::Object(Sort::Condition) }
+        WarningKind::UnusedSemaphore | WarningKind::NeverReleased => Subject::Object(
+            Sort::Semaphore,
+        ),
     }
 }
 
@@ -94,7 +95,8 @@ impl Source<'_> {
     /// again where none is, since in the last turn of a `repeat` none is.
     fn is_told(&self, all: &[Finding], found: Finding) -> bool {
         let kind = found.warning.kind;
-        let (Kind::Unreached(thread) | Kind::WaitNotLookedAtAgain(thread)) = kind else {
+        let (WarningKind::Unreached(thread) | WarningKind::WaitNotLookedAtAgain(thread)) = kind
+        else {
             return true;
         };
         let is_such = |other: &&Finding| other.at == found.at && other.warning.kind == kind;

@@ -5,60 +5,63 @@ use guest_code::limits::LOCALS;
 use hints::declared::Nearest;
 use hints::told::Told;
 use lint::uses::Use;
-use lint::warning::{Kind, Warning};
+use lint::warning::{Warning, WarningKind};
 use std::alloc::{AllocError, Global};
 
 /// The number and the name of a kind of warnings.
-pub fn title(kind: Kind) -> &'static str {
+pub fn title(kind: WarningKind) -> &'static str {
     match kind {
-        Kind::NeverSet(_) => "W1 NeverSet",
-        Kind::NeverRead(_) => "W2 NeverRead",
-        Kind::UnusedVariable | Kind::UnusedMutex | Kind::UnusedCondition | Kind::UnusedSemaphore =>
-            "W3 Unused",
-        Kind::NeverStored => "W4 NeverStored",
-        Kind::NeverLoaded => "W5 NeverLoaded",
-        Kind::Constant(_) => "W6 Constant",
-        Kind::Unreached(_) => "W7 Unreached",
-        Kind::MayKeep(_) => "W8 MayKeep",
-        Kind::MayLack(_) => "W9 MayLack",
-        Kind::WaitNotLookedAtAgain(_) => "W14 WaitNotLookedAtAgain",
-        Kind::LocksAgain(_) => "W15 LocksAgain",
-        Kind::NeverSignalled => "W16 NeverSignalled",
-        Kind::NeverWaitedFor => "W17 NeverWaitedFor",
-        Kind::NeverReleased => "W18 NeverReleased",
-        Kind::WaitsElsewhere(_) => "W19 WaitsElsewhere",
+        WarningKind::NeverSet(_) => "W1 NeverSet",
+        WarningKind::NeverRead(_) => "W2 NeverRead",
+        WarningKind::UnusedVariable
+        | WarningKind::UnusedMutex
+        | WarningKind::UnusedCondition
+        | WarningKind::UnusedSemaphore => "W3 Unused",
+        WarningKind::NeverStored => "W4 NeverStored",
+        WarningKind::NeverLoaded => "W5 NeverLoaded",
+        WarningKind::Constant(_) => "W6 Constant",
+        WarningKind::Unreached(_) => "W7 Unreached",
+        WarningKind::MayKeep(_) => "W8 MayKeep",
+        WarningKind::MayLack(_) => "W9 MayLack",
+        WarningKind::WaitNotLookedAtAgain(_) => "W14 WaitNotLookedAtAgain",
+        WarningKind::LocksAgain(_) => "W15 LocksAgain",
+        WarningKind::NeverSignalled => "W16 NeverSignalled",
+        WarningKind::NeverWaitedFor => "W17 NeverWaitedFor",
+        WarningKind::NeverReleased => "W18 NeverReleased",
+        WarningKind::WaitsElsewhere(_) => "W19 WaitsElsewhere",
     }
 }
 
 /// What is said of a kind of warnings. It goes on after the name of the thread where one is said to
 /// do something, and is nothing where a local is named.
-fn said(kind: Kind) -> &'static str {
+fn said(kind: WarningKind) -> &'static str {
     match kind {
-        Kind::NeverSet(_) | Kind::NeverRead(_) => "",
-        Kind::UnusedVariable => "no statement names this variable",
-        Kind::UnusedMutex => "no statement names this mutex",
-        Kind::UnusedCondition => "no statement names this condition",
-        Kind::UnusedSemaphore => "no statement names this semaphore",
-        Kind::NeverStored => "no statement writes this variable: it keeps its first value",
-        Kind::NeverLoaded => "no statement reads this variable",
-        Kind::NeverSignalled =>
+        WarningKind::NeverSet(_) | WarningKind::NeverRead(_) => "",
+        WarningKind::UnusedVariable => "no statement names this variable",
+        WarningKind::UnusedMutex => "no statement names this mutex",
+        WarningKind::UnusedCondition => "no statement names this condition",
+        WarningKind::UnusedSemaphore => "no statement names this semaphore",
+        WarningKind::NeverStored => "no statement writes this variable: it keeps its first value",
+        WarningKind::NeverLoaded => "no statement reads this variable",
+        WarningKind::NeverSignalled =>
             "no statement signals this condition: who waits for it waits for ever",
-        Kind::NeverWaitedFor => "no statement waits for this condition",
-        Kind::NeverReleased =>
+        WarningKind::NeverWaitedFor => "no statement waits for this condition",
+        WarningKind::NeverReleased =>
             "it starts at 0 and no statement releases it: who acquires it waits for ever",
-        Kind::Constant(_) => "an assertion of numbers alone has one outcome in all runs",
-        Kind::Unreached(_) => "no run comes here: what is before it always leaves",
-        Kind::MayKeep(_) =>
+        WarningKind::Constant(_) => "an assertion of numbers alone has one outcome in all runs",
+        WarningKind::Unreached(_) => "no run comes here: what is before it always leaves",
+        WarningKind::MayKeep(_) =>
             "may end with this mutex locked: on some way to its end nothing unlocks it",
-        Kind::MayLack(_) =>
+        WarningKind::MayLack(_) =>
             "may come here without this mutex: on some way to here nothing locks it, \
              or it is unlocked again",
-        Kind::LocksAgain(_) =>
+        WarningKind::LocksAgain(_) =>
             "comes here with this mutex locked by itself: it would wait for ever",
-        Kind::WaitNotLookedAtAgain(_) =>
+        WarningKind::WaitNotLookedAtAgain(_) =>
             "on some way from here no value is loaded and tested before the thread goes on: \
              a platform may wake it for nothing, a guest doesn't",
-        Kind::WaitsElsewhere(_) => "another statement waits for this condition with another mutex",
+        WarningKind::WaitsElsewhere(_) =>
+            "another statement waits for this condition with another mutex",
     }
 }
 
@@ -67,8 +70,8 @@ impl<'a> Source<'a> {
     pub fn told(&self, alloc: Global, warning: Warning) -> Result<Told, AllocError> {
         let said = said(warning.kind);
         match warning.kind {
-            Kind::NeverSet(thread) => self.never_set(alloc, thread, warning.number),
-            Kind::NeverRead(thread) => {
+            WarningKind::NeverSet(thread) => self.never_set(alloc, thread, warning.number),
+            WarningKind::NeverRead(thread) => {
                 let (name, local) = (
                     self.thread_name(thread),
                     self.local_name(thread, warning.number),
@@ -78,10 +81,12 @@ impl<'a> Source<'a> {
                     format_args!("no statement of {name} reads `{local}`"),
                 )
             }
-            Kind::MayKeep(thread) | Kind::MayLack(thread) | Kind::LocksAgain(thread) => {
+            WarningKind::MayKeep(thread)
+            | WarningKind::MayLack(thread)
+            | WarningKind::LocksAgain(thread) => {
                 Told::new(alloc, format_args!("{} {said}", self.thread_name(thread)))
             }
-            Kind::WaitNotLookedAtAgain(_) => Told::new(alloc, said)?.with(
+            WarningKind::WaitNotLookedAtAgain(_) => Told::new(alloc, said)?.with(
                 "write: repeat 3 { load r x; if r { leave; } wait c m; }",
             ),
             _ => Told::new(alloc, said),

@@ -127,13 +127,6 @@ impl Book {
         })
     }
 
-    /// The item whose schedules are searched.
-    pub fn of(&self) -> &Item
-        ensures { result.now ≡ self.now.of }
-    {
-        &self.of
-    }
-
     /// The program.
     pub fn program(&self) -> &Arc<Program>
         ensures { arc_value result.now ≡ self.now.of.program }

@@ -13,7 +13,7 @@ ghost use Rattle.book.specs.Books.{remove_each, AreWithin, AreOpenAt, StandInOrd
 use crate::limits::ROUND;
 use guest_code::program::Program;
 use items::item::{Item, same_masks};
-use packed_items::{last_item, last_items, last_packed};
+use packed_items::{last_item, last_items};
 use prefix_list::Prefixes;
 use semantics::mask::Mask;
 use std::alloc::{AllocError, Global};
@@ -68,7 +68,7 @@ impl ItemList {
     pub(crate) fn len(&self) -> usize
         ensures { (p : Program) → result ≡ length (all_of p self.now) }
     {
-        self.packed.length() + self.unpacked.len()
+        self.packed.len() + self.unpacked.len()
     }
 
     // A copy of the item at a place.
@@ -83,14 +83,13 @@ impl ItemList {
         ensures { IfOk result (λ i.
             slice_get (all_of (arc_value program.now) self.now) place ≡ Some i) }
     {
-        let packed = self.packed.length();
+        let packed = self.packed.len();
         if packed <= place {
             return self.unpacked[place - packed].try_clone(alloc);
         }
         let mut prefixes = self.packed.try_clone(alloc)?;
         prefixes.truncate(place + 1);
-        let reading = prefixes.last_first(alloc)?;
-        last_item(alloc, program, &reading)
+        last_item(alloc, program, &prefixes)
     }
 
     // Writes copies of the last items, at most `most` of them, over others of their program.
@@ -110,7 +109,7 @@ impl ItemList {
         ensures program { AreOf (arc_value program.now) items.new.items }
     {
         let unpacked = self.unpacked.len();
-        let count = most.saturating_sub(unpacked).min(self.packed.length());
+        let count = most.saturating_sub(unpacked).min(self.packed.len());
         last_items(alloc, program, &self.packed, count, items)?;
         push_copies(alloc, items, &self.unpacked, unpacked.saturating_sub(most))
     }
@@ -121,7 +120,7 @@ impl ItemList {
         requires place { place < length self.now.packed + length self.now.unpacked }
         ensures { (p : Program) → slice_get (all_of p self.now) place ≡ Some result.now }
     {
-        &self.unpacked[place - self.packed.length()]
+        &self.unpacked[place - self.packed.len()]
     }
 
     // The place of an item of the list's program.
@@ -134,7 +133,7 @@ impl ItemList {
             (All (λ i. i ≡ item.now → ⊥) (all_of item.now.program self.now)) }
     {
         match position_from(&self.unpacked, 0, item) {
-            Some(place) => Some(self.packed.length() + place),
+            Some(place) => Some(self.packed.len() + place),
             None => self.packed_position(item),
         }
     }
@@ -166,7 +165,7 @@ impl ItemList {
         ensures unpacked { OnOk result (length self.new.packed ≤ place) }
         ensures none { self.old.packed ≡ [] → self.new.packed ≡ [] }
     {
-        while place < self.packed.length() {
+        while place < self.packed.len() {
             self.unpack_last(alloc, program)?;
         }
         Ok(())
@@ -185,7 +184,7 @@ impl ItemList {
         ensures packed { self.new.packed ≡ (if is_ok result
             then take (length self.old.packed - 1) self.old.packed else self.old.packed) }
     {
-        let item = last_packed(alloc, program, &self.packed)?;
+        let item = last_item(alloc, program, &self.packed)?;
         self.unpacked.push_front(item)?;
         self.packed.pop();
         self.hint = 0;
@@ -196,14 +195,14 @@ impl ItemList {
     pub(crate) fn packed_len(&self) -> usize
         ensures { result ≡ length self.now.packed }
     {
-        self.packed.length()
+        self.packed.len()
     }
 
     // Looks for items from this place on.
     pub(crate) fn look_from(&mut self, place: usize)
         ensures { self.new ≡ self.old }
     {
-        self.hint = place.saturating_sub(self.packed.length());
+        self.hint = place.saturating_sub(self.packed.len());
     }
 
     // Where the items at some places of the last round stand, if they stand in their order: each is
@@ -260,7 +259,7 @@ impl ItemList {
         ensures unpacked { IfOk result (λ o. IfSome o (λ v.
             All (λ k. length self.now.packed ≤ k) v.items)) }
     {
-        let packed = self.packed.length();
+        let packed = self.packed.len();
         let mut found = Vec::with_capacity(alloc, places.len())?;
         let mut start = first.min(self.unpacked.len());
         for k in 0..places.len() {
@@ -282,7 +281,7 @@ impl ItemList {
             all_of p self.new ≡ remove_range (all_of p self.old) first end }
         ensures packed { self.new.packed ≡ self.old.packed }
     {
-        let packed = self.packed.length();
+        let packed = self.packed.len();
         self.unpacked.drain(first - packed..end - packed);
     }
 
@@ -299,7 +298,7 @@ impl ItemList {
             let _length = self.len();
             return self.remove(first, first + places.len());
         }
-        let packed = self.packed.length();
+        let packed = self.packed.len();
         for k in 0..places.len() {
             let _item = self.unpacked.remove(places[k] - packed);
         }
@@ -354,7 +353,7 @@ impl ItemList {
             return self.packed.append(alloc, prefixes);
         }
         let mut items = Vec::new(alloc);
-        last_items(alloc, program, prefixes, prefixes.length(), &mut items)?;
+        last_items(alloc, program, prefixes, prefixes.len(), &mut items)?;
         self.reserve(items.len())?;
         self.append(alloc, &mut items);
         Ok(())
@@ -430,7 +429,7 @@ impl ItemList {
     // # Errors
     //
     // `AllocError` where memory runs out.
-    pub(crate) fn is_same(
+    pub(crate) fn has_same_items(
         &self,
         alloc: Global,
         program: &Arc<Program>,
@@ -470,7 +469,7 @@ impl ItemList {
         ensures items { (p : Program) → all_of p self.new ≡ take length (all_of p self.old) }
         ensures none { self.old.packed ≡ [] → self.new.packed ≡ [] }
     {
-        let packed = self.packed.length();
+        let packed = self.packed.len();
         self.packed.truncate(length);
         self.unpacked.truncate(length.saturating_sub(packed));
     }

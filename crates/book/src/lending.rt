@@ -237,7 +237,7 @@ impl LendingBook {
         let Some(lent) = self.lent.get_mut(worker) else {
             return Ok(false);
         };
-        if !lent.is_same(alloc, program, &loan.list)? {
+        if !lent.has_same_items(alloc, program, &loan.list)? {
             return Ok(false);
         }
         self.free.reserve(found.rest.len())?;

@@ -13,7 +13,7 @@ ghost use Rattle.items.specs.Items.{root_of};
 ghost use Rattle.cover.specs.CoverBy.{IsCoverBy, CoverErrorMeans};
 ghost use Rattle.cover.specs.inner.Reached.{IsReached, IsBare, IsOther};
 
-use crate::longer::put_further;
+use crate::longer::push_children;
 use guest_code::laws::programs_are_well_formed;
 use guest_code::program::Program;
 use items::item::Item;
@@ -97,7 +97,7 @@ fn covered(
     while let Some(item) = left.pop() {
         if listed.contains(item.prefix()) {
             items.push(item)?;
-        } else if put_further(&mut left, alloc, mode, &item)? {
+        } else if push_children(&mut left, alloc, mode, &item)? {
             return Ok(Err(item));
         }
     }

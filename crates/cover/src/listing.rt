@@ -7,7 +7,7 @@ ghost use Rattle.items.specs.Items.{root_of};
 ghost use Rattle.cover.specs.Covers.{IsCover};
 ghost use Rattle.cover.specs.Prefixes.{IsListOf, prefix_line};
 
-use crate::longer::one_step_longer;
+use crate::longer::next_layer;
 use guest_code::laws::programs_are_well_formed;
 use guest_code::program::Program;
 use items::item::Item;
@@ -43,7 +43,7 @@ pub fn prefixes(
         if items.len() >= at_least {
             return Ok(items);
         }
-        let longer = one_step_longer(alloc, mode, items.as_slice())?;
+        let longer = next_layer(alloc, mode, items.as_slice())?;
         items = longer.items;
         if longer.is_last {
             return Ok(items);

@@ -34,7 +34,7 @@ fn is_entered(mode: Mode, item: &Item, thread: u8) -> bool
 {
     match mode {
         Mode::Bounded(_) => true,
-        Mode::Reduced => !item.mask().has(thread),
+        Mode::Reduced => !item.mask().contains(thread),
     }
 }
 
@@ -80,7 +80,7 @@ fn put_longer(
 /// # Errors
 ///
 /// `AllocError` where memory runs out.
-pub fn put_further(
+pub fn push_children(
     items: &mut Vec<Item>,
     alloc: Global,
     mode: Mode,
@@ -101,7 +101,7 @@ pub fn put_further(
 
 /// Items of one length.
 #[derive(Drop)]
-pub struct Length {
+pub struct Layer {
     /// Rising.
     pub items: Vec<Item>,
     /// Whether the prefixes of all are complete schedules.
@@ -113,17 +113,17 @@ pub struct Length {
 /// # Errors
 ///
 /// `AllocError` where memory runs out.
-pub fn one_step_longer(alloc: Global, mode: Mode, items: &[Item]) -> Result<Length, AllocError>
+pub fn next_layer(alloc: Global, mode: Mode, items: &[Item]) -> Result<Layer, AllocError>
     ensures items { IfOk result (λ l. l.items.items ≡ flat_map (further mode) items.now) }
     ensures last { IfOk result (λ l. l.is_last ≡ true → All IsComplete items.now) }
 {
     let mut longer = Vec::new(alloc);
     let mut is_last = true;
     for item in items {
-        let is_complete = put_further(&mut longer, alloc, mode, item)?;
+        let is_complete = push_children(&mut longer, alloc, mode, item)?;
         is_last = is_last && is_complete;
     }
-    Ok(Length {
+    Ok(Layer {
         items: longer,
         is_last,
     })

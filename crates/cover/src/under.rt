@@ -73,7 +73,7 @@ fn asleep_after(alloc: Global, program: &Program, prefix: &[u8]) -> Result<Optio
     let mut state = State::start(alloc, program)?;
     let mut asleep = Mask::empty();
     for thread in prefix {
-        if asleep.has(*thread) {
+        if asleep.contains(*thread) {
             return Ok(None);
         }
         let enabled = state.enabled(program);

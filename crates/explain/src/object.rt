@@ -54,7 +54,7 @@ impl Object {
         match self {
             Object::Variable(x) => Reading::Value(state.variables()[x]),
             Object::Mutex(m) => Reading::Owner(state.owner(m)),
-            Object::Condition(c) => Reading::Waiting(state.queue_length(c)),
+            Object::Condition(c) => Reading::Waiting(state.queue_len(c)),
             Object::Semaphore(k) => Reading::Count(state.count(k)),
         }
     }

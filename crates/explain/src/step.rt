@@ -121,7 +121,7 @@ fn woken_by(alloc: Global, state: &State, action: Action) -> Result<Vec<u8>, All
     match action {
         Action::OnCondition(c, ConditionAction::Signal) => first_queued(alloc, state, c, 1),
         Action::OnCondition(c, ConditionAction::Broadcast) => {
-            first_queued(alloc, state, c, state.queue_length(c))
+            first_queued(alloc, state, c, state.queue_len(c))
         }
         _ => Ok(Vec::new(alloc)),
     }

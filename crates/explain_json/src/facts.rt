@@ -68,7 +68,7 @@ impl<'a> Facts<'a> {
 
     /// The names of the threads in a set.
     pub fn members(&self, threads: Mask) -> Result<Vec<&str>, AllocError> {
-        let members = (0..THREADS as u8).filter(|thread| threads.has(*thread));
+        let members = (0..THREADS as u8).filter(|thread| threads.contains(*thread));
         members.map(|thread| self.name(thread)).collect(self.alloc)
     }
 

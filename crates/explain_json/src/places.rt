@@ -95,11 +95,11 @@ impl<S: Serializer> Scribe<'_, S> {
     /// Writes where a statement is.
     pub fn put_place(&mut self, statement: Statement<'_>) -> Written<S> {
         self.put_extent(statement)?;
-        self.put_line(statement)
+        self.put_line_number(statement)
     }
 
     /// Writes the line of a statement. In a step a key comes before it.
-    pub fn put_line(&mut self, statement: Statement<'_>) -> Written<S> {
+    pub fn put_line_number(&mut self, statement: Statement<'_>) -> Written<S> {
         let begin = self.facts.begin(statement);
         self.put("line", begin.map(|begin| begin.line))
     }

@@ -117,7 +117,7 @@ impl<S: Serializer> Scribe<'_, S> {
             self.out.begin_map(None)?;
             self.put("name", facts.name(thread))?;
             self.put_next(thread, start.next)?;
-            self.put_sets(thread, start.settings.as_slice())?;
+            self.put_assignments(thread, start.settings.as_slice())?;
             self.put("stop", start.stop.map(stop_word))?;
             self.out.end_map()?;
         }

@@ -32,7 +32,7 @@ impl<S: Serializer> Scribe<'_, S> {
         self.put("cause", facts.causes.steps().get(at).copied() == Some(true))?;
         self.put_extent(statement)?;
         self.put_made("held", held.collect::<Vec<&str>>(facts.alloc))?;
-        self.put_line(statement)?;
+        self.put_line_number(statement)?;
         self.put_some("mutex", facts.mutex_beside(step))?;
         self.put("name", facts.name(thread))?;
         self.put_reading("new", step.new)?;
@@ -40,7 +40,7 @@ impl<S: Serializer> Scribe<'_, S> {
         self.put("object", facts.object(step.object))?;
         self.put_reading("old", step.old)?;
         self.put("preempting", step.line.preempting)?;
-        self.put_sets(thread, step.settings.as_slice())?;
+        self.put_assignments(thread, step.settings.as_slice())?;
         self.put("step", at)?;
         self.put("stop", step.line.stop.map(stop_word))?;
         self.put("thread", thread)?;
@@ -95,7 +95,7 @@ impl<S: Serializer> Scribe<'_, S> {
     }
 
     /// Writes the locals that a thread set.
-    pub fn put_sets(&mut self, thread: u8, settings: &[Setting]) -> Written<S> {
+    pub fn put_assignments(&mut self, thread: u8, settings: &[Setting]) -> Written<S> {
         let facts = self.facts;
         self.begin_list("sets")?;
         for setting in settings {

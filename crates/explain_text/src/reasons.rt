@@ -65,7 +65,7 @@ impl Teller<'_> {
         let is_marked = columns.saturating_add(GAPS + MARK) <= self.columns.width;
         let waits = self.waits.all().iter();
         let members: Vec<&Wait> = waits
-            .filter(|wait| circle.has(wait.thread))
+            .filter(|wait| circle.contains(wait.thread))
             .collect(self.alloc)?;
         let mut names = String::new(self.alloc);
         let length = members.len();

@@ -3,7 +3,7 @@ use Rattle.std.proofs.Common.{◌≡◌, ℕ, List, [], ◌∷◌, ◌++◌, Boo
 use Rattle.guest_syntax.specs.declared.place.Pos.{Pos}
 use Rattle.guest_syntax.specs.Tree as tree
 use Rattle.guest_syntax.specs.Tree.{Operand, Expr, Stmt, Block}
-use Rattle.guest_code.specs.declared.kinds.Kind.{Kind}
+use Rattle.guest_code.specs.declared.kinds.NameKind.{NameKind}
 use Rattle.guest_code.specs.Uses.{Use, declares, object, local, outside, operand_uses, expr_uses, stmt_uses, block_uses, kind_in, how_many}
 
 abbrev pub DeclaresNothing : List Use → Type 0
@@ -63,7 +63,7 @@ kind_skips (object k n ∷ us) vs name p = kind_skips us vs name p
 kind_skips (local n ∷ us) vs name p = kind_skips us vs name p
 kind_skips (outside at ∷ us) vs name p = kind_skips us vs name p
 
-pub many_skips : (us vs : List Use) (k : Kind) → DeclaresNothing us
+pub many_skips : (us vs : List Use) (k : NameKind) → DeclaresNothing us
     → how_many k (us ++ vs) ≡ how_many k vs
 many_skips [] vs k p = refl
 many_skips (declares j n ∷ us) vs k p = absurd p

@@ -8,8 +8,8 @@ use Rattle.guest_syntax.specs.declared.tree.Thread.{Thread}
 use Rattle.guest_syntax.specs.declared.tree.Tree as code-tree
 use Rattle.guest_syntax.specs.Tree as tree
 use Rattle.guest_syntax.specs.Tree.{declaration_view, thread_view, tree_view, name_view, block_view}
-use Rattle.guest_code.specs.declared.kinds.Kind.{Kind}
-use Rattle.guest_code.specs.declared.kinds.Kind.TheVariants as kinds
+use Rattle.guest_code.specs.declared.kinds.NameKind.{NameKind}
+use Rattle.guest_code.specs.declared.kinds.NameKind.TheVariants as kinds
 use Rattle.guest_code.specs.declared.error.CheckError.{CheckError}
 use Rattle.guest_code.specs.declared.error.CheckError.TheVariants as errors
 use Rattle.guest_code.specs.declared.limits.TheConstants.{THREADS}
@@ -37,7 +37,7 @@ option_or-none o p e = rw e refl
 -- ---- declarations
 
 pub declaration_goes : (all : List Use) (ds : List Declaration) (i : ℕ) (x : Declaration)
-    (k : Kind) (count : ℕ) (u : Unit {0}) (whole : Option CheckError) → i < length ds
+    (k : NameKind) (count : ℕ) (u : Unit {0}) (whole : Option CheckError) → i < length ds
     → x ≡ get_or ds i x
     → k ≡ kind_of x.object → count ≡ how_many k (uses (map declaration_view (take i ds)) [])
     → Ok u ≡ passed
@@ -135,12 +135,12 @@ few_test : (b : Bool) (d : CheckError) → (if b then None else Some d) ≡ None
 few_test true d e = refl
 few_test false d e = absurd cc
 
-few_refusal : (n : tree.Name) (o : Option Kind) (i : ℕ)
+few_refusal : (n : tree.Name) (o : Option NameKind) (i : ℕ)
     → declares_refusal kinds.Thread n o i ≡ None → i < THREADS
 few_refusal n None i e = ltb-true i THREADS (few_test (ltb i THREADS) (errors.TooMany n.at) e)
 few_refusal n (Some k) i e = absurd cc
 
-pub few_go : (n : tree.Name) (o : Option Kind) (i : ℕ) (u : Unit {0})
+pub few_go : (n : tree.Name) (o : Option NameKind) (i : ℕ) (u : Unit {0})
     → Ok u ≡ passed (declares_refusal kinds.Thread n o i) u → i < THREADS
 few_go n o i u e = few_refusal n o i (passed_ok _ u e)
 

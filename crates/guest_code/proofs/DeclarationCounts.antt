@@ -7,8 +7,8 @@ use Rattle.std.specs.Str.{bytes_eq}
 use Rattle.guest_syntax.specs.declared.tree.Object.{Object}
 use Rattle.guest_syntax.specs.declared.tree.Object.TheVariants as objects
 use Rattle.guest_syntax.specs.Tree.{Name, Declaration, Thread}
-use Rattle.guest_code.specs.declared.kinds.Kind.{Kind}
-use Rattle.guest_code.specs.declared.kinds.Kind.TheVariants as kinds
+use Rattle.guest_code.specs.declared.kinds.NameKind.{NameKind}
+use Rattle.guest_code.specs.declared.kinds.NameKind.TheVariants as kinds
 use Rattle.guest_code.specs.declared.error.CheckError.{CheckError}
 use Rattle.guest_code.specs.declared.error.CheckError.TheVariants as errors
 use Rattle.guest_code.specs.Uses.{Use, declares, object, local, outside, kind_of, same, block_uses, declarations_uses, threads_uses, uses, kind_in, how_many, knows}
@@ -23,7 +23,7 @@ pub or_none : (o p : Option CheckError) → option_or o p ≡ None → (o ≡ No
 or_none None p e = (refl, e)
 or_none (Some d) p e = absurd cc
 
-pub same_is : (j k : Kind) → same j k ≡ true → j ≡ k
+pub same_is : (j k : NameKind) → same j k ≡ true → j ≡ k
 same_is kinds.Variable kinds.Variable e = refl
 same_is kinds.Mutex kinds.Mutex e = refl
 same_is kinds.Condition kinds.Condition e = refl
@@ -33,7 +33,7 @@ same_is _ _ e = absurd cc
 
 -- ---- how many of each kind
 
-pub many_append : (k : Kind) (us vs : List Use) → how_many k (us ++ vs) ≡ how_many k us + how_many
+pub many_append : (k : NameKind) (us vs : List Use) → how_many k (us ++ vs) ≡ how_many k us + how_many
     k vs
 many_append k [] vs = omega arith
 many_append k (declares j n ∷ us) vs = many_cons (same j k) (how_many k (us ++ vs))
@@ -48,7 +48,7 @@ many_append k (local n ∷ us) vs = many_append k us vs
 many_append k (outside at ∷ us) vs = many_append k us vs
 
 -- a name that may be declared is not one too many
-room : (k : Kind) (n : Name) (o : Option Kind) (count : ℕ) → declares_refusal k n o count ≡ None
+room : (k : NameKind) (n : Name) (o : Option NameKind) (count : ℕ) → declares_refusal k n o count ≡ None
     → count < limit_of k
 room k n None count e = ltb-true count (limit_of k) (test (ltb count (limit_of k)) e)
   where
@@ -58,7 +58,7 @@ room k n None count e = ltb-true count (limit_of k) (test (ltb count (limit_of k
 room k n (Some j) count e = absurd cc
 
 -- one more of kind j
-one_more : (j k : Kind) (n : Name) (before : List Use) → how_many j before < limit_of j
+one_more : (j k : NameKind) (n : Name) (before : List Use) → how_many j before < limit_of j
     → how_many k before ≤ limit_of k → how_many k (before ++ declares j n ∷ []) ≤ limit_of k
 one_more j k n before lt le = more (same j k) refl
   where
@@ -67,7 +67,7 @@ one_more j k n before lt le = more (same j k) refl
         rw (many_append k before (declares j n ∷ []), e, ← is) (omega (arith, lt))
     more false e = rw (many_append k before (declares j n ∷ []), e) (omega (arith, le))
 
-pub few : (all before us : List Use) (k : Kind) → first all before us ≡ None
+pub few : (all before us : List Use) (k : NameKind) → first all before us ≡ None
     → how_many k before ≤ limit_of k → how_many k (before ++ us) ≤ limit_of k
 few all before [] k e le = rw (append-nil before) le
 few all before (u ∷ us) k e le =
@@ -84,16 +84,16 @@ few all before (u ∷ us) k e le =
 -- ---- as many objects as declarations of their kind
 
 -- one object more of this kind is one more of what it stands for
-abbrev CountsOne : {X : Type 0} → (List ℕ → Object → Option X) → Kind → Type 0
+abbrev CountsOne : {X : Type 0} → (List ℕ → Object → Option X) → NameKind → Type 0
 CountsOne {X} of k = (name : List ℕ) (o : Object) (xs : List X) → length
     (cons_option (of name o) xs) ≡ (if same (kind_of o) k then suc (length xs) else length xs)
 
 -- and so they are as many
-abbrev CountsAll : {X : Type 0} → (List ℕ → Object → Option X) → Kind → Type 0
+abbrev CountsAll : {X : Type 0} → (List ℕ → Object → Option X) → NameKind → Type 0
 CountsAll of k =
     (ds : List Declaration) → length (objects_by of ds) ≡ how_many k (declarations_uses ds)
 
-objects_many : {X : Type 0} (of : List ℕ → Object → Option X) (k : Kind) → CountsOne of k
+objects_many : {X : Type 0} (of : List ℕ → Object → Option X) (k : NameKind) → CountsOne of k
     → CountsAll of k
 objects_many of k h [] = refl
 objects_many of k h (d ∷ ds) = h d.name.text d.object (objects_by of ds)
@@ -129,17 +129,17 @@ many_semaphores = objects_many semaphore_of kinds.Semaphore one_semaphore
 
 -- ---- numbers in range
 
-same_self : (k : Kind) → same k k ≡ true
+same_self : (k : NameKind) → same k k ≡ true
 same_self kinds.Variable = refl
 same_self k = refl
 
 -- threads declare nothing but threads
-thread_hit : (hit : Bool) (k : Kind) (o : Option Kind) → (if hit then Some kinds.Thread else o)
+thread_hit : (hit : Bool) (k : NameKind) (o : Option NameKind) → (if hit then Some kinds.Thread else o)
     ≡ Some k → (o ≡ Some k → k ≡ kinds.Thread) → k ≡ kinds.Thread
 thread_hit true k o e h = cc
 thread_hit false k o e h = h e
 
-thread_kind : (ts : List Thread) (name : List ℕ) (k : Kind)
+thread_kind : (ts : List Thread) (name : List ℕ) (k : NameKind)
     → kind_in (threads_uses ts) name ≡ Some k → k ≡ kinds.Thread
 thread_kind [] name k e = absurd cc
 thread_kind (t ∷ ts) name k e =
@@ -149,7 +149,7 @@ thread_kind (t ∷ ts) name k e =
     (sym (kind_skips (block_uses false t.body) (threads_uses ts) name
     (block_declares_nothing false t.body)) ∙ h))
 
-one_object : (hit mine : Bool) (j k : Kind) (s m : ℕ) (o : Option Kind) → same j k ≡ mine
+one_object : (hit mine : Bool) (j k : NameKind) (s m : ℕ) (o : Option NameKind) → same j k ≡ mine
     → (if hit then Some j else o) ≡ Some k → (o ≡ Some k → s < m)
     → (if hit then 0 else if mine then suc s else s) < (if mine then suc m else m)
 one_object true true j k s m o e f h = omega arith
@@ -158,7 +158,7 @@ one_object true false j k s m o e f h = let is : j ≡ k = cc in let t : same k 
 one_object false true j k s m o e f h = omega (arith, h f)
 one_object false false j k s m o e f h = h f
 
-pub object_index-less : (k : Kind) (ds : List Declaration) (ts : List Thread) (name : List ℕ)
+pub object_index-less : (k : NameKind) (ds : List Declaration) (ts : List Thread) (name : List ℕ)
     → same kinds.Thread k ≡ false → kind_in (uses ds ts) name ≡ Some k
     → object_index k ds name < how_many k (declarations_uses ds)
 object_index-less k [] ts name other e = let is : k ≡ kinds.Thread = thread_kind ts name k e in

@@ -8,8 +8,8 @@ use Rattle.std.proofs.lemmas.Slice.Eq.{bytes_eq-Decides}
 use Rattle.guest_syntax.specs.declared.place.Pos.{Pos}
 use Rattle.guest_syntax.specs.Tree as tree
 use Rattle.guest_syntax.specs.Tree.{Name, Operand, Expr, Stmt, Block}
-use Rattle.guest_code.specs.declared.kinds.Kind.{Kind}
-use Rattle.guest_code.specs.declared.kinds.Kind.TheVariants as kinds
+use Rattle.guest_code.specs.declared.kinds.NameKind.{NameKind}
+use Rattle.guest_code.specs.declared.kinds.NameKind.TheVariants as kinds
 use Rattle.guest_code.specs.declared.limits.TheConstants.{LOCALS}
 use Rattle.guest_code.specs.declared.program.Instruction.{Instruction}
 use Rattle.guest_code.specs.declared.program.Instruction.TheVariants.{SkipIfZero, Skip}
@@ -103,9 +103,9 @@ passed_then : (o : Option CheckError) (ns ms : List (List ℕ)) (f : List (List 
 passed_then None ns ms f e = (refl, e)
 passed_then (Some d) ns ms f e = absurd cc
 
-object_right : (k : Kind) (n : Name) (o : Option Kind) → object_refusal k n o ≡ None → o ≡ Some k
+object_right : (k : NameKind) (n : Name) (o : Option NameKind) → object_refusal k n o ≡ None → o ≡ Some k
 object_right k n None e = absurd cc
-object_right k n (Some j) e = ap (λ (i : Kind). Some i) (same_is j k (go (same j k) e))
+object_right k n (Some j) e = ap (λ (i : NameKind). Some i) (same_is j k (go (same j k) e))
   where
     go : (b : Bool) → (if b then None else Some (errors.WrongKind n.at)) ≡ None → b ≡ true
     go true e = refl
@@ -131,7 +131,7 @@ walk_right all (local n ∷ us) ns ms p e =
 walk_right all (outside at ∷ us) ns ms p e = absurd cc
 
 -- no more locals than the limit
-with_few : (n : Name) (o : Option Kind) (ns : List (List ℕ)) → local_refusal n o ns ≡ None
+with_few : (n : Name) (o : Option NameKind) (ns : List (List ℕ)) → local_refusal n o ns ≡ None
     → length ns ≤ LOCALS → length (with_name ns n.text) ≤ LOCALS
 with_few n (Some j) ns e le = absurd cc
 with_few n None ns e le = go (knows ns n.text) e

@@ -5,8 +5,8 @@ use Rattle.std.proofs.lemmas.List.{length-map}
 use Rattle.std.proofs.lemmas.List.Elements.{All-cons, All-nil}
 use Rattle.std.proofs.lemmas.Bool.{ltb-false}
 use Rattle.guest_syntax.specs.Tree.{Declaration, Thread, Tree}
-use Rattle.guest_code.specs.declared.kinds.Kind.{Kind}
-use Rattle.guest_code.specs.declared.kinds.Kind.TheVariants as kinds
+use Rattle.guest_code.specs.declared.kinds.NameKind.{NameKind}
+use Rattle.guest_code.specs.declared.kinds.NameKind.TheVariants as kinds
 use Rattle.guest_code.specs.declared.error.CheckError.TheVariants as errors
 use Rattle.guest_code.specs.declared.limits.TheConstants.{LOCALS, INSTRUCTIONS, COUNT}
 use Rattle.guest_code.specs.Program.{Program, IsValidCode, LocalsBelow, JumpsWithin, IsWellFormed}
@@ -114,7 +114,7 @@ some_threads : (ts : List Thread) → no_threads ts ≡ None → 0 < length ts
 some_threads [] e = absurd cc
 some_threads (t ∷ ts) e = omega arith
 
-declared : (ds : List Declaration) (ts : List Thread) (k : Kind)
+declared : (ds : List Declaration) (ts : List Thread) (k : NameKind)
     → first (uses ds ts) [] (uses ds ts) ≡ None → how_many k (declarations_uses ds) ≤ limit_of k
 declared ds ts k e = omega (
   arith,
@@ -123,7 +123,7 @@ declared ds ts k e = omega (
       k (declarations_uses ds) (threads_uses ts),
 )
 
-in_range : (k : Kind) (ds : List Declaration) (ts : List Thread) (n : ℕ)
+in_range : (k : NameKind) (ds : List Declaration) (ts : List Thread) (n : ℕ)
     → same kinds.Thread k ≡ false → n ≡ how_many k (declarations_uses ds) → (name : List ℕ)
     → kind_in (uses ds ts) name ≡ Some k → object_index k ds name < n
 in_range k ds ts n other is name e = omega (arith, object_index-less k ds ts name other e, is)

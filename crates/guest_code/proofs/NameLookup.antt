@@ -3,8 +3,8 @@ use Rattle.std.proofs.Common.{◌≡◌, ℕ, ◌+◌, ◌<◌, cond, Bool, true
 use Rattle.std.specs.Str.{bytes_eq}
 use Rattle.guest_syntax.specs.declared.tree.Thread.{Thread}
 use Rattle.guest_syntax.specs.Tree.{thread_view, block_view}
-use Rattle.guest_code.specs.declared.kinds.Kind.{Kind}
-use Rattle.guest_code.specs.declared.kinds.Kind.TheVariants as kinds
+use Rattle.guest_code.specs.declared.kinds.NameKind.{NameKind}
+use Rattle.guest_code.specs.declared.kinds.NameKind.TheVariants as kinds
 use Rattle.guest_code.specs.Uses.{Use, declares, object, local, outside, block_uses, threads_uses, kind_in}
 use Rattle.guest_code.proofs.BodiesDeclareNothing.{block_declares_nothing, kind_skips}
 
@@ -19,12 +19,12 @@ thread_at ts i name x lt is b e =
     rw (← e, ← skip, add-one, drop-cons ts i x, ← is) refl
 
 -- a name that is declared is declared as the same with more uses after them
-stays : (b : Bool) (j k : Kind) (o p : Option Kind) → (o ≡ Some k → p ≡ Some k)
+stays : (b : Bool) (j k : NameKind) (o p : Option NameKind) → (o ≡ Some k → p ≡ Some k)
     → (if b then Some j else o) ≡ Some k → (if b then Some j else p) ≡ Some k
 stays true j k o p f e = e
 stays false j k o p f e = f e
 
-pub kind_stays : (us vs : List Use) (name : List ℕ) (k : Kind) → kind_in us name ≡ Some k
+pub kind_stays : (us vs : List Use) (name : List ℕ) (k : NameKind) → kind_in us name ≡ Some k
     → kind_in (us ++ vs) name ≡ Some k
 kind_stays [] vs name k e = absurd cc
 kind_stays (declares j n ∷ us) vs name k e = stays (bytes_eq n.text name) j k (kind_in us name)
@@ -34,7 +34,7 @@ kind_stays (local n ∷ us) vs name k e = kind_stays us vs name k e
 kind_stays (outside at ∷ us) vs name k e = kind_stays us vs name k e
 
 -- a name that is not declared is declared as the uses after them say
-later : (b : Bool) (j : Kind) (o p q : Option Kind) → (o ≡ None → p ≡ q)
+later : (b : Bool) (j : NameKind) (o p q : Option NameKind) → (o ≡ None → p ≡ q)
     → (if b then Some j else o) ≡ None → (if b then Some j else p) ≡ q
 later true j o p q f e = absurd cc
 later false j o p q f e = f e

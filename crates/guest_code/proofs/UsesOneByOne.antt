@@ -8,7 +8,7 @@ use Rattle.guest_syntax.specs.declared.tree.Object.{Object}
 use Rattle.guest_syntax.specs.declared.tree.Object.TheVariants as objects
 use Rattle.guest_syntax.specs.Tree as tree
 use Rattle.guest_syntax.specs.Tree.{declaration_view, thread_view, name_view, block_view}
-use Rattle.guest_code.specs.declared.kinds.Kind.TheVariants as kinds
+use Rattle.guest_code.specs.declared.kinds.NameKind.TheVariants as kinds
 use Rattle.guest_code.specs.declared.error.CheckError.{CheckError}
 use Rattle.guest_code.specs.Uses.{Use, declares, kind_of, block_uses, thread_uses, declarations_uses, threads_uses, uses, kind_in, how_many, thread_locals}
 use Rattle.std.specs.Option.{option_or}

@@ -5,8 +5,8 @@ use Rattle.guest_syntax.specs.declared.tree.Object.{Object}
 use Rattle.guest_syntax.specs.declared.tree.Object.TheVariants as objects
 use Rattle.guest_syntax.specs.Tree as tree
 use Rattle.guest_syntax.specs.Tree.{Name, Operand, Expr, Stmt, Block, Declaration, Tree}
-use Rattle.guest_code.specs.declared.kinds.Kind.{Kind}
-use Rattle.guest_code.specs.declared.kinds.Kind.TheVariants as kinds
+use Rattle.guest_code.specs.declared.kinds.NameKind.{NameKind}
+use Rattle.guest_code.specs.declared.kinds.NameKind.TheVariants as kinds
 use Rattle.guest_code.specs.declared.program.Value.{Value}
 use Rattle.guest_code.specs.declared.program.Value.TheVariants.{Local, Literal}
 use Rattle.guest_code.specs.declared.program.Expression.{Expression}
@@ -20,7 +20,7 @@ use Rattle.guest_code.specs.Sizes.{block_size}
 -- ---- numbers of objects and locals
 
 -- the number of an object: how many of its kind are declared before its name
-abbrev pub object_index : Kind → List Declaration → List ℕ → ℕ
+abbrev pub object_index : NameKind → List Declaration → List ℕ → ℕ
 object_index k [] name = 0
 object_index k (d ∷ ds) name =
     if bytes_eq d.name.text name then 0

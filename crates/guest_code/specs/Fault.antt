@@ -3,15 +3,15 @@ use Rattle.std.specs.Prelude.{◌≡◌, ℕ, ◌+◌, ltb, List, [], ◌∷◌,
 use Rattle.std.specs.Option.{option_or}
 use Rattle.guest_syntax.specs.Tree.{Name, Thread, Tree}
 use Rattle.guest_code.specs.declared.limits.TheConstants.{VARIABLES, OBJECTS, THREADS, LOCALS, INSTRUCTIONS}
-use Rattle.guest_code.specs.declared.kinds.Kind.{Kind}
-use Rattle.guest_code.specs.declared.kinds.Kind.TheVariants as kinds
+use Rattle.guest_code.specs.declared.kinds.NameKind.{NameKind}
+use Rattle.guest_code.specs.declared.kinds.NameKind.TheVariants as kinds
 use Rattle.guest_code.specs.declared.error.CheckError.{CheckError}
 use Rattle.guest_code.specs.declared.error.CheckError.TheVariants.{Duplicate, Unknown, WrongKind, NoThreads, TooMany, CodeTooLong, LeaveOutside, OutOfMemory}
 use Rattle.guest_code.specs.Uses.{Use, declares, object, local, outside, same, uses, kind_in, how_many, knows, locals_from}
 use Rattle.guest_code.specs.Sizes.{block_size}
 
 -- how many of a kind a program may have
-abbrev pub limit_of : Kind → ℕ
+abbrev pub limit_of : NameKind → ℕ
 limit_of kinds.Variable = VARIABLES
 limit_of kinds.Mutex = OBJECTS
 limit_of kinds.Condition = OBJECTS
@@ -21,17 +21,17 @@ limit_of kinds.Thread = THREADS
 -- ---- the refusal of one use
 
 -- of a declared name, given what it is declared as before, and how many of its kind are
-abbrev pub declares_refusal : Kind → Name → Option Kind → ℕ → Option CheckError
+abbrev pub declares_refusal : NameKind → Name → Option NameKind → ℕ → Option CheckError
 declares_refusal k n (Some j) count = Some (Duplicate n.at)
 declares_refusal k n None count = if ltb count (limit_of k) then None else Some (TooMany n.at)
 
 -- of a name where an object of this kind must be, given what it is declared as
-abbrev pub object_refusal : Kind → Name → Option Kind → Option CheckError
+abbrev pub object_refusal : NameKind → Name → Option NameKind → Option CheckError
 object_refusal k n None = Some (Unknown n.at)
 object_refusal k n (Some j) = if same j k then None else Some (WrongKind n.at)
 
 -- of a name where a local must be, given what it is declared as, and the locals before it
-abbrev pub local_refusal : Name → Option Kind → List (List ℕ) → Option CheckError
+abbrev pub local_refusal : Name → Option NameKind → List (List ℕ) → Option CheckError
 local_refusal n (Some j) ns = Some (WrongKind n.at)
 local_refusal n None ns =
     if knows ns n.text then None

@@ -6,18 +6,18 @@ use Rattle.guest_syntax.specs.declared.tree.Object.{Object}
 use Rattle.guest_syntax.specs.declared.tree.Object.TheVariants as objects
 use Rattle.guest_syntax.specs.Tree as tree
 use Rattle.guest_syntax.specs.Tree.{Name, Operand, Expr, Stmt, Block, Declaration, Thread, Tree}
-use Rattle.guest_code.specs.declared.kinds.Kind.{Kind}
-use Rattle.guest_code.specs.declared.kinds.Kind.TheVariants as kinds
+use Rattle.guest_code.specs.declared.kinds.NameKind.{NameKind}
+use Rattle.guest_code.specs.declared.kinds.NameKind.TheVariants as kinds
 
 -- the kind of an object
-abbrev pub kind_of : Object → Kind
+abbrev pub kind_of : Object → NameKind
 kind_of (objects.Variable z) = kinds.Variable
 kind_of objects.Mutex = kinds.Mutex
 kind_of objects.Condition = kinds.Condition
 kind_of (objects.Semaphore n) = kinds.Semaphore
 
 -- whether two kinds are the same
-abbrev pub same : Kind → Kind → Bool
+abbrev pub same : NameKind → NameKind → Bool
 same kinds.Variable kinds.Variable = true
 same kinds.Mutex kinds.Mutex = true
 same kinds.Condition kinds.Condition = true
@@ -27,8 +27,8 @@ same _ _ = false
 
 -- what can be refused at one place of the text
 pub data Use : Type 0 where
-  declares : Kind → Name → Use  -- a declaration's or a thread's own name
-  object : Kind → Name → Use  -- a name where an object of this kind must be
+  declares : NameKind → Name → Use  -- a declaration's or a thread's own name
+  object : NameKind → Name → Use  -- a name where an object of this kind must be
   local : Name → Use  -- a name where a local must be
   outside : Pos → Use  -- a `leave` with no `repeat` round it
 
@@ -87,7 +87,7 @@ uses ds ts = declarations_uses ds ++ threads_uses ts
 -- ---- what a list of uses says
 
 -- the kind that a name is declared as, by its first declaration
-abbrev pub kind_in : List Use → List ℕ → Option Kind
+abbrev pub kind_in : List Use → List ℕ → Option NameKind
 kind_in [] name = None
 kind_in (declares k n ∷ us) name = if bytes_eq n.text name then Some k else kind_in us name
 kind_in (object k n ∷ us) name = kind_in us name
@@ -95,7 +95,7 @@ kind_in (local n ∷ us) name = kind_in us name
 kind_in (outside at ∷ us) name = kind_in us name
 
 -- how many names of a kind are declared
-abbrev pub how_many : Kind → List Use → ℕ
+abbrev pub how_many : NameKind → List Use → ℕ
 how_many k [] = 0
 how_many k (declares j n ∷ us) = if same j k then suc (how_many k us) else how_many k us
 how_many k (object j n ∷ us) = how_many k us

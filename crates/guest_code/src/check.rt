@@ -8,10 +8,10 @@ ghost use Rattle.guest_code.specs.Uses.{object, kind_in, how_many, knows, operan
 ghost use Rattle.guest_code.specs.Fault.{declares_refusal, refusal, first, first_of_names, fault};
 ghost use Rattle.guest_code.specs.inner.Walk.{all_uses, declared_in, uses_of, passed, Answers, Meets, Finds};
 ghost use Rattle.guest_code.specs.declared.error.CheckError.{CheckError};
-ghost use Rattle.guest_code.specs.declared.kinds.Kind.{Kind};
+ghost use Rattle.guest_code.specs.declared.kinds.NameKind.{NameKind};
 
 use crate::error::CheckError;
-use crate::kinds::{Kind, kind_of};
+use crate::kinds::{NameKind, kind_of};
 use crate::lengths::check_lengths;
 use crate::limits::{LOCALS, THREADS};
 use guest_syntax::place::Pos;
@@ -28,7 +28,7 @@ pub struct Scope<'a> {
 }
 
 /// The kind that a name is declared as by these declarations.
-fn kind_declared(declarations: &[Declaration], name: &[u8]) -> Option<Kind>
+fn kind_declared(declarations: &[Declaration], name: &[u8]) -> Option<NameKind>
     ensures { result ≡ kind_in (declared_in declarations.now) name.now }
 {
     for declaration in declarations {
@@ -40,12 +40,12 @@ fn kind_declared(declarations: &[Declaration], name: &[u8]) -> Option<Kind>
 }
 
 /// The kind of a name of one of these threads.
-fn kind_of_thread(threads: &[Thread], name: &[u8]) -> Option<Kind>
+fn kind_of_thread(threads: &[Thread], name: &[u8]) -> Option<NameKind>
     ensures { result ≡ kind_in (threads_uses (map thread_view threads.now)) name.now }
 {
     for thread in threads {
         if thread.name.text.as_slice() == name {
-            return Some(Kind::Thread);
+            return Some(NameKind::Thread);
         }
     }
     None
@@ -53,7 +53,7 @@ fn kind_of_thread(threads: &[Thread], name: &[u8]) -> Option<Kind>
 
 /// The kind that a name is declared as.
 #[tactic(auto, using(crate::proofs::NameLookup::kind_stays, crate::proofs::NameLookup::kind_after))]
-fn kind_among(declarations: &[Declaration], threads: &[Thread], name: &[u8]) -> Option<Kind>
+fn kind_among(declarations: &[Declaration], threads: &[Thread], name: &[u8]) -> Option<NameKind>
     ensures { result ≡ kind_in (uses_of declarations.now threads.now) name.now }
 {
     match kind_declared(declarations, name) {
@@ -64,14 +64,14 @@ fn kind_among(declarations: &[Declaration], threads: &[Thread], name: &[u8]) -> 
 
 /// The kind that a name is declared as anywhere in the text.
 #[tactic(auto, unfolding(crate::specs::inner::Walk::all_uses))]
-fn kind_in(tree: &Tree, name: &Name) -> Option<Kind>
+fn kind_in(tree: &Tree, name: &Name) -> Option<NameKind>
     ensures { result ≡ kind_in (all_uses tree.now) name.now.text.items }
 {
     kind_among(tree.declarations(), tree.threads(), &name.text)
 }
 
 /// How many declarations of a kind there are.
-fn how_many(kind: Kind, declarations: &[Declaration]) -> usize
+fn how_many(kind: NameKind, declarations: &[Declaration]) -> usize
     ensures { result ≡ how_many kind (uses_of declarations.now []) }
 {
     let mut count = 0;
@@ -96,7 +96,7 @@ fn knows(locals: &[Vec<u8>], name: &[u8]) -> bool
 }
 
 /// Refuses a name where an object of this kind must be.
-fn check_object(tree: &Tree, kind: Kind, name: &Name) -> Result<(), CheckError>
+fn check_object(tree: &Tree, kind: NameKind, name: &Name) -> Result<(), CheckError>
     ensures { result ≡ passed (refusal (all_uses tree.now) []
         (object kind (name_view name.now))) tt }
 {
@@ -183,10 +183,10 @@ fn check_load(
     variable: &Name,
 ) -> Result<(), CheckError>
     ensures { Meets result scope.entry locals.old locals.new
-        (used.local (name_view local.now) ∷ object Kind.Variable (name_view variable.now) ∷ []) }
+        (used.local (name_view local.now) ∷ object NameKind.Variable (name_view variable.now) ∷ []) }
 {
     check_local(scope, locals, local)?;
-    check_object(scope.tree, Kind::Variable, variable)
+    check_object(scope.tree, NameKind::Variable, variable)
 }
 
 /// Checks the names that are used in a `store`.
@@ -197,9 +197,9 @@ fn check_store(
     value: &Operand,
 ) -> Result<(), CheckError>
     ensures { Meets result scope.entry locals.old locals.new
-        (object Kind.Variable (name_view variable.now) ∷ operand_uses (operand_view value.now)) }
+        (object NameKind.Variable (name_view variable.now) ∷ operand_uses (operand_view value.now)) }
 {
-    check_object(scope.tree, Kind::Variable, variable)?;
+    check_object(scope.tree, NameKind::Variable, variable)?;
     check_operand(scope, locals, value)
 }
 
@@ -212,7 +212,7 @@ fn check_add(
     value: &Operand,
 ) -> Result<(), CheckError>
     ensures { Meets result scope.entry locals.old locals.new
-        (used.local (name_view local.now) ∷ object Kind.Variable (name_view variable.now) ∷
+        (used.local (name_view local.now) ∷ object NameKind.Variable (name_view variable.now) ∷
         operand_uses (operand_view value.now)) }
 {
     check_load(scope, locals, local, variable)?;
@@ -236,11 +236,11 @@ fn check_set(
 /// Checks the names that are used in a `wait`, which has no local.
 fn check_wait(tree: &Tree, condition: &Name, mutex: &Name) -> Result<(), CheckError>
     ensures { result ≡ passed (first (all_uses tree.now) []
-        (object Kind.Condition (name_view condition.now) ∷ object Kind.Mutex (name_view mutex.now)
+        (object NameKind.Condition (name_view condition.now) ∷ object NameKind.Mutex (name_view mutex.now)
         ∷ [])) tt }
 {
-    check_object(tree, Kind::Condition, condition)?;
-    check_object(tree, Kind::Mutex, mutex)
+    check_object(tree, NameKind::Condition, condition)?;
+    check_object(tree, NameKind::Mutex, mutex)
 }
 
 /// Checks the names that are used in a statement.
@@ -271,13 +271,17 @@ fn check_statement(
             check_load(scope, locals, local, variable)?;
             check_operands(scope, locals, expected, new)
         }
-        Statement::Lock(name) | Statement::Unlock(name) => check_object(tree, Kind::Mutex, name),
+        Statement::Lock(name) | Statement::Unlock(name) => check_object(
+            tree,
+            NameKind::Mutex,
+            name,
+        ),
         Statement::Wait { condition, mutex } => check_wait(tree, condition, mutex),
         Statement::Signal(name) | Statement::Broadcast(name) => {
-            check_object(tree, Kind::Condition, name)
+            check_object(tree, NameKind::Condition, name)
         }
         Statement::Acquire(name) | Statement::Release(name) => {
-            check_object(tree, Kind::Semaphore, name)
+            check_object(tree, NameKind::Semaphore, name)
         }
         Statement::Set { local, value } => check_set(scope, locals, local, value),
         Statement::Assert(test) => check_expr(scope, locals, test),
@@ -367,7 +371,7 @@ fn check_block(
 fn check_new(
     declarations: &[Declaration],
     threads: &[Thread],
-    kind: Kind,
+    kind: NameKind,
     count: usize,
     name: &Name,
 ) -> Result<(), CheckError>
@@ -421,7 +425,13 @@ fn check_names(alloc: Global, tree: &Tree) -> Result<Vec<Vec<Vec<u8>>>, CheckErr
     check_declarations(tree, declarations)?;
     let mut all = Vec::new(alloc);
     for (i, thread) in threads.iter().enumerate() {
-        check_new(declarations, &threads[..i], Kind::Thread, i, &thread.name)?;
+        check_new(
+            declarations,
+            &threads[..i],
+            NameKind::Thread,
+            i,
+            &thread.name,
+        )?;
         all.push(check_body(alloc, tree, thread)?)?;
     }
     Ok(all)

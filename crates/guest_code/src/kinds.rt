@@ -9,7 +9,7 @@ use guest_syntax::tree::Object;
 
 /// What a name is declared as.
 #[derive(Clone, Copy, Debug, PartialEq, Eq)]
-pub enum Kind {
+pub enum NameKind {
     Variable,
     Mutex,
     Condition,
@@ -18,33 +18,33 @@ pub enum Kind {
 }
 
 /// The kind of an object.
-pub fn kind_of(object: Object) -> Kind
+pub fn kind_of(object: Object) -> NameKind
     ensures { result ≡ kind_of object }
 {
     match object {
-        Object::Variable(_) => Kind::Variable,
-        Object::Mutex => Kind::Mutex,
-        Object::Condition => Kind::Condition,
-        Object::Semaphore(_) => Kind::Semaphore,
+        Object::Variable(_) => NameKind::Variable,
+        Object::Mutex => NameKind::Mutex,
+        Object::Condition => NameKind::Condition,
+        Object::Semaphore(_) => NameKind::Semaphore,
     }
 }
 
-impl Kind {
+impl NameKind {
     /// How many of the kind a program may have.
     pub fn limit(self) -> usize
         ensures { result ≡ limit_of self }
     {
         match self {
-            Kind::Variable => VARIABLES,
-            Kind::Mutex => OBJECTS,
-            Kind::Condition => OBJECTS,
-            Kind::Semaphore => OBJECTS,
-            Kind::Thread => THREADS,
+            NameKind::Variable => VARIABLES,
+            NameKind::Mutex => OBJECTS,
+            NameKind::Condition => OBJECTS,
+            NameKind::Semaphore => OBJECTS,
+            NameKind::Thread => THREADS,
         }
     }
 
     /// Whether two kinds are the same.
-    pub fn is(self, other: Kind) -> bool
+    pub fn is(self, other: NameKind) -> bool
         ensures { result ≡ same self other }
     {
         self == other

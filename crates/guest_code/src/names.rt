@@ -6,7 +6,7 @@ ghost use Rattle.guest_code.specs.Program.{names_view};
 ghost use Rattle.guest_code.specs.Code.{object_index, local_index, variable_number, mutex_number, condition_number, semaphore_number, local_number, value_of, expression_of};
 ghost use Rattle.guest_code.specs.inner.Emission.{names_of};
 
-use crate::kinds::{Kind, kind_of};
+use crate::kinds::{NameKind, kind_of};
 use crate::program::{Expression, Value};
 use guest_syntax::tree::{Declaration, Expr, Name, Operand};
 
@@ -19,7 +19,7 @@ pub struct Names<'a> {
 }
 
 /// The number of an object among those of its kind.
-fn index_of_object(declarations: &[Declaration], kind: Kind, name: &[u8]) -> usize
+fn index_of_object(declarations: &[Declaration], kind: NameKind, name: &[u8]) -> usize
     ensures { result ≡ object_index kind (map declaration_view declarations.now) name.now }
 {
     let mut index = 0;
@@ -53,28 +53,28 @@ impl Names<'_> {
     pub fn variable(self, name: &Name) -> usize
         ensures { result ≡ variable_number (names_of self.entry) (name_view name.now) }
     {
-        index_of_object(self.declarations, Kind::Variable, &name.text)
+        index_of_object(self.declarations, NameKind::Variable, &name.text)
     }
 
     /// The number of a mutex.
     pub fn mutex(self, name: &Name) -> usize
         ensures { result ≡ mutex_number (names_of self.entry) (name_view name.now) }
     {
-        index_of_object(self.declarations, Kind::Mutex, &name.text)
+        index_of_object(self.declarations, NameKind::Mutex, &name.text)
     }
 
     /// The number of a condition.
     pub fn condition(self, name: &Name) -> usize
         ensures { result ≡ condition_number (names_of self.entry) (name_view name.now) }
     {
-        index_of_object(self.declarations, Kind::Condition, &name.text)
+        index_of_object(self.declarations, NameKind::Condition, &name.text)
     }
 
     /// The number of a semaphore.
     pub fn semaphore(self, name: &Name) -> usize
         ensures { result ≡ semaphore_number (names_of self.entry) (name_view name.now) }
     {
-        index_of_object(self.declarations, Kind::Semaphore, &name.text)
+        index_of_object(self.declarations, NameKind::Semaphore, &name.text)
     }
 
     /// The number of a local.

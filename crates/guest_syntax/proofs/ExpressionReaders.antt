@@ -8,7 +8,7 @@ use Rattle.guest_syntax.specs.declared.token.Symbol.{Symbol}
 use Rattle.guest_syntax.specs.declared.token.Symbol.TheVariants as symbols
 use Rattle.guest_syntax.specs.declared.tree.Op.{Op}
 use Rattle.guest_syntax.specs.declared.tree.Op.TheVariants as ops
-use Rattle.guest_syntax.specs.Tokens.{Kind, name, number, symbol, Token}
+use Rattle.guest_syntax.specs.Tokens.{TokenKind, name, number, symbol, Token}
 use Rattle.guest_syntax.specs.Tree.{Operand, local, literal, Expr, single, both}
 use Rattle.guest_syntax.specs.Forms.{IsToken, IsLiteral}
 use Rattle.guest_syntax.specs.Grammar.{IsOperand, IsOp, IsExpr}
@@ -20,7 +20,7 @@ use Rattle.guest_syntax.proofs.TokenReaders.{token_takes, token_again, kind_agai
 
 -- ---- literals
 
-literal_by_takes : (k : Kind) (at : Pos) (ts : List Token) (x : ℤ × List Token)
+literal_by_takes : (k : TokenKind) (at : Pos) (ts : List Token) (x : ℤ × List Token)
     → literal_by k ts ≡ Some x → IsLiteral x.0 (record { kind = k; at = at } ∷ ts) x.1
 literal_by_takes (number n) at ts x e =
     let g = cond_ok (nat_le n NUMBER) (pos n, ts) x e in
@@ -82,7 +82,7 @@ literal_again z ts rest h =
 
 -- ---- operands
 
-operand_by_takes : (t : Token) (k : Kind) (ts : List Token) (x : Operand × List Token)
+operand_by_takes : (t : Token) (k : TokenKind) (ts : List Token) (x : Operand × List Token)
     → operand_by t ts k ≡ Some x → IsOperand x.0 (record { kind = k; at = t.at } ∷ ts) x.1
 operand_by_takes t (name s) ts x e = subst
     (λ (y : Operand × List Token). IsOperand y.0 (record { kind = name s; at = t.at } ∷ ts) y.1)
@@ -110,7 +110,7 @@ operand_again (literal z) ts rest h =
 
 -- ---- expressions
 
-op_of_is : (k : Kind) (op : Op) → op_of k ≡ Some op → (ts rest : List Token) → IsToken k ts rest
+op_of_is : (k : TokenKind) (op : Op) → op_of k ≡ Some op → (ts rest : List Token) → IsToken k ts rest
     → IsOp op ts rest
 op_of_is (symbol symbols.Assign) op e ts rest h = absurd cc
 op_of_is (symbol symbols.Open) op e ts rest h = absurd cc
@@ -149,7 +149,7 @@ pub record Ends (ts : List Token) : Type 0 where
   pub no_op : op_of first.kind ≡ None
   pub no_else : is_else first.kind ≡ false
 
-expr_by_takes : (a : Operand) (k : Kind) (o : Option Op) → op_of k ≡ o
+expr_by_takes : (a : Operand) (k : TokenKind) (o : Option Op) → op_of k ≡ o
     → (ts before following : List Token) (x : Expr × List Token) → IsOperand a ts before
     → IsToken k before following → expr_by a before following o ≡ Some x → IsExpr x.0 ts x.1
 expr_by_takes a k None ok ts before following x ha hk e =

@@ -6,8 +6,8 @@ use Rattle.guest_syntax.specs.declared.error.SyntaxError.{SyntaxError}
 use Rattle.guest_syntax.specs.declared.error.SyntaxError.TheVariants as errors
 use Rattle.guest_syntax.specs.declared.cursor.Cursor.{Cursor}
 use Rattle.guest_syntax.specs.declared.token.Token.{Token}
-use Rattle.guest_syntax.specs.declared.token.Kind.{Kind}
-use Rattle.guest_syntax.specs.declared.token.Kind.TheVariants as kinds
+use Rattle.guest_syntax.specs.declared.token.TokenKind.{TokenKind}
+use Rattle.guest_syntax.specs.declared.token.TokenKind.TheVariants as kinds
 use Rattle.guest_syntax.specs.reader.TokenViews.{kind_view, token_view}
 use Rattle.guest_syntax.specs.Answers.{is_token}
 use Rattle.guest_syntax.specs.reader.Gives.{Fails, Gives}
@@ -22,7 +22,7 @@ pub fails_then : {A B : Type 0} (e : SyntaxError) (o : Option A) (p : Option B)
 fails_then errors.OutOfMemory o p f h = tt
 fails_then e o p f h = f h
 
-good : (k : Kind) → is_bad (kind_view k) ≡ false
+good : (k : TokenKind) → is_bad (kind_view k) ≡ false
 good (kinds.Name s) = refl
 good (kinds.Keyword w) = refl
 good (kinds.Number n) = refl

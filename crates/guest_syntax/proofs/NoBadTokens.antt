@@ -1,7 +1,7 @@
 -- A form puts tokens before others, and none of them is `bad`.
 use Rattle.std.proofs.Common.{◌≡◌, ℕ, false, inl, inr, List, [], ◌∷◌, ◌++◌, refl, sym, ap, subst, ◌∙◌, append_assoc, ℤ}
 use Rattle.std.proofs.lemmas.List.{append-nil}
-use Rattle.guest_syntax.specs.Tokens.{Kind, name, number, Token}
+use Rattle.guest_syntax.specs.Tokens.{TokenKind, name, number, Token}
 use Rattle.guest_syntax.specs.declared.tree.Op.{Op}
 use Rattle.guest_syntax.specs.declared.tree.Op.TheVariants as ops
 use Rattle.guest_syntax.specs.declared.tree.Object.{Object}
@@ -41,7 +41,7 @@ adds_then {rest = rest} a b = record {
 then_c : (A B : Form) → Cleans A → Cleans B → Cleans (A then B)
 then_c A B a b ts rest h = adds_then (a ts h.0 h.1) (b h.0 rest h.2)
 
-pub token_c : (k : Kind) → is_bad k ≡ false → Cleans (IsToken k)
+pub token_c : (k : TokenKind) → is_bad k ≡ false → Cleans (IsToken k)
 token_c k e ts rest h = record {
   front = record { kind = k; at = h.0 } ∷ [];
   is = h.1;

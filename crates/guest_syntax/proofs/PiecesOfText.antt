@@ -2,7 +2,7 @@
 use Rattle.std.proofs.Common.{◌≡◌, ℕ, ◌<◌, Bool, true, false, cond, not, List, [], ◌∷◌, ◌++◌, length, take, drop, Option, Some, None, refl, arith}
 use Rattle.std.specs.Prelude.{◌==◌}
 use Rattle.std.specs.Option.{option_and_then}
-use Rattle.guest_syntax.specs.Tokens.{Kind, is_space, blank}
+use Rattle.guest_syntax.specs.Tokens.{TokenKind, is_space, blank}
 use Rattle.guest_syntax.specs.Pieces.{IsWhole, IsStray}
 use Rattle.guest_syntax.specs.reader.Scanner.{kind_at}
 use Rattle.guest_syntax.proofs.ScannerProgress.{kind_has_bytes}
@@ -11,7 +11,7 @@ use Rattle.guest_syntax.proofs.RefusalPlaces.{begins_none}
 
 -- ---- a piece
 
-pub whole : (bytes : List ℕ) (k : Kind) (n : ℕ) → 0 < length bytes → kind_at bytes ≡ Some (k, n)
+pub whole : (bytes : List ℕ) (k : TokenKind) (n : ℕ) → 0 < length bytes → kind_at bytes ≡ Some (k, n)
     → (0 < n) × IsWhole (take n bytes) (drop n bytes)
 whole [] k n some e = absurd (omega (arith, some))
 whole (b ∷ bs) k n some e =

@@ -4,7 +4,7 @@ use Rattle.std.proofs.lemmas.List.{take_at, drop_at, take-append-drop}
 use Rattle.guest_syntax.specs.declared.place.Pos.{Pos}
 use Rattle.guest_syntax.specs.declared.cursor.Cursor.{Cursor}
 use Rattle.guest_syntax.specs.declared.token.Symbol.TheVariants.{Open}
-use Rattle.guest_syntax.specs.Tokens.{Kind, number, symbol}
+use Rattle.guest_syntax.specs.Tokens.{TokenKind, number, symbol}
 use Rattle.guest_syntax.specs.declared.error.SyntaxError.{SyntaxError}
 use Rattle.guest_syntax.specs.declared.error.SyntaxError.TheVariants as errors
 use Rattle.guest_syntax.specs.Place.{start, past, after, Follows}
@@ -37,7 +37,7 @@ follows_then {p = p} {c = c} f g = record {
   place = g.place ∙ ap (λ x. after x g.front) f.place ∙ sym (after_append f.front g.front p);
 }
 
-pub token_then : {p q r : Pos} {a b : List ℕ} (k : Kind) → Follows p a q b → IsTokenIn q b k r
+pub token_then : {p q r : Pos} {a b : List ℕ} (k : TokenKind) → Follows p a q b → IsTokenIn q b k r
     → IsTokenIn p a k r
 token_then k f g = record {
   text = g.text;

@@ -11,7 +11,7 @@ use Rattle.guest_syntax.specs.declared.token.Symbol.TheVariants as symbols
 use Rattle.guest_syntax.specs.declared.token.TheConstants.{SYMBOLS}
 use Rattle.guest_syntax.specs.Place.{Follows}
 use Rattle.guest_syntax.specs.Answers.{IsTokenIn, BeginsNone, IsBadCharAt}
-use Rattle.guest_syntax.specs.Tokens.{Kind, name, keyword, number, symbol, bad, IsIdentifier, symbol_text, is_letter, is_digit}
+use Rattle.guest_syntax.specs.Tokens.{TokenKind, name, keyword, number, symbol, bad, IsIdentifier, symbol_text, is_letter, is_digit}
 use Rattle.guest_syntax.specs.reader.Scanner.{skipped, symbol_at, kind_by, kind_at}
 use Rattle.guest_syntax.proofs.ByteClasses.{and_parts}
 use Rattle.guest_syntax.proofs.BlankRuns.{skip_takes, stops_ascii}
@@ -23,7 +23,7 @@ some_bytes (suc n) e = omega arith
 
 -- ---- a token
 
-pub kind_is_in : (at p : Pos) (bytes rest : List ℕ) (k : Kind) (n : ℕ) → Follows at bytes p rest
+pub kind_is_in : (at p : Pos) (bytes rest : List ℕ) (k : TokenKind) (n : ℕ) → Follows at bytes p rest
     → 0 < length rest
     → kind_at rest ≡ Some (k, n) → IsTokenIn at bytes k p
 kind_is_in at p bytes [] k n f some e = absurd (omega (arith, some))

@@ -6,7 +6,7 @@ use Rattle.guest_syntax.specs.declared.token.Symbol.{Symbol}
 use Rattle.guest_syntax.specs.declared.token.Symbol.TheVariants as symbols
 use Rattle.guest_syntax.specs.Place.{past}
 use Rattle.guest_syntax.specs.reader.BlankBytes.{Step, Passed, Stops, NotAscii, gap_step}
-use Rattle.guest_syntax.specs.Tokens.{Kind, symbol, Token, is_letter, is_digit, is_name_byte, symbol_text}
+use Rattle.guest_syntax.specs.Tokens.{TokenKind, symbol, Token, is_letter, is_digit, is_name_byte, symbol_text}
 use Rattle.guest_syntax.specs.reader.Scanner.{skip_by, skipped, symbol_at, kind_by, kind_at, first_from, first, scan_with, scan, tokens_from}
 use Rattle.guest_syntax.proofs.OptionCases.{bind_some, map_some, some_is}
 
@@ -43,17 +43,17 @@ prefix_has : (p : ℕ → Bool) (b : ℕ) (bs : List ℕ) → p b ≡ true → 0
 prefix_has p b bs e = rw e (omega arith)
 
 kind_has_bytes_by : (b : ℕ) (bs : List ℕ) (l d : Bool) → is_letter b ≡ l → is_digit b ≡ d
-    → (x : Kind × ℕ) → kind_by l d (b ∷ bs) ≡ Some x → 0 < x.1
+    → (x : TokenKind × ℕ) → kind_by l d (b ∷ bs) ≡ Some x → 0 < x.1
 kind_has_bytes_by b bs true d il id x e =
-    rw (← ap (λ (y : Kind × ℕ). y.1) (some_is _ x e))
+    rw (← ap (λ (y : TokenKind × ℕ). y.1) (some_is _ x e))
     (prefix_has is_name_byte b bs (letter_is_name (is_letter b) (is_digit b) il))
 kind_has_bytes_by b bs false true il id x e =
-    rw (← ap (λ (y : Kind × ℕ). y.1) (some_is _ x e)) (prefix_has is_digit b bs id)
+    rw (← ap (λ (y : TokenKind × ℕ). y.1) (some_is _ x e)) (prefix_has is_digit b bs id)
 kind_has_bytes_by b bs false false il id x e =
     let m = map_some (λ s. (symbol s, length (symbol_text s))) (symbol_at (b ∷ bs)) x e in
-    rw (← ap (λ (y : Kind × ℕ). y.1) m.2) (symbol_has_bytes m.0)
+    rw (← ap (λ (y : TokenKind × ℕ). y.1) m.2) (symbol_has_bytes m.0)
 
-pub kind_has_bytes : (b : ℕ) (bs : List ℕ) (x : Kind × ℕ) → kind_at (b ∷ bs) ≡ Some x → 0 < x.1
+pub kind_has_bytes : (b : ℕ) (bs : List ℕ) (x : TokenKind × ℕ) → kind_at (b ∷ bs) ≡ Some x → 0 < x.1
 unfolding kind_at
 kind_has_bytes b bs x e = kind_has_bytes_by b bs (is_letter b) (is_digit b) refl refl x e
 

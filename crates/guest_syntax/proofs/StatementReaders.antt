@@ -5,7 +5,7 @@ use Rattle.guest_syntax.specs.declared.token.Keyword.{Keyword}
 use Rattle.guest_syntax.specs.declared.token.Symbol.{Symbol}
 use Rattle.guest_syntax.specs.declared.token.Keyword.TheVariants as keywords
 use Rattle.guest_syntax.specs.declared.token.Symbol.TheVariants as symbols
-use Rattle.guest_syntax.specs.Tokens.{Kind, keyword, symbol, Token}
+use Rattle.guest_syntax.specs.Tokens.{TokenKind, keyword, symbol, Token}
 use Rattle.guest_syntax.specs.reader.Scanner.{◌>>=◌}
 use Rattle.guest_syntax.specs.Tree.{Name, Operand, Expr, Stmt, load, store, add, cas, lock, unlock, wait, signal, broadcast, acquire, release, set, assert, if_then, if_else, repeat, leave, Block, nothing, next, Placed, block_of}
 use Rattle.guest_syntax.specs.Forms.{Form, ◌then◌, IsTokenAt, IsToken, IsName, IsEnd, BeginsAt, placed_at, in_braces}
@@ -170,14 +170,14 @@ simple_takes keywords.Leave room before ts x h e =
     (ts, h, symbol_takes symbols.End ts s.0 s.1)
 simple_takes w room before ts x h e = named_takes w room before ts x h e
 
-is_else_kind : (k : Kind) → is_else k ≡ true → k ≡ keyword keywords.Else
+is_else_kind : (k : TokenKind) → is_else k ≡ true → k ≡ keyword keywords.Else
 unfolding is_else
 is_else_kind (keyword keywords.Else) e = refl
 is_else_kind k e = absurd cc
 
 choice_by_takes : (block : Reader) (room : ℕ) → Takes block room
     → (before ts : List Token) (x : Stmt × List Token) (e : Expr) (b : Block)
-    (t1 t2 following : List Token) (k : Kind) (o : Bool) → is_else k ≡ o
+    (t1 t2 following : List Token) (k : TokenKind) (o : Bool) → is_else k ≡ o
     → IsToken (keyword keywords.If) before ts → IsExpr e ts t1 → IsBlock b room t1 t2
     → IsToken k t2 following → choice_by block e b t2 following o ≡ Some x
     → IsStatement x.0 room before x.1
@@ -237,12 +237,12 @@ statement_takes block room ih keywords.Repeat before ts x h e =
     repeat_takes block room ih before ts x h e
 statement_takes block room ih w before ts x h e = simple_takes w room before ts x h e
 
-begins : (at : Pos) (k : Kind) (ts rest : List Token) → IsTokenAt at k ts rest → BeginsAt at ts
+begins : (at : Pos) (k : TokenKind) (ts rest : List Token) → IsTokenAt at k ts rest → BeginsAt at ts
 begins at k ts rest h = subst (BeginsAt at) (sym h) refl
 
 -- a word's statement, or the end
 turn_by_takes : (block : Reader) (room : ℕ) → Takes block room
-    → (k : Kind) (at : Pos) (before ts : List Token) (x : Option Placed × List Token)
+    → (k : TokenKind) (at : Pos) (before ts : List Token) (x : Option Placed × List Token)
     → IsTokenAt at k before ts → turn_by block k at ts ≡ Some x → IsTurn room x.0 before x.1
 turn_by_takes block room ih (keyword v) at before ts x w h =
     let s = bind_some (statement_by block v ts) _ _ h in

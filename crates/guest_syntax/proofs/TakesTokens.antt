@@ -1,6 +1,6 @@
 -- What is spelled takes tokens.
 use Rattle.std.proofs.Common.{ℕ, ◌<◌, ◌≤◌, inl, inr, List, length, ap, arith, ℤ}
-use Rattle.guest_syntax.specs.Tokens.{Kind, symbol, Token}
+use Rattle.guest_syntax.specs.Tokens.{TokenKind, symbol, Token}
 use Rattle.guest_syntax.specs.declared.token.Symbol.TheVariants as symbols
 use Rattle.guest_syntax.specs.declared.tree.Op.{Op}
 use Rattle.guest_syntax.specs.declared.tree.Op.TheVariants as ops
@@ -16,10 +16,10 @@ Shrinks F = (ts rest : List Token) → F ts rest → length rest ≤ length ts
 pub then_shrinks : (A B : Form) → Shrinks A → Shrinks B → Shrinks (A then B)
 then_shrinks A B a b ts rest h = omega (arith, a ts h.0 h.1, b h.0 rest h.2)
 
-pub token_shorter : (k : Kind) (ts rest : List Token) → IsToken k ts rest → length rest < length ts
+pub token_shorter : (k : TokenKind) (ts rest : List Token) → IsToken k ts rest → length rest < length ts
 token_shorter k ts rest h = omega (arith, ap length h.1)
 
-pub token_shrinks : (k : Kind) → Shrinks (IsToken k)
+pub token_shrinks : (k : TokenKind) → Shrinks (IsToken k)
 token_shrinks k ts rest h = omega (arith, token_shorter k ts rest h)
 
 pub name_shrinks : (n : Name) → Shrinks (IsName n)
@@ -58,7 +58,7 @@ times_shrinks : (n : ℕ) → Shrinks (IsTimes n)
 times_shrinks n ts rest h = number_shrinks _ n ts rest h.1
 
 -- a token and something that shrinks
-pub after_token : (k : Kind) (F : Form) → Shrinks F → (ts rest : List Token)
+pub after_token : (k : TokenKind) (F : Form) → Shrinks F → (ts rest : List Token)
     → (IsToken k then F) ts rest → length rest < length ts
 after_token k F f ts rest h = omega (arith, token_shorter k ts h.0 h.1, f h.0 rest h.2)
 

@@ -5,7 +5,7 @@ use Rattle.guest_syntax.specs.declared.place.Pos.{Pos}
 use Rattle.guest_syntax.specs.declared.token.Keyword.{Keyword}
 use Rattle.guest_syntax.specs.declared.token.Keyword.TheVariants as keywords
 use Rattle.guest_syntax.specs.Place.{past, after, Before}
-use Rattle.guest_syntax.specs.Tokens.{Kind, name, keyword, number, symbol, bad, Token, keyword_text, Spelling, Tokens}
+use Rattle.guest_syntax.specs.Tokens.{TokenKind, name, keyword, number, symbol, bad, Token, keyword_text, Spelling, Tokens}
 use Rattle.guest_syntax.proofs.ScannerProgress.{symbol_has_bytes}
 use Rattle.guest_syntax.proofs.NoBadTokens.{Adds}
 
@@ -55,7 +55,7 @@ keyword_has_bytes : (w : Keyword) → 0 < length (keyword_text w)
 keyword_has_bytes keywords.Var = omega arith
 keyword_has_bytes _ = omega arith
 
-has_bytes : (k : Kind) (bs : List ℕ) → Spelling k bs → 0 < length bs
+has_bytes : (k : TokenKind) (bs : List ℕ) → Spelling k bs → 0 < length bs
 has_bytes (name []) bs h = absurd h.1
 has_bytes (name (b ∷ s)) bs h = omega (arith, ap length h.0)
 has_bytes (keyword w) bs h = omega (arith, ap length h, keyword_has_bytes w)

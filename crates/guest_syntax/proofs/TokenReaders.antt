@@ -8,7 +8,7 @@ use Rattle.guest_syntax.specs.declared.token.Symbol.{Symbol}
 use Rattle.guest_syntax.specs.declared.token.Symbol.TheVariants as symbols
 use Rattle.guest_syntax.specs.contracts.token.Symbol as symbol-type
 use Rattle.guest_syntax.specs.contracts.token.SymbolPartialEq.TheImpl as symbol-eq
-use Rattle.guest_syntax.specs.Tokens.{Kind, name, keyword, number, symbol, bad, Token}
+use Rattle.guest_syntax.specs.Tokens.{TokenKind, name, keyword, number, symbol, bad, Token}
 use Rattle.guest_syntax.specs.Tree.{Name}
 use Rattle.guest_syntax.specs.Forms.{IsToken, IsName, IsNumber}
 use Rattle.guest_syntax.specs.Grammar.{IsTimes}
@@ -30,16 +30,16 @@ pub token_again : (t : Token) (ts : List Token) → is_bad t.kind ≡ false
 unfolding token_at
 token_again t ts e = rw e refl
 
-pub kind_again : (k : Kind) (ts rest : List Token) (h : IsToken k ts rest) → is_bad k ≡ false
+pub kind_again : (k : TokenKind) (ts rest : List Token) (h : IsToken k ts rest) → is_bad k ≡ false
     → token_at ts ≡ Some (record { kind = k; at = h.0 }, rest)
 kind_again k ts rest h e = ap token_at h.1 ∙ token_again (record { kind = k; at = h.0 }) rest e
 
-pub kind_takes : (k : Kind) (ts : List Token) (x : Token × List Token) → token_at ts ≡ Some x
+pub kind_takes : (k : TokenKind) (ts : List Token) (x : Token × List Token) → token_at ts ≡ Some x
     → x.0.kind ≡ k → IsToken k ts x.1
 kind_takes k ts x e is = (
   x.0.at,
   (token_takes ts x e).1 ∙
-      ap (λ (k : Kind). record { kind = k; at = x.0.at } ∷ x.1) is,
+      ap (λ (k : TokenKind). record { kind = k; at = x.0.at } ∷ x.1) is,
 )
 
 pub same_symbol : (s u : Symbol) → symbol-eq.eq-value.it s u ≡ true → s ≡ u
@@ -49,7 +49,7 @@ pub symbol_itself : (s : Symbol) → symbol-eq.eq-value.it s s ≡ true
 symbol_itself symbols.Equal = refl
 symbol_itself s = refl
 
-is_symbol_kind : (s : Symbol) (k : Kind) → is_symbol s k ≡ true → k ≡ symbol s
+is_symbol_kind : (s : Symbol) (k : TokenKind) → is_symbol s k ≡ true → k ≡ symbol s
 is_symbol_kind s (symbol u) e = ap symbol (same_symbol u s e)
 is_symbol_kind s k e = absurd cc
 
@@ -67,10 +67,10 @@ pub symbol_again : (s : Symbol) (ts rest : List Token) → IsToken (symbol s) ts
 unfolding symbol_from
 symbol_again s ts rest h = rw (kind_again (symbol s) ts rest h refl, symbol_itself s) refl
 
-name_in_is : (t : Token) (k : Kind) (n : Name) → t.kind ≡ k → name_in t ≡ Some n
+name_in_is : (t : Token) (k : TokenKind) (n : Name) → t.kind ≡ k → name_in t ≡ Some n
     → t ≡ record { kind = name n.text; at = n.at }
 name_in_is t (name s) n e h = let is : record { text = s; at = t.at } ≡ n =
-    some_is _ n (rw e at h) in rw (← is) (ap (λ (k : Kind). record { kind = k; at = t.at }) e)
+    some_is _ n (rw e at h) in rw (← is) (ap (λ (k : TokenKind). record { kind = k; at = t.at }) e)
 name_in_is t k n e h = absurd (let h : None ≡ Some n = rw e at h in cc)
 
 pub name_takes : (ts : List Token) (x : Name × List Token) → name_from ts ≡ Some x
@@ -88,7 +88,7 @@ pub name_again : (n : Name) (ts rest : List Token) → IsName n ts rest
 unfolding name_from
 name_again n ts rest h = rw (kind_again (name n.text) ts rest (n.at, h) refl) refl
 
-number_in_is : (limit : ℕ) (k : Kind) (n : ℕ) → number_in limit k ≡ Some n → (n ≤ limit)
+number_in_is : (limit : ℕ) (k : TokenKind) (n : ℕ) → number_in limit k ≡ Some n → (n ≤ limit)
     × (k ≡ number n)
 number_in_is limit (name s) n h = absurd cc
 number_in_is limit (keyword w) n h = absurd cc

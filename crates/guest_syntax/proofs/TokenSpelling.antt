@@ -14,7 +14,7 @@ use Rattle.guest_syntax.specs.declared.token.Symbol.{Symbol}
 use Rattle.guest_syntax.specs.declared.token.Keyword.TheVariants as keywords
 use Rattle.guest_syntax.specs.declared.token.Symbol.TheVariants as symbols
 use Rattle.guest_syntax.specs.declared.token.TheConstants.{KEYWORDS, SYMBOLS}
-use Rattle.guest_syntax.specs.Tokens.{Kind, name, keyword, number, symbol, bad, Spelling, IsLongest, IsIdentifier, keyword_text, symbol_text, value, is_letter, is_digit, is_name_byte}
+use Rattle.guest_syntax.specs.Tokens.{TokenKind, name, keyword, number, symbol, bad, Spelling, IsLongest, IsIdentifier, keyword_text, symbol_text, value, is_letter, is_digit, is_name_byte}
 use Rattle.guest_syntax.specs.reader.Scanner.{name_or_keyword, capped, symbol_at, kind_by, kind_at}
 use Rattle.guest_syntax.proofs.OptionCases.{map_some, some_is}
 use Rattle.guest_syntax.proofs.ByteClasses.{and_parts, or_left, or_right, letter_no_digit, name_byte_ascii, digit_ascii}
@@ -216,7 +216,7 @@ NoLonger g rest = (b : ℕ) (more : List ℕ) → rest ≡ b ∷ more → (u : S
     → symbol_text u ≡ symbol_text g ++ b ∷ [] → ⊥
 
 symbol_longest_by : (g : Symbol) (rest : List ℕ) (c : ℕ) (t : List ℕ) → symbol_text g ≡ c ∷ t
-    → NoLonger g rest → (b : ℕ) (more : List ℕ) → rest ≡ b ∷ more → (k : Kind)
+    → NoLonger g rest → (b : ℕ) (more : List ℕ) → rest ≡ b ∷ more → (k : TokenKind)
     → Spelling k (symbol_text g ++ b ∷ []) → ⊥
 symbol_longest_by g rest c t is none b more e (name s) h =
     false_true (symbol_head g c t is) (letter_name c
@@ -268,7 +268,7 @@ symbol_ascii s = (lit< tt, tt)
 
 -- ---- what was read is spelled so
 
-pub record Reads (s : List ℕ) (x : Kind × ℕ) : Type 0 where
+pub record Reads (s : List ℕ) (x : TokenKind × ℕ) : Type 0 where
   pub spelt : Spelling x.0 (take x.1 s)
   pub longest : IsLongest (take x.1 s) (drop x.1 s)
   pub ascii : Ascii (take x.1 s)
@@ -304,7 +304,7 @@ number_reads b bs text rest d f =
     )
 
 kind_by_reads : (b : ℕ) (bs : List ℕ) (l d : Bool) → is_letter b ≡ l → is_digit b ≡ d
-    → (x : Kind × ℕ) → kind_by l d (b ∷ bs) ≡ Some x → Reads (b ∷ bs) x
+    → (x : TokenKind × ℕ) → kind_by l d (b ∷ bs) ≡ Some x → Reads (b ∷ bs) x
 kind_by_reads b bs true d il id x e =
     let r = name_reads b bs _ _ il (front is_name_byte (b ∷ bs)) in
     subst (Reads (b ∷ bs)) (some_is _ x e) (record { spelt = r.0; longest = r.1; ascii = r.2 })
@@ -324,7 +324,7 @@ kind_by_reads b bs false false il id x e =
       ascii = subst Ascii (sym is) (symbol_ascii g.0);
     })
 
-pub kind_reads : (b : ℕ) (bs : List ℕ) (x : Kind × ℕ) → kind_at (b ∷ bs) ≡ Some x → Reads (b ∷ bs) x
+pub kind_reads : (b : ℕ) (bs : List ℕ) (x : TokenKind × ℕ) → kind_at (b ∷ bs) ≡ Some x → Reads (b ∷ bs) x
 unfolding kind_at
 kind_reads b bs x e = kind_by_reads b bs (is_letter b) (is_digit b) refl refl x e
 
@@ -398,7 +398,7 @@ symbol_again symbols.Assign (b ∷ more) longest =
     rw (no_equals symbols.Equal 61 b more refl longest) refl
 symbol_again g rest longest = refl
 
-pub kind_again : (k : Kind) (text rest : List ℕ) → Spelling k text → IsLongest text rest
+pub kind_again : (k : TokenKind) (text rest : List ℕ) → Spelling k text → IsLongest text rest
     → kind_at (text ++ rest) ≡ Some (k, length text)
 kind_again (name s) text rest h longest =
     identifier_again text rest (subst IsIdentifier (sym h.0) h.1) longest ∙

@@ -8,7 +8,7 @@ use Rattle.guest_syntax.specs.declared.token.Symbol.{Symbol}
 use Rattle.guest_syntax.specs.declared.token.Symbol.TheVariants as symbols
 use Rattle.guest_syntax.specs.Place.{after}
 use Rattle.guest_syntax.specs.reader.BlankBytes.{Stops, gap_step}
-use Rattle.guest_syntax.specs.Tokens.{Kind, name, keyword, number, symbol, bad, Token, Tokens, Begins, Spelling, IsIdentifier, keyword_text, symbol_text, blank, is_digit}
+use Rattle.guest_syntax.specs.Tokens.{TokenKind, name, keyword, number, symbol, bad, Token, Tokens, Begins, Spelling, IsIdentifier, keyword_text, symbol_text, blank, is_digit}
 use Rattle.guest_syntax.specs.reader.Scanner.{◌>>=◌, skipped, kind_at, first_from, first, scan_with, scan, tokens_from}
 use Rattle.guest_syntax.proofs.OptionCases.{bind_some, some_is}
 use Rattle.guest_syntax.proofs.ScannerProgress.{first_len}
@@ -134,7 +134,7 @@ symbol_head symbols.Open = record { first = 123; more = []; is = refl; stops = r
 symbol_head symbols.Close = record { first = 125; more = []; is = refl; stops = refl }
 symbol_head symbols.End = record { first = 59; more = []; is = refl; stops = refl }
 
-head_of : (k : Kind) (text : List ℕ) → Spelling k text → Head text
+head_of : (k : TokenKind) (text : List ℕ) → Spelling k text → Head text
 head_of (name s) text h = subst Head (sym h.0) (identifier_head s h.1)
 head_of (keyword w) text h = subst Head (sym h)
     (identifier_head (keyword_text w) (keyword_is_identifier w))
@@ -142,7 +142,7 @@ head_of (number n) text h = digits_head text h.0 h.1
 head_of (symbol s) text h = subst Head (sym h) (symbol_head s)
 head_of bad text h = elim h [ ]
 
-first_from_again : (p : Pos) (b : ℕ) (bs : List ℕ) (k : Kind) (n : ℕ)
+first_from_again : (p : Pos) (b : ℕ) (bs : List ℕ) (k : TokenKind) (n : ℕ)
     → kind_at (b ∷ bs) ≡ Some (k, n) → first_from p (b ∷ bs)
     ≡ Some (Some (record { kind = k; at = p }, after p (take n (b ∷ bs)), drop n (b ∷ bs)))
 first_from_again p b bs k n e = rw e refl

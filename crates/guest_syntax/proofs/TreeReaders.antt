@@ -7,7 +7,7 @@ use Rattle.guest_syntax.specs.declared.token.Keyword.TheVariants as keywords
 use Rattle.guest_syntax.specs.declared.token.Symbol.TheVariants as symbols
 use Rattle.guest_syntax.specs.declared.tree.Object.{Object}
 use Rattle.guest_syntax.specs.declared.tree.Object.TheVariants as objects
-use Rattle.guest_syntax.specs.Tokens.{Kind, keyword, symbol, Token}
+use Rattle.guest_syntax.specs.Tokens.{TokenKind, keyword, symbol, Token}
 use Rattle.guest_syntax.specs.Tree.{Name, Declaration, Thread, Tree}
 use Rattle.guest_syntax.specs.Forms.{IsLiteral, IsNumber, IsSymbol, Form, ◌then◌, IsToken, IsName, IsEnd, each}
 use Rattle.guest_syntax.specs.Grammar.{IsObject, IsDeclaration, IsThread, IsTree}
@@ -91,7 +91,7 @@ all_again F turn again xs ts mid rest h e =
 
 -- ---- declarations
 
-variable_by_takes : (v : Name) (k : Kind) (before t1 t2 ts : List Token)
+variable_by_takes : (v : Name) (k : TokenKind) (before t1 t2 ts : List Token)
     (x : Declaration × List Token) → IsToken (keyword keywords.Var) before t1 → IsName v t1 t2
     → IsToken k t2 ts → variable_by v k ts ≡ Some x → IsDeclaration x.0 before x.1
 variable_by_takes v (symbol symbols.Assign) before t1 t2 ts x w n h e =
@@ -158,12 +158,12 @@ next_takes (t ∷ ts) x e =
     subst (λ (y : Option Token × List Token). IsNext y.0 (t ∷ ts) y.1) (some_is (Some t, ts) x g.1)
     (g.0, refl)
 
-next_kind : (k : Kind) (ts rest : List Token) (h : IsToken k ts rest) → is_bad k ≡ false
+next_kind : (k : TokenKind) (ts rest : List Token) (h : IsToken k ts rest) → is_bad k ≡ false
     → next_at ts ≡ Some (Some (record { kind = k; at = h.0 }), rest)
 unfolding next_at
 next_kind k ts rest h e = ap next_at h.1 ∙ rw e refl
 
-declaration_by_takes : (k : Kind) (before following : List Token)
+declaration_by_takes : (k : TokenKind) (before following : List Token)
     (x : Option Declaration × List Token) → IsToken k before following
     → declaration_by k before following ≡ Some x → IsGiven IsDeclaration Same x.0 before x.1
 declaration_by_takes (keyword keywords.Var) before following x h e =
@@ -253,7 +253,7 @@ thread_takes before ts x w e =
     (some_is (record { name = n.0.0; body = b.0.0 }, b.0.1) x b.2)
     (ts, w, (n.0.1, name_takes ts n.0 n.1, block_takes (suc DEPTH) n.0.1 b.0 b.1))
 
-thread_by_takes : (k : Kind) (before following : List Token) (x : Option Thread × List Token)
+thread_by_takes : (k : TokenKind) (before following : List Token) (x : Option Thread × List Token)
     → IsToken k before following → thread_by k following ≡ Some x
     → IsGiven IsThread (IsNext None) x.0 before x.1
 thread_by_takes (keyword keywords.Thread) before following x h e =

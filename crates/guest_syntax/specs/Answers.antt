@@ -7,7 +7,7 @@ use Rattle.guest_syntax.specs.declared.error.SyntaxError.{SyntaxError}
 use Rattle.guest_syntax.specs.declared.error.SyntaxError.TheVariants as errors
 use Rattle.guest_syntax.specs.declared.tree.Tree as code
 use Rattle.guest_syntax.specs.Place.{Follows}
-use Rattle.guest_syntax.specs.Tokens.{Kind, number, symbol, Spelling}
+use Rattle.guest_syntax.specs.Tokens.{TokenKind, number, symbol, Spelling}
 use Rattle.guest_syntax.specs.Tree.{Tree, tree_view}
 
 -- the answer is this tree, or memory ran out
@@ -18,7 +18,7 @@ Answers (Err e) t = e ≡ errors.OutOfMemory
 -- ---- what is at the place p, among bytes of which the first is at another place
 
 -- bytes that spell such a token
-pub record IsTokenIn (at : Pos) (bytes : List ℕ) (k : Kind) (p : Pos) : Type 0 where
+pub record IsTokenIn (at : Pos) (bytes : List ℕ) (k : TokenKind) (p : Pos) : Type 0 where
   pub text : List ℕ
   pub rest : List ℕ
   pub spelt : Spelling k text
@@ -27,14 +27,14 @@ pub record IsTokenIn (at : Pos) (bytes : List ℕ) (k : Kind) (p : Pos) : Type 0
 -- some token, or the end
 pub data IsTokenOrEnd (at : Pos) (bytes : List ℕ) (p : Pos) : Type 0 where
   is_end : Follows at bytes p [] → IsTokenOrEnd at bytes p
-  is_token : (k : Kind) → IsTokenIn at bytes k p → IsTokenOrEnd at bytes p
+  is_token : (k : TokenKind) → IsTokenIn at bytes k p → IsTokenOrEnd at bytes p
 
 abbrev pub IsNotAsciiAt : Pos → List ℕ → Pos → Type 0
 IsNotAsciiAt at bytes p = (b : ℕ) × (more : List ℕ) × (127 < b) × Follows at bytes p (b ∷ more)
 
 -- these bytes begin with no token
 abbrev pub BeginsNone : List ℕ → Type 0
-BeginsNone bytes = (k : Kind) (text rest : List ℕ) → bytes ≡ text ++ rest → Spelling k text → ⊥
+BeginsNone bytes = (k : TokenKind) (text rest : List ℕ) → bytes ≡ text ++ rest → Spelling k text → ⊥
 
 abbrev pub IsBadCharAt : Pos → List ℕ → Pos → Type 0
 IsBadCharAt at bytes p =

@@ -5,7 +5,7 @@ use Rattle.guest_syntax.specs.declared.place.Pos.{Pos}
 use Rattle.guest_syntax.specs.declared.token.Keyword.{Keyword}
 use Rattle.guest_syntax.specs.declared.token.Symbol.{Symbol}
 use Rattle.guest_syntax.specs.declared.token.Symbol.TheVariants as symbols
-use Rattle.guest_syntax.specs.Tokens.{Kind, name, keyword, number, symbol, Token}
+use Rattle.guest_syntax.specs.Tokens.{TokenKind, name, keyword, number, symbol, Token}
 use Rattle.guest_syntax.specs.Tree.{Name}
 
 -- which tokens may come before which
@@ -18,11 +18,11 @@ abbrev pub ◌then◌ : Form → Form → Form
 (A then B) ts rest = (mid : List Token) × A ts mid × B mid rest
 
 -- a token of this kind at this place
-abbrev pub IsTokenAt : Pos → Kind → Form
+abbrev pub IsTokenAt : Pos → TokenKind → Form
 IsTokenAt at k ts rest = ts ≡ record { kind = k; at = at } ∷ rest
 
 -- a token of this kind
-abbrev pub IsToken : Kind → Form
+abbrev pub IsToken : TokenKind → Form
 IsToken k ts rest = (at : Pos) × IsTokenAt at k ts rest
 
 abbrev pub IsKeyword : Keyword → Form

@@ -6,7 +6,7 @@ use Rattle.guest_syntax.specs.declared.place.Pos.{Pos}
 use Rattle.guest_syntax.specs.declared.pieces.Piece.{Piece}
 use Rattle.guest_syntax.specs.declared.pieces.Pieces.{Pieces}
 use Rattle.guest_syntax.specs.Place.{after}
-use Rattle.guest_syntax.specs.Tokens.{Kind, Spelling, IsLongest, blank}
+use Rattle.guest_syntax.specs.Tokens.{TokenKind, Spelling, IsLongest, blank}
 use Rattle.guest_syntax.specs.Answers.{BeginsNone}
 
 -- ---- pieces
@@ -18,7 +18,7 @@ IsGapBefore gap (b ∷ bs) = (blank false gap ≡ Some false) × (blank false (b
 
 -- a token, the longest that begins here
 abbrev pub IsWhole : List ℕ → List ℕ → Type 0
-IsWhole text rest = (k : Kind) × Spelling k text × IsLongest text rest
+IsWhole text rest = (k : TokenKind) × Spelling k text × IsLongest text rest
 
 -- a byte with which no token begins
 abbrev pub IsStray : List ℕ → List ℕ → Type 0

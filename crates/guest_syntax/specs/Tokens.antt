@@ -9,15 +9,15 @@ use Rattle.guest_syntax.specs.declared.token.Symbol.TheVariants as symbols
 use Rattle.guest_syntax.specs.Place.{after}
 
 -- `bad` is where no token begins, and nothing spells it
-pub data Kind : Type 0 where
-  name : List ℕ → Kind
-  keyword : Keyword → Kind
-  number : ℕ → Kind
-  symbol : Symbol → Kind
-  bad : Kind
+pub data TokenKind : Type 0 where
+  name : List ℕ → TokenKind
+  keyword : Keyword → TokenKind
+  number : ℕ → TokenKind
+  symbol : Symbol → TokenKind
+  bad : TokenKind
 
 pub record Token : Type 0 where
-  pub kind : Kind
+  pub kind : TokenKind
   pub at : Pos
 
 -- how a keyword is written
@@ -82,7 +82,7 @@ abbrev pub value : List ℕ → ℕ
 value bs = fold (λ n b. 10 * n + (b - 48)) 0 bs
 
 -- numbers from 2^64 - 1 on all count as that
-abbrev pub Spelling : Kind → List ℕ → Type 0
+abbrev pub Spelling : TokenKind → List ℕ → Type 0
 Spelling (name s) bs = (bs ≡ s) × IsIdentifier s × ((w : Keyword) → s ≢ keyword_text w)
 Spelling (keyword w) bs = bs ≡ keyword_text w
 Spelling (number n) bs = (0 < length bs) × IsTrue (list_all is_digit bs)
@@ -100,7 +100,7 @@ blank false (b ∷ bs) = if b == 35 then blank true bs else
 
 -- no token begins with these bytes and goes on with the first of the rest
 abbrev pub IsLongest : List ℕ → List ℕ → Type 0
-IsLongest text rest = (b : ℕ) (more : List ℕ) → rest ≡ b ∷ more → (k : Kind)
+IsLongest text rest = (b : ℕ) (more : List ℕ) → rest ≡ b ∷ more → (k : TokenKind)
     → Spelling k (text ++ b ∷ []) → ⊥
 
 -- one token, what comes before it and what comes after it

@@ -12,16 +12,16 @@ use crate::error::SyntaxError;
 use crate::expressions::expr;
 use crate::place::Pos;
 use crate::statements::simple;
-use crate::token::{Keyword, Kind, Symbol};
+use crate::token::{Keyword, Symbol, TokenKind};
 use crate::tokens::{symbol, times, token};
 use crate::tree::{Placed, Statement};
 use std::alloc::Global;
 
 #[tactic(auto, unfolding(crate::specs::reader::Statements::is_else))]
-fn is_else(kind: Kind) -> bool
+fn is_else(kind: TokenKind) -> bool
     ensures { result ≡ is_else (kind_view kind.entry) }
 {
-    matches!(kind, Kind::Keyword(Keyword::Else))
+    matches!(kind, TokenKind::Keyword(Keyword::Else))
 }
 
 #[tactic(auto, unfolding(crate::specs::reader::Statements::choice_from))]
@@ -105,8 +105,8 @@ fn turn<'a>(
 {
     let (token, after) = token(text)?;
     match token.kind {
-        Kind::Symbol(Symbol::Close) => Ok((None, after)),
-        Kind::Keyword(keyword) => {
+        TokenKind::Symbol(Symbol::Close) => Ok((None, after)),
+        TokenKind::Keyword(keyword) => {
             let at = token.at;
             let (statement, after) = statement(alloc, keyword, at, after, room)?;
             Ok((Some(Placed { at, statement }), after))

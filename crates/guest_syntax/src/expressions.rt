@@ -9,7 +9,7 @@ ghost use Rattle.guest_syntax.specs.reader.Expressions.{literal_by, literal_from
 use crate::cursor::Cursor;
 use crate::error::SyntaxError;
 use crate::limits::NUMBER;
-use crate::token::{Kind, Symbol, Token};
+use crate::token::{Symbol, Token, TokenKind};
 use crate::tokens::{number, token};
 use crate::tree::{Expr, Name, Op, Operand};
 use std::alloc::Global;
@@ -22,9 +22,9 @@ fn literal_after<'a>(token: Token, after: Cursor<'a>) -> Result<(i64, Cursor<'a>
     ensures shorter { IfOk result (λ x. length (rest_of x.1) ≤ length (rest_of after.entry)) }
 {
     match token.kind {
-        Kind::Number(n) if n <= NUMBER => Ok((n as i64, after)),
-        Kind::Number(_) => Err(SyntaxError::NumberTooBig(token.at)),
-        Kind::Symbol(Symbol::Minus) => {
+        TokenKind::Number(n) if n <= NUMBER => Ok((n as i64, after)),
+        TokenKind::Number(_) => Err(SyntaxError::NumberTooBig(token.at)),
+        TokenKind::Symbol(Symbol::Minus) => {
             let (n, after) = number(after, NUMBER)?;
             Ok((-(n as i64), after))
         }
@@ -47,7 +47,7 @@ pub fn operand<'a>(alloc: Global, text: Cursor<'a>) -> Result<(Operand, Cursor<'
     ensures { Parses operand_view result operand_from text.entry }
 {
     let (token, after) = token(text)?;
-    if let Kind::Name(bytes) = token.kind {
+    if let TokenKind::Name(bytes) = token.kind {
         let text = Vec::from_slice(alloc, bytes)?;
         return Ok((Operand::Local(Name { text, at: token.at }), after));
     }
@@ -56,19 +56,19 @@ pub fn operand<'a>(alloc: Global, text: Cursor<'a>) -> Result<(Operand, Cursor<'
 }
 
 /// The operator that a token is.
-fn op_of(kind: Kind) -> Option<Op>
+fn op_of(kind: TokenKind) -> Option<Op>
     ensures { result ≡ op_of (kind_view kind.entry) }
 {
     match kind {
-        Kind::Symbol(Symbol::Plus) => Some(Op::Add),
-        Kind::Symbol(Symbol::Minus) => Some(Op::Subtract),
-        Kind::Symbol(Symbol::Times) => Some(Op::Multiply),
-        Kind::Symbol(Symbol::Equal) => Some(Op::Equal),
-        Kind::Symbol(Symbol::NotEqual) => Some(Op::NotEqual),
-        Kind::Symbol(Symbol::Less) => Some(Op::Less),
-        Kind::Symbol(Symbol::LessOrEqual) => Some(Op::LessOrEqual),
-        Kind::Symbol(Symbol::Greater) => Some(Op::Greater),
-        Kind::Symbol(Symbol::GreaterOrEqual) => Some(Op::GreaterOrEqual),
+        TokenKind::Symbol(Symbol::Plus) => Some(Op::Add),
+        TokenKind::Symbol(Symbol::Minus) => Some(Op::Subtract),
+        TokenKind::Symbol(Symbol::Times) => Some(Op::Multiply),
+        TokenKind::Symbol(Symbol::Equal) => Some(Op::Equal),
+        TokenKind::Symbol(Symbol::NotEqual) => Some(Op::NotEqual),
+        TokenKind::Symbol(Symbol::Less) => Some(Op::Less),
+        TokenKind::Symbol(Symbol::LessOrEqual) => Some(Op::LessOrEqual),
+        TokenKind::Symbol(Symbol::Greater) => Some(Op::Greater),
+        TokenKind::Symbol(Symbol::GreaterOrEqual) => Some(Op::GreaterOrEqual),
         _ => None,
     }
 }

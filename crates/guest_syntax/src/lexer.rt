@@ -15,7 +15,7 @@ ghost use Rattle.guest_syntax.specs.Tokens.{keyword_text, symbol_text, is_space,
 use crate::cursor::Cursor;
 use crate::error::SyntaxError;
 use crate::place::Pos;
-use crate::token::{KEYWORDS, Keyword, Kind, SYMBOLS, Symbol, Token};
+use crate::token::{KEYWORDS, Keyword, SYMBOLS, Symbol, Token, TokenKind};
 
 fn is_space(byte: u8) -> bool
     ensures { result ≡ is_space byte }
@@ -112,12 +112,12 @@ fn keyword_in(keywords: &[Keyword], text: &[u8]) -> Option<Keyword>
     keywords.iter().copied().find(|w| w.text() == text)
 }
 
-fn keyword_or_name(text: &[u8]) -> Kind<'_>
+fn keyword_or_name(text: &[u8]) -> TokenKind<'_>
     ensures { kind_view result ≡ name_or_keyword text.now }
 {
     match keyword_in(&KEYWORDS, text) {
-        Some(keyword) => Kind::Keyword(keyword),
-        None => Kind::Name(text),
+        Some(keyword) => TokenKind::Keyword(keyword),
+        None => TokenKind::Name(text),
     }
 }
 
@@ -159,7 +159,7 @@ fn digits_len(text: &[u8]) -> usize
 
 /// The token that begins with the first byte, and its length.
 #[tactic(auto, unfolding(crate::specs::reader::Scanner::kind_at))]
-pub fn kind_at(text: &[u8]) -> Option<(Kind<'_>, usize)>
+pub fn kind_at(text: &[u8]) -> Option<(TokenKind<'_>, usize)>
     requires { 0 < length text.now }
     ensures kind { option_map (λ x. (kind_view x.0, x.1)) result ≡ kind_at text.now }
     ensures length { IfSome result (λ x. x.1 ≤ length text.now) }
@@ -169,10 +169,10 @@ pub fn kind_at(text: &[u8]) -> Option<(Kind<'_>, usize)>
         Some((keyword_or_name(&text[..len]), len))
     } else if is_digit(text[0]) {
         let len = digits_len(text);
-        Some((Kind::Number(number(&text[..len])), len))
+        Some((TokenKind::Number(number(&text[..len])), len))
     } else {
         let symbol = symbol_at(text)?;
-        Some((Kind::Symbol(symbol), symbol.text().len()))
+        Some((TokenKind::Symbol(symbol), symbol.text().len()))
     }
 }
 

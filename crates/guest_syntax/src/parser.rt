@@ -15,7 +15,7 @@ use crate::error::SyntaxError;
 use crate::expressions::literal;
 use crate::limits::{COUNT, DEPTH};
 use crate::statements::one_name;
-use crate::token::{Keyword, Kind, Symbol};
+use crate::token::{Keyword, Symbol, TokenKind};
 use crate::tokens::{name, next_token, number, symbol, token};
 use crate::tree::{Declaration, Object, Thread, Tree};
 use std::alloc::Global;
@@ -28,11 +28,11 @@ fn variable<'a>(alloc: Global, text: Cursor<'a>) -> Result<(Declaration, Cursor<
     let (name, text) = name(alloc, text)?;
     let (token, after) = token(text)?;
     match token.kind {
-        Kind::Symbol(Symbol::End) => {
+        TokenKind::Symbol(Symbol::End) => {
             let object = Object::Variable(0);
             Ok((Declaration { name, object }, after))
         }
-        Kind::Symbol(Symbol::Assign) => {
+        TokenKind::Symbol(Symbol::Assign) => {
             let (start, text) = literal(after)?;
             let (_, text) = symbol(text, Symbol::End)?;
             let object = Object::Variable(start);
@@ -83,10 +83,10 @@ fn declaration_turn<'a>(
         return Ok((None, text));
     };
     let (declaration, after) = match token.kind {
-        Kind::Keyword(Keyword::Var) => variable(alloc, after)?,
-        Kind::Keyword(Keyword::Mutex) => plain(alloc, Object::Mutex, after)?,
-        Kind::Keyword(Keyword::Cond) => plain(alloc, Object::Condition, after)?,
-        Kind::Keyword(Keyword::Sem) => semaphore(alloc, after)?,
+        TokenKind::Keyword(Keyword::Var) => variable(alloc, after)?,
+        TokenKind::Keyword(Keyword::Mutex) => plain(alloc, Object::Mutex, after)?,
+        TokenKind::Keyword(Keyword::Cond) => plain(alloc, Object::Condition, after)?,
+        TokenKind::Keyword(Keyword::Sem) => semaphore(alloc, after)?,
         _ => return Ok((None, text)),
     };
     Ok((Some(declaration), after))
@@ -138,7 +138,7 @@ fn thread_turn<'a>(
         return Ok((None, after));
     };
     match token.kind {
-        Kind::Keyword(Keyword::Thread) => {
+        TokenKind::Keyword(Keyword::Thread) => {
             let (thread, after) = thread(alloc, after)?;
             Ok((Some(thread), after))
         }

@@ -52,7 +52,7 @@ pub enum Symbol {
 
 /// What a token is.
 #[derive(Clone, Copy, Debug)]
-pub enum Kind<'a> {
+pub enum TokenKind<'a> {
     Name(&'a [u8]),
     Keyword(Keyword),
     /// The value of a number. Those above 2^64 - 1 all count as that.
@@ -63,7 +63,7 @@ pub enum Kind<'a> {
 /// A token and the place of its first byte.
 #[derive(Clone, Copy, Debug)]
 pub struct Token<'a> {
-    pub kind: Kind<'a>,
+    pub kind: TokenKind<'a>,
     pub at: Pos,
 }
 

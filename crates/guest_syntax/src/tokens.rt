@@ -15,7 +15,7 @@ use crate::error::SyntaxError;
 use crate::lexer::first;
 use crate::limits::REPEATS;
 use crate::place::Pos;
-use crate::token::{Kind, Symbol, Token};
+use crate::token::{Symbol, Token, TokenKind};
 use crate::tree::Name;
 use std::alloc::Global;
 
@@ -57,7 +57,7 @@ pub fn symbol<'a>(text: Cursor<'a>, wanted: Symbol) -> Result<(Pos, Cursor<'a>),
 {
     let (token, after) = token(text)?;
     match token.kind {
-        Kind::Symbol(found) if found == wanted => Ok((token.at, after)),
+        TokenKind::Symbol(found) if found == wanted => Ok((token.at, after)),
         _ => Err(SyntaxError::Expected(token.at)),
     }
 }
@@ -69,7 +69,7 @@ pub fn name<'a>(alloc: Global, text: Cursor<'a>) -> Result<(Name, Cursor<'a>), S
 {
     let (token, after) = token(text)?;
     match token.kind {
-        Kind::Name(bytes) => {
+        TokenKind::Name(bytes) => {
             let text = Vec::from_slice(alloc, bytes)?;
             Ok((Name { text, at: token.at }, after))
         }
@@ -86,8 +86,8 @@ pub fn number_in(token: Token, limit: u64) -> Result<u64, SyntaxError>
         → StaysAt result text }
 {
     match token.kind {
-        Kind::Number(n) if n <= limit => Ok(n),
-        Kind::Number(_) => Err(SyntaxError::NumberTooBig(token.at)),
+        TokenKind::Number(n) if n <= limit => Ok(n),
+        TokenKind::Number(_) => Err(SyntaxError::NumberTooBig(token.at)),
         _ => Err(SyntaxError::Expected(token.at)),
     }
 }

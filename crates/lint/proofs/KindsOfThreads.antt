@@ -3,8 +3,8 @@ use Rattle.std.proofs.Common.{◌≡◌, ℕ, zero, suc, ◌<◌, ◌≤◌, Lis
 use Rattle.std.specs.List.{All}
 use Rattle.std.proofs.lemmas.List.Elements.{All-append, All-cons, All-get_or}
 use Rattle.guest_code.specs.Program.{Program}
-use Rattle.lint.specs.declared.warning.Kind.{Kind}
-use Rattle.lint.specs.declared.warning.Kind.TheVariants as kinds
+use Rattle.lint.specs.declared.warning.WarningKind.{WarningKind}
+use Rattle.lint.specs.declared.warning.WarningKind.TheVariants as kinds
 use Rattle.lint.specs.Warnings.{IsOfThread, kinds_of_thread, kinds_of_threads, kinds_of_objects, kinds_of}
 
 none : (p : Program) → All (IsOfThread p) []
@@ -12,14 +12,14 @@ none p k d lt = absurd (omega arith)
 
 of_one : (p : Program) (t : ℕ) → t < length p.threads → All (IsOfThread p) (kinds_of_thread t)
 of_one p t lt =
-    let elsewhere : List Kind = kinds.WaitsElsewhere t ∷ [] in
-    let blindly : List Kind = kinds.WaitNotLookedAtAgain t ∷ elsewhere in
-    let again : List Kind = kinds.LocksAgain t ∷ blindly in
-    let lack : List Kind = kinds.MayLack t ∷ again in
-    let keep : List Kind = kinds.MayKeep t ∷ lack in
-    let unreached : List Kind = kinds.Unreached t ∷ keep in
-    let constant : List Kind = kinds.Constant t ∷ unreached in
-    let read : List Kind = kinds.NeverRead t ∷ constant in
+    let elsewhere : List WarningKind = kinds.WaitsElsewhere t ∷ [] in
+    let blindly : List WarningKind = kinds.WaitNotLookedAtAgain t ∷ elsewhere in
+    let again : List WarningKind = kinds.LocksAgain t ∷ blindly in
+    let lack : List WarningKind = kinds.MayLack t ∷ again in
+    let keep : List WarningKind = kinds.MayKeep t ∷ lack in
+    let unreached : List WarningKind = kinds.Unreached t ∷ keep in
+    let constant : List WarningKind = kinds.Constant t ∷ unreached in
+    let read : List WarningKind = kinds.NeverRead t ∷ constant in
     All-cons (IsOfThread p) (kinds.NeverSet t) read lt
     (All-cons (IsOfThread p) (kinds.NeverRead t) constant lt
     (All-cons (IsOfThread p) (kinds.Constant t) unreached lt
@@ -38,14 +38,14 @@ of_threads p (suc n) fits = All-append (IsOfThread p) (kinds_of_threads n) (kind
 
 of_objects : (p : Program) → All (IsOfThread p) kinds_of_objects
 of_objects p =
-    let released : List Kind = kinds.NeverReleased ∷ [] in
-    let waited : List Kind = kinds.NeverWaitedFor ∷ released in
-    let signalled : List Kind = kinds.NeverSignalled ∷ waited in
-    let semaphore : List Kind = kinds.UnusedSemaphore ∷ signalled in
-    let condition : List Kind = kinds.UnusedCondition ∷ semaphore in
-    let mutex : List Kind = kinds.UnusedMutex ∷ condition in
-    let loaded : List Kind = kinds.NeverLoaded ∷ mutex in
-    let stored : List Kind = kinds.NeverStored ∷ loaded in
+    let released : List WarningKind = kinds.NeverReleased ∷ [] in
+    let waited : List WarningKind = kinds.NeverWaitedFor ∷ released in
+    let signalled : List WarningKind = kinds.NeverSignalled ∷ waited in
+    let semaphore : List WarningKind = kinds.UnusedSemaphore ∷ signalled in
+    let condition : List WarningKind = kinds.UnusedCondition ∷ semaphore in
+    let mutex : List WarningKind = kinds.UnusedMutex ∷ condition in
+    let loaded : List WarningKind = kinds.NeverLoaded ∷ mutex in
+    let stored : List WarningKind = kinds.NeverStored ∷ loaded in
     All-cons (IsOfThread p) kinds.UnusedVariable stored tt
     (All-cons (IsOfThread p) kinds.NeverStored loaded tt
     (All-cons (IsOfThread p) kinds.NeverLoaded mutex tt
@@ -57,10 +57,10 @@ of_objects p =
     (All-cons (IsOfThread p) kinds.NeverReleased [] tt (none p)))))))))
 
 -- each kind of a list that is that of the program
-pub of_thread : (p : Program) (ks : List Kind) (i : ℕ) (d : Kind) → ks ≡ kinds_of p
+pub of_thread : (p : Program) (ks : List WarningKind) (i : ℕ) (d : WarningKind) → ks ≡ kinds_of p
     → i < length ks → IsOfThread p (get_or ks i d)
 of_thread p ks i d same lt =
-    let P : List Kind → Type 0 = λ xs. All (IsOfThread p) xs in
+    let P : List WarningKind → Type 0 = λ xs. All (IsOfThread p) xs in
     All-get_or (IsOfThread p) ks i d lt (subst P (sym same)
     (All-append (IsOfThread p) kinds_of_objects (kinds_of_threads (length p.threads))
     (of_objects p) (of_threads p (length p.threads) (omega arith))))

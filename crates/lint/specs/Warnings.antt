@@ -7,8 +7,8 @@ use Rattle.guest_code.specs.declared.program.Instruction.{Instruction}
 use Rattle.guest_code.specs.declared.program.Instruction.TheVariants.{Lock, Unlock, Wait, Skip}
 use Rattle.lint.specs.declared.uses.Use.{Use}
 use Rattle.lint.specs.declared.uses.Use.TheVariants as uses
-use Rattle.lint.specs.declared.warning.Kind.{Kind}
-use Rattle.lint.specs.declared.warning.Kind.TheVariants as kinds
+use Rattle.lint.specs.declared.warning.WarningKind.{WarningKind}
+use Rattle.lint.specs.declared.warning.WarningKind.TheVariants as kinds
 use Rattle.lint.specs.declared.warning.Warning.{Warning}
 use Rattle.lint.specs.declared.paths.Watch.TheVariants as watches
 use Rattle.lint.specs.Uses.{does, is_constant, forbids}
@@ -79,7 +79,7 @@ WaitsElsewhere p (Wait c m) = UsesAnywhere p (uses.WaitsWithout m) c
 WaitsElsewhere p i = ⊥
 
 -- what is warned of is so, by its number
-abbrev pub IsSo : Program → Kind → ℕ → Type 0
+abbrev pub IsSo : Program → WarningKind → ℕ → Type 0
 IsSo p (kinds.NeverSet t) r = UsesIn p t uses.Reads r × ¬ UsesIn p t uses.Sets r
 IsSo p (kinds.NeverRead t) r = UsesIn p t uses.Fills r × ¬ UsesIn p t uses.Reads r
 IsSo p kinds.UnusedVariable x = (¬ UsesAnywhere p uses.Loads x) × ¬ UsesAnywhere p uses.Stores x
@@ -101,7 +101,7 @@ IsSo p (kinds.WaitNotLookedAtAgain t) k = WaitNotLookedAtAgain (code_of p t) k
 IsSo p (kinds.WaitsElsewhere t) k = WaitsElsewhere p (instruction_at p t k)
 
 -- how many locals, objects or instructions there are to ask about
-abbrev pub count_of : Program → Kind → ℕ
+abbrev pub count_of : Program → WarningKind → ℕ
 count_of p (kinds.NeverSet t) = (thread_at p t).locals
 count_of p (kinds.NeverRead t) = (thread_at p t).locals
 count_of p kinds.UnusedVariable = length p.variables
@@ -122,7 +122,7 @@ count_of p (kinds.WaitNotLookedAtAgain t) = length (code_of p t)
 count_of p (kinds.WaitsElsewhere t) = length (code_of p t)
 
 -- its thread is one of the program's
-abbrev pub IsOfThread : Program → Kind → Type 0
+abbrev pub IsOfThread : Program → WarningKind → Type 0
 IsOfThread p (kinds.NeverSet t) = t < length p.threads
 IsOfThread p (kinds.NeverRead t) = t < length p.threads
 IsOfThread p kinds.UnusedVariable = Unit {0}
@@ -143,7 +143,7 @@ IsOfThread p (kinds.WaitNotLookedAtAgain t) = t < length p.threads
 IsOfThread p (kinds.WaitsElsewhere t) = t < length p.threads
 
 -- the warnings of a kind, of the numbers below n for which it is so, in order
-pub data Chosen (p : Program) (kind : Kind) : ℕ → List Warning → Type 0 where
+pub data Chosen (p : Program) (kind : WarningKind) : ℕ → List Warning → Type 0 where
   none : Chosen p kind 0 []
   taken : {n : ℕ} {ws : List Warning} → Chosen p kind n ws → IsSo p kind n
       → Chosen p kind (suc n) (ws ++ record { kind = kind; number = n } ∷ [])
@@ -151,25 +151,25 @@ pub data Chosen (p : Program) (kind : Kind) : ℕ → List Warning → Type 0 wh
       → Chosen p kind (suc n) ws
 
 -- the warnings of these kinds, one kind after the other
-pub data Listed (p : Program) : List Kind → List Warning → Type 0 where
+pub data Listed (p : Program) : List WarningKind → List Warning → Type 0 where
   nothing : Listed p [] []
-  more : {ks : List Kind} {ws : List Warning} {kind : Kind} {vs : List Warning} → Listed p ks ws
+  more : {ks : List WarningKind} {ws : List Warning} {kind : WarningKind} {vs : List Warning} → Listed p ks ws
       → Chosen p kind (count_of p kind) vs → Listed p (ks ++ kind ∷ []) (ws ++ vs)
 
 -- the kinds of warnings of a thread, and of a program
-abbrev pub kinds_of_thread : ℕ → List Kind
+abbrev pub kinds_of_thread : ℕ → List WarningKind
 kinds_of_thread t = kinds.NeverSet t ∷ kinds.NeverRead t ∷ kinds.Constant t ∷ kinds.Unreached t
     ∷ kinds.MayKeep t ∷ kinds.MayLack t ∷ kinds.LocksAgain t ∷ kinds.WaitNotLookedAtAgain t
     ∷ kinds.WaitsElsewhere t ∷ []
 
-abbrev pub kinds_of_threads : ℕ → List Kind
+abbrev pub kinds_of_threads : ℕ → List WarningKind
 kinds_of_threads zero = []
 kinds_of_threads (suc n) = kinds_of_threads n ++ kinds_of_thread n
 
-abbrev pub kinds_of_objects : List Kind
+abbrev pub kinds_of_objects : List WarningKind
 kinds_of_objects = kinds.UnusedVariable ∷ kinds.NeverStored ∷ kinds.NeverLoaded
     ∷ kinds.UnusedMutex ∷ kinds.UnusedCondition ∷ kinds.UnusedSemaphore
     ∷ kinds.NeverSignalled ∷ kinds.NeverWaitedFor ∷ kinds.NeverReleased ∷ []
 
-abbrev pub kinds_of : Program → List Kind
+abbrev pub kinds_of : Program → List WarningKind
 kinds_of p = kinds_of_objects ++ kinds_of_threads (length p.threads)

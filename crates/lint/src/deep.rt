@@ -90,7 +90,7 @@ fn next_thread(program: &Program, state: &State, asleep: Mask, from: u8) -> Opti
     ensures enabled { IfSome result (λ t. IsTrue (is_enabled program.now state.now t)) }
 {
     for thread in from..program.threads() {
-        if !asleep.has(thread) && state.is_enabled(program, thread) {
+        if !asleep.contains(thread) && state.is_enabled(program, thread) {
             return Some(thread);
         }
     }

@@ -13,7 +13,7 @@ use std::alloc::{AllocError, Global};
 
 /// What is warned of, with the number of the thread where that matters.
 #[derive(Clone, Copy, Debug, PartialEq, Eq)]
-pub enum Kind {
+pub enum WarningKind {
     /// A local is read, and no statement of its thread gives it a value.
     NeverSet(u8),
     /// A local gets a value by a `load` or a `set`, and no statement of its thread reads it.
@@ -55,7 +55,7 @@ pub enum Kind {
 /// A warning: its kind, and the number of the local, the object or the instruction.
 #[derive(Clone, Copy, Debug, PartialEq, Eq)]
 pub struct Warning {
-    pub kind: Kind,
+    pub kind: WarningKind,
     pub number: usize,
 }
 
@@ -206,29 +206,32 @@ fn is_constant_at(code: &[Instruction], at: usize) -> bool
     is_constant(&code[at]) && !(forbids(&code[at]) && is_passed_over(code, at))
 }
 
-impl Kind {
+impl WarningKind {
     /// How many numbers it may be so of.
     pub fn count(self, program: &Program) -> usize
         requires { IsOfThread program.now self }
         ensures { result ≡ count_of program.now self }
     {
         match self {
-            Kind::NeverSet(thread) | Kind::NeverRead(thread) => program.locals(thread),
-            Kind::UnusedVariable | Kind::NeverStored | Kind::NeverLoaded => {
+            WarningKind::NeverSet(thread) | WarningKind::NeverRead(thread) => program.locals(
+                thread,
+            ),
+            WarningKind::UnusedVariable | WarningKind::NeverStored | WarningKind::NeverLoaded => {
                 program.variables() as usize
             }
-            Kind::UnusedMutex => program.mutexes() as usize,
-            Kind::UnusedCondition | Kind::NeverSignalled | Kind::NeverWaitedFor => {
-                program.conditions() as usize
-            }
-            Kind::UnusedSemaphore | Kind::NeverReleased => program.semaphores() as usize,
-            Kind::Constant(thread)
-            | Kind::Unreached(thread)
-            | Kind::MayKeep(thread)
-            | Kind::MayLack(thread)
-            | Kind::LocksAgain(thread)
-            | Kind::WaitNotLookedAtAgain(thread)
-            | Kind::WaitsElsewhere(thread) => program.code(thread).len(),
+            WarningKind::UnusedMutex => program.mutexes() as usize,
+            WarningKind::UnusedCondition
+            | WarningKind::NeverSignalled
+            | WarningKind::NeverWaitedFor => { program.conditions() as usize }
+            WarningKind::UnusedSemaphore | WarningKind::NeverReleased =>
+                program.semaphores() as usize,
+            WarningKind::Constant(thread)
+            | WarningKind::Unreached(thread)
+            | WarningKind::MayKeep(thread)
+            | WarningKind::MayLack(thread)
+            | WarningKind::LocksAgain(thread)
+            | WarningKind::WaitNotLookedAtAgain(thread)
+            | WarningKind::WaitsElsewhere(thread) => program.code(thread).len(),
         }
     }
 
@@ -239,48 +242,56 @@ impl Kind {
         ensures { IfOk result (λ b. IsTrue b ↔ IsSo program.now self number) }
     {
         match self {
-            Kind::NeverSet(thread) => Ok(
+            WarningKind::NeverSet(thread) => Ok(
                 is_used_in(program, thread, Use::Reads, number)
                     && !is_used_in(program, thread, Use::Sets, number),
             ),
-            Kind::NeverRead(thread) => Ok(
+            WarningKind::NeverRead(thread) => Ok(
                 is_used_in(program, thread, Use::Fills, number)
                     && !is_used_in(program, thread, Use::Reads, number),
             ),
-            Kind::UnusedVariable => Ok(
+            WarningKind::UnusedVariable => Ok(
                 !is_used(program, Use::Loads, number) && !is_used(program, Use::Stores, number),
             ),
-            Kind::NeverStored => Ok(
+            WarningKind::NeverStored => Ok(
                 is_used(program, Use::Loads, number) && !is_used(program, Use::Stores, number),
             ),
-            Kind::NeverLoaded => Ok(
+            WarningKind::NeverLoaded => Ok(
                 is_used(program, Use::Stores, number) && !is_used(program, Use::Loads, number),
             ),
-            Kind::UnusedMutex => Ok(!is_used(program, Use::OfMutex, number)),
-            Kind::UnusedCondition => Ok(!is_used(program, Use::OfCondition, number)),
-            Kind::UnusedSemaphore => Ok(!is_used(program, Use::OfSemaphore, number)),
-            Kind::NeverSignalled => Ok(
+            WarningKind::UnusedMutex => Ok(!is_used(program, Use::OfMutex, number)),
+            WarningKind::UnusedCondition => Ok(!is_used(program, Use::OfCondition, number)),
+            WarningKind::UnusedSemaphore => Ok(!is_used(program, Use::OfSemaphore, number)),
+            WarningKind::NeverSignalled => Ok(
                 is_used(program, Use::Waits, number) && !is_used(program, Use::Signals, number),
             ),
-            Kind::NeverWaitedFor => Ok(
+            WarningKind::NeverWaitedFor => Ok(
                 is_used(program, Use::Signals, number) && !is_used(program, Use::Waits, number),
             ),
-            Kind::NeverReleased => Ok(
+            WarningKind::NeverReleased => Ok(
                 program.count(number) == 0
                     && is_used(program, Use::Acquires, number)
                     && !is_used(program, Use::Releases, number),
             ),
-            Kind::Constant(thread) => Ok(is_constant_at(code_of(program, thread), number)),
-            Kind::Unreached(thread) => Ok(!is_reached(alloc, code_of(program, thread), number)?),
-            Kind::MayKeep(thread) => Ok(may_keep(alloc, code_of(program, thread), number)?),
-            Kind::MayLack(thread) => Ok(may_lack(alloc, code_of(program, thread), number)?),
-            Kind::LocksAgain(thread) => Ok(locks_again(alloc, code_of(program, thread), number)?),
-            Kind::WaitNotLookedAtAgain(thread) => Ok(is_not_looked_at_again(
+            WarningKind::Constant(thread) => Ok(is_constant_at(code_of(program, thread), number)),
+            WarningKind::Unreached(thread) => Ok(!is_reached(
                 alloc,
                 code_of(program, thread),
                 number,
             )?),
-            Kind::WaitsElsewhere(thread) => Ok(waits_elsewhere(
+            WarningKind::MayKeep(thread) => Ok(may_keep(alloc, code_of(program, thread), number)?),
+            WarningKind::MayLack(thread) => Ok(may_lack(alloc, code_of(program, thread), number)?),
+            WarningKind::LocksAgain(thread) => Ok(locks_again(
+                alloc,
+                code_of(program, thread),
+                number,
+            )?),
+            WarningKind::WaitNotLookedAtAgain(thread) => Ok(is_not_looked_at_again(
+                alloc,
+                code_of(program, thread),
+                number,
+            )?),
+            WarningKind::WaitsElsewhere(thread) => Ok(waits_elsewhere(
                 program,
                 &program.code(thread)[number],
             )),

@@ -3,39 +3,39 @@
 ghost use Rattle.std.specs.Prelude.{◌≡◌, ◌<◌, IfOk, All};
 ghost use Rattle.lint.specs.Warnings.{Chosen, Listed, kinds_of, IsOfThread, count_of};
 
-use crate::warning::{Kind, Warning};
+use crate::warning::{Warning, WarningKind};
 use guest_code::program::Program;
 use std::alloc::{AllocError, Global};
 
 /// The kinds that are of no thread.
-const OF_OBJECTS: [Kind; 9] = [
-    Kind::UnusedVariable,
-    Kind::NeverStored,
-    Kind::NeverLoaded,
-    Kind::UnusedMutex,
-    Kind::UnusedCondition,
-    Kind::UnusedSemaphore,
-    Kind::NeverSignalled,
-    Kind::NeverWaitedFor,
-    Kind::NeverReleased,
+const OF_OBJECTS: [WarningKind; 9] = [
+    WarningKind::UnusedVariable,
+    WarningKind::NeverStored,
+    WarningKind::NeverLoaded,
+    WarningKind::UnusedMutex,
+    WarningKind::UnusedCondition,
+    WarningKind::UnusedSemaphore,
+    WarningKind::NeverSignalled,
+    WarningKind::NeverWaitedFor,
+    WarningKind::NeverReleased,
 ];
 
 /// All kinds of warnings that a program may have.
-fn kinds(alloc: Global, program: &Program) -> Result<Vec<Kind>, AllocError>
+fn kinds(alloc: Global, program: &Program) -> Result<Vec<WarningKind>, AllocError>
     ensures { IfOk result (λ v. v.items ≡ kinds_of program.now) }
 {
     let mut all = Vec::from_slice(alloc, &OF_OBJECTS)?;
     for thread in 0..program.threads() {
         let kinds = [
-            Kind::NeverSet(thread),
-            Kind::NeverRead(thread),
-            Kind::Constant(thread),
-            Kind::Unreached(thread),
-            Kind::MayKeep(thread),
-            Kind::MayLack(thread),
-            Kind::LocksAgain(thread),
-            Kind::WaitNotLookedAtAgain(thread),
-            Kind::WaitsElsewhere(thread),
+            WarningKind::NeverSet(thread),
+            WarningKind::NeverRead(thread),
+            WarningKind::Constant(thread),
+            WarningKind::Unreached(thread),
+            WarningKind::MayKeep(thread),
+            WarningKind::MayLack(thread),
+            WarningKind::LocksAgain(thread),
+            WarningKind::WaitNotLookedAtAgain(thread),
+            WarningKind::WaitsElsewhere(thread),
         ];
         all.extend_from_slice(&kinds)?;
     }
@@ -43,7 +43,11 @@ fn kinds(alloc: Global, program: &Program) -> Result<Vec<Kind>, AllocError>
 }
 
 /// The warnings of a kind.
-fn warnings_of(alloc: Global, program: &Program, kind: Kind) -> Result<Vec<Warning>, AllocError>
+fn warnings_of(
+    alloc: Global,
+    program: &Program,
+    kind: WarningKind,
+) -> Result<Vec<Warning>, AllocError>
     requires { IsOfThread program.now kind }
     ensures { IfOk result (λ v. Chosen program.now kind (count_of program.now kind) v.items) }
 {

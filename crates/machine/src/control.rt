@@ -142,7 +142,7 @@ impl Control {
         self.mutexes[m] = near;
         self.owners[m] = thread;
         self.woken = self.woken.with(thread, false);
-        self.enabled = self.enabled.minus(near);
+        self.enabled = self.enabled.difference(near);
     }
 
     // A mutex gets free.
@@ -174,7 +174,7 @@ impl Control {
         let count = self.counts[k] - 1;
         self.counts[k] = count;
         if count == 0 {
-            self.enabled = self.enabled.minus(near);
+            self.enabled = self.enabled.difference(near);
         }
     }
 
@@ -320,7 +320,7 @@ impl Control {
         }
     }
 
-    /// An idle thread is put where it is now.
+    /// An idle thread lands: it gets its status, its place, and whether it is enabled.
     #[inline(always)]
     pub(crate) fn arrive(&mut self, code: &[Instruction], thread: u8, at: Landing)
         requires thread { thread < THREADS }

@@ -201,7 +201,7 @@ impl Machine {
             → is_enabled p s thread ≡ true → result ≡ touch_of (next_of p s thread) }
     {
         let place = self.control.places[thread as usize] as usize;
-        let woken = self.control.woken.has(thread);
+        let woken = self.control.woken.contains(thread);
         self.shape.touches.threads[thread as usize][place][woken as usize]
     }
 
@@ -215,7 +215,7 @@ impl Machine {
     {
         let others = self.control.enabled.with(thread, false);
         let before = self.shape.touches.before[thread as usize];
-        others.minus(others.minus(asleep.union(before)))
+        others.difference(others.difference(asleep.union(before)))
     }
 
     /// Who sleeps after a step of an enabled thread, where these sleep now: the enabled threads

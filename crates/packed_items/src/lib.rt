@@ -47,26 +47,6 @@ pub fn last_items(
     Ok(())
 }
 
-/// The item of the last of the prefixes that are still to be read.
-///
-/// # Errors
-///
-/// `AllocError` where memory runs out.
-pub fn last_item(
-    alloc: Global,
-    program: &Arc<Program>,
-    reading: &LastFirst<'_>,
-) -> Result<Item, AllocError>
-    requires some { 0 < length reading.now }
-    requires run { All IsItem (items_at (arc_value program.now) reading.now) }
-    ensures { IfOk result (λ i. i ≡ item_at (arc_value program.now) (last_of reading.now)) }
-{
-    let Some(prefix) = reading.prefix() else {
-        unreachable!()
-    };
-    Item::running(alloc, Arc::try_clone(program)?, prefix)
-}
-
 // Writes the item of the last of the prefixes that are still to be read over the one at a place, of
 // the same program, or after the others.
 fn write_last(
@@ -86,14 +66,14 @@ fn write_last(
     ensures length { OnOk result (length items.new.items
         ≡ max (length items.old.items) (place + 1)) }
 {
+    let Some(prefix) = reading.prefix() else {
+        unreachable!()
+    };
     if place < items.len() {
-        let Some(prefix) = reading.prefix() else {
-            unreachable!()
-        };
         items[place].run_to(prefix)
     } else {
-        items.push(last_item(alloc, program, reading)?)?;
-        Ok(())
+        let item = Item::running(alloc, Arc::try_clone(program)?, prefix)?;
+        Ok(items.push(item)?)
     }
 }
 
@@ -102,7 +82,7 @@ fn write_last(
 /// # Errors
 ///
 /// `AllocError` where memory runs out.
-pub fn last_packed(
+pub fn last_item(
     alloc: Global,
     program: &Arc<Program>,
     prefixes: &Prefixes,

@@ -29,7 +29,7 @@ fn shared_eights(a: &[u8], b: &[u8]) -> usize
 }
 
 /// How many steps two prefixes begin with alike.
-pub fn shared_length(a: &[u8], b: &[u8]) -> usize
+pub fn shared_len(a: &[u8], b: &[u8]) -> usize
     ensures in_a { result ≤ length a.now }
     ensures in_b { result ≤ length b.now }
     ensures alike { take result a.now ≡ take result b.now }

@@ -12,7 +12,7 @@
 //!   [`Prefixes::truncate`], [`Prefixes::clear`]). Where memory runs out, it is as before.
 //! - [`Prefixes::position`] finds a prefix where it is, and none where it isn't.
 //! - [`LastFirst`] reads the prefixes from the last on.
-//! - [`shared_length`] counts the steps that two prefixes begin with alike.
+//! - [`shared_len`] counts the steps that two prefixes begin with alike.
 //!
 //! How few bytes it takes no clause says; `bench/walk.py` measures it. Tests show that its calls
 //! succeed where there is memory.
@@ -22,5 +22,5 @@ mod bytes;
 mod prefixes;
 mod seeker;
 
-pub use crate::bytes::shared_length;
+pub use crate::bytes::shared_len;
 pub use crate::prefixes::{LastFirst, Prefixes};

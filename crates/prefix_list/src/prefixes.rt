@@ -5,7 +5,7 @@ ghost use Rattle.prefix_list.specs.inner.Packed.{AreWaysOn, WentBack};
 ghost use Rattle.prefix_list.specs.PrefixLists.{last_of};
 
 use crate::bytes::{
-    is_short, put_few, put_reserved, put_short_way, put_way, shared_length, step_back, top,
+    is_short, put_few, put_reserved, put_short_way, put_way, shared_len, step_back, top,
 };
 use crate::seeker::Seeker;
 use std::alloc::{AllocError, Global};
@@ -55,7 +55,7 @@ impl Prefixes {
     }
 
     /// How many prefixes there are.
-    pub fn length(&self) -> usize
+    pub fn len(&self) -> usize
         ensures length { result ≡ length self.now }
         ensures few { result ≤ 2 ^ 63 }
     {
@@ -89,7 +89,7 @@ impl Prefixes {
         let mut seeker = Seeker {
             bytes: &self.bytes[self.front..],
             steps: self.last.len(),
-            shared: shared_length(self.last.as_slice(), prefix),
+            shared: shared_len(self.last.as_slice(), prefix),
         };
         let mut place = self.count;
         while 0 < place {
@@ -118,7 +118,7 @@ impl Prefixes {
     pub fn truncate(&mut self, length: usize)
         ensures { self.new ≡ take length self.old }
     {
-        while length < self.length() {
+        while length < self.len() {
             self.pop();
         }
     }
@@ -141,7 +141,7 @@ impl Prefixes {
         if self.count == 0 {
             return self.start(prefix);
         }
-        let shared = shared_length(self.last.as_slice(), prefix);
+        let shared = shared_len(self.last.as_slice(), prefix);
         self.push_after(shared, &prefix[shared..])
     }
 
@@ -219,7 +219,7 @@ impl Prefixes {
         }
         let room = other.last.capacity();
         self.last.reserve(room.saturating_sub(self.last.len()))?;
-        let shared = shared_length(self.last.as_slice(), &other.bytes[..other.front]);
+        let shared = shared_len(self.last.as_slice(), &other.bytes[..other.front]);
         let len = self.bytes.len();
         put_way(&mut self.bytes, other.front - shared, &self.last[shared..])?;
         if let Err(error) = self.bytes.extend_from_slice(&other.bytes[other.front..]) {
@@ -248,7 +248,7 @@ impl Prefixes {
             other.clear();
             return Ok(());
         }
-        if self.length() <= count {
+        if self.len() <= count {
             other.clear();
             mem::swap(self, other);
             return Ok(());
@@ -423,7 +423,7 @@ impl<'a> Model for LastFirst<'a> {
 
 impl<'a> LastFirst<'a> {
     /// How many are still to be read.
-    pub fn length(&self) -> usize
+    pub fn len(&self) -> usize
         ensures { result ≡ length self.now }
     {
         self.count

@@ -3,7 +3,7 @@ ghost use Rattle.std.specs.Prelude.{◌≡◌, ℕ, ◌+◌, ◌-◌, ◌^◌, �
 ghost use Rattle.prefix_list.specs.inner.Packed.{dropped_of, start_of, end_of, before, below_of};
 ghost use Rattle.prefix_list.specs.PrefixLists.{common_length};
 
-use crate::bytes::{shared_length, top};
+use crate::bytes::{shared_len, top};
 
 // Where a search stands. It takes no memory: of the prefix there it knows how many steps it has,
 // and how many of them are those that the wanted one begins with.
@@ -48,7 +48,7 @@ impl<'a> Seeker<'a> {
                 shared: self.shared,
             };
         }
-        let more = shared_length(tail, &wanted[kept..]);
+        let more = shared_len(tail, &wanted[kept..]);
         Seeker {
             bytes,
             steps,

@@ -12,7 +12,7 @@ use waits::{Wait, Waits};
 // The threads of a set.
 fn put_set(text: &mut String, set: Mask) -> Result<(), Fail> {
     for thread in 0..16 {
-        if set.has(thread) {
+        if set.contains(thread) {
             write!(text, " {thread}")?;
         }
     }

@@ -29,7 +29,7 @@ fn execution_of(
     let mut execution = Execution::start(alloc, p)?;
     for t in schedule {
         assert!(rt;
-            execution.state().enabled(p).has(*t),
+            execution.state().enabled(p).contains(*t),
             "{t} of {schedule:?} is not enabled"
         );
         assert!(rt; execution.preemptions() <= schedule.len());
@@ -195,7 +195,7 @@ fn is_pair_apart(alloc: Global, p: &Program) -> Result<Option<bool>, AllocError>
     let state = State::start(alloc, p)?;
     let apart = independent(p, &state, 0, 1);
     let sleepers = sleepers_after(p, &state, state.enabled(p), Mask::empty(), 1);
-    if independent(p, &state, 1, 0) != apart || sleepers.has(0) != apart {
+    if independent(p, &state, 1, 0) != apart || sleepers.contains(0) != apart {
         return Ok(None);
     }
     Ok(Some(apart))

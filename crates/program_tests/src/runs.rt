@@ -29,7 +29,7 @@ pub fn state_after(
     let mut state = State::start(alloc, p)?;
     for t in schedule {
         assert!(rt;
-            state.enabled(p).has(*t),
+            state.enabled(p).contains(*t),
             "{t} of {schedule:?} is not enabled"
         );
         state.step(p, *t);

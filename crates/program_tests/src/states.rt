@@ -293,9 +293,9 @@ const HANDED_ON: &[u8] = &[
 // Of sixteen threads the last one alone is enabled.
 fn check_only_last(rt: &impl Abort, enabled: Mask) {
     for t in 0..16 {
-        assert_eq!(rt; enabled.has(t), t == 15, "{t}");
+        assert_eq!(rt; enabled.contains(t), t == 15, "{t}");
     }
-    assert!(rt; !enabled.has(16));
+    assert!(rt; !enabled.contains(16));
 }
 
 #[test]
@@ -319,7 +319,7 @@ fn asked(p: &Program, state: &State, t: u8) -> (Option<Action>, Status, bool, bo
         state.next(p, t),
         state.status(t),
         enabled,
-        state.enabled(p).has(t),
+        state.enabled(p).contains(t),
     )
 }
 
@@ -368,7 +368,7 @@ fn check_queues(rt: &impl Abort, p: &Program, state: &State)
     requires { IsOf p.now state.now }
 {
     assert!(rt; p.conditions() == 2);
-    assert_eq!(rt; (state.queue_length(0), state.queue_length(1)), (0, 2));
+    assert_eq!(rt; (state.queue_len(0), state.queue_len(1)), (0, 2));
     assert_eq!(rt; state.queued(0, 0), None);
     assert_eq!(rt;
         (state.queued(1, 0), state.queued(1, 1)),
@@ -477,17 +477,17 @@ fn views_are_written_over(rt: HostRuntime) -> Result<(), Fail> {
 
 #[test]
 fn the_empty_mask_has_no_member(rt: HostRuntime) {
-    assert!(rt; !Mask::empty().has(0));
+    assert!(rt; !Mask::empty().contains(0));
 }
 
 #[test]
 fn masks_have_their_members(rt: HostRuntime) -> Result<(), Fail> {
     let two = Mask::empty().with(3, true).with(15, true);
-    assert!(rt; two.has(3) && two.has(15) && !two.has(4) && !two.has(16));
+    assert!(rt; two.contains(3) && two.contains(15) && !two.contains(4) && !two.contains(16));
     assert_eq!(rt; two.first_from(0), Some(3));
     assert_eq!(rt; two.first_from(4), Some(15));
     assert_eq!(rt; two.first_from(16), None);
     assert_eq!(rt; two.with(3, false).first_from(0), Some(15));
-    assert_eq!(rt; two.minus(Mask::empty().with(15, true)).first_from(4), None);
+    assert_eq!(rt; two.difference(Mask::empty().with(15, true)).first_from(4), None);
     Ok(())
 }

@@ -138,7 +138,7 @@ pub(crate) fn levels_past(alloc: Global, end: u32) -> Result<Vec<Level>, Explore
 
 // The levels of the bounds below the first mode at which something is tried of what is under a
 // prefix with so many preemptions.
-fn levels_before(alloc: Global, search: Search, number: u32) -> Result<Vec<Level>, ExploreError>
+fn levels_below(alloc: Global, search: Search, number: u32) -> Result<Vec<Level>, ExploreError>
     ensures levels { IfOk result (λ v. (i : ItemView) → IsItem i →
         number ≡ preemptions i.program i.prefix → AreBelow i (first_mode search number) v.items) }
     ensures error { IfErr result (λ e. e ≡ OutOfMemory) }
@@ -165,7 +165,7 @@ pub(crate) fn begin_under(
     ensures error { IfErr result (λ e. e ≡ OutOfMemory) }
 {
     let mode = first_mode(options.search, number);
-    let levels = levels_before(alloc, options.search, number)?;
+    let levels = levels_below(alloc, options.search, number)?;
     let mut book = Book::open_under(alloc, item, mode)?;
     begin_bound(&mut book, options.search);
     Ok(Course {

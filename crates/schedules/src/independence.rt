@@ -66,7 +66,7 @@ fn variables_apart(first: (usize, VariableAction), second: (usize, VariableActio
 fn is_tried(asleep: Mask, thread: u8, other: u8) -> bool
     ensures { result ≡ (has asleep other || nat_lt other thread) }
 {
-    asleep.has(other) || other < thread
+    asleep.contains(other) || other < thread
 }
 
 /// Who sleeps after a step of a thread at a state where these are enabled and these asleep: the

@@ -13,7 +13,7 @@ pub struct Mask {
 
 impl Mask {
     /// Whether a thread is in the set.
-    pub fn has(self, thread: u8) -> bool
+    pub fn contains(self, thread: u8) -> bool
         ensures { result ≡ has self thread }
     {
         (thread as usize) < THREADS && (self.bits >> thread) & 1 == 1
@@ -44,7 +44,7 @@ impl Mask {
     }
 
     /// The members that aren't in the other set.
-    pub fn minus(self, other: Mask) -> Mask
+    pub fn difference(self, other: Mask) -> Mask
         ensures { (u : ℕ) → has result u ≡ (has self u && not (has other u)) }
     {
         Mask {

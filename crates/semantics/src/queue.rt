@@ -63,8 +63,8 @@ impl Queue {
         }
     }
 
-    /// A thread joins at the end.
-    pub fn join(&mut self, thread: u8)
+    /// Puts a thread at the end.
+    pub fn push(&mut self, thread: u8)
         requires room { length self.old < THREADS }
         ensures { self.new ≡ self.old ++ thread ∷ [] }
     {
@@ -72,8 +72,8 @@ impl Queue {
         self.length += 1;
     }
 
-    /// The thread that waits longest leaves.
-    pub fn leave(&mut self) -> Option<u8>
+    /// Takes out the thread that waits longest.
+    pub fn pop(&mut self) -> Option<u8>
         ensures rest { self.new ≡ drop 1 self.old }
         ensures first { MatchOption result (self.old ≡ []) (λ t. take 1 self.old ≡ t ∷ []) }
     {
@@ -86,7 +86,7 @@ impl Queue {
         Some(first)
     }
 
-    /// All leave.
+    /// Takes out all.
     pub fn clear(&mut self)
         ensures { self.new ≡ [] }
     {

@@ -38,7 +38,7 @@ pub fn call(queue: &mut Queue, threads: &mut [Thread], condition: u8, action: Co
             queue.clear();
         }
         ConditionAction::Signal => {
-            if let Some(u) = queue.leave() {
+            if let Some(u) = queue.pop() {
                 wake_one(condition, &mut threads[u as usize]);
             }
         }

@@ -200,7 +200,7 @@ impl State {
     }
 
     /// How many threads are in the queue of a condition.
-    pub fn queue_length(&self, condition: usize) -> usize
+    pub fn queue_len(&self, condition: usize) -> usize
         requires { condition < length self.now.queues }
         ensures { result ≡ length (queue_of self.now condition) }
     {

@@ -1,6 +1,6 @@
 //! A gate that writes down what it hears.
 
-use runner::{Answer, Gate, Progress};
+use runner::{Decision, Gate, Progress};
 use std::alloc::Global;
 use std::sync::atomic::{AtomicU64, Ordering};
 use std::{fmt, thread};
@@ -191,15 +191,15 @@ impl Gate for Listening {
         true
     }
 
-    fn before(&self, worker: u32, item: u64) -> Answer {
+    fn before(&self, worker: u32, item: u64) -> Decision {
         let before = self.asked.fetch_add(1, Ordering::SeqCst);
         if self.stops_at(worker, item, before) {
             self.hear(Heard::Stop, worker, item);
-            return Answer::Stop;
+            return Decision::Stop;
         }
         self.hear(Heard::Go, worker, item);
         self.hold_at(worker, item);
-        Answer::Go
+        Decision::Go
     }
 
     fn walked(&self, worker: u32, item: u64) {
@@ -234,9 +234,9 @@ impl Gate for Never<'_> {
         false
     }
 
-    fn before(&self, worker: u32, item: u64) -> Answer {
+    fn before(&self, worker: u32, item: u64) -> Decision {
         self.0.hear(Heard::Go, worker, item);
-        Answer::Go
+        Decision::Go
     }
 
     fn walked(&self, worker: u32, item: u64) {

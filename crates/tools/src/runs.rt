@@ -45,7 +45,7 @@ fn state_after(alloc: Global, program: &Program, schedule: &[u8]) -> Option<Stat
 {
     let mut state = started(alloc, program)?;
     for thread in schedule {
-        if !state.enabled(program).has(*thread) {
+        if !state.enabled(program).contains(*thread) {
             return None;
         }
         state.step(program, *thread);

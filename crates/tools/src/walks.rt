@@ -40,7 +40,7 @@ fn counts_of(found: &Found) -> Counts
         tried: found.part.tried(),
         failed: found.part.failed(),
         stuck: found.part.stuck(),
-        deferred: found.deferred.length(),
+        deferred: found.deferred.len(),
     }
 }
 

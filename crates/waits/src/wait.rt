@@ -159,11 +159,11 @@ fn is_first_of(set: Mask, thread: u8) -> bool
     ensures { result ≡ is_first_of set thread }
 {
     for u in 0..thread {
-        if set.has(u) {
+        if set.contains(u) {
             return false;
         }
     }
-    set.has(thread)
+    set.contains(thread)
 }
 
 // The circles of those that are the first of theirs.

@@ -5,7 +5,7 @@ ghost use Rattle.summary.specs.Summaries.{nothing};
 ghost use Rattle.walk.specs.inner.WalkerInvariant.{IsShared};
 
 use items::item::Item;
-use prefix_list::{Prefixes, shared_length};
+use prefix_list::{Prefixes, shared_len};
 use std::alloc::Global;
 use summary::{EndMemory, Summary};
 
@@ -48,7 +48,7 @@ impl Found {
         ensures shared { IsShared steps.now.items self.new }
     {
         self.shared = match self.deferred.last() {
-            Some(last) => shared_length(last, steps.as_slice()),
+            Some(last) => shared_len(last, steps.as_slice()),
             None => 0,
         };
     }

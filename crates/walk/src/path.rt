@@ -14,7 +14,7 @@ use guest_code::limits::INSTRUCTIONS;
 use guest_code::program::Program;
 use items::mode::Mode;
 use machine::{Control, Machine, Run};
-use prefix_list::shared_length;
+use prefix_list::shared_len;
 use semantics::mask::Mask;
 use std::alloc::{AllocError, Global};
 use summary::EndMemory;
@@ -89,7 +89,7 @@ impl Node {
         match self.last {
             Some(last) => {
                 if last != thread {
-                    self.used += u32::from(enabled.has(last));
+                    self.used += u32::from(enabled.contains(last));
                     self.last = Some(thread);
                 }
             }
@@ -323,7 +323,7 @@ impl Path {
         if self.depth == 0 {
             self.push_frame(program)?;
         }
-        let shared = shared_length(self.steps.as_slice(), schedule);
+        let shared = shared_len(self.steps.as_slice(), schedule);
         self.rewind(program, shared);
         for place in self.steps.len()..schedule.len() {
             self.replay_step(program, schedule, place)?;

@@ -166,7 +166,7 @@ impl Node {
     {
         match mode {
             Mode::Bounded(_) => self.todo = enabled,
-            Mode::Reduced => self.todo = enabled.minus(self.asleep),
+            Mode::Reduced => self.todo = enabled.difference(self.asleep),
         }
     }
 
@@ -174,7 +174,7 @@ impl Node {
     fn is_alone(&self, enabled: Mask, mode: Mode, thread: u8) -> bool
         ensures { result ≡ (at_bound mode self.now && has enabled thread) }
     {
-        self.is_at_bound(mode) && enabled.has(thread)
+        self.is_at_bound(mode) && enabled.contains(thread)
     }
 }
 

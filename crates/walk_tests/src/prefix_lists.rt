@@ -1,6 +1,6 @@
 ghost use Rattle.std.specs.Prelude.{◌<◌, length, IfOk};
 
-use prefix_list::{Prefixes, shared_length};
+use prefix_list::{Prefixes, shared_len};
 use std::alloc::{Alloc, AllocError, Global};
 use std::io;
 use std::process::Abort;
@@ -18,7 +18,7 @@ fn two(alloc: Global) -> Result<Prefixes, AllocError>
 
 /// Compares how many prefixes there are, and the last one.
 fn ends_in(rt: &impl Abort, list: &Prefixes, length: usize, last: &[u8]) {
-    assert_eq!(rt; list.length(), length);
+    assert_eq!(rt; list.len(), length);
     assert!(rt; list.last() == Some(last));
 }
 
@@ -125,6 +125,6 @@ fn prefixes_are_found(rt: HostRuntime) -> io::Result<()> {
 
 #[test]
 fn common_steps_are_counted(rt: HostRuntime) -> io::Result<()> {
-    assert_eq!(rt; shared_length(&[0, 0, 1], &[0, 0, 2, 1]), 2);
+    assert_eq!(rt; shared_len(&[0, 0, 1], &[0, 0, 2, 1]), 2);
     Ok(())
 }

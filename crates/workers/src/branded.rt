@@ -134,7 +134,7 @@ impl<N: SearchBrand> BrandedBook<N> {
     /// Goes from a round to the next where the search does so whatever the round found: some items
     /// are open, fewer than those from which on workers have rounds of their own, and no limit is
     /// reached. A quick book first drops what can't hold the first bad schedule any more.
-    pub fn goes_on(&mut self, limit: Option<u64>, own_from: usize) -> bool
+    pub fn advance(&mut self, limit: Option<u64>, own_from: usize) -> bool
         ensures book { self.new ≡ thinned self.old }
         ensures answer { IsTrue result ↔ GoesOn limit own_from self.new }
     {

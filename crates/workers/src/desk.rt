@@ -184,7 +184,7 @@ impl<N: SearchBrand> Desk<N> {
         ensures same { (self.new.limit ≡ self.old.limit) × (self.new.own_from ≡ self.old.own_from) }
     {
         self.is_over = true;
-        if !self.ends && self.book.goes_on(self.limit, self.own_from) {
+        if !self.ends && self.book.advance(self.limit, self.own_from) {
             gate.round_ended(Progress::of(self.book.book()));
             self.next_round(alloc)?;
         }

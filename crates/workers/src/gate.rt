@@ -1,13 +1,13 @@
 //! Gates: who is asked before an item is walked, and may stop a search of several workers.
 
 ghost use Rattle.std.specs.Prelude.{◌≡◌, Bool, true};
-ghost use Rattle.workers.specs.declared.gate.Answer.TheVariants.{Stop};
+ghost use Rattle.workers.specs.declared.gate.Decision.TheVariants.{Stop};
 
 use book::progress::Progress;
 
 /// What a gate answers to a worker that is about to walk an item.
 #[derive(Clone, Copy, Debug, PartialEq, Eq)]
-pub enum Answer {
+pub enum Decision {
     /// The item is walked.
     Go,
     /// The worker walks no more in this round, and the item stays open.
@@ -28,10 +28,10 @@ pub trait Gate: Sync {
 
     /// Whether a worker goes on to an item, which has this number in its round. Workers and items,
     /// those of a worker's own round, too, are counted from 0. A gate that doesn't say lets all go.
-    fn before(&self, _worker: u32, _item: u64) -> Answer
+    fn before(&self, _worker: u32, _item: u64) -> Decision
         ensures { result ≡ Stop → stops self.now ≡ true }
     {
-        Answer::Go
+        Decision::Go
     }
 
     /// Is told that a worker has walked an item. The walk is not settled yet.

@@ -15,7 +15,7 @@ mod gate;
 mod lender;
 pub mod limits;
 mod monitor;
-mod own;
+mod own_rounds;
 mod round;
 mod seated_worker;
 mod stretch;
@@ -23,6 +23,6 @@ mod team;
 mod worker;
 
 pub use exit::Exit;
-pub use gate::{Answer, Gate, Open};
+pub use gate::{Decision, Gate, Open};
 pub use limits::WORKERS;
 pub use team::Team;

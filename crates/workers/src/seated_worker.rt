@@ -10,7 +10,7 @@ ghost use Rattle.workers.specs.inner.Rounds.{IsRoundOf, IsOn, AreKept, rank};
 use crate::branded::SearchBrand;
 use crate::desk::Desk;
 use crate::exit::Exit;
-use crate::gate::{Answer, Gate};
+use crate::gate::{Decision, Gate};
 use crate::limits::WORKERS;
 use crate::monitor::Monitor;
 use crate::round::Round;
@@ -227,7 +227,7 @@ impl SeatedWorker {
             if self.leaves_out(&shared.board, round, item) {
                 continue;
             }
-            if shared.gate.before(self.worker.number, place as u64) == Answer::Stop {
+            if shared.gate.before(self.worker.number, place as u64) == Decision::Stop {
                 return Some(Exit::Stopped);
             }
             let Ok(is_bad) = self.worker.walk(shared.alloc, round, place) else {

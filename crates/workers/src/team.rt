@@ -7,8 +7,8 @@ ghost use Rattle.workers.specs.declared.exit.Exit.TheVariants.{Stopped};
 ghost use Rattle.workers.specs.Teams.{IsOf, IsTeam};
 
 use crate::exit::Exit;
-use crate::gate::{Answer, Gate};
-use crate::own::walk_own_rounds;
+use crate::gate::{Decision, Gate};
+use crate::own_rounds::walk_own_rounds;
 use crate::stretch::Stretch;
 use crate::worker::Worker;
 use board::Board;
@@ -48,7 +48,7 @@ fn walk_in_order<G: Gate>(
 {
     let items = book.round(alloc)?;
     for k in 0..items.len() {
-        if gate.before(0, k as u64) == Answer::Stop {
+        if gate.before(0, k as u64) == Decision::Stop {
             return Ok(Exit::Stopped);
         }
         let walked = walk(alloc, &items[k], book.mode(), quota)?;

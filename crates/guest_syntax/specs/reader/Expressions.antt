@@ -4,7 +4,7 @@ use Rattle.guest_syntax.specs.declared.limits.TheConstants.{NUMBER}
 use Rattle.guest_syntax.specs.declared.token.Symbol.TheVariants as symbols
 use Rattle.guest_syntax.specs.declared.tree.Op.{Op}
 use Rattle.guest_syntax.specs.declared.tree.Op.TheVariants as ops
-use Rattle.guest_syntax.specs.Tokens.{Kind, name, number, symbol, Token}
+use Rattle.guest_syntax.specs.Tokens.{TokenKind, name, number, symbol, Token}
 use Rattle.guest_syntax.specs.reader.Scanner.{◌>>=◌}
 use Rattle.guest_syntax.specs.Tree as tree
 use Rattle.guest_syntax.specs.Tree.{Operand, Expr}
@@ -15,7 +15,7 @@ abbrev pub negated : ℕ → ℤ
 negated n = pos 0 -ℤ pos n
 
 -- a literal, whose first token was read
-abbrev pub literal_by : Kind → List Token → Read ℤ
+abbrev pub literal_by : TokenKind → List Token → Read ℤ
 literal_by (number n) ts = if nat_le n NUMBER then Some (pos n, ts) else None
 literal_by (symbol symbols.Minus) ts = number_from NUMBER ts >>= λ n. Some (negated n.0, n.1)
 literal_by _ ts = None
@@ -25,7 +25,7 @@ literal_from ts = do
   t ← token_at ts
   literal_by t.0.kind t.1
 
-abbrev pub operand_by : Token → List Token → Kind → Read Operand
+abbrev pub operand_by : Token → List Token → TokenKind → Read Operand
 operand_by t ts (name s) = Some (tree.local (record { text = s; at = t.at }), ts)
 operand_by t ts k = literal_by k ts >>= λ z. Some (tree.literal z.0, z.1)
 
@@ -34,7 +34,7 @@ operand_from ts = do
   t ← token_at ts
   operand_by t.0 t.1 t.0.kind
 
-abbrev pub op_of : Kind → Option Op
+abbrev pub op_of : TokenKind → Option Op
 op_of (symbol symbols.Plus) = Some ops.Add
 op_of (symbol symbols.Minus) = Some ops.Subtract
 op_of (symbol symbols.Times) = Some ops.Multiply

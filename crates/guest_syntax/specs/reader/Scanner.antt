@@ -8,7 +8,7 @@ use Rattle.guest_syntax.specs.declared.token.Symbol.{Symbol}
 use Rattle.guest_syntax.specs.declared.token.TheConstants.{KEYWORDS, SYMBOLS}
 use Rattle.guest_syntax.specs.Place.{past, after}
 use Rattle.guest_syntax.specs.reader.BlankBytes.{Step, Passed, Stops, NotAscii, gap_step}
-use Rattle.guest_syntax.specs.Tokens.{Kind, name, keyword, number, symbol, bad, Token, keyword_text, symbol_text, is_digit, is_letter, is_name_byte}
+use Rattle.guest_syntax.specs.Tokens.{TokenKind, name, keyword, number, symbol, bad, Token, keyword_text, symbol_text, is_digit, is_letter, is_name_byte}
 
 infixl 10 ◌>>=◌
 abbrev pub ◌>>=◌ : {A B : Type 0} → Option A → (A → Option B) → Option B
@@ -25,7 +25,7 @@ skipped comment at [] = Some (at, [])
 skipped comment at (b ∷ bs) = skip_by (gap_step comment b) (λ c. skipped c (past at b) bs) at
     (b ∷ bs)
 
-abbrev pub name_or_keyword : List ℕ → Kind
+abbrev pub name_or_keyword : List ℕ → TokenKind
 name_or_keyword text = option_map_or keyword (find (λ w. bytes_eq (keyword_text w) text) KEYWORDS)
     (name text)
 
@@ -37,7 +37,7 @@ abbrev pub symbol_at : List ℕ → Option Symbol
 symbol_at text = find (λ s. starts_with nat_eq text (symbol_text s)) SYMBOLS
 
 -- the token that begins with the first byte, and its length
-abbrev pub kind_by : Bool → Bool → List ℕ → Option (Kind × ℕ)
+abbrev pub kind_by : Bool → Bool → List ℕ → Option (TokenKind × ℕ)
 kind_by true digit bytes = Some (
   name_or_keyword (take (prefix_len is_name_byte bytes) bytes),
   prefix_len is_name_byte bytes,
@@ -48,7 +48,7 @@ kind_by false true bytes = Some (
 )
 kind_by false false bytes = option_map (λ s. (symbol s, length (symbol_text s))) (symbol_at bytes)
 
-unfoldable pub kind_at : List ℕ → Option (Kind × ℕ)
+unfoldable pub kind_at : List ℕ → Option (TokenKind × ℕ)
 kind_at bytes = kind_by (is_letter (slice_index bytes 0)) (is_digit (slice_index bytes 0)) bytes
 
 abbrev pub first_from : Pos → List ℕ → Option (Option (Token × Pos × List ℕ))

@@ -3,12 +3,12 @@ use Rattle.std.specs.Prelude.{ℕ, List, [], ◌∷◌, Bool, true, false, nat_l
 use Rattle.guest_syntax.specs.declared.limits.TheConstants.{REPEATS}
 use Rattle.guest_syntax.specs.declared.token.Symbol.{Symbol}
 use Rattle.guest_syntax.specs.contracts.token.SymbolPartialEq.TheImpl as symbol-eq
-use Rattle.guest_syntax.specs.Tokens.{Kind, name, keyword, number, symbol, bad, Token}
+use Rattle.guest_syntax.specs.Tokens.{TokenKind, name, keyword, number, symbol, bad, Token}
 use Rattle.guest_syntax.specs.reader.Scanner.{◌>>=◌}
 use Rattle.guest_syntax.specs.reader.Reads.{Read}
 use Rattle.guest_syntax.specs.Tree.{Name}
 
-abbrev pub is_bad : Kind → Bool
+abbrev pub is_bad : TokenKind → Bool
 is_bad (name s) = false
 is_bad (keyword w) = false
 is_bad (number n) = false
@@ -25,7 +25,7 @@ unfoldable pub token_at : List Token → Read Token
 token_at [] = None
 token_at (t ∷ ts) = if is_bad t.kind then None else Some (t, ts)
 
-abbrev pub is_symbol : Symbol → Kind → Bool
+abbrev pub is_symbol : Symbol → TokenKind → Bool
 is_symbol wanted (name s) = false
 is_symbol wanted (keyword w) = false
 is_symbol wanted (number n) = false
@@ -54,7 +54,7 @@ name_from ts = do
   n ← name_in t.0
   Some (n, t.1)
 
-abbrev pub number_in : ℕ → Kind → Option ℕ
+abbrev pub number_in : ℕ → TokenKind → Option ℕ
 number_in limit (name s) = None
 number_in limit (keyword w) = None
 number_in limit (number n) = if nat_le n limit then Some n else None

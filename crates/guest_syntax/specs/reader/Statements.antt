@@ -4,7 +4,7 @@ use Rattle.guest_syntax.specs.declared.place.Pos.{Pos}
 use Rattle.guest_syntax.specs.declared.token.Keyword.{Keyword}
 use Rattle.guest_syntax.specs.declared.token.Keyword.TheVariants as keywords
 use Rattle.guest_syntax.specs.declared.token.Symbol.TheVariants as symbols
-use Rattle.guest_syntax.specs.Tokens.{Kind, keyword, symbol, Token}
+use Rattle.guest_syntax.specs.Tokens.{TokenKind, keyword, symbol, Token}
 use Rattle.guest_syntax.specs.reader.Scanner.{◌>>=◌}
 use Rattle.guest_syntax.specs.Tree as tree
 use Rattle.guest_syntax.specs.Tree.{Name, Expr, Stmt, Block, Placed, block_of}
@@ -87,7 +87,7 @@ simple_by keywords.Assert ts = assert_from ts
 simple_by keywords.Leave ts = symbol_from symbols.End ts >>= λ e. Some (tree.leave, e)
 simple_by w ts = named_by w ts
 
-unfoldable pub is_else : Kind → Bool
+unfoldable pub is_else : TokenKind → Bool
 is_else (keyword keywords.Else) = true
 is_else _ = false
 
@@ -118,7 +118,7 @@ statement_by block keywords.Repeat ts = repeat_from block ts
 statement_by block w ts = simple_by w ts
 
 -- a statement, whose keyword was read at this place, or the end of a block
-abbrev pub turn_by : (List Token → Read Block) → Kind → Pos → List Token → Read (Option Placed)
+abbrev pub turn_by : (List Token → Read Block) → TokenKind → Pos → List Token → Read (Option Placed)
 turn_by block (symbol symbols.Close) at ts = Some (None, ts)
 turn_by block (keyword w) at ts = statement_by block w ts >>= λ s.
     Some (Some (record { at = at; statement = s.0 }), s.1)

@@ -1,10 +1,10 @@
 -- What the values of the code stand for.
-use Rattle.guest_syntax.specs.declared.token.Kind.{Kind}
-use Rattle.guest_syntax.specs.declared.token.Kind.TheVariants as kinds
+use Rattle.guest_syntax.specs.declared.token.TokenKind.{TokenKind}
+use Rattle.guest_syntax.specs.declared.token.TokenKind.TheVariants as kinds
 use Rattle.guest_syntax.specs.declared.token.Token.{Token}
 use Rattle.guest_syntax.specs.Tokens as tokens
 
-abbrev pub kind_view : Kind → tokens.Kind
+abbrev pub kind_view : TokenKind → tokens.TokenKind
 kind_view (kinds.Name s) = tokens.name s.now
 kind_view (kinds.Keyword w) = tokens.keyword w
 kind_view (kinds.Number n) = tokens.number n

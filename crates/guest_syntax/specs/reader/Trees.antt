@@ -5,7 +5,7 @@ use Rattle.guest_syntax.specs.declared.token.Keyword.TheVariants as keywords
 use Rattle.guest_syntax.specs.declared.token.Symbol.TheVariants as symbols
 use Rattle.guest_syntax.specs.declared.tree.Object.{Object}
 use Rattle.guest_syntax.specs.declared.tree.Object.TheVariants as objects
-use Rattle.guest_syntax.specs.Tokens.{Kind, keyword, symbol, Token}
+use Rattle.guest_syntax.specs.Tokens.{TokenKind, keyword, symbol, Token}
 use Rattle.guest_syntax.specs.reader.Scanner.{◌>>=◌}
 use Rattle.guest_syntax.specs.Tree.{Name, Declaration, Thread, Tree}
 use Rattle.guest_syntax.specs.reader.Reads.{Read}
@@ -14,7 +14,7 @@ use Rattle.guest_syntax.specs.reader.Expressions.{literal_from}
 use Rattle.guest_syntax.specs.reader.Items.{Turn, all_from}
 use Rattle.guest_syntax.specs.reader.Statements.{one_name_from, block_from}
 
-abbrev pub variable_by : Name → Kind → List Token → Read Declaration
+abbrev pub variable_by : Name → TokenKind → List Token → Read Declaration
 variable_by x (symbol symbols.End) ts = Some
     (record { name = x; object = objects.Variable (pos 0) }, ts)
 variable_by x (symbol symbols.Assign) ts = do
@@ -45,7 +45,7 @@ semaphore_from ts = do
   e ← symbol_from symbols.End n.1
   Some (record { name = x.0; object = objects.Semaphore n.0 }, e)
 
-abbrev pub declaration_by : Kind → List Token → List Token → Read (Option Declaration)
+abbrev pub declaration_by : TokenKind → List Token → List Token → Read (Option Declaration)
 declaration_by (keyword keywords.Var) before following =
     variable_from following >>= λ d. Some (Some d.0, d.1)
 declaration_by (keyword keywords.Mutex) before following =
@@ -74,7 +74,7 @@ thread_from ts = do
   b ← block_from (suc DEPTH) x.1
   Some (record { name = x.0; body = b.0 }, b.1)
 
-abbrev pub thread_by : Kind → List Token → Read (Option Thread)
+abbrev pub thread_by : TokenKind → List Token → Read (Option Thread)
 thread_by (keyword keywords.Thread) ts = thread_from ts >>= λ x. Some (Some x.0, x.1)
 thread_by _ ts = None
 

@@ -180,7 +180,7 @@ impl Control {
         Status::Running
     }
 
-    // The step of a running thread, but for what it does itself after it: its status then.
+    // The visible action of a running thread, without its local run after it: its status then.
     #[inline(always)]
     fn perform(
         &mut self,
@@ -238,7 +238,7 @@ impl Control {
         }
     }
 
-    // The step of a woken thread at this instruction, but for what it does itself after it.
+    // A woken thread takes the mutex of its `wait` again, without its local run after it.
     fn retake(&mut self, thread: u8, instruction: &Instruction)
         requires thread { thread < THREADS }
         requires ready { (p : Program) × IsWellFormed p × IsValid p instruction.now }
@@ -254,7 +254,7 @@ impl Control {
         }
     }
 
-    // The step of an enabled thread, but for what it does itself after it: its status then.
+    // The step of an enabled thread, without its local run after it: its status then.
     #[inline(always)]
     fn take_step(
         &mut self,
@@ -272,7 +272,7 @@ impl Control {
             → IsPerformed program.now s thread self.new shared.new own.new result }
     {
         program.keeps_limits();
-        if self.woken.has(thread) {
+        if self.woken.contains(thread) {
             self.retake(thread, instruction);
             return Status::Running;
         }

@@ -5,5 +5,5 @@ pub running-requires : goal.running-requires
 running-requires c = last_item_runs _ c.in_ok-try_clone.ensures c.in-Some.ensures c.requires.run
 
 pub returns : goal.returns
-returns c = last_item_made c.args.reading.now _ c.in_ok-try_clone.ensures c.in-Some.ensures
+returns c = last_item_made c.args.prefixes.now _ c.in_ok-try_clone.ensures c.in-Some.ensures
     c.running.ensures

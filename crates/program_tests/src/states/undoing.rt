@@ -67,7 +67,7 @@ fn goes_back(
     let mut state = State::start(alloc, p)?;
     for t in schedule {
         assert!(rt;
-            state.enabled(p).has(*t),
+            state.enabled(p).contains(*t),
             "{t} of {schedule:?} is not enabled"
         );
         assert!(rt; is_taken_back(alloc, p, &state, *t)?, "{t} of {schedule:?}");

@@ -1,6 +1,6 @@
 //! Gates of the tests.
 
-use runner::{Answer, Gate};
+use runner::{Decision, Gate};
 use std::sync::atomic::{AtomicU64, Ordering};
 use std::thread;
 
@@ -33,11 +33,11 @@ impl Gate for Passing {
         true
     }
 
-    fn before(&self, _worker: u32, _item: u64) -> Answer {
+    fn before(&self, _worker: u32, _item: u64) -> Decision {
         if self.asked.fetch_add(1, Ordering::SeqCst) < self.passes {
-            Answer::Go
+            Decision::Go
         } else {
-            Answer::Stop
+            Decision::Stop
         }
     }
 }
@@ -55,10 +55,10 @@ impl Gate for StopsOne {
         true
     }
 
-    fn before(&self, worker: u32, _item: u64) -> Answer {
+    fn before(&self, worker: u32, _item: u64) -> Decision {
         match worker {
-            1 => Answer::Stop,
-            _ => Answer::Go,
+            1 => Decision::Stop,
+            _ => Decision::Go,
         }
     }
 }

@@ -102,7 +102,7 @@ impl State {
         let runner = &mut self.threads[thread as usize];
         if owns(thread, self.owners[m]) {
             self.owners[m] = None;
-            self.queues[c].join(thread);
+            self.queues[c].push(thread);
             runner.status = Status::Waiting(c as u8);
         } else {
             runner.status = Status::Stopped(Stop::NotHeld);

@@ -18,7 +18,7 @@ fn found_after(alloc: Global, prefix: &[u8], bound: u32) -> Result<String, Fail>
 
 /// Adds prefixes to a line, from the last on, and takes them off their list.
 fn add_from_the_last(line: &mut String, prefixes: &mut Prefixes) -> Result<(), Fail> {
-    for _ in 0..prefixes.length() {
+    for _ in 0..prefixes.len() {
         write!(line, "; {:?}", prefixes.last())?;
         if !prefixes.is_empty() {
             prefixes.pop();

@@ -95,7 +95,7 @@ fn counts_of(parts: &Found) -> (u64, usize, usize) {
     (
         parts.part.tried(),
         parts.rest.len(),
-        parts.deferred.length(),
+        parts.deferred.len(),
     )
 }
 

@@ -33,15 +33,15 @@ returns-then-branch c =
     (sym (set_keys c.prefix.result c.args.prefixes.now c.in_ok-listed.listed _
     c.in_ok-listed.ensures c.contains.ensures) ∙ c.if-contains.false)
     (subst (In (map (λ x. x.now) c.args.prefixes.now)) (sym c.prefix.ensures.prefix) m))
-    (sym c.in_ok-put_further.ensures.complete ∙ c.if-branch.true)
+    (sym c.in_ok-push_children.ensures.complete ∙ c.if-branch.true)
 
 pub loop-item-smaller : goal.loop-item-smaller
 loop-item-smaller c =
     way_less c.args.mode c.args.root.program (map (λ x. x.now) c.args.prefixes.now)
     c.loop-item.items.items c.loop-item.left.items c.pop.new.self.items _ c.in-Some.item
     c.requires.fine c.loop-item.invariant c.in-Some.ensures.items
-    (sym c.in_ok-put_further.ensures.complete ∙ c.if-branch.false)
-    c.in_ok-put_further.ensures.items
+    (sym c.in_ok-push_children.ensures.complete ∙ c.if-branch.false)
+    c.in_ok-push_children.ensures.items
 
 pub loop-item-preserved : goal.loop-item-preserved
 loop-item-preserved c =
@@ -52,16 +52,16 @@ loop-item-preserved c =
     (sym (set_keys c.prefix.result c.args.prefixes.now c.in_ok-listed.listed _
     c.in_ok-listed.ensures c.contains.ensures) ∙ c.if-contains.false)
     (subst (In (map (λ x. x.now) c.args.prefixes.now)) (sym c.prefix.ensures.prefix) m))
-    (sym c.in_ok-put_further.ensures.complete ∙ c.if-branch.false)
-    c.in_ok-put_further.ensures.items
+    (sym c.in_ok-push_children.ensures.complete ∙ c.if-branch.false)
+    c.in_ok-push_children.ensures.items
 
 pub loop-item-smaller-else-branch : goal.loop-item-smaller-else-branch
 loop-item-smaller-else-branch c =
     way_less c.args.mode c.args.root.program (map (λ x. x.now) c.args.prefixes.now)
     c.loop-item.items.items c.loop-item.left.items c.pop.new.self.items _ c.in-Some.item
     c.requires.fine c.loop-item.invariant c.in-Some.ensures.items
-    (sym c.in_ok-put_further.ensures.complete ∙ c.if-branch.false)
-    c.in_ok-put_further.ensures.items
+    (sym c.in_ok-push_children.ensures.complete ∙ c.if-branch.false)
+    c.in_ok-push_children.ensures.items
 
 pub loop-item-preserved-else-branch : goal.loop-item-preserved-else-branch
 loop-item-preserved-else-branch c =
@@ -72,5 +72,5 @@ loop-item-preserved-else-branch c =
     (sym (set_keys c.prefix.result c.args.prefixes.now c.in_ok-listed.listed _
     c.in_ok-listed.ensures c.contains.ensures) ∙ c.if-contains.false)
     (subst (In (map (λ x. x.now) c.args.prefixes.now)) (sym c.prefix.ensures.prefix) m))
-    (sym c.in_ok-put_further.ensures.complete ∙ c.if-branch.false)
-    c.in_ok-put_further.ensures.items
+    (sym c.in_ok-push_children.ensures.complete ∙ c.if-branch.false)
+    c.in_ok-push_children.ensures.items

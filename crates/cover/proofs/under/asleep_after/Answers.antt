@@ -15,7 +15,7 @@ returns-then-has c =
     c.loop-thread.state c.loop-thread.asleep (get_or c.args.prefix.now c.loop-thread.thread-index 0)
     c.loop-thread.invariant c.loop-thread-test.true
     (get_or_default c.args.prefix.now c.loop-thread.thread-index 0 _ c.loop-thread-test.true)
-    (sym c.has.ensures ∙ c.if-has.true)
+    (sym c.contains.ensures ∙ c.if-contains.true)
 
 pub loop-thread-preserved : goal.loop-thread-preserved
 loop-thread-preserved c =
@@ -26,4 +26,4 @@ loop-thread-preserved c =
     (get_or c.args.prefix.now c.loop-thread.thread-index 0) c.loop-thread.invariant
     c.loop-thread-test.true
     (get_or_default c.args.prefix.now c.loop-thread.thread-index 0 _ c.loop-thread-test.true)
-    (sym c.has.ensures ∙ c.if-has.false) c.sleepers_after-asleep.ensures)
+    (sym c.contains.ensures ∙ c.if-contains.false) c.sleepers_after-asleep.ensures)

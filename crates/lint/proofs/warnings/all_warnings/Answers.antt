@@ -1,6 +1,6 @@
 use Rattle.std.proofs.Common.{◌∙◌, arith}
 use Rattle.std.proofs.lemmas.Grind.{common_steps}
-use Rattle.lint.specs.declared.warning.Kind.TheVariants.{NeverSet}
+use Rattle.lint.specs.declared.warning.WarningKind.TheVariants.{NeverSet}
 use Rattle.lint.proofs.KindsOfThreads.{of_thread}
 use Rattle.lint.proofs.WarningLists.{listed_none, listed_more}
 use Rattle.lint.proofs.warnings.all_warnings.Goals as goal

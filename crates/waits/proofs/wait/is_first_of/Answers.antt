@@ -9,5 +9,5 @@ returns-then-has c =
     let set = c.args.set in
     let t = c.args.thread in
     sym (ap (λ x. has set t && x)
-    (some_below set t c.loop-u.u c.loop-u-test.true (sym c.has.ensures ∙ c.if-has.true))
+    (some_below set t c.loop-u.u c.loop-u-test.true (sym c.contains.ensures ∙ c.if-contains.true))
     ∙ and-false (has set t))

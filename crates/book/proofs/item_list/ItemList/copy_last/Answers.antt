@@ -19,7 +19,7 @@ returns-clause-items c =
       c.min-count.ensures,
       c.saturating_sub.ensures,
       c.len-unpacked.ensures,
-      c.length.ensures.length,
+      c.len.ensures.length,
       i.unpacked.ok.0,
     ) in
     let e : c.saturating_sub-2.result ≡ length i.unpacked.items - most =

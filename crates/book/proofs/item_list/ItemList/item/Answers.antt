@@ -12,9 +12,8 @@ pub last_item-requires-clause-run : goal.last_item-requires-clause-run
 last_item-requires-clause-run c =
     let i = c.self.inside in
     let p = arc_value c.args.program.now in
-    let is : c.in_ok-reading.reading ≡ take (c.args.place + 1) i.packed =
-    c.in_ok-reading.ensures
-    ∙ (c.truncate.ensures ∙ ap (take (c.args.place + 1)) c.in_ok-prefixes.ensures) in
+    let is : c.truncate.new.self ≡ take (c.args.place + 1) i.packed =
+    c.truncate.ensures ∙ ap (take (c.args.place + 1)) c.in_ok-prefixes.ensures in
     subst (λ (ws : List (List ℕ)). All IsItem (items_at p ws)) (sym is)
     (first_run p i.packed (c.args.place + 1)
     (subst (λ (l : ListView). All IsItem (items_at p l.packed)) (sym c.self.view_is)
@@ -24,13 +23,12 @@ pub returns : goal.returns
 returns c =
     let i = c.self.inside in
     let p = arc_value c.args.program.now in
-    let is : c.in_ok-reading.reading ≡ take (c.args.place + 1) i.packed =
-    c.in_ok-reading.ensures
-    ∙ (c.truncate.ensures ∙ ap (take (c.args.place + 1)) c.in_ok-prefixes.ensures) in
+    let is : c.truncate.new.self ≡ take (c.args.place + 1) i.packed =
+    c.truncate.ensures ∙ ap (take (c.args.place + 1)) c.in_ok-prefixes.ensures in
     let low : c.args.place < length i.packed =
-    omega (arith, c.if-packed-place.false, c.length-packed.ensures.length) in
+    omega (arith, c.if-packed-place.false, c.len-packed.ensures.length) in
     let l : ListView = list_view i.packed i.unpacked in
-    if_ok c.last_item.result (λ x. x ≡ item_at p (last_of c.in_ok-reading.reading)) _
+    if_ok c.last_item.result (λ x. x ≡ item_at p (last_of c.truncate.new.self)) _
     (λ x e. ap (λ m. slice_get (all_of p m) c.args.place) (sym c.self.view_is)
     ∙ (got-packed p l c.args.place (last_of (take (c.args.place + 1) i.packed)) low
     (got-last i.packed c.args.place low)

@@ -53,7 +53,7 @@ loop-k-preserved c =
     let s = c.in-Some.ensures.some in
     let low = s.0 in
     let high = s.1 in
-    let packed = c.length-packed.ensures.length in
+    let packed = c.len-packed.ensures.length in
     let view = ap (λ l. length l.packed) c.self.view_is in
     let inside = ap (λ l. l.unpacked) c.self.view_is in
     let wide = ap length inside in
@@ -62,7 +62,7 @@ loop-k-preserved c =
     ∙ ap (λ i. Some i) (sym c.index-items-places.is) in
     let pushed : found ++ q ∷ [] ≡ c.push.new.self.items =
     ap (λ m. found ++ m ∷ [])
-    (let e : q ≡ c.length-packed.result + place - k = omega (arith, packed, view) in e)
+    (let e : q ≡ c.len-packed.result + place - k = omega (arith, packed, view) in e)
     ∙ sym c.in_ok-push.ensures.items in
     let more : take k places ++ at ∷ [] ≡ take (k + 1) places =
     sym (take-suc places k 0 c.loop-k-test.true)

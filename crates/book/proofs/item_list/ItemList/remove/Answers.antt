@@ -12,10 +12,10 @@ returns-clause-items c = λ p.
     let i = c.self.inside in
     let n = length-map i.packed (item_at p) in
     let v = ap (λ l. length l.packed) c.self.view_is in
-    let a : c.args.first - c.length-packed.result ≡ c.args.first - length (items_at p i.packed) =
-    omega (arith, n, c.length-packed.ensures.length) in
-    let b : c.args.end - c.length-packed.result ≡ c.args.end - length (items_at p i.packed) =
-    omega (arith, n, c.length-packed.ensures.length) in
+    let a : c.args.first - c.len-packed.result ≡ c.args.first - length (items_at p i.packed) =
+    omega (arith, n, c.len-packed.ensures.length) in
+    let b : c.args.end - c.len-packed.result ≡ c.args.end - length (items_at p i.packed) =
+    omega (arith, n, c.len-packed.ensures.length) in
     ap (λ is. items_at p i.packed ++ is) (c.drop-drain.ensures.items ∙ (c.drain.ensures.kept
     ∙ (λ k. remove_range i.unpacked.items (a k) (b k))))
     ∙ (range_right (items_at p i.packed) i.unpacked.items c.args.first c.args.end

@@ -17,14 +17,14 @@ loop-k-preserved c =
     let k = c.loop-k.k in
     let places = c.args.places.now in
     let q = get_or places k 0 in
-    let n = c.length-packed.result in
+    let n = c.len-packed.result in
     let out = c.remove-item in
     let taken : out.new.self.items ≡ remove i.unpacked.items (q - n) =
     removed_any out.result i.unpacked.items out.new.self.items (q - n) i.unpacked.len
     out.ensures.items out.ensures.variant i.unpacked.ok.0
     (if_none out.result (out.new.self ≡ i.unpacked) (out.new.self.items ≡ i.unpacked.items)
     (λ e. ap (λ d. d.items) e) out.ensures.unchanged) in
-    let same = c.length-packed.ensures.length in
+    let same = c.len-packed.ensures.length in
     let view = ap (λ l. length l.packed) c.self.view_is in
     let kept = ap length c.loop-k.invariant.packed in
     let low = c.requires.unpacked k 0 c.loop-k-test.true in

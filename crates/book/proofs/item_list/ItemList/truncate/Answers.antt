@@ -9,7 +9,7 @@ returns-clause-items c = λ p.
     let i = c.self.inside in
     let n = c.args.length in
     let e : c.saturating_sub.result ≡ n - length i.packed =
-    omega (arith, c.saturating_sub.ensures, c.length-packed.ensures.length) in
+    omega (arith, c.saturating_sub.ensures, c.len-packed.ensures.length) in
     (λ k. items_at p (c.truncate.ensures k) ++ c.truncate-2.ensures.items k)
     ∙ (ap (λ m. items_at p (take n i.packed) ++ take m i.unpacked.items) e
     ∙ (cut-both p i.packed i.unpacked.items n ∙ ap (λ l. take n (all_of p l)) c.self.view_is))

@@ -16,8 +16,8 @@ use Rattle.book.proofs.TakenOver.{grown, still_there, taken_back}
 use Rattle.book.proofs.lending.LendingBook.settle.Goals as goal
 use Rattle.book.proofs.lending.LendingBook.settle.Goals.{In_ok-reserve, After-drop-none-inside-in-Err-2, After-drop-none-inside-3}
 
-pub is_same-requires-clause-run : goal.is_same-requires-clause-run
-is_same-requires-clause-run c =
+pub has_same_items-requires-clause-run : goal.has_same_items-requires-clause-run
+has_same_items-requires-clause-run c =
     let i = c.self.inside in
     let p = i.of.program in
     let lent = c.in-Some.lent.now in
@@ -27,8 +27,8 @@ is_same-requires-clause-run c =
     (is_loan p lent (of_worker (lending_of i) c.args.worker (all_of p lent)
     (lent_at p i.lent.items c.args.worker lent there at) c.self.invariant)).run
 
-pub is_same-requires-clause-unpacked : goal.is_same-requires-clause-unpacked
-is_same-requires-clause-unpacked c =
+pub has_same_items-requires-clause-unpacked : goal.has_same_items-requires-clause-unpacked
+has_same_items-requires-clause-unpacked c =
     let i = c.self.inside in
     let p = i.of.program in
     let lent = c.in-Some.lent.now in
@@ -56,8 +56,8 @@ returns-then-not-branch-clause-not_taken c = λ e. inr (λ has.
     let of_own : all_of (arc_value c.shared_program-program.result.now) lent
     ≡ all_of (arc_value c.shared_program-program.result.now) loan =
     same_of lent loan (sym c.shared_program-program.ensures) same in
-    let yes : c.in_ok-is_same.field-0 ≡ true = c.in_ok-is_same.ensures.1 of_own in
-    let no : c.in_ok-is_same.field-0 ≡ false = c.if-not-branch.true in
+    let yes : c.in_ok-has_same_items.field-0 ≡ true = c.in_ok-has_same_items.ensures.1 of_own in
+    let no : c.in_ok-has_same_items.field-0 ≡ false = c.if-not-branch.true in
     absurd (cc))
 
 -- the worker has the items of the loan
@@ -69,10 +69,10 @@ has c =
     let lent : ListView = c.in-Some.lent.now in
     let there : c.args.worker < length i.lent.items = search rules in
     let at : lent ≡ get_or i.lent.items c.args.worker lent = search rules in
-    let yes : c.in_ok-is_same.field-0 ≡ true = search rules in
+    let yes : c.in_ok-has_same_items.field-0 ≡ true = search rules in
     let same : all_of p lent ≡ all_of p c.args.loan.now =
     same_of lent c.loan.inside.list c.shared_program-program.ensures
-    (c.in_ok-is_same.ensures.0 yes) ∙ ap (all_of p) c.loan.view_is in
+    (c.in_ok-has_same_items.ensures.0 yes) ∙ ap (all_of p) c.loan.view_is in
     subst (λ (z : LendingView). Has z c.args.worker (all_of z.of.program c.args.loan.now))
     c.self.view_is
     (subst (Has (lending_of i) c.args.worker) same

@@ -5,7 +5,7 @@ use Rattle.machine.proofs.control.Control.take.Goals as goal
 pub returns-clause-takes : goal.returns-clause-takes
 returns-clause-takes c = λ p s d shows inside taking.
     took p s c.args.thread c.args.m d c.args.self.now c.with-near.result c.with-self.result
-    c.minus-self.result shows inside (omega (arith, c.requires)) (omega (arith, c.requires))
+    c.difference-self.result shows inside (omega (arith, c.requires)) (omega (arith, c.requires))
     (omega (arith, c.requires))
     taking c.with-near.ensures.same c.with-near.ensures.others c.with-self.ensures.same
-    c.with-self.ensures.others c.minus-self.ensures
+    c.with-self.ensures.others c.difference-self.ensures

@@ -38,18 +38,18 @@ grown_at c =
     let b = drop i.front i.bytes.items in
     let ways = drop j.front j.bytes.items in
     let start = take j.front j.bytes.items in
-    let k = c.shared_length-shared.result in
+    let k = c.shared_len-shared.result in
     let same : c.as_slice.result.now ≡ last = c.as_slice.ensures.value ∙ c.reserve.ensures.items in
     let whole : c.deref-2.result.now ≡ last = c.deref-2.ensures.value ∙ c.reserve.ensures.items in
     let theirs : take j.front c.deref.result.now ≡ start =
     ap (take j.front) c.deref.ensures.value in
     let alike : take k last ≡ take k start =
-    ap (take k) (sym same) ∙ c.shared_length-shared.ensures.alike ∙ ap (take k) theirs in
-    let low : k ≤ length last = omega (arith, c.shared_length-shared.ensures.in_a, ap length same)
+    ap (take k) (sym same) ∙ c.shared_len-shared.ensures.alike ∙ ap (take k) theirs in
+    let low : k ≤ length last = omega (arith, c.shared_len-shared.ensures.in_a, ap length same)
     in
     let within : k ≤ length start = omega (
       arith,
-      c.shared_length-shared.ensures.in_b,
+      c.shared_len-shared.ensures.in_b,
       ap length theirs,
     ) in
     let t = take (length c.deref-2.result.now - k) (drop k c.deref-2.result.now) in
@@ -111,7 +111,7 @@ pub overflow_add-self : goal.overflow_add-self
 overflow_add-self c =
     let i = c.self.inside in
     let j = c.other.inside in
-    let k = c.shared_length-shared.result in
+    let k = c.shared_len-shared.result in
     let n = counted_few i c.self.invariant in
     let m = packed_few j.count (drop j.front j.bytes.items) j.last.items
     (take j.front j.bytes.items) (vec_capacity j.last) c.other.invariant.1 in
@@ -152,7 +152,7 @@ invariant_of-self-in_err-put_way c =
 pub invariant_of-self-in-Err : goal.invariant_of-self-in-Err
 invariant_of-self-in-Err c =
     let i = c.self.inside in
-    let k = c.shared_length-shared.result in
+    let k = c.shared_len-shared.result in
     let t = take (length c.deref-2.result.now - k) (drop k c.deref-2.result.now) in
     let cut = c.truncate.ensures.items ∙ (ap (take c.len-len.result)
     (c.in-Err.ensures.items ∙ c.in_ok-put_way.ensures)

@@ -14,9 +14,9 @@ loop-place-init c =
     (omega (arith, i.last.small)) c.self.invariant.1
     (take_rest D i.front ∙ ap (drop i.front) c.deref.ensures.value) c.self.view_is
     (omega (arith, c.len.ensures, i.last.ok.0))
-    (c.shared_length.ensures.all
+    (c.shared_len.ensures.all
     ∙ ap (λ w. common_length w c.args.prefix.now) c.as_slice.ensures.value)
-    c.shared_length.ensures.in_b
+    c.shared_len.ensures.in_b
 
 pub returns-then-has_found-clause-some : goal.returns-then-has_found-clause-some
 returns-then-has_found-clause-some c =

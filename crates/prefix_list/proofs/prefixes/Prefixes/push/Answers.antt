@@ -14,9 +14,9 @@ returns-then-self-eq0 c =
 pub returns : goal.returns
 returns c =
     let last = c.self.inside.last.items in
-    let k = c.shared_length-shared.result in
+    let k = c.shared_len-shared.result in
     let alike : take k last ≡ take k c.args.prefix.now
-    = ap (take k) (sym c.as_slice.ensures.value) ∙ c.shared_length-shared.ensures.alike in
+    = ap (take k) (sym c.as_slice.ensures.value) ∙ c.shared_len-shared.ensures.alike in
     rw (← taken_after c.args.self.now last c.args.prefix.now k
     (last_in c.self.inside c.args.self.now c.self.view_is (omega arith)) alike)
     c.push_after.ensures

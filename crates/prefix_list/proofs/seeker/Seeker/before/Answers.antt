@@ -10,8 +10,8 @@ returns-then-self-kept-clause-shared c = λ last long alike. alike
 
 pub returns-clause-shared : goal.returns-clause-shared
 returns-clause-shared c = λ last long alike.
-    past_before c.saturating_sub-kept.result c.shared_length-more.result c.top-top.result.start
+    past_before c.saturating_sub-kept.result c.shared_len-more.result c.top-top.result.start
     c.top-top.result.end c.args.self.now.bytes.now last c.args.wanted.now c.top-top.ensures.start
     c.top-top.ensures.end
     (omega (arith, long, c.saturating_sub-kept.ensures, c.top-top.ensures.dropped))
-    (omega (arith, alike, c.if-self-kept.false)) c.shared_length-more.ensures.all
+    (omega (arith, alike, c.if-self-kept.false)) c.shared_len-more.ensures.all

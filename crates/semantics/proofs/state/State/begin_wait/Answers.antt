@@ -5,8 +5,8 @@ use Rattle.semantics.specs.Machine.{Snapshot, queue_of}
 use Rattle.semantics.proofs.StepsKeepStates.{room_to_wait}
 use Rattle.semantics.proofs.state.State.begin_wait.Goals as goal
 
-pub join-requires : goal.join-requires
-join-requires c =
+pub push-requires : goal.push-requires
+push-requires c =
     let room = room_to_wait c.args.program.now c.args.self.now c.args.thread c.args.c c.args.m
     c.requires in
     let queue = c.index_mut-then-owns in

@@ -1,7 +1,7 @@
 use Rattle.std.proofs.Common.{◌≡◌, true, false, sym, ◌∙◌}
 use Rattle.cover.proofs.Steps.{further_more, complete_more}
-use Rattle.cover.proofs.longer.one_step_longer.Goals.{then-is_last, else-is_last}
-use Rattle.cover.proofs.longer.one_step_longer.Goals as goal
+use Rattle.cover.proofs.longer.next_layer.Goals.{then-is_last, else-is_last}
+use Rattle.cover.proofs.longer.next_layer.Goals as goal
 
 pub loop-item-preserved : goal.loop-item-preserved
 loop-item-preserved c = record {

@@ -11,7 +11,7 @@ ghost use Rattle.workers.specs.Teams.{IsOf, IsTeam};
 ghost use Rattle.workers.specs.inner.Loans.{IsLent};
 
 use crate::branded::SearchBrand;
-use crate::gate::{Answer, Gate};
+use crate::gate::{Decision, Gate};
 use crate::lender::{Lender, Task};
 use crate::limits::WORKERS;
 use crate::monitor::Monitor;
@@ -60,7 +60,7 @@ impl<N: SearchBrand, G: Gate> Lending<'_, N, G> {
         worker.walker.clear(&mut worker.found, self.lists);
         loan.write_items(self.alloc, &self.program, items)?;
         for place in 0..items.len() {
-            if self.gate.before(worker.number, place as u64) == Answer::Stop {
+            if self.gate.before(worker.number, place as u64) == Decision::Stop {
                 unreachable!()
             }
             let (item, found) = (&items[place], &mut worker.found);

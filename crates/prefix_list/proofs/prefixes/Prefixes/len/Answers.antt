@@ -1,7 +1,7 @@
 use Rattle.std.proofs.Common.{arith, sym}
 use Rattle.prefix_list.proofs.PackedPrefixes.{length-listed}
 use Rattle.prefix_list.proofs.ListFields.{counted_few}
-use Rattle.prefix_list.proofs.prefixes.Prefixes.length.Goals as goal
+use Rattle.prefix_list.proofs.prefixes.Prefixes.len.Goals as goal
 
 pub returns-clause-length : goal.returns-clause-length
 returns-clause-length c = rw (← c.self.view_is) (sym (length-listed _ _ _))

@@ -1,5 +1,5 @@
 use Rattle.std.proofs.Common.{◌≡◌, ◌≤◌, ◌-◌, take}
-use Rattle.prefix_list.proofs.bytes.shared_length.Given as goal
+use Rattle.prefix_list.proofs.bytes.shared_len.Given as goal
 
 abbrev pub invariant-loop-n : goal.invariant-loop-n
 invariant-loop-n l = record { within : l.n ≤ l.most; alike : take l.n l.a ≡ take l.n l.b }

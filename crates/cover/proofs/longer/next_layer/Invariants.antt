@@ -1,7 +1,7 @@
 use Rattle.std.proofs.Common.{◌≡◌, true, take, All}
 use Rattle.std.specs.List.{flat_map}
 use Rattle.cover.specs.Prefixes.{further, IsComplete}
-use Rattle.cover.proofs.longer.one_step_longer.Given as goal
+use Rattle.cover.proofs.longer.next_layer.Given as goal
 
 abbrev pub invariant-loop-item : goal.invariant-loop-item
 invariant-loop-item l = record {

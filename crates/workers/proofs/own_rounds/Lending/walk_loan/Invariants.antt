@@ -1,7 +1,7 @@
 use Rattle.std.proofs.Common.{◌≡◌}
 use Rattle.book.specs.ItemLists.{all_of}
 use Rattle.workers.proofs.Lent.{HaveWalked}
-use Rattle.workers.proofs.own.Lending.walk_loan.Given as goal
+use Rattle.workers.proofs.own_rounds.Lending.walk_loan.Given as goal
 
 abbrev pub invariant-loop-place : goal.invariant-loop-place
 invariant-loop-place g l =

@@ -1,6 +1,6 @@
 use Rattle.std.proofs.Common.{sym, arith}
 use Rattle.prefix_list.proofs.CommonSteps.{common_is}
-use Rattle.prefix_list.proofs.bytes.shared_length.Goals as goal
+use Rattle.prefix_list.proofs.bytes.shared_len.Goals as goal
 
 pub returns-else-a-n-clause-all : goal.returns-else-a-n-clause-all
 returns-else-a-n-clause-all c =

@@ -1,17 +1,17 @@
 use Rattle.std.proofs.Common.{◌≡◌, ◌↔◌, ℕ, Bool, IsTrue, List, subst, sym}
 use Rattle.guest_code.specs.Program.{Program, code_of}
 use Rattle.guest_code.specs.declared.program.Instruction.{Instruction}
-use Rattle.lint.specs.declared.warning.Kind.{Kind}
-use Rattle.lint.specs.declared.warning.Kind.TheVariants as kinds
+use Rattle.lint.specs.declared.warning.WarningKind.{WarningKind}
+use Rattle.lint.specs.declared.warning.WarningKind.TheVariants as kinds
 use Rattle.lint.specs.Warnings.{IsSo, WaitNotLookedAtAgain}
-use Rattle.lint.proofs.warning.Kind.is_so.Goals as goal
+use Rattle.lint.proofs.warning.WarningKind.is_so.Goals as goal
 
-of_wait : (p : Program) (kind : Kind) (t k : ℕ) (code : List Instruction) (b : Bool)
+of_wait : (p : Program) (kind : WarningKind) (t k : ℕ) (code : List Instruction) (b : Bool)
     → kind ≡ kinds.WaitNotLookedAtAgain t → code ≡ code_of p t
     → (IsTrue b ↔ WaitNotLookedAtAgain code k) → IsTrue b ↔ IsSo p kind k
 of_wait p kind t k code b same is e =
     let P : List Instruction → Type 0 = λ is. IsTrue b ↔ WaitNotLookedAtAgain is k in
-    let Q : Kind → Type 0 = λ kind. IsTrue b ↔ IsSo p kind k in
+    let Q : WarningKind → Type 0 = λ kind. IsTrue b ↔ IsSo p kind k in
     subst Q (sym same) (subst P is e)
 
 pub returns-in_ok-is_not_looked_at_again-in-WaitNotLookedAtAgain :

@@ -6,7 +6,7 @@ use Rattle.walk.specs.Founds.{HasAdded}
 use Rattle.book.specs.ItemLists.{all_of}
 use Rattle.book.proofs.PackedItems.{got-or}
 use Rattle.workers.proofs.Lent.{none_walked, one_more_walked}
-use Rattle.workers.proofs.own.Lending.walk_loan.Goals as goal
+use Rattle.workers.proofs.own_rounds.Lending.walk_loan.Goals as goal
 
 pub loop-place-init : goal.loop-place-init
 loop-place-init g c =

@@ -1,6 +1,6 @@
 use Rattle.std.proofs.Common.{rules, ◌<◌, ◌^◌}
 use Rattle.semantics.proofs.Masks.{minus_bits}
-use Rattle.semantics.proofs.mask.Mask.minus.Goals as goal
+use Rattle.semantics.proofs.mask.Mask.difference.Goals as goal
 
 pub returns : goal.returns
 returns c =

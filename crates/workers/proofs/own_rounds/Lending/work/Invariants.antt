@@ -2,7 +2,7 @@ use Rattle.std.proofs.Common.{◌≡◌}
 use Rattle.items.specs.Items.{AreOf}
 use Rattle.workers.specs.declared.lender.Task.TheVariants.{Walk}
 use Rattle.workers.specs.inner.Loans.{IsLent}
-use Rattle.workers.proofs.own.Lending.work.Given as goal
+use Rattle.workers.proofs.own_rounds.Lending.work.Given as goal
 
 abbrev pub invariant-loop : goal.invariant-loop
 invariant-loop g l =

@@ -1,7 +1,7 @@
 use Rattle.std.proofs.Common.{rules, arith, ◌∙◌, ◌<◌, ◌≤◌, ◌^◌, sym}
 use Rattle.std.proofs.lemmas.Bool.Decides.{nat_tests}
 use Rattle.semantics.proofs.Masks.{has-above}
-use Rattle.semantics.proofs.mask.Mask.has.Goals as goal
+use Rattle.semantics.proofs.mask.Mask.contains.Goals as goal
 
 pub returns-else-thread-lt-THREADS : goal.returns-else-thread-lt-THREADS
 returns-else-thread-lt-THREADS c =
