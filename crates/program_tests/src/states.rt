@@ -488,6 +488,9 @@ fn masks_have_their_members(rt: HostRuntime) -> Result<(), Fail> {
     assert_eq!(rt; two.first_from(4), Some(15));
     assert_eq!(rt; two.first_from(16), None);
     assert_eq!(rt; two.with(3, false).first_from(0), Some(15));
-    assert_eq!(rt; two.difference(Mask::empty().with(15, true)).first_from(4), None);
+    assert_eq!(rt;
+        two.difference(Mask::empty().with(15, true)).first_from(4),
+        None
+    );
     Ok(())
 }

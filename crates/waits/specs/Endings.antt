@@ -2,7 +2,7 @@
 use Rattle.std.specs.Prelude.{ℕ, zero, suc, ◌<◌, Bool, false, ◌&&◌, ◌||◌, not, nat_eq, nat_lt, List, [], ◌++◌, length, filter, map, Option, Some, None, slice_get, slice_index_or, IsTrue}
 use Rattle.std.specs.Option.{option_map}
 use Rattle.guest_code.specs.declared.program.Instruction.{Instruction}
-use Rattle.guest_code.specs.declared.program.Instruction.TheVariants.{Unlock, Wait, Signal as Signals, Broadcast, Release, Skip}
+use Rattle.guest_code.specs.declared.program.Instruction.TheVariants.{Unlock, Wait, Skip}
 use Rattle.guest_code.specs.Program.{Program, code_of}
 use Rattle.semantics.specs.Machine.{owns}
 use Rattle.semantics.specs.Work.{up_from}
@@ -11,6 +11,8 @@ use Rattle.explain.specs.declared.explanation.Holder.{Holder}
 use Rattle.explain.specs.declared.standing.Reason.{Reason}
 use Rattle.explain.specs.declared.standing.Reason.TheVariants.{Lock, Retake, Acquire, Signal}
 use Rattle.explain.specs.Blocked.{mutex_of, reason_of}
+use Rattle.lint.specs.declared.uses.Use.TheVariants as uses
+use Rattle.lint.specs.Uses.{does}
 use Rattle.waits.specs.declared.ending.Blocked.{Blocked}
 use Rattle.waits.specs.declared.ending.Statement.{Statement}
 use Rattle.waits.specs.declared.fate.Fate.{Fate}
@@ -43,17 +45,6 @@ gives_back m (Unlock n) = nat_eq n m
 gives_back m (Wait c n) = nat_eq n m
 gives_back m _ = false
 
--- it wakes threads that wait for condition c
-abbrev pub calls : ℕ → Instruction → Bool
-calls c (Signals d) = nat_eq d c
-calls c (Broadcast d) = nat_eq d c
-calls c _ = false
-
--- it raises the count of semaphore k
-abbrev pub releases : ℕ → Instruction → Bool
-releases k (Release j) = nat_eq j k
-releases k _ = false
-
 -- instruction i of thread u is another thread's than the blocked one's, or lies before its wait
 abbrev pub is_before : Blocked → ℕ → ℕ → Bool
 is_before b u i = not (nat_eq u b.thread) || nat_lt i b.instruction
@@ -63,8 +54,8 @@ is_before b u i = not (nat_eq u b.thread) || nat_lt i b.instruction
 abbrev pub could_end_by : Reason → Blocked → ℕ → ℕ → Instruction → Bool
 could_end_by (Lock m) b u i ins = owns u b.owner && gives_back m ins
 could_end_by (Retake m) b u i ins = owns u b.owner && gives_back m ins
-could_end_by (Signal c) b u i ins = is_before b u i && calls c ins
-could_end_by (Acquire k) b u i ins = is_before b u i && releases k ins
+could_end_by (Signal c) b u i ins = is_before b u i && does uses.Signals c ins
+could_end_by (Acquire k) b u i ins = is_before b u i && does uses.Releases k ins
 
 abbrev pub could_end : Blocked → ℕ → ℕ → Instruction → Bool
 could_end b u i ins = could_end_by b.reason b u i ins

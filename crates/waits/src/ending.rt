@@ -2,12 +2,13 @@
 
 ghost use Rattle.std.specs.Prelude.{◌≡◌, ◌↔◌, ◌++◌, IsTrue, IfOk, OnOk, length};
 ghost use Rattle.explain.specs.Blocked.{mutex_of};
-ghost use Rattle.waits.specs.Endings.{blocked_of, owner_told, could_end, is_before, gives_back, calls, releases, statements_in, statements_to};
+ghost use Rattle.waits.specs.Endings.{blocked_of, owner_told, could_end, is_before, gives_back, statements_in, statements_to};
 ghost use Rattle.waits.specs.inner.Rows.{lists, Fits, FindsAhead, FindsEdge};
 
 use crate::fate::{Fate, place_of};
 use explain::{Explanation, Reason};
 use guest_code::program::{Instruction, Program};
+use lint::uses::Use;
 use semantics::owns;
 use std::alloc::{AllocError, Global};
 
@@ -59,8 +60,12 @@ impl Blocked {
             Reason::Lock(m) | Reason::Retake(m) => {
                 owns(other, self.owner) && gives_back(m, instruction)
             }
-            Reason::Signal(c) => self.is_before(other, at) && calls(c, instruction),
-            Reason::Acquire(k) => self.is_before(other, at) && releases(k, instruction),
+            Reason::Signal(c) => {
+                self.is_before(other, at) && Use::Signals.is_made(c, instruction)
+            }
+            Reason::Acquire(k) => {
+                self.is_before(other, at) && Use::Releases.is_made(k, instruction)
+            }
         }
     }
 
@@ -87,26 +92,6 @@ fn gives_back(wanted: usize, instruction: &Instruction) -> bool
     match instruction {
         Instruction::Unlock(mutex) => *mutex == wanted,
         Instruction::Wait { mutex, .. } => *mutex == wanted,
-        _ => false,
-    }
-}
-
-// Whether it wakes threads that wait for a condition.
-fn calls(wanted: usize, instruction: &Instruction) -> bool
-    ensures { result ≡ calls wanted instruction.now }
-{
-    match instruction {
-        Instruction::Signal(condition) | Instruction::Broadcast(condition) => *condition == wanted,
-        _ => false,
-    }
-}
-
-// Whether it raises the count of a semaphore.
-fn releases(wanted: usize, instruction: &Instruction) -> bool
-    ensures { result ≡ releases wanted instruction.now }
-{
-    match instruction {
-        Instruction::Release(semaphore) => *semaphore == wanted,
         _ => false,
     }
 }

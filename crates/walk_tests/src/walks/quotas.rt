@@ -92,11 +92,7 @@ fn left_and_put_off(walked: &Walked) -> (usize, usize) {
 /// How many schedules a walk tried, how many items it left and how many prefixes it put off, by its
 /// parts.
 fn counts_of(parts: &Found) -> (u64, usize, usize) {
-    (
-        parts.part.tried(),
-        parts.rest.len(),
-        parts.deferred.len(),
-    )
+    (parts.part.tried(), parts.rest.len(), parts.deferred.len())
 }
 
 #[test]

@@ -9,8 +9,8 @@ loop-thread-init c =
     taken_none c.args.program.now c.args.prefix.now _ _ c.in_ok-state.ensures.value
     c.in_ok-state.ensures.of c.empty-asleep.ensures c.requires
 
-pub returns-then-has : goal.returns-then-has
-returns-then-has c =
+pub returns-then-contains : goal.returns-then-contains
+returns-then-contains c =
     taken_asleep c.args.program.now c.args.prefix.now c.loop-thread.thread-index
     c.loop-thread.state c.loop-thread.asleep (get_or c.args.prefix.now c.loop-thread.thread-index 0)
     c.loop-thread.invariant c.loop-thread-test.true

@@ -4,8 +4,8 @@ use Rattle.semantics.specs.Mask.{has}
 use Rattle.waits.proofs.CirclesTold.{some_below}
 use Rattle.waits.proofs.wait.is_first_of.Goals as goal
 
-pub returns-then-has : goal.returns-then-has
-returns-then-has c =
+pub returns-then-contains : goal.returns-then-contains
+returns-then-contains c =
     let set = c.args.set in
     let t = c.args.thread in
     sym (ap (λ x. has set t && x)

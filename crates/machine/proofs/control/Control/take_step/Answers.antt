@@ -19,8 +19,8 @@ retake-requires-clause-ready c =
           c.args.own.now ready c.requires.place valid.fine,
     )
 
-pub returns-then-has : goal.returns-then-has
-returns-then-has c = λ s ready.
+pub returns-then-contains : goal.returns-then-contains
+returns-then-contains c = λ s ready.
     let p = c.args.program.now in
     let t = c.args.thread in
     let few = enabled_below p s t ready.enabled in
