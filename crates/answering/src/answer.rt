@@ -1,8 +1,7 @@
 //! What is answered to what was asked, as a value: the bytes for each stream, and the status.
 
-ghost use Rattle.std.specs.Prelude.{◌≡◌, ◌++◌, codes, IfOk, IfErr};
+ghost use Rattle.std.specs.Prelude.{◌≡◌, ◌++◌, codes, IfOk};
 ghost use Rattle.report.specs.ReportText.{report_text};
-ghost use Rattle.answering.specs.declared.fault.Fault.TheVariants.{Memory};
 ghost use Rattle.answering.specs.Answer.{ReplayMeans, ExplorationMeans, TracedMeans, IsAnswerTo};
 ghost use Rattle.answering.specs.Status.{replay_status, verdict_status};
 ghost use Rattle.answering.specs.Serve.{IsWritten};
@@ -15,7 +14,7 @@ use guest_syntax::parse;
 use replay::{replay, schedule_from, schedule_text, trace_text};
 use runner::{Report, Verdict, report_text};
 use semantics::view::Kind;
-use std::alloc::Global;
+use std::alloc::{AllocError, Global};
 use std::io;
 use std::io::{Eprint, Write};
 use std::marker::Model;
@@ -29,6 +28,25 @@ pub struct Printed {
     pub output: Vec<u8>,
     /// The status.
     pub status: u8,
+}
+
+impl Printed {
+    /// The text of a report, a line feed, and the status of its verdict.
+    ///
+    /// # Errors
+    ///
+    /// `AllocError` where memory runs out.
+    pub fn of_report(alloc: Global, report: &Report) -> Result<Printed, AllocError>
+        ensures output { IfOk result (λ a. a.output.items ≡ report_text report.now ++ codes "\n") }
+        ensures status { IfOk result (λ a. a.status ≡ verdict_status report.now.verdict) }
+    {
+        let mut output = report_text(alloc, report)?;
+        output.push(b'\n')?;
+        Ok(Printed {
+            output,
+            status: verdict_status(&report.verdict),
+        })
+    }
 }
 
 /// The trace of the schedule that `schedule` spells in the program that `text` spells.
@@ -62,16 +80,6 @@ pub fn replay_status(kind: Option<Kind>) -> u8
     }
 }
 
-// The text of a report, and a line feed.
-fn report_line(alloc: Global, report: &Report) -> Result<Vec<u8>, Fault>
-    ensures line { IfOk result (λ v. v.items ≡ report_text report.now ++ codes "\n") }
-    ensures memory { IfErr result (λ e. e ≡ Memory) }
-{
-    let mut line = report_text(alloc, report)?;
-    line.push(b'\n')?;
-    Ok(line)
-}
-
 /// The report of a search of the program that `text` spells, by as many workers as asked for, and a
 /// line feed.
 ///
@@ -87,17 +95,10 @@ pub fn explore_text<R: Threads + Wait + Sync + Eprint>(
 ) -> Result<Printed, Fault>
     ensures { ExplorationMeans text.now exploration.options result }
 {
-    let Exploration {
-        options,
-        workers,
-        progress,
-    } = exploration;
-    let gate = Teller::new(rt, progress);
+    let (options, workers) = (exploration.options, exploration.workers);
+    let gate = Teller::new(rt, exploration.progress);
     let report = runner::explore_text(rt, alloc, text, options, workers, &gate)?;
-    Ok(Printed {
-        output: report_line(alloc, &report)?,
-        status: verdict_status(&report.verdict),
-    })
+    Ok(Printed::of_report(alloc, &report)?)
 }
 
 /// The report of a search, as [`explore_text`] prints it, and then what [`replay_text`] prints of
@@ -114,25 +115,16 @@ pub fn explore_and_trace<R: Threads + Wait + Sync + Eprint>(
 ) -> Result<Printed, Fault>
     ensures { TracedMeans text.now exploration.options result }
 {
+    let (options, workers) = (exploration.options, exploration.workers);
     let gate = Teller::new(rt, exploration.progress);
-    let report = runner::explore_text(
-        rt,
-        alloc,
-        text,
-        exploration.options,
-        exploration.workers,
-        &gate,
-    )?;
-    let mut output = report_line(alloc, &report)?;
+    let report = runner::explore_text(rt, alloc, text, options, workers, &gate)?;
+    let Printed { mut output, status } = Printed::of_report(alloc, &report)?;
     if let Some(schedule) = report.schedule() {
         let schedule = schedule_text(alloc, schedule)?;
         let trace = replay_text(alloc, text, schedule.as_slice())?;
         output.extend_from_slice(trace.output.as_slice())?;
     }
-    Ok(Printed {
-        output,
-        status: verdict_status(&report.verdict),
-    })
+    Ok(Printed { output, status })
 }
 
 /// The status that the program ends with after a search: 0 where it found no bad schedule, 1 where

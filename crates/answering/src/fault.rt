@@ -192,3 +192,43 @@ impl From<io::Error> for Fault {
         }
     }
 }
+
+/// Why a command that names what failed printed nothing.
+#[derive(Drop)]
+pub enum CommandFault<'a> {
+    /// A fault that has no name.
+    Fault(Fault),
+    /// The file or the stream of this name failed.
+    Device(&'a str, io::Error),
+    /// This line tells it, and the status is this one.
+    Line(Vec<u8>, u8),
+}
+
+impl CommandFault<'_> {
+    /// Writes its line, and answers the status. A failing stream changes no status.
+    pub fn report<E: Write>(&self, err: &mut E) -> u8 {
+        match self {
+            CommandFault::Fault(fault) => fault.report(err),
+            CommandFault::Device(_, error) if error.kind() == ErrorKind::OutOfMemory => {
+                Fault::Memory.report(err)
+            }
+            CommandFault::Device(name, error) => {
+                let _ = writeln!(err, "ctxbound: {name}: {error}");
+                Fault::File.status()
+            }
+            CommandFault::Line(line, status) => {
+                let _ = err.write_all(line.as_slice());
+                *status
+            }
+        }
+    }
+}
+
+impl<X> From<X> for CommandFault<'_>
+where
+    Fault: From<X>,
+{
+    fn from(error: X) -> Self {
+        CommandFault::Fault(Fault::from(error))
+    }
+}

@@ -11,8 +11,9 @@
 //! - An [`Answer`] is all that is written, and the status. [`serve`] reads a text, answers and
 //!   writes; [`ended`] is the status that the program ends with then; [`serve_file`] does all that
 //!   with a file.
-//! - [`read_file`], [`write_out`], [`write_named`] and [`report_device`] are for commands that name
-//!   the device that failed.
+//! - A [`CommandFault`] is why a command that names the device that failed printed nothing.
+//!   [`serve_text`] reads the text of a file, answers and writes for such a command;
+//!   [`serve_printed`], [`read_file`] and [`write_out`] do parts of that.
 //! - [`Teller`] is the gate of the searches: where it is asked to, it tells how far they are.
 #![tactic(auto)]
 
@@ -28,7 +29,7 @@ pub use answer::{
     Answer, Printed, explore_and_trace, explore_text, replay_status, replay_text, verdict_status,
 };
 pub use exploration::{DEFAULT_BOUND, Exploration, GuestRequest};
-pub use fault::{Fault, REFUSED};
+pub use fault::{CommandFault, Fault, REFUSED};
 pub use limits::{LIMIT, Limits};
 pub use progress::Teller;
 pub use request::{
@@ -36,5 +37,6 @@ pub use request::{
     SuiteRequest, UnderRequest, VerifyRequest, WIDTH,
 };
 pub use serving::{
-    ended, is_standard_input, read_file, report_device, serve, serve_file, write_named, write_out,
+    STANDARD_OUTPUT, ended, is_standard_input, read_bytes, read_file, serve, serve_file,
+    serve_printed, serve_text, write_out,
 };

@@ -18,21 +18,12 @@ impl fmt::Display for Grouped {
             self.0 / 1_000_000_000 % 1_000,
             self.0 / 1_000_000 % 1_000,
             self.0 / 1_000 % 1_000,
+            self.0 % 1_000,
         ];
-        let mut begun = false;
-        for group in groups {
-            if begun {
-                write!(f, "{group:03},")?;
-            } else if group > 0 {
-                write!(f, "{group},")?;
-                begun = true;
-            }
-        }
-        let last = self.0 % 1_000;
-        if begun {
-            write!(f, "{last:03}")?;
-        } else {
-            write!(f, "{last}")?;
+        let mut shown = groups.iter().skip_while(|group| **group == 0);
+        write!(f, "{}", shown.next().unwrap_or(&0))?;
+        for group in shown {
+            write!(f, ",{group:03}")?;
         }
         Ok(())
     }
@@ -44,23 +35,16 @@ struct Line(Progress);
 
 impl fmt::Display for Line {
     fn fmt<W: fmt::Write>(&self, f: &mut fmt::Formatter<W>) -> fmt::Result {
-        let Progress {
-            bound,
-            tried,
-            bad,
-            open_items,
-            deferred,
-            lists,
-        } = self.0;
-        match bound {
+        let so_far = self.0;
+        match so_far.bound {
             Some(bound) => write!(f, "bound {bound}: ")?,
             None => write!(f, "unbounded: ")?,
         }
-        let (tried, bad) = (Grouped(tried), Grouped(bad));
-        let open_items = Grouped(open_items as u64);
+        let (tried, bad) = (Grouped(so_far.tried), Grouped(so_far.bad));
+        let open_items = Grouped(so_far.open_items as u64);
         write!(f, "{tried} tried, {bad} bad, {open_items} open")?;
-        if lists {
-            write!(f, ", {} deferred", Grouped(deferred as u64))?;
+        if so_far.lists {
+            write!(f, ", {} deferred", Grouped(so_far.deferred as u64))?;
         }
         Ok(())
     }
@@ -102,10 +86,7 @@ impl<R: Eprint + Sync> Gate for Teller<'_, R> {
     }
 
     fn round_ended(&self, progress: Progress) {
-        let bound = match progress.bound {
-            Some(bound) => u64::from(bound) + 2,
-            None => 1,
-        };
+        let bound = progress.bound.map_or(1, |bound| u64::from(bound) + 2);
         let is_new = self.told.swap(bound, Ordering::SeqCst) != bound;
         if self.is_asked && (is_new || progress.tried >= self.next.load(Ordering::SeqCst)) {
             let next = progress.tried.saturating_mul(2).max(1);

@@ -28,6 +28,22 @@ pub enum Request {
     Join(JoinRequest),
 }
 
+impl Request {
+    /// The file of the guest program, where a person is told that `check` says more of a text that
+    /// is refused.
+    pub fn guest(&self) -> Option<&str> {
+        let file = match self {
+            Request::One { file, .. } => file,
+            Request::Explain { request, .. } => &request.file,
+            Request::Prefixes(request) => &request.file,
+            Request::Under(request) => &request.file,
+            Request::Join(request) => &request.file,
+            Request::Suite(_) | Request::Verify(_) | Request::Check(_) => return None,
+        };
+        Some(file.as_str())
+    }
+}
+
 /// To list prefixes of the schedules of the guest program in a file.
 #[derive(Debug, Drop)]
 pub struct PrefixesRequest {

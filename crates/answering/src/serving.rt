@@ -5,16 +5,19 @@ ghost use Rattle.answering.specs.Answer.{IsOfDevice};
 ghost use Rattle.answering.specs.Status.{fault_status};
 ghost use Rattle.answering.specs.Serve.{IsPartRead, IsServed, IsWritten};
 
-use crate::answer::Answer;
+use crate::answer::{Answer, Printed};
 use crate::exploration::GuestRequest;
-use crate::fault::Fault;
+use crate::fault::{CommandFault, Fault};
 use guest_syntax::TEXT_BYTES;
 use std::alloc::{Alloc, Global};
 use std::fs::Files;
-use std::io::{Eprint, ErrorKind, Input, Read, Write};
+use std::io::{Eprint, Input, Read, Write};
 use std::sync::Wait;
 use std::thread::Threads;
 use std::{fs, io};
+
+/// The name that standard output is told with.
+pub const STANDARD_OUTPUT: &str = "standard output";
 
 /// The text of a guest program, or one byte more than a program may have where it is too long.
 fn read_text<R: Read>(alloc: Global, input: &mut R) -> io::Result<Vec<u8>>
@@ -116,26 +119,59 @@ pub fn read_file<H>(rt: &H, file: &str) -> io::Result<Vec<u8>>
 where
     H: Files + Input + Alloc<A = Global>,
 {
+    read_bytes(rt, file, TEXT_BYTES as u64 + 1)
+}
+
+/// The first bytes of a file or of standard input, so many at most.
+///
+/// # Errors
+///
+/// What the device answers.
+pub fn read_bytes<H>(rt: &H, file: &str, most: u64) -> io::Result<Vec<u8>>
+where
+    H: Files + Input + Alloc<A = Global>,
+{
+    let mut bytes = Vec::new(rt.alloc());
     if is_standard_input(file) {
-        return read_text(rt.alloc(), &mut rt.reader());
+        rt.reader().take(most).read_to_end(&mut bytes)?;
+    } else {
+        fs::open(rt, file)?.take(most).read_to_end(&mut bytes)?;
     }
-    let mut input = fs::open(rt, file)?;
-    read_text(rt.alloc(), &mut input)
+    Ok(bytes)
 }
 
-/// Writes that a device failed, its name and the cause, and answers the status.
-pub fn report_device<E: Write>(err: &mut E, name: &str, error: &io::Error) -> u8 {
-    if error.kind() == ErrorKind::OutOfMemory {
-        return Fault::Memory.report(err);
+/// Writes what a command printed, or why it printed nothing. Answers the status.
+pub fn serve_printed<W: Write, E: Write>(
+    printed: Result<Printed, CommandFault<'_>>,
+    out: &mut W,
+    err: &mut E,
+) -> u8 {
+    match printed {
+        Ok(printed) => match write_out(out, printed.output.as_slice()) {
+            Ok(()) => printed.status,
+            Err(error) => CommandFault::Device(STANDARD_OUTPUT, error).report(err),
+        },
+        Err(fault) => fault.report(err),
     }
-    let _ = writeln!(err, "ctxbound: {name}: {error}");
-    Fault::File.status()
 }
 
-/// Writes all output, and answers the status, which is that of a failing stream where it fails.
-pub fn write_named<W: Write, E: Write>(out: &mut W, err: &mut E, output: &[u8], status: u8) -> u8 {
-    match write_out(out, output) {
-        Ok(()) => status,
-        Err(error) => report_device(err, "standard output", &error),
-    }
+/// Reads the guest program in a file, and writes what a command answers to its text: what it prints,
+/// after what it wrote on `out` before, or why it prints nothing. Answers the status.
+pub fn serve_text<'a, H, W: Write, E: Write, F>(
+    rt: &H,
+    file: &'a str,
+    out: &mut W,
+    err: &mut E,
+    answer: F,
+) -> u8
+where
+    H: Files + Input + Alloc<A = Global>,
+    F: FnOnce(&[u8], &mut W) -> Result<Printed, CommandFault<'a>>,
+    requires { F.IsAlwaysCallable answer }
+{
+    let printed = match read_file(rt, file) {
+        Ok(text) => answer(text.as_slice(), out),
+        Err(error) => Err(CommandFault::Device(file, error)),
+    };
+    serve_printed(printed, out, err)
 }

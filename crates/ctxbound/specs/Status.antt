@@ -3,8 +3,8 @@ use Rattle.std.specs.Prelude.{ℕ, Bool, ◌&&◌, if◌then◌else◌}
 use Rattle.advice.specs.declared.Checked.{Checked}
 use Rattle.advice.specs.declared.Checked.TheVariants.{Sound, Refused}
 use Rattle.advice.specs.Told.{is_warned}
-use Rattle.verify.specs.declared.answer.Answer.{Answer}
-use Rattle.verify.specs.declared.answer.Answer.TheVariants.{Right, Bad, Undecided}
+use Rattle.verify.specs.declared.answer.Correctness.{Correctness}
+use Rattle.verify.specs.declared.answer.Correctness.TheVariants.{Right, Bad, Undecided}
 
 -- the status of a text that was checked: a refusal counts, and a warning where it is to
 abbrev pub checked_status : Bool → Checked → ℕ
@@ -14,7 +14,7 @@ checked_status strict (Sound advices) =
 
 -- the status after an answer: 0 where the program is right, 1 where a schedule is bad, 3 where the
 -- searches left it open
-abbrev pub verified_status : Answer → ℕ
+abbrev pub verified_status : Correctness → ℕ
 verified_status Right = 0
 verified_status (Bad b is_fewest) = 1
 verified_status (Undecided below) = 3

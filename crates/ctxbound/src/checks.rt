@@ -6,14 +6,14 @@ ghost use Rattle.ctxbound.specs.Checks.{IsCheckOf};
 ghost use Rattle.advice.specs.Told.{checked_lines};
 ghost use Rattle.answering.specs.declared.request.CheckForm.TheVariants.{Lines};
 
-use crate::diagnostics::{json_text, short_text};
-use crate::files::files_of;
+use crate::diagnostics::diagnostics_text;
+use crate::files::{Named, files_of};
 use advice::{Checked, Depth, advice_text, check};
-use answering::{CheckForm, CheckRequest, Printed, read_file, report_device, write_named};
+use answering::{CheckForm, CheckRequest, CommandFault, Fault, Printed, read_file, serve_printed};
 use std::alloc::{Alloc, AllocError, Global};
+use std::fs;
 use std::fs::Files;
 use std::io::{Input, Write};
-use std::{fs, io};
 
 /// Checks each file, and tells what is wrong or odd: in lines for people on `err`, else on `out`.
 /// Answers the status: the greatest of those of the files.
@@ -28,57 +28,48 @@ where
 {
     let mut worst = 0;
     for name in &request.files {
-        worst = worst.max(check_named(rt, name.as_str(), request, out, err));
-    }
-    worst
-}
-
-// Checks a file, or each guest program of a folder.
-fn check_named<H, W: Write, E: Write>(
-    rt: &H,
-    name: &str,
-    request: &CheckRequest,
-    out: &mut W,
-    err: &mut E,
-) -> u8
-where
-    H: Files + Input + Alloc<A = Global> + Clone + Drop,
-{
-    let files = match files_of(rt, name) {
-        Ok(files) => files,
-        Err(error) => return report_device(err, name, &error),
-    };
-    let several = request.files.len() > 1 || files.len() > 1;
-    let mut worst = 0;
-    for file in &files {
-        let status = match checked_file(rt, file.as_str(), request) {
-            Ok(printed) if matches!(request.form, CheckForm::Lines) => {
-                put_lines(err, file.as_str(), several, &printed)
+        let files = match files_of(rt, name.as_str()) {
+            Ok(files) => files,
+            Err(error) => {
+                worst = worst.max(Fault::from(error).report(err));
+                continue;
             }
-            Ok(printed) => write_named(out, err, printed.output.as_slice(), printed.status),
-            Err(error) => report_device(err, file.as_str(), &error),
         };
-        worst = worst.max(status);
+        let several = request.files.len() > 1 || files.len() > 1;
+        for file in &files {
+            let status = match (request.form, checked_file(rt, file, request)) {
+                (CheckForm::Lines, Ok(printed)) => put_lines(err, file, several, &printed),
+                (_, printed) => serve_printed(printed, out, err),
+            };
+            worst = worst.max(status);
+        }
     }
     worst
 }
 
 // What is told of the text of a file.
-fn checked_file<H>(rt: &H, file: &str, request: &CheckRequest) -> io::Result<Printed>
+fn checked_file<'a, H>(
+    rt: &H,
+    file: &'a Named,
+    request: &CheckRequest,
+) -> Result<Printed, CommandFault<'a>>
 where
     H: Files + Input + Alloc<A = Global>,
 {
-    let text = read_file(rt, file)?;
-    Ok(check_text(rt.alloc(), text.as_slice(), file, request)?)
+    let name = file.name.as_str();
+    let text = file
+        .read(rt)
+        .map_err(|error| CommandFault::Device(name, error))?;
+    Ok(check_text(rt.alloc(), text.as_slice(), name, request)?)
 }
 
 // Puts lines for people, and answers the status. Where there are several files, the name of this
 // one stands above what is told of it.
-fn put_lines<E: Write>(err: &mut E, file: &str, several: bool, printed: &Printed) -> u8 {
+fn put_lines<E: Write>(err: &mut E, file: &Named, several: bool, printed: &Printed) -> u8 {
     let lines = printed.output.as_slice();
     // a failing stream changes no status
     if several && !lines.is_empty() {
-        let _ = writeln!(err, "{file}:");
+        let _ = writeln!(err, "{}:", file.name);
     }
     let _ = err.write_all(lines);
     printed.status
@@ -121,8 +112,8 @@ fn told_as(
 {
     match form {
         CheckForm::Lines => advice_text(alloc, text, checked),
-        CheckForm::Short => short_text(alloc, text, file, checked),
-        CheckForm::Json => json_text(alloc, text, file, checked),
+        CheckForm::Short => diagnostics_text(alloc, text, file, checked, false),
+        CheckForm::Json => diagnostics_text(alloc, text, file, checked, true),
     }
 }
 
@@ -144,15 +135,9 @@ pub fn is_refused<H>(rt: &H, file: &str) -> bool
 where
     H: Files + Input + Alloc<A = Global>,
 {
-    match fs::metadata(rt, file) {
-        Ok(metadata) if metadata.is_file() => {}
-        _ => return false,
-    }
-    let Ok(text) = read_file(rt, file) else {
+    if !fs::metadata(rt, file).is_ok_and(|metadata| metadata.is_file()) {
         return false;
-    };
-    matches!(
-        check(rt.alloc(), text.as_slice(), None),
-        Ok(Checked::Refused(_))
-    )
+    }
+    let checked = read_file(rt, file).map(|text| check(rt.alloc(), text.as_slice(), None));
+    matches!(checked, Ok(Ok(Checked::Refused(_))))
 }

@@ -1,8 +1,9 @@
 //! The files that the command words name.
 
-use std::alloc::{Alloc, Global};
+use answering::{CommandFault, read_file};
+use std::alloc::{Alloc, AllocError, Global};
 use std::fs::Files;
-use std::io::ErrorKind;
+use std::io::{ErrorKind, Input};
 use std::{fs, io};
 
 /// How the names of guest programs in a folder end.
@@ -11,41 +12,82 @@ const ENDING: &str = ".guest";
 /// What is said of a folder that has none.
 const NO_GUESTS: &str = "no file in it ends in .guest";
 
+/// A file that a name stands for, or a name that stands for none, and why.
+#[derive(Drop)]
+pub struct Named {
+    /// The name.
+    pub name: String,
+    error: Option<io::Error>,
+}
+
+impl Named {
+    /// The text of the guest program in it, as that of [`read_file`].
+    ///
+    /// # Errors
+    ///
+    /// Why the name stands for no file, or what the device answers.
+    pub fn read<H>(&self, rt: &H) -> io::Result<Vec<u8>>
+    where
+        H: Files + Input + Alloc<A = Global>,
+    {
+        match self.error {
+            Some(error) => Err(error),
+            None => read_file(rt, self.name.as_str()),
+        }
+    }
+}
+
+/// The text of the guest program in a file.
+///
+/// # Errors
+///
+/// What the device answers, with the file's name.
+pub fn guest_text<'a, H>(rt: &H, file: &'a str) -> Result<Vec<u8>, CommandFault<'a>>
+where
+    H: Files + Input + Alloc<A = Global>,
+{
+    match read_file(rt, file) {
+        Ok(text) => Ok(text),
+        Err(error) => Err(CommandFault::Device(file, error)),
+    }
+}
+
 /// The files that a name stands for: itself, or where it is a folder the guest programs in it and
 /// in the folders in it, sorted by name. A link to a folder inside it isn't followed.
 ///
 /// # Errors
 ///
-/// What the device answers, or that the folder has no guest program.
-pub fn files_of<H>(rt: &H, name: &str) -> io::Result<Vec<String>>
+/// `AllocError` where memory runs out.
+pub fn files_of<H>(rt: &H, name: &str) -> Result<Vec<Named>, AllocError>
 where
     H: Files + Alloc<A = Global> + Clone + Drop,
 {
-    let first = String::from_str(rt.alloc(), name)?;
-    if is_folder(rt, name) {
-        return guests_in(rt, first);
-    }
-    let mut files = Vec::new(rt.alloc());
-    files.push(first)?;
-    Ok(files)
-}
-
-// Whether there is a folder of this name.
-fn is_folder<H: Files>(rt: &H, name: &str) -> bool {
-    match fs::metadata(rt, name) {
-        Ok(metadata) => metadata.is_dir(),
-        Err(_) => false,
+    match names_of(rt, name) {
+        Ok(names) => names
+            .into_iter()
+            .map(|name| Named { name, error: None })
+            .collect(rt.alloc()),
+        Err(error) => {
+            let name = String::from_str(rt.alloc(), name)?;
+            let error = Some(error);
+            Ok(vec![in rt.alloc(); Named { name, error }]?)
+        }
     }
 }
 
-// The guest programs in a folder and in the folders in it, sorted by name.
-fn guests_in<H>(rt: &H, folder: String) -> io::Result<Vec<String>>
+// Their names, or why there is none.
+fn names_of<H>(rt: &H, name: &str) -> io::Result<Vec<String>>
 where
     H: Files + Alloc<A = Global> + Clone + Drop,
 {
     let mut guests = Vec::new(rt.alloc());
     let mut folders = Vec::new(rt.alloc());
-    folders.push(folder)?;
+    let first = String::from_str(rt.alloc(), name)?;
+    if fs::metadata(rt, name).is_ok_and(|metadata| metadata.is_dir()) {
+        folders.push(first)?;
+    } else {
+        guests.push(first)?;
+    }
     for _ in 0..u64::MAX {
         let Some(folder) = folders.pop() else {
             break;

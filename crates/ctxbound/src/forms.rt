@@ -3,10 +3,10 @@
 use explain::Source;
 use explain_json::{explanation_json, nothing_json};
 use explain_page::{explanation_html, nothing_html};
-use explain_text::{Shape, why_text};
-use explained::{Explained, Tell, is_least, sentence_of};
+use explain_text::{Layout, why_text};
+use explained::{Explained, Tell, Told, is_fewest, sentence_of};
 use runner::report_value;
-use std::alloc::{AllocError, Global};
+use std::alloc::Global;
 
 /// Tells what is explained as JSON.
 #[derive(Clone, Copy, Debug)]
@@ -20,53 +20,38 @@ pub struct Html;
 const PAGE_WIDTH: usize = 100;
 
 impl Tell for Json {
-    fn tell(
-        &self,
-        alloc: Global,
-        explained: &Explained,
-        source: &Source<'_>,
-        file: &str,
-    ) -> Result<Vec<u8>, AllocError> {
+    fn tell(&self, alloc: Global, explained: &Explained, source: &Source<'_>, file: &str) -> Told {
         match explained {
             Explained::Asked(explanation) => explanation_json(alloc, explanation, source, None),
-            Explained::Found(report, Some(explanation)) => {
+            Explained::Found(report, told) => {
                 let ends = report_value(alloc, report)?;
-                explanation_json(alloc, explanation, source, Some(ends))
-            }
-            Explained::Found(report, None) => {
-                nothing_json(alloc, file, report_value(alloc, report)?)
+                match told {
+                    Some(explanation) => explanation_json(alloc, explanation, source, Some(ends)),
+                    None => nothing_json(alloc, file, ends),
+                }
             }
         }
     }
 }
 
 impl Tell for Html {
-    fn tell(
-        &self,
-        alloc: Global,
-        explained: &Explained,
-        source: &Source<'_>,
-        file: &str,
-    ) -> Result<Vec<u8>, AllocError> {
-        let (explanation, is_least, ends) = match explained {
+    fn tell(&self, alloc: Global, explained: &Explained, source: &Source<'_>, file: &str) -> Told {
+        let (explanation, is_fewest, ends) = match explained {
             Explained::Asked(explanation) => (explanation, false, None),
             Explained::Found(report, Some(explanation)) => {
-                (
-                    explanation,
-                    is_least(report),
-                    Some(report_value(alloc, report)?),
-                )
+                let ends = report_value(alloc, report)?;
+                (explanation, is_fewest(report), Some(ends))
             }
             Explained::Found(report, None) => {
                 return nothing_html(alloc, file, sentence_of(alloc, file, report)?.as_str());
             }
         };
-        let shape = Shape {
+        let layout = Layout {
             width: PAGE_WIDTH,
             steps: 0,
-            is_least,
+            is_fewest,
         };
-        let why = why_text(alloc, explanation, source, shape)?;
+        let why = why_text(alloc, explanation, source, layout)?;
         let why = String::from_utf8_lossy(alloc, why.as_slice())?;
         explanation_html(alloc, explanation, source, ends, why.as_str())
     }

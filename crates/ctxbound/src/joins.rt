@@ -5,125 +5,71 @@ ghost use Rattle.std.specs.Arc.{arc_value};
 ghost use Rattle.joining.specs.Parts.{JoinErrorMeans};
 ghost use Rattle.ctxbound.specs.Joins.{IsJoined, error_line, error_status};
 
-use answering::{
-    Fault, JoinRequest, Printed, REFUSED, is_standard_input, read_file, report_device,
-    verdict_status, write_named,
-};
+use answering::{CommandFault, Fault, JoinRequest, Printed, REFUSED, read_bytes};
 use guest_code::program::Program;
 use joining::{JoinError, join};
-use parts::{Guest, LineError, Part, PartError, parts_from};
+use parts::{Guest, Part, PartError, parts_from};
 use replay::schedule_text;
 use report::Search;
-use runner::report_text;
-use std::alloc::{Alloc, AllocError, AllocFailed, Global};
+use std::alloc::{Alloc, AllocError, Global};
 use std::fs::Files;
-use std::io::{ErrorKind, Input, Read, Write};
+use std::io::Input;
 use std::sync::Arc;
-use std::{fs, io};
 use verify::program_of;
 
-/// Why a file gives no parts.
-#[derive(Drop)]
-enum PartsFault {
-    /// The device failed.
-    Device(io::Error),
-    /// A line is no part's.
-    Line(LineError),
-    /// The part under this prefix, in schedule text, is of another guest.
-    OtherGuest(Vec<u8>),
-}
-
-impl PartsFault {
-    /// Writes its line, with the name of the file, and answers the status. A failing stream changes
-    /// no status.
-    fn report<E: Write>(&self, err: &mut E, file: &str) -> u8 {
-        match self {
-            PartsFault::Device(error) => report_device(err, file, error),
-            PartsFault::Line(fault) => report_line(err, file, fault),
-            PartsFault::OtherGuest(under) => {
-                let _ = write!(err, "ctxbound: {file}: another guest under ");
-                let _ = err.write_all(under.as_slice());
-                let _ = writeln!(err, "");
-                REFUSED
-            }
-        }
-    }
-}
-
-// Writes which line of a file is no part's, and answers the status.
-fn report_line<E: Write>(err: &mut E, file: &str, fault: &LineError) -> u8 {
-    if fault.error == PartError::OutOfMemory {
-        return Fault::Memory.report(err);
-    }
-    let _ = writeln!(err, "ctxbound: {file}:{}: {}", fault.number, fault.error);
-    REFUSED
-}
-
-impl From<io::Error> for PartsFault {
-    fn from(error: io::Error) -> PartsFault {
-        PartsFault::Device(error)
-    }
-}
-
-impl From<LineError> for PartsFault {
-    fn from(error: LineError) -> PartsFault {
-        PartsFault::Line(error)
-    }
-}
-
-impl From<AllocError> for PartsFault {
-    fn from(_error: AllocError) -> PartsFault {
-        PartsFault::Device(io::Error::from(ErrorKind::OutOfMemory))
-    }
-}
-
-impl<T: Drop> From<AllocFailed<T>> for PartsFault {
-    fn from(_error: AllocFailed<T>) -> PartsFault {
-        PartsFault::Device(io::Error::from(ErrorKind::OutOfMemory))
-    }
-}
-
-/// Joins parts to the report of a search of the guest program in a file, and prints it. Where
-/// something is missing or refused it tells that, and prints nothing. Answers the status.
-pub fn serve_join<H, W: Write, E: Write>(
+/// What is printed of the report that the parts of a request join to, for the guest program of this
+/// text. Where something is missing or refused nothing is.
+///
+/// # Errors
+///
+/// What is wrong first: with the text, with the program that it spells, with a file of parts, or
+/// with the parts.
+pub fn joined_files<'a, H>(
     rt: &H,
-    request: &JoinRequest,
-    out: &mut W,
-    err: &mut E,
-) -> u8
+    text: &[u8],
+    request: &'a JoinRequest,
+) -> Result<Printed, CommandFault<'a>>
 where
     H: Files + Input + Alloc<A = Global>,
 {
-    let text = match read_file(rt, request.file.as_str()) {
-        Ok(text) => text,
-        Err(error) => return report_device(err, request.file.as_str(), &error),
-    };
-    let program = match program_of(rt.alloc(), text.as_slice()) {
-        Ok(program) => program,
-        Err(error) => return Fault::from(error).report(err),
-    };
-    let guest = Guest::of_text(text.as_slice());
-    let mut parts = Vec::new(rt.alloc());
+    let alloc = rt.alloc();
+    let program = program_of(alloc, text)?;
+    let guest = Guest::of_text(text);
+    let mut parts = Vec::new(alloc);
     for file in &request.parts {
-        if let Err(fault) = put_file(rt, &mut parts, guest, file.as_str()) {
-            return fault.report(err, file.as_str());
-        }
+        put_file(rt, &mut parts, guest, file.as_str())?;
     }
-    match joined_text(rt.alloc(), &program, request.search, parts.as_slice()) {
-        Ok(printed) => write_named(out, err, printed.output.as_slice(), printed.status),
-        Err(error) => report_error(rt.alloc(), err, &error),
+    match joined_text(alloc, &program, request.search, parts.as_slice()) {
+        Ok(printed) => Ok(printed),
+        Err(error) => Err(CommandFault::Line(error_line(alloc, &error)?, error_status(&error))),
     }
 }
 
-// Writes why parts aren't joined, and answers the status.
-fn report_error<E: Write>(alloc: Global, err: &mut E, error: &JoinError) -> u8 {
-    match error_line(alloc, error) {
-        Ok(line) => {
-            let _ = err.write_all(line.as_slice());
-            error_status(error)
-        }
-        Err(error) => Fault::from(error).report(err),
-    }
+// Puts the parts of a file, which have to be of this guest, after the others.
+fn put_file<'a, H>(
+    rt: &H,
+    parts: &mut Vec<Part>,
+    guest: Guest,
+    file: &'a str,
+) -> Result<(), CommandFault<'a>>
+where
+    H: Files + Input + Alloc<A = Global>,
+{
+    let alloc = rt.alloc();
+    let text = read_bytes(rt, file, u64::MAX).map_err(|error| CommandFault::Device(file, error))?;
+    let line = match parts_from(alloc, text.as_slice()) {
+        Ok(found) => match found.iter().find(|part| part.guest != guest) {
+            None => return Ok(parts.extend(found)?),
+            Some(other) => {
+                let under = schedule_text(alloc, other.under.as_slice())?;
+                let under = String::from_utf8_lossy(alloc, under.as_slice())?;
+                format!(in alloc; "ctxbound: {file}: another guest under {under}\n")?
+            }
+        },
+        Err(fault) if fault.error == PartError::OutOfMemory => return Err(Fault::Memory.into()),
+        Err(fault) => format!(in alloc; "ctxbound: {file}:{fault}\n")?,
+    };
+    Err(CommandFault::Line(line.into_bytes(), REFUSED))
 }
 
 // The line that tells why parts aren't joined.
@@ -164,40 +110,5 @@ fn joined_text(
     ensures error { IfErr result (JoinErrorMeans (arc_value program.now) search parts.now) }
 {
     let report = join(alloc, program, search, parts)?;
-    let mut output = report_text(alloc, &report)?;
-    output.extend_from_slice(b"\n")?;
-    Ok(Printed {
-        output,
-        status: verdict_status(&report.verdict),
-    })
-}
-
-// Puts the parts of a file, which have to be of this guest, after the others.
-fn put_file<H>(rt: &H, parts: &mut Vec<Part>, guest: Guest, file: &str) -> Result<(), PartsFault>
-where
-    H: Files + Input + Alloc<A = Global>,
-{
-    let text = read_all(rt, file)?;
-    for part in parts_from(rt.alloc(), text.as_slice())? {
-        if part.guest != guest {
-            let under = schedule_text(rt.alloc(), part.under.as_slice())?;
-            return Err(PartsFault::OtherGuest(under));
-        }
-        parts.push(part)?;
-    }
-    Ok(())
-}
-
-// All bytes of a file, or of standard input.
-fn read_all<H>(rt: &H, file: &str) -> io::Result<Vec<u8>>
-where
-    H: Files + Input + Alloc<A = Global>,
-{
-    let mut text = Vec::new(rt.alloc());
-    if is_standard_input(file) {
-        rt.reader().read_to_end(&mut text)?;
-    } else {
-        fs::open(rt, file)?.read_to_end(&mut text)?;
-    }
-    Ok(text)
+    Ok(Printed::of_report(alloc, &report)?)
 }

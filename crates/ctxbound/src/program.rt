@@ -1,13 +1,17 @@
 //! The whole program, but for where its words come from and where its answer goes.
 
 use crate::checks::{is_refused, serve_check};
+use crate::files::guest_text;
 use crate::forms::{Html, Json};
-use crate::joins::serve_join;
-use crate::prefixes::serve_prefixes;
+use crate::joins::joined_files;
+use crate::prefixes::prefixes_text;
 use crate::suites::serve_suite;
-use crate::under::serve_under;
-use crate::verified::serve_verify;
-use answering::{ExplainRequest, Form, REFUSED, Request, serve_file};
+use crate::under::under_text;
+use crate::verified::verified;
+use answering::{
+    CommandFault, ExplainRequest, Form, JoinRequest, PrefixesRequest, Printed, REFUSED, Request,
+    UnderRequest, VerifyRequest, serve_file, serve_printed,
+};
 use explained::{Lines, serve_explain};
 use std::alloc::{Alloc, Global};
 use std::fs::Files;
@@ -29,44 +33,82 @@ pub fn serve_words<H, W: Write, E: Write>(
 where
     H: Threads + Wait + Sync + Eprint + Files + Input + Alloc<A = Global> + Clone + Drop,
 {
-    match request(rt.alloc(), words) {
-        Ok(Request::One { file, request }) => {
-            let status = serve_file(rt, file.as_str(), &request, out, err);
-            told(rt, file.as_str(), is_seen, status, err)
-        }
-        Ok(Request::Explain { request, form }) => {
-            let status = explain_as(rt, &request, form, out, err);
-            told(rt, request.file.as_str(), is_seen, status, err)
-        }
-        Ok(Request::Check(request)) => serve_check(rt, &request, out, err),
-        Ok(Request::Suite(request)) => serve_suite(rt, &request, out, err),
-        Ok(Request::Verify(request)) => serve_verify(rt, &request, out, err),
-        Ok(Request::Prefixes(request)) => {
-            let status = serve_prefixes(rt, &request, out, err);
-            told(rt, request.file.as_str(), is_seen, status, err)
-        }
-        Ok(Request::Under(request)) => {
-            let status = serve_under(rt, &request, out, err);
-            told(rt, request.file.as_str(), is_seen, status, err)
-        }
-        Ok(Request::Join(request)) => {
-            let status = serve_join(rt, &request, out, err);
-            told(rt, request.file.as_str(), is_seen, status, err)
-        }
-        Err(fault) => fault.report(err),
-    }
-}
-
-/// Where a person sees that something was refused, and it is the text of the file, tells which
-/// command says more. Answers the status.
-fn told<H, E: Write>(rt: &H, file: &str, is_seen: bool, status: u8, err: &mut E) -> u8
-where
-    H: Files + Input + Alloc<A = Global>,
-{
-    if is_seen && status == REFUSED && is_refused(rt, file) {
+    let request = match request(rt.alloc(), words) {
+        Ok(request) => request,
+        Err(fault) => return fault.report(err),
+    };
+    let status = serve_request(rt, &request, out, err);
+    if is_seen
+        && status == REFUSED
+        && let Some(file) = request.guest()
+        && is_refused(rt, file)
+    {
         let _ = writeln!(err, "(ctxbound check {file} says more)");
     }
     status
+}
+
+/// Does what is asked for, and answers the status.
+fn serve_request<H, W: Write, E: Write>(rt: &H, request: &Request, out: &mut W, err: &mut E) -> u8
+where
+    H: Threads + Wait + Sync + Eprint + Files + Input + Alloc<A = Global> + Clone + Drop,
+{
+    match request {
+        Request::One { file, request } => serve_file(rt, file.as_str(), request, out, err),
+        Request::Explain { request, form } => explain_as(rt, request, *form, out, err),
+        Request::Check(request) => serve_check(rt, request, out, err),
+        Request::Suite(request) => serve_suite(rt, request, out, err),
+        Request::Verify(request) => {
+            let printed = verify_file(rt, request, out);
+            serve_printed(printed, out, err)
+        }
+        Request::Prefixes(request) => serve_printed(list_prefixes(rt, request), out, err),
+        Request::Under(request) => serve_printed(search_under(rt, request), out, err),
+        Request::Join(request) => serve_printed(join_parts(rt, request), out, err),
+    }
+}
+
+/// Whether the guest program in a file is right, after what is written on `out` meanwhile.
+fn verify_file<'a, H, W: Write>(
+    rt: &H,
+    request: &'a VerifyRequest,
+    out: &mut W,
+) -> Result<Printed, CommandFault<'a>>
+where
+    H: Threads + Wait + Sync + Files + Input + Alloc<A = Global>,
+{
+    let text = guest_text(rt, request.file.as_str())?;
+    Ok(verified(rt, text.as_slice(), request, out)?)
+}
+
+/// The prefixes of the guest program in a file.
+fn list_prefixes<'a, H>(rt: &H, request: &'a PrefixesRequest) -> Result<Printed, CommandFault<'a>>
+where
+    H: Files + Input + Alloc<A = Global>,
+{
+    let text = guest_text(rt, request.file.as_str())?;
+    let (is_pruned, at_least) = (request.is_pruned, request.at_least);
+    let output = prefixes_text(rt.alloc(), text.as_slice(), is_pruned, at_least)?;
+    Ok(Printed { output, status: 0 })
+}
+
+/// A search under a prefix of the guest program in a file.
+fn search_under<'a, H>(rt: &H, request: &'a UnderRequest) -> Result<Printed, CommandFault<'a>>
+where
+    H: Threads + Wait + Sync + Eprint + Files + Input + Alloc<A = Global>,
+{
+    let text = guest_text(rt, request.file.as_str())?;
+    let prefix = request.prefix.as_bytes();
+    Ok(under_text(rt, text.as_slice(), prefix, request.search)?)
+}
+
+/// The report that parts of a search of the guest program in a file join to.
+fn join_parts<'a, H>(rt: &H, request: &'a JoinRequest) -> Result<Printed, CommandFault<'a>>
+where
+    H: Files + Input + Alloc<A = Global>,
+{
+    let text = guest_text(rt, request.file.as_str())?;
+    joined_files(rt, text.as_slice(), request)
 }
 
 /// Explains a schedule of the guest program in a file, in this form.

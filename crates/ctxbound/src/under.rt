@@ -8,9 +8,7 @@ ghost use Rattle.ctxbound.specs.Under.{prefix_mode, AreLevelsUnder, level_line, 
 ghost use Rattle.ctxbound.specs.Under.{last_status, nothing_found, IsNoItem, IsSearchUnder};
 
 use crate::prefixes::mode_of;
-use answering::{
-    Exploration, Fault, Printed, Teller, UnderRequest, read_file, report_device, write_named,
-};
+use answering::{Exploration, Fault, Printed, Teller};
 use cover::item_under;
 use guest_code::program::Program;
 use items::mode::Mode;
@@ -19,39 +17,26 @@ use replay::schedule_from;
 use report::{Level, Options, Search};
 use runner::explore_under;
 use std::alloc::{Alloc, AllocError, Global};
-use std::fs::Files;
-use std::io::{Eprint, Input, Write};
+use std::io::Eprint;
 use std::sync::{Arc, Wait};
 use std::thread::Threads;
 use summary::Summary;
 use verify::program_of;
 
-/// Searches what is under a prefix of the schedules of the guest program in a file, and prints a
+/// What is printed of a search under a prefix of the schedules of the program that a text spells: a
 /// line for each bound. Nothing is printed before the search has ended, so that what is printed is
-/// never a part that its end is missing of. Answers the status.
-pub fn serve_under<H, W: Write, E: Write>(
+/// never a part that its end is missing of.
+///
+/// # Errors
+///
+/// What is wrong first: with the text, with the program that it spells, with the prefix's text, or
+/// with a step of the prefix; `Memory` where memory runs out.
+pub fn under_text<H>(
     rt: &H,
-    request: &UnderRequest,
-    out: &mut W,
-    err: &mut E,
-) -> u8
-where
-    H: Threads + Wait + Sync + Eprint + Files + Input + Alloc<A = Global>,
-{
-    let text = match read_file(rt, request.file.as_str()) {
-        Ok(text) => text,
-        Err(error) => return report_device(err, request.file.as_str(), &error),
-    };
-    let prefix = request.prefix.as_bytes();
-    match under_text(rt, text.as_slice(), prefix, request.search) {
-        Ok(printed) => write_named(out, err, printed.output.as_slice(), printed.status),
-        Err(fault) => fault.report(err),
-    }
-}
-
-// What is printed of a search under a prefix, or what is wrong first: with the text, with the
-// program that it spells, with the prefix's text, or with a step of the prefix.
-fn under_text<H>(rt: &H, text: &[u8], prefix: &[u8], search: Exploration) -> Result<Printed, Fault>
+    text: &[u8],
+    prefix: &[u8],
+    search: Exploration,
+) -> Result<Printed, Fault>
 where
     H: Threads + Wait + Sync + Eprint + Alloc<A = Global>,
     ensures printed { IfOk result (IsSearchUnder text.now prefix.now search.options) }
@@ -63,7 +48,7 @@ where
     let levels = levels_under(rt, program, prefix.as_slice(), search)?;
     let status = status_after(levels.as_slice());
     let guest = Guest::of_text(text);
-    let output = level_lines(alloc, guest, prefix.as_slice(), levels.as_slice())?;
+    let output = level_lines(alloc, guest, prefix.as_slice(), levels)?;
     Ok(Printed { output, status })
 }
 
@@ -83,9 +68,7 @@ where
     let alloc = rt.alloc();
     let mode = prefix_mode(search.options.search);
     let Some(item) = item_under(alloc, program, mode, prefix)? else {
-        let mut levels = Vec::new(alloc);
-        levels.push(nothing_found(alloc))?;
-        return Ok(levels);
+        return Ok(vec![in alloc; nothing_found(alloc)]?);
     };
     let gate = Teller::new(rt, search.progress);
     Ok(explore_under(rt, alloc, item, search.options, search.workers, &gate)?)
@@ -95,10 +78,7 @@ where
 fn prefix_mode(search: Search) -> Mode
     ensures { result ≡ prefix_mode search }
 {
-    match search {
-        Search::UpTo(_) => mode_of(false),
-        Search::Unbounded => mode_of(true),
-    }
+    mode_of(matches!(search, Search::Unbounded))
 }
 
 // What is found where no schedule is under a prefix.
@@ -138,37 +118,20 @@ fn level_lines(
     alloc: Global,
     guest: Guest,
     prefix: &[u8],
-    levels: &[Level],
+    levels: Vec<Level>,
 ) -> Result<Vec<u8>, AllocError>
     ensures { IfOk result (λ text.
-        text.items ≡ flat_map (level_line guest prefix.now) levels.now) }
+        text.items ≡ flat_map (level_line guest prefix.now) levels.items) }
 {
     let mut text = Vec::new(alloc);
     for level in levels {
-        text.extend_from_slice(line_of_level(alloc, guest, prefix, level)?.as_slice())?;
+        let part = Part {
+            under: prefix.to_vec(alloc)?,
+            level,
+            guest,
+        };
+        text.extend_from_slice(part_line(alloc, &part)?.as_slice())?;
+        text.push(b'\n')?;
     }
     Ok(text)
-}
-
-// The line of a level of a prefix.
-fn line_of_level(
-    alloc: Global,
-    guest: Guest,
-    prefix: &[u8],
-    level: &Level,
-) -> Result<Vec<u8>, AllocError>
-    ensures { IfOk result (λ line. line.items ≡ level_line guest prefix.now level.now) }
-{
-    let part = Part {
-        under: prefix.to_vec(alloc)?,
-        level: Level {
-            bound: level.bound,
-            summary: level.summary.try_clone(alloc)?,
-            cause: level.cause,
-        },
-        guest,
-    };
-    let mut line = part_line(alloc, &part)?;
-    line.push(b'\n')?;
-    Ok(line)
 }

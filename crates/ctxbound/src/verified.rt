@@ -4,88 +4,67 @@ ghost use Rattle.std.specs.Prelude.{◌≡◌};
 ghost use Rattle.ctxbound.specs.Status.{verified_status};
 
 use advice::{Advice, Checked, Depth, check};
-use answering::{Fault, VerifyRequest, read_file, report_device, write_named};
+use answering::{Fault, Printed, VerifyRequest};
 use guest_syntax::pieces::Piece;
 use hints::pieces::pieces;
 use replay::schedule_text;
 use semantics::view::Kind;
-use std::alloc::{Alloc, Global};
-use std::fs::Files;
+use std::alloc::{Alloc, AllocError, Global};
+use std::fmt::Write;
 use std::io;
-use std::io::{Input, Write};
 use std::sync::Wait;
 use std::thread::Threads;
 use text_lines::Marks;
-use verify::{Answer, BadSchedule, Preemptions, verify_text};
+use verify::{BadSchedule, Correctness, Preemptions, verify_text};
 
 /// What is said where a search was cut short.
 const MORE: &str = "A higher --limit says more.";
 
-/// Says whether the guest program in a file is right: a line on each search as it ends, and then
-/// the answer. Answers the status.
-pub fn serve_verify<H, W: Write, E: Write>(
+/// Whether the guest program of this text is right. On `out` there is a line on each search as it
+/// ends; what is printed after that is the answer.
+///
+/// # Errors
+///
+/// What is wrong first with the text, or `Memory`.
+pub fn verified<H, W: io::Write>(
     rt: &H,
+    text: &[u8],
     request: &VerifyRequest,
     out: &mut W,
-    err: &mut E,
-) -> u8
+) -> Result<Printed, Fault>
 where
-    H: Threads + Wait + Sync + Files + Input + Alloc<A = Global>,
+    H: Threads + Wait + Sync + Alloc<A = Global>,
 {
-    let text = match read_file(rt, request.file.as_str()) {
-        Ok(text) => text,
-        Err(error) => return report_device(err, request.file.as_str(), &error),
+    let alloc = rt.alloc();
+    let answer = verify_text(rt, text, request.limits, out)?;
+    let file = request.file.as_str();
+    let told = match &answer {
+        Correctness::Right => right_text(alloc, request, text)?,
+        Correctness::Bad { bad, is_fewest } => bad_text(alloc, file, bad, *is_fewest)?,
+        Correctness::Undecided { below } => undecided_text(alloc, file, *below)?,
     };
-    let answer = match verify_text(rt, text.as_slice(), request.limits, out) {
-        Ok(answer) => answer,
-        Err(error) => return Fault::from(error).report(err),
-    };
-    match answer_text(rt.alloc(), request, text.as_slice(), &answer) {
-        Ok(told) => write_named(out, err, told.as_slice(), verified_status(&answer)),
-        Err(error) => report_device(err, "standard output", &error),
-    }
+    Ok(Printed {
+        output: told.into_bytes(),
+        status: verified_status(&answer),
+    })
 }
 
 /// The status of an answer: 0 where the program is right, 1 where a schedule is bad, 3 where the
 /// searches left it open.
-fn verified_status(answer: &Answer) -> u8
+fn verified_status(answer: &Correctness) -> u8
     ensures { result ≡ verified_status answer.now }
 {
     match answer {
-        Answer::Right => 0,
-        Answer::Bad { .. } => 1,
-        Answer::Undecided { .. } => 3,
+        Correctness::Right => 0,
+        Correctness::Bad { .. } => 1,
+        Correctness::Undecided { .. } => 3,
     }
 }
 
-// The lines of an answer.
-fn answer_text(
-    alloc: Global,
-    request: &VerifyRequest,
-    text: &[u8],
-    answer: &Answer,
-) -> io::Result<Vec<u8>> {
-    let mut told = Vec::new(alloc);
-    match answer {
-        Answer::Right => put_right(&mut told, alloc, request, text)?,
-        Answer::Bad { bad, is_fewest } => put_bad(&mut told, alloc, request, bad, *is_fewest)?,
-        Answer::Undecided { below } => put_undecided(&mut told, request, *below)?,
-    }
-    Ok(told)
-}
-
-// Puts that a program is right, and what weakens that.
-fn put_right(
-    told: &mut Vec<u8>,
-    alloc: Global,
-    request: &VerifyRequest,
-    text: &[u8],
-) -> io::Result<()> {
-    writeln!(
-        told,
-        "RIGHT: no schedule of {} fails or gets stuck.",
-        request.file
-    )?;
+// That a program is right, and what weakens that.
+fn right_text(alloc: Global, request: &VerifyRequest, text: &[u8]) -> Result<String, AllocError> {
+    let file = request.file.as_str();
+    let mut told = format!(in alloc; "RIGHT: no schedule of {file} fails or gets stuck.\n")?;
     let depth = Depth {
         limit: request.limits.limit,
         remarks: false,
@@ -99,10 +78,10 @@ fn put_right(
                 Some(_) => format!(in alloc; "{}:{column}", marks.told("", line).named())?,
                 None => format!(in alloc; "{line}:{column}")?,
             };
-            put_weakness(told, advice, at.as_str(), &pieces)?;
+            put_weakness(&mut told, alloc, advice, at.as_str(), &pieces)?;
         }
     }
-    Ok(())
+    Ok(told)
 }
 
 // What weakens a right answer where some schedule shows it: the number of its warning, the word
@@ -115,17 +94,17 @@ const WEAKNESSES: [(&str, &[u8], &str); 2] = [
 // Puts what an advice on a place in the text of these pieces says against a right answer: what
 // weakens it, or that not all schedules were looked at for that.
 fn put_weakness(
-    told: &mut Vec<u8>,
+    told: &mut String,
+    alloc: Global,
     advice: &Advice,
     at: &str,
     pieces: &[Piece<'_>],
-) -> io::Result<()> {
+) -> Result<(), AllocError> {
     let (number, name) = advice.code();
     for (weakness, word, sought) in WEAKNESSES {
         if number == weakness {
-            write!(told, "But {number} {name} at {at}: ")?;
-            told.write_all(advice.message.as_slice())?;
-            writeln!(told)?;
+            let message = String::from_utf8_lossy(alloc, advice.message.as_slice())?;
+            writeln!(told, "But {number} {name} at {at}: {message}")?;
         } else if number == "W21" && pieces.iter().any(|piece| piece.text == word) {
             writeln!(told, "But {sought} were looked for up to the limit alone.")?;
         }
@@ -133,15 +112,13 @@ fn put_weakness(
     Ok(())
 }
 
-// Puts that a schedule is bad, and how to see why.
-fn put_bad(
-    told: &mut Vec<u8>,
+// That a schedule is bad, and how to see why.
+fn bad_text(
     alloc: Global,
-    request: &VerifyRequest,
+    file: &str,
     bad: &BadSchedule,
     is_fewest: bool,
-) -> io::Result<()> {
-    let file = request.file.as_str();
+) -> Result<String, AllocError> {
     let ends = match bad.kind {
         Kind::Stuck => "gets stuck",
         Kind::Failed | Kind::Done => "fails",
@@ -152,46 +129,33 @@ fn put_bad(
         (_, true) => "; none with fewer is bad",
         (_, false) => "; whether one with fewer is bad isn't known",
     };
-    writeln!(
-        told,
-        "BAD: a schedule of {file} with {count} {ends}{others}."
-    )?;
-    write!(told, "See why: ctxbound explain ")?;
-    put_word(told, file)?;
-    told.push(b' ')?;
-    told.extend_from_slice(schedule_text(alloc, bad.steps.as_slice())?.as_slice())?;
-    writeln!(told)
+    let word = shell_word(alloc, file)?;
+    let steps = schedule_text(alloc, bad.steps.as_slice())?;
+    let steps = String::from_utf8_lossy(alloc, steps.as_slice())?;
+    format!(in alloc;
+        "BAD: a schedule of {file} with {count} {ends}{others}.\nSee why: ctxbound explain {word} {steps}\n"
+    )
 }
 
-// Puts what is known where the searches left it open.
-fn put_undecided(told: &mut Vec<u8>, request: &VerifyRequest, below: u32) -> io::Result<()> {
-    let file = request.file.as_str();
+// What is known where the searches left it open.
+fn undecided_text(alloc: Global, file: &str, below: u32) -> Result<String, AllocError> {
     let known = below.saturating_sub(1);
     let at_most = if known == 0 { "" } else { "at most " };
     let count = Preemptions(known);
     match below {
-        0 => writeln!(told, "UNDECIDED: nothing is known of {file}. {MORE}"),
-        _ => writeln!(
-            told,
-            "UNDECIDED: no schedule of {file} with {at_most}{count} is bad. {MORE}"
+        0 => format!(in alloc; "UNDECIDED: nothing is known of {file}. {MORE}\n"),
+        _ => format!(in alloc;
+            "UNDECIDED: no schedule of {file} with {at_most}{count} is bad. {MORE}\n"
         ),
     }
 }
 
-// Puts a word as a shell reads it: in quotes, where it has more than letters, digits and what names
-// of files mostly have.
-fn put_word(told: &mut Vec<u8>, word: &str) -> io::Result<()> {
+// A word as a shell reads it: in quotes, where it has more than letters, digits and what names of
+// files mostly have.
+fn shell_word(alloc: Global, word: &str) -> Result<String, AllocError> {
     let is_plain = |b: &u8| b.is_ascii_alphanumeric() || b"_./+-@%:,".contains(b);
     if !word.is_empty() && word.as_bytes().iter().all(is_plain) {
-        return told.write_all(word.as_bytes());
+        return word.to_string(alloc);
     }
-    told.push(b'\'')?;
-    for byte in word.as_bytes() {
-        match *byte {
-            b'\'' => told.extend_from_slice(b"'\\''")?,
-            byte => told.push(byte)?,
-        }
-    }
-    told.push(b'\'')?;
-    Ok(())
+    format!(in alloc; "'{}'", word.replace(alloc, "'", "'\\''")?)
 }

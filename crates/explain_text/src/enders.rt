@@ -1,7 +1,7 @@
 //! Who could end the waits for a condition or a semaphore, and why it won't.
 
 use crate::origins::Shown;
-use crate::text::Teller;
+use crate::text::TextWriter;
 use causes::Event;
 use explain::{Object, Reason};
 use guest_code::program::Instruction;
@@ -19,7 +19,7 @@ const SHOWN: Shown = Shown {
     is_later_told: true,
 };
 
-impl Teller<'_> {
+impl TextWriter<'_> {
     /// For each condition and each semaphore that a thread waits for, who could end that.
     pub fn put_enders(&self, page: &mut Page) -> Result<(), AllocError> {
         let waits = self.waits.all();

@@ -1,7 +1,7 @@
 //! How a schedule ended.
 
 use crate::origins::Shown;
-use crate::text::Teller;
+use crate::text::TextWriter;
 use causes::{Event, Failure};
 use explain::{Holder, Object};
 use guest_code::program::Instruction;
@@ -21,7 +21,7 @@ const SHOWN: Shown = Shown {
     is_later_told: false,
 };
 
-impl Teller<'_> {
+impl TextWriter<'_> {
     /// How the schedule ended.
     pub fn put_head(&self, page: &mut Page) -> Result<(), AllocError> {
         if let Some(failure) = self.causes.failure()
@@ -53,8 +53,8 @@ impl Teller<'_> {
     // search showed it.
     fn after(&self, steps: usize, preemptions: usize) -> Result<String, AllocError> {
         let least = match self.explanation.preemptions() {
-            1 if self.shape.is_least => " No schedule with 0 is bad.",
-            n if self.shape.is_least && n > 1 => " No schedule with fewer is bad.",
+            1 if self.layout.is_fewest => " No schedule with 0 is bad.",
+            n if self.layout.is_fewest && n > 1 => " No schedule with fewer is bad.",
             _ => "",
         };
         let (steps, preemptions) = (Count(steps, "step"), Count(preemptions, "preemption"));

@@ -11,4 +11,4 @@ mod reasons;
 mod rows;
 mod text;
 
-pub use crate::text::{Shape, explanation_text, why_text};
+pub use crate::text::{Layout, explanation_text, why_text};

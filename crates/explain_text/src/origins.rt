@@ -1,6 +1,6 @@
 //! Where values came from.
 
-use crate::text::Teller;
+use crate::text::TextWriter;
 use causes::Event;
 use explain::{Object, Reading};
 use guest_code::program::{Expression, Instruction, Value};
@@ -30,7 +30,7 @@ struct Asked {
     indent: usize,
 }
 
-impl Teller<'_> {
+impl TextWriter<'_> {
     /// The locals of an event's expression, each with where its value came from, and under a local
     /// that was set by an expression the locals of that.
     pub fn put_values(

@@ -1,6 +1,6 @@
 //! Why threads can't go on.
 
-use crate::text::{Teller, put_listed};
+use crate::text::{TextWriter, put_listed};
 use explain::{Holder, Object, Reason};
 use replay::Act;
 use semantics::mask::Mask;
@@ -26,7 +26,7 @@ struct Widths {
     reason: usize,
 }
 
-impl Teller<'_> {
+impl TextWriter<'_> {
     /// Why nobody can go on, or who is blocked where a thread failed; and why the next step of the
     /// schedule can't be taken.
     pub fn put_reasons(&self, page: &mut Page) -> Result<(), AllocError> {

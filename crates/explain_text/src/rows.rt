@@ -1,6 +1,6 @@
 //! The rows of the table.
 
-use crate::text::{Teller, put_listed};
+use crate::text::{TextWriter, put_listed};
 use explain::{Object, Reading, Standing, Step, op_text};
 use guest_code::program::{Expression, Instruction, Value};
 use replay::Act;
@@ -14,7 +14,7 @@ use text_lines::{
 /// The fewest columns of a name that is cut, where it shares a column with its statement.
 const SHORTEST: usize = 4;
 
-impl Teller<'_> {
+impl TextWriter<'_> {
     /// The steps in columns. The answer is how many of them are told.
     pub fn put_table(&self, page: &mut Page) -> Result<usize, AllocError> {
         self.put_header(page)?;
@@ -23,7 +23,7 @@ impl Teller<'_> {
         let mut folded = 0_usize;
         let mut next = 0;
         for at in 0..steps {
-            if steps <= self.shape.steps || self.is_told(at) {
+            if steps <= self.layout.steps || self.is_told(at) {
                 folded = folded.saturating_add(self.put_gap(page, next, at)?);
                 self.put_step_rows(page, at)?;
                 next = at + 1;

@@ -10,24 +10,24 @@ use std::str::from_utf8;
 use text_lines::{Columns, FileLine, InLine, Marks, Page};
 use waits::Waits;
 
-/// The form of a text.
+/// How wide a text is, and which steps have rows.
 #[derive(Clone, Copy, Debug)]
-pub struct Shape {
+pub struct Layout {
     /// Columns of a line, at most; fewer than 40 count as 40, more than 1,000 as 1,000.
     pub width: usize,
     /// Each step has a row where there are at most this many; else some are folded.
     pub steps: usize,
     /// Whether a search showed that no schedule with fewer preemptions is bad.
-    pub is_least: bool,
+    pub is_fewest: bool,
 }
 
 /// What a text is made of, and how.
 #[derive(Drop)]
-pub struct Teller<'a> {
+pub struct TextWriter<'a> {
     pub alloc: Global,
     pub explanation: &'a Explanation,
     pub source: &'a Source<'a>,
-    pub shape: Shape,
+    pub layout: Layout,
     pub causes: Causes,
     pub waits: Waits,
     /// Where the lines of the text come from.
@@ -35,7 +35,7 @@ pub struct Teller<'a> {
     pub columns: Columns,
 }
 
-/// The explanation as text: a column for each thread, at most as wide as the shape says. Only the
+/// The explanation as text: a column for each thread, at most as wide as the layout says. Only the
 /// last line, a command, may be longer.
 ///
 /// # Errors
@@ -45,9 +45,9 @@ pub fn explanation_text(
     alloc: Global,
     explanation: &Explanation,
     source: &Source<'_>,
-    shape: Shape,
+    layout: Layout,
 ) -> Result<Vec<u8>, AllocError> {
-    Teller::new(alloc, explanation, source, shape)?.text(true)
+    TextWriter::new(alloc, explanation, source, layout)?.text(true)
 }
 
 /// How the schedule ends and why, in words, without the steps; the last line is the command that
@@ -60,9 +60,9 @@ pub fn why_text(
     alloc: Global,
     explanation: &Explanation,
     source: &Source<'_>,
-    shape: Shape,
+    layout: Layout,
 ) -> Result<Vec<u8>, AllocError> {
-    Teller::new(alloc, explanation, source, shape)?.text(false)
+    TextWriter::new(alloc, explanation, source, layout)?.text(false)
 }
 
 /// A statement of a thread as a sentence tells it, with its line: `line 12: lock m`.
@@ -97,27 +97,27 @@ fn quoted(alloc: Global, word: &str) -> Result<String, AllocError> {
     format!(in alloc; "'{}'", word.replace(alloc, "'", "'\\''")?)
 }
 
-impl<'a> Teller<'a> {
+impl<'a> TextWriter<'a> {
     // What the text of an explanation is made of.
     fn new(
         alloc: Global,
         explanation: &'a Explanation,
         source: &'a Source<'a>,
-        shape: Shape,
-    ) -> Result<Teller<'a>, AllocError> {
-        let mut teller = Teller {
+        layout: Layout,
+    ) -> Result<TextWriter<'a>, AllocError> {
+        let mut writer = TextWriter {
             alloc,
             explanation,
             source,
-            shape,
+            layout,
             causes: Causes::of(alloc, source.program, explanation)?,
             waits: Waits::new(alloc, source.program, explanation)?,
             marks: Marks::new(alloc, source.text)?,
-            columns: Columns::new(shape.width, 0, 0),
+            columns: Columns::new(layout.width, 0, 0),
         };
         let threads = explanation.standings().len();
-        teller.columns = Columns::new(shape.width, threads, teller.widest_line()?);
-        Ok(teller)
+        writer.columns = Columns::new(layout.width, threads, writer.widest_line()?);
+        Ok(writer)
     }
 
     // How the schedule ends and why, with the table of its steps or without.

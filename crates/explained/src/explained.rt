@@ -12,7 +12,7 @@ use answering::{
     ExplainRequest, Exploration, Fault, Printed, REFUSED, Teller, replay_status, verdict_status,
 };
 use explain::{Explanation, Source};
-use explain_text::{Shape, explanation_text};
+use explain_text::{Layout, explanation_text};
 use guest_code::lowering::lower;
 use guest_code::program::Program;
 use guest_code::source_map::SourceMap;
@@ -27,20 +27,13 @@ use std::thread::Threads;
 // What a search up to a bound leaves open.
 const NO_PROOF: &str = "That is no proof: others have more. Try --unbounded, or a higher --bound.";
 
+/// The bytes of what is told, unless memory runs out.
+pub type Told = Result<Vec<u8>, AllocError>;
+
 /// What tells what is explained.
 pub trait Tell {
-    /// The bytes of what is explained of the program in this file, which is the source's.
-    ///
-    /// # Errors
-    ///
-    /// `AllocError` where memory runs out.
-    fn tell(
-        &self,
-        alloc: Global,
-        explained: &Explained,
-        source: &Source<'_>,
-        file: &str,
-    ) -> Result<Vec<u8>, AllocError>;
+    /// What is told of what is explained of the program in this file, which is the source's.
+    fn tell(&self, alloc: Global, explained: &Explained, source: &Source<'_>, file: &str) -> Told;
 }
 
 /// Tells it as text, in lines of this width: each step, where there are at most so many, or those
@@ -51,34 +44,21 @@ pub struct Lines {
     pub steps: usize,
 }
 
-impl Lines {
-    // The shape of an explanation, of the least bad schedule or not.
-    fn shape(&self, is_least: bool) -> Shape {
-        Shape {
+impl Tell for Lines {
+    fn tell(&self, alloc: Global, explained: &Explained, source: &Source<'_>, file: &str) -> Told {
+        let (explanation, is_fewest) = match explained {
+            Explained::Asked(explanation) => (explanation, false),
+            Explained::Found(report, Some(explanation)) => (explanation, is_fewest(report)),
+            Explained::Found(report, None) => {
+                return Ok(sentence_of(alloc, file, report)?.into_bytes());
+            }
+        };
+        let layout = Layout {
             width: self.width,
             steps: self.steps,
-            is_least,
-        }
-    }
-}
-
-impl Tell for Lines {
-    fn tell(
-        &self,
-        alloc: Global,
-        explained: &Explained,
-        source: &Source<'_>,
-        file: &str,
-    ) -> Result<Vec<u8>, AllocError> {
-        match explained {
-            Explained::Asked(explanation) => {
-                explanation_text(alloc, explanation, source, self.shape(false))
-            }
-            Explained::Found(report, Some(explanation)) => {
-                explanation_text(alloc, explanation, source, self.shape(is_least(report)))
-            }
-            Explained::Found(report, None) => Ok(sentence_of(alloc, file, report)?.into_bytes()),
-        }
+            is_fewest,
+        };
+        explanation_text(alloc, explanation, source, layout)
     }
 }
 
@@ -136,10 +116,7 @@ impl Explained {
         ensures fault { IfErr result (IsFaultOf request.now.schedule) }
     {
         match &request.schedule {
-            Some(schedule) => {
-                let explanation = asked(alloc, program, schedule.as_bytes())?;
-                Ok(Explained::Asked(explanation))
-            }
+            Some(schedule) => Ok(Explained::Asked(asked(alloc, program, schedule.as_bytes())?)),
             None => {
                 let (report, explanation) = found(rt, alloc, program, request.search)?;
                 Ok(Explained::Found(report, explanation))
@@ -213,7 +190,7 @@ fn explained_status(explanation: &Explanation) -> u8
 
 /// Whether a search showed that no schedule with fewer preemptions than the one that it names is
 /// bad.
-pub fn is_least(search: &Report) -> bool {
+pub fn is_fewest(search: &Report) -> bool {
     matches!(&search.verdict, Verdict::Bad { .. }) && search.bound.is_some()
 }
 
@@ -226,13 +203,9 @@ pub fn sentence_of(alloc: Global, file: &str, report: &Report) -> Result<String,
     let tried = report.summary.tried();
     match (&report.verdict, report.bound) {
         (Verdict::Clean { all: false }, Some(bound)) => {
-            let preemptions = if bound == 1 {
-                "preemption"
-            } else {
-                "preemptions"
-            };
+            let ending = if bound == 1 { "" } else { "s" };
             format!(in alloc;
-                "{file}: no schedule with at most {bound} {preemptions} is bad ({tried} tried).\n{NO_PROOF}\n"
+                "{file}: no schedule with at most {bound} preemption{ending} is bad ({tried} tried).\n{NO_PROOF}\n"
             )
         }
         (Verdict::Incomplete { .. }, _) => format!(in alloc;

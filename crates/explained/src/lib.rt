@@ -10,5 +10,5 @@
 mod explained;
 mod serving;
 
-pub use crate::explained::{Explained, Lines, Tell, explain_text, is_least, sentence_of};
+pub use crate::explained::{Explained, Lines, Tell, Told, explain_text, is_fewest, sentence_of};
 pub use crate::serving::serve_explain;

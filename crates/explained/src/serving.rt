@@ -1,7 +1,7 @@
 //! An explanation of the guest program in a file.
 
 use crate::explained::{Tell, explain_text};
-use answering::{ExplainRequest, read_file, report_device, write_named};
+use answering::{CommandFault, ExplainRequest, read_file, serve_printed};
 use std::alloc::{Alloc, Global};
 use std::fs::Files;
 use std::io::{Eprint, Input, Write};
@@ -19,12 +19,13 @@ pub fn serve_explain<H, T: Tell, W: Write, E: Write>(
 where
     H: Threads + Wait + Sync + Eprint + Files + Input + Alloc<A = Global>,
 {
-    let text = match read_file(rt, request.file.as_str()) {
-        Ok(text) => text,
-        Err(error) => return report_device(err, request.file.as_str(), &error),
+    let file = request.file.as_str();
+    let printed = match read_file(rt, file) {
+        Ok(text) => match explain_text(rt, rt.alloc(), text.as_slice(), request, teller) {
+            Ok(printed) => Ok(printed),
+            Err(fault) => Err(CommandFault::Fault(fault)),
+        },
+        Err(error) => Err(CommandFault::Device(file, error)),
     };
-    match explain_text(rt, rt.alloc(), text.as_slice(), request, teller) {
-        Ok(printed) => write_named(out, err, printed.output.as_slice(), printed.status),
-        Err(fault) => fault.report(err),
-    }
+    serve_printed(printed, out, err)
 }

@@ -18,8 +18,7 @@
 //! - The [`source_map::SourceMap`] of a tree has for each instruction of its program the place of the
 //!   statement that it was made of, and for each local its name. The places of a thread are in its
 //!   text ([`laws::places_are_in_their_threads`]).
-//! - Two programs are equal exactly where all that is seen of them is
-//!   ([`program::Program::is_same`]).
+//! - Programs are equal exactly where all that is seen of them is ([`program::Program::is_same`]).
 #![tactic(auto)]
 
 mod check;

@@ -11,7 +11,7 @@ use Rattle.report.specs.Texts.{IsProgramOf, ExploreErrorMeans}
 use Rattle.answering.specs.declared.limits.Limits.{Limits}
 use Rattle.verify.specs.declared.found.BadSchedule.{BadSchedule}
 use Rattle.verify.specs.declared.found.Found.{Found}
-use Rattle.verify.specs.Shown.{options_of, is_cut_short, clear_below, IsFound}
+use Rattle.verify.specs.Shown.{options_of, is_cut_short, clean_below, IsFound}
 use Rattle.suite.specs.declared.searches.Searched.{Searched}
 use Rattle.suite.specs.declared.entry.Outcome.{Outcome}
 use Rattle.suite.specs.declared.entry.Outcome.TheVariants.{Searched as Ended, Refused, Unclear, Unread}
@@ -53,7 +53,7 @@ pub record IsOfTwo (may : Bool) (p : Program) (l : Limits) (s : Searched) : Type
   pub second : Found
   pub bounded : IsFound may p (options_of (UpTo (second_bound l.bound first.bad)) l.limit) second
   pub told : s.found ≡ nearer first second
-  pub clear : s.clear ≡ clear_below second.report
+  pub clear : s.clear ≡ clean_below second.report
 
 -- the text spells a program; this is told of its searches, and no bad schedule has fewer preemptions
 -- than it says

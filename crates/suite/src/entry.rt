@@ -1,6 +1,6 @@
 //! What became of one file of a suite, and its status.
 
-ghost use Rattle.std.specs.Prelude.{◌≡◌};
+ghost use Rattle.std.specs.Prelude.{◌≡◌, None};
 ghost use Rattle.suite.specs.Suites.{OutcomeMeans};
 ghost use Rattle.suite.specs.Statuses.{bad_status, fewest_status, one_unless, status_of, unfound_status};
 
@@ -51,14 +51,7 @@ impl Entry {
         let expected = match Expectation::of(text) {
             Expectation::Silent => None,
             Expectation::Says(expected) => Some(expected),
-            Expectation::Unclear(line) => {
-                return Entry {
-                    file,
-                    expected: None,
-                    near: None,
-                    outcome: Outcome::Unclear(line),
-                };
-            }
+            Expectation::Unclear(line) => return Entry::unsearched(file, Outcome::Unclear(line)),
         };
         let outcome = match search(rt, text, limits, gate) {
             Ok(searched) => Outcome::Searched(searched),
@@ -68,6 +61,18 @@ impl Entry {
             file,
             expected,
             near: near_expectation(text),
+            outcome,
+        }
+    }
+
+    /// What became of a file that isn't searched.
+    pub fn unsearched(file: String, outcome: Outcome) -> Entry
+        ensures { result ≡ record { file = file; expected = None; near = None; outcome = outcome } }
+    {
+        Entry {
+            file,
+            expected: None,
+            near: None,
             outcome,
         }
     }

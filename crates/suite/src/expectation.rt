@@ -47,24 +47,19 @@ impl Expectation {
     /// nothing.
     pub fn of(text: &[u8]) -> Expectation {
         let mut found = Expectation::Silent;
-        let mut number = 0u64;
-        for line in text.split(|b| *b == b'\n') {
-            number = number.saturating_add(1);
+        for (line, number) in text.split(|b| *b == b'\n').zip(1u64..) {
             match (found, words_of(line)) {
                 (_, None) => {}
-                (Expectation::Silent, Some(words)) => found = said_by(words, number),
+                (Expectation::Silent, Some(words)) => {
+                    found = expected_by(words).map_or(
+                        Expectation::Unclear(number),
+                        Expectation::Says,
+                    );
+                }
                 (_, Some(_)) => return Expectation::Unclear(number),
             }
         }
         found
-    }
-}
-
-// The expectation of the line of this number, where this stands after the colon.
-fn said_by(words: &[u8], number: u64) -> Expectation {
-    match expected_by(words) {
-        Some(expected) => Expectation::Says(expected),
-        None => Expectation::Unclear(number),
     }
 }
 
@@ -102,14 +97,9 @@ fn words_of(line: &[u8]) -> Option<&[u8]> {
 /// The number of the first line, counted from 1, with a comment that looks like an expectation and
 /// is none: it is misspelt, or there is code before it.
 pub fn near_expectation(text: &[u8]) -> Option<u64> {
-    let mut number = 0u64;
-    for line in text.split(|b| *b == b'\n') {
-        number = number.saturating_add(1);
-        if words_of(line).is_none() && is_near(line) {
-            return Some(number);
-        }
-    }
-    None
+    let mut lines = text.split(|b| *b == b'\n').zip(1u64..);
+    let (_, number) = lines.find(|(line, _)| words_of(line).is_none() && is_near(line))?;
+    Some(number)
 }
 
 // Whether the comment of a line begins with a word like `expect`, of any case and with any ending,

@@ -6,33 +6,13 @@ use crate::searches::Searched;
 use guest_code::error::CheckError;
 use guest_syntax::{Pos, SyntaxError};
 use replay::schedule_text;
-use runner::{ExploreError, Verdict, report_text};
+use runner::{ExploreError, Verdict, report_value};
 use serde_json::Value;
 use std::alloc::{AllocError, Global};
-use text_lines::{FileLine, Marks};
+use std::fmt;
+use std::fmt::Write;
+use text_lines::Marks;
 use verify::Found;
-
-// What stands above the columns.
-const HEADS: [&str; 7] = [
-    "file",
-    "verdict",
-    "bound",
-    "preemptions",
-    "schedule",
-    "tried",
-    "note",
-];
-
-// The widths of the columns after the first; the last one needs none.
-const VERDICT: usize = 10;
-
-const BOUND: usize = 5;
-
-const PREEMPTIONS: usize = 11;
-
-const SCHEDULE: usize = 12;
-
-const TRIED: usize = 9;
 
 // What is told where there is nothing to say.
 const NOTHING: &str = "-";
@@ -42,17 +22,16 @@ const NOTHING: &str = "-";
 #[derive(Clone, Copy, Debug)]
 pub struct Table {
     alloc: Global,
-    /// The widths of the columns; the first is as wide as the longest name.
-    widths: [usize; 7],
+    /// The width of the first column, which is as wide as the longest name.
+    names: usize,
 }
 
 impl Table {
     /// The columns for no file.
     pub fn new(alloc: Global) -> Table {
-        let names = HEADS[0].len();
         Table {
             alloc,
-            widths: [names, VERDICT, BOUND, PREEMPTIONS, SCHEDULE, TRIED, 0],
+            names: "file".len(),
         }
     }
 
@@ -63,7 +42,7 @@ impl Table {
     /// `AllocError` where memory runs out.
     pub fn make_room(&mut self, file: &str) -> Result<(), AllocError> {
         let width = printable(self.alloc, file)?.len();
-        self.widths[0] = self.widths[0].max(width);
+        self.names = self.names.max(width);
         Ok(())
     }
 
@@ -73,11 +52,8 @@ impl Table {
     ///
     /// `AllocError` where memory runs out.
     pub fn head(&self) -> Result<Vec<u8>, AllocError> {
-        let mut cells = Vec::new(self.alloc);
-        for head in HEADS {
-            cells.push(String::from_str(self.alloc, head)?)?;
-        }
-        self.line(cells.as_slice())
+        let found = ["verdict", "bound", "preemptions", "schedule", "tried"];
+        self.line("file", found, "note")
     }
 
     /// The line of a file, in ASCII: its verdict, the bound of the search, the preemptions of the
@@ -88,94 +64,71 @@ impl Table {
     ///
     /// `AllocError` where memory runs out.
     pub fn row(&self, entry: &Entry, marks: &Marks) -> Result<Vec<u8>, AllocError> {
-        self.line(row_of(self.alloc, entry, marks)?.as_slice())
+        let file = printable(self.alloc, entry.file.as_str())?;
+        let note = note_of(self.alloc, entry, marks)?;
+        let (file, note) = (file.as_str(), note.as_str());
+        let verdict = match &entry.outcome {
+            Outcome::Searched(searched) => return self.searched_row(file, searched, note),
+            Outcome::Unread(_) => "unread",
+            Outcome::Refused(_) | Outcome::Unclear(_) => "refused",
+        };
+        self.line(file, [verdict, NOTHING, NOTHING, NOTHING, NOTHING], note)
     }
 
-    // A line: its cells, each at the start of its column or two blanks after the one before, and a
-    // line feed.
-    fn line(&self, cells: &[String]) -> Result<Vec<u8>, AllocError> {
-        let mut line = Vec::new(self.alloc);
-        let mut start = 0usize;
-        for (cell, width) in cells.iter().zip(&self.widths) {
-            if !cell.is_empty() {
-                let blanks = start.saturating_sub(line.len());
-                put_blanks(&mut line, blanks)?;
-                line.extend_from_slice(cell.as_bytes())?;
-            }
-            start = line
-                .len()
-                .max(start.saturating_add(*width))
-                .saturating_add(2);
-        }
-        line.push(b'\n')?;
-        Ok(line)
+    // The line of a file that was searched.
+    fn searched_row(
+        &self,
+        file: &str,
+        searched: &Searched,
+        note: &str,
+    ) -> Result<Vec<u8>, AllocError> {
+        let alloc = self.alloc;
+        let Found { report, bad } = &searched.found;
+        let bound = number_cell(alloc, report.bound)?;
+        let preemptions = number_cell(alloc, bad.as_ref().map(|bad| bad.preemptions))?;
+        let schedule = match bad {
+            Some(bad) => schedule_text(alloc, bad.steps.as_slice())?,
+            None => Vec::from_slice(alloc, NOTHING.as_bytes())?,
+        };
+        let schedule = str::from_utf8(schedule.as_slice()).unwrap_or("");
+        let tried = report.summary.tried().to_string(alloc)?;
+        let found = [
+            verdict_word(&searched.found),
+            bound.as_str(),
+            preemptions.as_str(),
+            schedule,
+            tried.as_str(),
+        ];
+        self.line(file, found, note)
+    }
+
+    // A line: its cells, each at the start of its column or two blanks after the one before, with
+    // no blank after the last, which may be empty, and a line feed.
+    fn line(&self, file: &str, found: [&str; 5], note: &str) -> Result<Vec<u8>, AllocError> {
+        let names = self.names;
+        let [verdict, bound, preemptions, schedule, tried] = found;
+        let line = format!(in self.alloc;
+            "{file:<names$}  {verdict:<10}  {bound:<5}  {preemptions:<11}  {schedule:<12}  {tried:<9}  {note}"
+        )?;
+        Ok(format!(in self.alloc; "{}\n", line.as_str().trim_ascii_end())?.into_bytes())
     }
 }
 
-// Puts blanks into a text.
-fn put_blanks(text: &mut Vec<u8>, count: usize) -> Result<(), AllocError> {
-    for _ in 0..count {
-        text.push(b' ')?;
+// The verdict of a search, in a word.
+fn verdict_word(found: &Found) -> &'static str {
+    match found.report.verdict {
+        _ if found.bad.is_some() => "bad",
+        Verdict::Incomplete { .. } => "incomplete",
+        _ => "clean",
     }
-    Ok(())
 }
 
-// The cells of a file.
-fn row_of(alloc: Global, entry: &Entry, marks: &Marks) -> Result<Vec<String>, AllocError> {
-    let mut row = Vec::new(alloc);
-    row.push(printable(alloc, entry.file.as_str())?)?;
-    match &entry.outcome {
-        Outcome::Searched(searched) => put_search(&mut row, alloc, searched)?,
-        Outcome::Unread(_) => put_words(&mut row, alloc, "unread")?,
-        _ => put_words(&mut row, alloc, "refused")?,
+// A number, if there is one.
+fn number_cell(alloc: Global, number: Option<u32>) -> Result<String, AllocError> {
+    match number {
+        Some(number) => number.to_string(alloc),
+        None => NOTHING.to_string(alloc),
     }
-    row.push(note_of(alloc, entry, marks)?)?;
-    Ok(row)
-}
-
-// Puts the cells of a file without a search after its name.
-fn put_words(row: &mut Vec<String>, alloc: Global, verdict: &str) -> Result<(), AllocError> {
-    for word in [verdict, NOTHING, NOTHING, NOTHING, NOTHING] {
-        row.push(String::from_str(alloc, word)?)?;
-    }
-    Ok(())
-}
-
-// Puts the cells of a search after the name of its file.
-fn put_search(row: &mut Vec<String>, alloc: Global, searched: &Searched) -> Result<(), AllocError> {
-    let Found { report, bad } = &searched.found;
-    let verdict = match (bad, &report.verdict) {
-        (Some(_), _) => "bad",
-        (None, Verdict::Incomplete { .. }) => "incomplete",
-        (None, _) => "clean",
-    };
-    let (preemptions, schedule) = match bad {
-        Some(bad) => (
-            bad.preemptions.to_string(alloc)?,
-            text_of(
-                alloc,
-                schedule_text(alloc, bad.steps.as_slice())?.as_slice(),
-            )?,
-        ),
-        None => (
-            String::from_str(alloc, NOTHING)?,
-            String::from_str(alloc, NOTHING)?,
-        ),
-    };
-    row.push(String::from_str(alloc, verdict)?)?;
-    row.push(match report.bound {
-        Some(bound) => bound.to_string(alloc)?,
-        None => String::from_str(alloc, NOTHING)?,
-    })?;
-    row.push(preemptions)?;
-    row.push(schedule)?;
-    row.push(report.summary.tried().to_string(alloc)?)?;
-    Ok(())
-}
-
-// An ASCII text; of other bytes each is left out.
-fn text_of(alloc: Global, bytes: &[u8]) -> Result<String, AllocError> {
-    String::from_str(alloc, str::from_utf8(bytes).unwrap_or(""))
 }
 
 // A name with each byte that isn't printable ASCII, or is a backslash, as `\x` and two digits.
@@ -185,46 +138,34 @@ fn printable(alloc: Global, name: &str) -> Result<String, AllocError> {
         if (b' '..=b'~').contains(byte) && *byte != b'\\' {
             text.push(*byte as char)?;
         } else {
-            text.push_str(format!(in alloc; "\\x{byte:02x}")?.as_str())?;
+            write!(text, "\\x{byte:02x}")?;
         }
     }
     Ok(text)
 }
 
-// The lines of a file, as they are told.
-#[derive(Clone, Copy)]
-struct Lines<'a> {
-    alloc: Global,
-    marks: &'a Marks,
+// A line as it is told: `line 12`, or `worker.inc:12` where a mark says so.
+fn line_text(alloc: Global, marks: &Marks, line: u64) -> Result<String, AllocError> {
+    let line = u32::try_from(line).unwrap_or(u32::MAX);
+    match marks.origin(line) {
+        Some(_) => {
+            let told = format!(in alloc; "{}", marks.told("", line).named())?;
+            printable(alloc, told.as_str())
+        }
+        None => format!(in alloc; "line {line}"),
+    }
 }
 
-impl Lines<'_> {
-    // The line that a mark says, with its file, if one comes before it.
-    fn marked(&self, line: u32) -> Option<FileLine<'_>> {
-        self.marks.origin(line)?;
-        Some(self.marks.told("", line).named())
+// A refusal, and after it its place by the marks, where they have one.
+fn refusal_text(alloc: Global, marks: &Marks, error: ExploreError) -> Result<String, AllocError> {
+    let mut told = format!(in alloc; "{error}")?;
+    if let Some(at) = place_of(error)
+        && marks.origin(at.line).is_some()
+    {
+        let line = line_text(alloc, marks, u64::from(at.line))?;
+        write!(told, " ({line}:{})", at.col)?;
     }
-
-    // A line: `line 12`, or `worker.inc:12` where a mark says so.
-    fn line(&self, line: u64) -> Result<String, AllocError> {
-        let line = u32::try_from(line).unwrap_or(u32::MAX);
-        match self.marked(line) {
-            Some(line) => printable(self.alloc, format!(in self.alloc; "{line}")?.as_str()),
-            None => format!(in self.alloc; "line {line}"),
-        }
-    }
-
-    // A refusal, and after it its place by the marks, where they have one.
-    fn refusal(&self, error: ExploreError) -> Result<String, AllocError> {
-        let mut told = format!(in self.alloc; "{error}")?;
-        if let Some(at) = place_of(error) {
-            if let Some(line) = self.marked(at.line) {
-                let place = format!(in self.alloc; " ({line}:{})", at.col)?;
-                told.push_str(printable(self.alloc, place.as_str())?.as_str())?;
-            }
-        }
-        Ok(told)
-    }
+    Ok(told)
 }
 
 // The place that a refusal tells.
@@ -251,51 +192,45 @@ fn place_of(error: ExploreError) -> Option<Pos> {
 
 // What there is to say of a file beside its verdict.
 fn note_of(alloc: Global, entry: &Entry, marks: &Marks) -> Result<String, AllocError> {
-    let lines = Lines { alloc, marks };
     let mut note = String::new(alloc);
     match &entry.outcome {
-        Outcome::Searched(searched) => put_search_notes(&mut note, alloc, entry, searched)?,
-        Outcome::Refused(error) => put_part(&mut note, lines.refusal(*error)?)?,
+        Outcome::Searched(searched) => put_search_notes(&mut note, entry, searched)?,
+        Outcome::Refused(error) => put_part(&mut note, refusal_text(alloc, marks, *error)?)?,
         Outcome::Unclear(line) => {
-            let line = lines.line(*line)?;
-            let part = format!(in alloc;
-                "{line}: one `# expect:` is wanted, with bad, bad N, failed, stuck or clean"
-            )?;
-            put_part(&mut note, part)?;
+            let line = line_text(alloc, marks, *line)?;
+            let wanted = "one `# expect:` is wanted, with bad, bad N, failed, stuck or clean";
+            put_part(&mut note, format_args!("{line}: {wanted}"))?;
         }
         Outcome::Unread(cause) => put_part(&mut note, printable(alloc, cause.as_str())?)?,
     }
     if let Some(line) = entry.near {
-        let line = lines.line(line)?;
-        let part = format!(in alloc; "{line} looks like `# expect:` and isn't")?;
-        put_part(&mut note, part)?;
+        let line = line_text(alloc, marks, line)?;
+        put_part(
+            &mut note,
+            format_args!("{line} looks like `# expect:` and isn't"),
+        )?;
     }
     Ok(note)
 }
 
 // Puts a part after those of a note.
-fn put_part(note: &mut String, part: String) -> Result<(), AllocError> {
-    if !note.is_empty() {
-        note.push_str("; ")?;
-    }
-    note.push_str(part.as_str())
+fn put_part<D: fmt::Display + Drop>(note: &mut String, part: D) -> Result<(), AllocError> {
+    let sign = if note.is_empty() { "" } else { "; " };
+    write!(note, "{sign}{part}")
 }
 
 // Puts the parts of a file that was searched: what is to be said of its expectation, and of how far
 // the search went.
 fn put_search_notes(
     note: &mut String,
-    alloc: Global,
     entry: &Entry,
     searched: &Searched,
 ) -> Result<(), AllocError> {
     let Found { report, bad } = &searched.found;
     match (entry.expected, entry.status(), bad) {
         (None | Some(Expected::Clean), 0, _) | (None, _, _) | (_, 3, None) => {}
-        (Some(_), 0, _) => put_part(note, String::from_str(alloc, "expected")?)?,
-        (Some(expected), _, _) => {
-            put_part(note, format!(in alloc; "{expected} was expected")?)?;
-        }
+        (Some(_), 0, _) => put_part(note, "expected")?,
+        (Some(expected), _, _) => put_part(note, format_args!("{expected} was expected"))?,
     }
     let rest = match (bad, &report.verdict) {
         (Some(bad), _) if u64::from(bad.preemptions) > searched.clear => "fewer preemptions may do",
@@ -304,7 +239,7 @@ fn put_search_notes(
         (None, Verdict::Incomplete { .. }) => "cut short at the limit",
         _ => return Ok(()),
     };
-    put_part(note, String::from_str(alloc, rest)?)
+    put_part(note, rest)
 }
 
 /// The JSON of a file, an object and a line feed: `file`, `expect` (the words, or null), `status`
@@ -315,50 +250,23 @@ fn put_search_notes(
 ///
 /// `AllocError` where memory runs out.
 pub fn json_line(alloc: Global, entry: &Entry, marks: &Marks) -> Result<Vec<u8>, AllocError> {
-    let mut text = Vec::new(alloc);
-    let note = note_of(alloc, entry, marks)?;
-    put_member(&mut text, alloc, b"{\"file\":", entry.file.as_str())?;
-    match entry.expected {
-        Some(expected) => {
-            let words = format!(in alloc; "{expected}")?;
-            put_member(&mut text, alloc, b",\"expect\":", words.as_str())?;
-        }
-        None => text.extend_from_slice(b",\"expect\":null")?,
-    }
-    text.extend_from_slice(b",\"status\":")?;
-    text.extend_from_slice(entry.status().to_string(alloc)?.as_bytes())?;
-    put_member(&mut text, alloc, b",\"note\":", note.as_str())?;
-    text.push(b',')?;
+    let file = Value::try_from_str(alloc, entry.file.as_str())?;
+    let expected = match entry.expected {
+        Some(expected) => Value::String(expected.to_string(alloc)?),
+        None => Value::Null,
+    };
+    let status = entry.status();
+    let note = Value::String(note_of(alloc, entry, marks)?);
+    let mut text = format!(in alloc;
+        "{{\"file\":{file},\"expect\":{expected},\"status\":{status},\"note\":{note},"
+    )?;
     match &entry.outcome {
+        // the members of the report are these, too
         Outcome::Searched(searched) => {
-            let report = report_text(alloc, &searched.found.report)?;
-            text.extend_from_slice(after_first(report.as_slice()))?;
+            let report = report_value(alloc, &searched.found.report)?.to_string(alloc)?;
+            writeln!(text, "{}", report.strip_prefix('{').unwrap_or(""))?;
         }
-        _ => {
-            put_member(&mut text, alloc, b"\"fault\":", note.as_str())?;
-            text.push(b'}')?;
-        }
+        _ => writeln!(text, "\"fault\":{note}}}")?,
     }
-    text.push(b'\n')?;
-    Ok(text)
-}
-
-// The bytes after the first.
-fn after_first(text: &[u8]) -> &[u8] {
-    match text.split_first() {
-        Some((_, rest)) => rest,
-        None => text,
-    }
-}
-
-// Puts a key, with what stands before it, and a text as its value.
-fn put_member(
-    text: &mut Vec<u8>,
-    alloc: Global,
-    key: &[u8],
-    value: &str,
-) -> Result<(), AllocError> {
-    text.extend_from_slice(key)?;
-    let value = Value::try_from_str(alloc, value)?;
-    text.extend_from_slice(value.to_vec(alloc)?.as_slice())
+    Ok(text.into_bytes())
 }

@@ -8,7 +8,7 @@ use runner::{BOUND, ExploreError, Gate, Search, Verdict};
 use std::alloc::{Alloc, Global};
 use std::sync::Wait;
 use std::thread::Threads;
-use verify::{BadSchedule, Found, find, program_of};
+use verify::{BadSchedule, Found, program_of, run_search};
 
 /// What the searches of a text show.
 #[derive(Drop)]
@@ -40,7 +40,7 @@ where
     ensures { SearchMeans (G.stops gate.now) text.now limits result }
 {
     let program = program_of(rt.alloc(), text)?;
-    let first = find(rt, &program, Search::Unbounded, limits, gate)?;
+    let first = run_search(rt, &program, Search::Unbounded, limits, gate)?;
     if is_enough(&first) {
         return Ok(Searched {
             found: first,
@@ -48,8 +48,8 @@ where
         });
     }
     let bound = second_bound(limits.bound, &first.bad);
-    let second = find(rt, &program, Search::UpTo(bound), limits, gate)?;
-    let clear = second.clear_below();
+    let second = run_search(rt, &program, Search::UpTo(bound), limits, gate)?;
+    let clear = second.clean_below();
     let found = nearer(first, second);
     Ok(Searched { found, clear })
 }

@@ -11,7 +11,7 @@ use Rattle.report.specs.declared.report.Verdict.{Verdict}
 use Rattle.report.specs.declared.report.Verdict.TheVariants.{Clean, Bad, Incomplete}
 use Rattle.report.specs.ReportText.{named_schedule, verdict_schedule}
 use Rattle.report.specs.Reports.{NoBadBelow}
-use Rattle.verify.specs.declared.answer.Answer.TheVariants as answers
+use Rattle.verify.specs.declared.answer.Correctness.TheVariants as answers
 use Rattle.verify.specs.declared.found.BadSchedule.{BadSchedule}
 use Rattle.verify.specs.declared.found.Found.{Found}
 use Rattle.verify.specs.Shown.{options_of, is_clean, is_cut_short, IsBadOf, IsNamedBad, IsFound}

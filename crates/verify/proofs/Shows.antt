@@ -30,7 +30,7 @@ use Rattle.report.specs.ReportText.{named_schedule, verdict_schedule}
 use Rattle.report.specs.Reports.{IsBadSchedule, NoBadBelow, HasItems}
 use Rattle.report.specs.Promises.{IsReport, IsReportFor, IsBoundedVerdict, IsUnboundedVerdict}
 use Rattle.verify.specs.declared.found.BadSchedule.{BadSchedule}
-use Rattle.verify.specs.Shown.{clear_of, clear_below, is_clean, is_right, IsRight, IsRightUpTo}
+use Rattle.verify.specs.Shown.{clear_of, clean_below, is_clean, is_right, IsRight, IsRightUpTo}
 use Rattle.verify.specs.Shown.{IsNamedBad, IsFound}
 
 -- a schedule of the root in a mode is a complete one
@@ -125,10 +125,10 @@ clear_up_to may p o last bound sum (Incomplete cause (Some f)) h w bad = h.2.1 w
 
 -- below as many preemptions as the report says none is bad
 pub clear_is : (may : Bool) (p : Program) (o : Options) (r : Report) → IsReport may p o r
-    → NoBadBelow p (clear_below r)
+    → NoBadBelow p (clean_below r)
 clear_is may p o r is = go o.search is.1
   where
-    go : (s : Search) → IsReportFor may p o s r → NoBadBelow p (clear_below r)
+    go : (s : Search) → IsReportFor may p o s r → NoBadBelow p (clean_below r)
     go (UpTo last) h =
         subst (λ b. NoBadBelow p (clear_of b r.verdict)) (sym h.1)
         (clear_up_to may p o last h.0 r.summary r.verdict h.2)

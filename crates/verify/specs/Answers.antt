@@ -5,8 +5,8 @@ use Rattle.report.specs.declared.options.Search.TheVariants.{UpTo, Unbounded}
 use Rattle.report.specs.Reports.{NoBadBelow}
 use Rattle.report.specs.Texts.{IsProgramOf}
 use Rattle.answering.specs.declared.limits.Limits.{Limits}
-use Rattle.verify.specs.declared.answer.Answer.{Answer}
-use Rattle.verify.specs.declared.answer.Answer.TheVariants.{Right, Bad, Undecided}
+use Rattle.verify.specs.declared.answer.Correctness.{Correctness}
+use Rattle.verify.specs.declared.answer.Correctness.TheVariants.{Right, Bad, Undecided}
 use Rattle.verify.specs.declared.found.BadSchedule.{BadSchedule}
 use Rattle.verify.specs.Shown.{options_of, IsRight, IsBadOf, WasCut, Names}
 
@@ -18,7 +18,7 @@ stop_of (Some b) bound = min b.preemptions (bound + 1)
 
 -- the answer where no bad schedule has fewer preemptions than `clear`: the nearer bad one, or the one
 -- that was known before
-abbrev pub answer_of : Option BadSchedule → Option BadSchedule → ℕ → Answer
+abbrev pub answer_of : Option BadSchedule → Option BadSchedule → ℕ → Correctness
 answer_of (Some b) known clear = Bad b (nat_le b.preemptions clear)
 answer_of None (Some b) clear = Bad b (nat_le b.preemptions clear)
 answer_of None None clear = Undecided clear
@@ -40,14 +40,14 @@ pub record MayHaveFewer (p : Program) (l : Limits) (b : BadSchedule) : Type 0 wh
 -- what an answer says: no schedule is bad; this one is, and none with fewer preemptions, or where
 -- that isn't told it is left open; or that is open from so many on, and the search without a bound
 -- was cut short
-abbrev pub AnswerMeans : Program → Limits → Answer → Type 0
+abbrev pub AnswerMeans : Program → Limits → Correctness → Type 0
 AnswerMeans p l Right = IsRight p
 AnswerMeans p l (Bad b true) = IsBadOf p b × NoBadBelow p b.preemptions
 AnswerMeans p l (Bad b false) = IsBadOf p b × MayHaveFewer p l b
 AnswerMeans p l (Undecided below) = IsOpen p l below × WasCut p (options_of Unbounded l.limit)
 
 -- the text spells a program, and the answer is of it
-pub record IsAnswerOfText (text : List ℕ) (l : Limits) (a : Answer) : Type 0 where
+pub record IsAnswerOfText (text : List ℕ) (l : Limits) (a : Correctness) : Type 0 where
   pub program : Program
   pub is_program : IsProgramOf text program
   pub means : AnswerMeans program l a

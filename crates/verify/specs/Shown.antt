@@ -60,8 +60,8 @@ clear_of (Some bound) (Bad k w kind) = k
 clear_of (Some bound) (Incomplete cause None) = 0
 clear_of (Some bound) (Incomplete cause (Some finished)) = finished + 1
 
-abbrev pub clear_below : Report → ℕ
-clear_below r = clear_of r.bound r.verdict
+abbrev pub clean_below : Report → ℕ
+clean_below r = clear_of r.bound r.verdict
 
 -- as far as a search was to go no schedule is bad
 abbrev pub IsRightUpTo : Program → Search → Type 0
@@ -72,7 +72,7 @@ IsRightUpTo p Unbounded = IsRight p
 pub record IsFound (may : Bool) (p : Program) (o : Options) (f : Found) : Type 0 where
   pub report : IsReport may p o f.report
   pub bad : IsNamedBad p (named_schedule f.report) f.bad
-  pub clear : NoBadBelow p (clear_below f.report)
+  pub clear : NoBadBelow p (clean_below f.report)
   pub clean : is_clean f.report.verdict ≡ true → IsRightUpTo p o.search
   pub right : is_right f.report.verdict ≡ true → IsRight p
 

@@ -8,7 +8,7 @@ ghost use Rattle.report.specs.declared.options.Search.TheVariants.{Unbounded};
 ghost use Rattle.verify.specs.Shown.{options_of, IsLeft};
 ghost use Rattle.verify.specs.Answers.{AnswerMeans, answer_of, stop_of};
 
-use crate::found::{BadSchedule, Found, find};
+use crate::found::{BadSchedule, Found, run_search};
 use answering::Limits;
 use guest_code::program::Program;
 use runner::{ExploreError, Open, Search, Verdict};
@@ -20,7 +20,7 @@ use std::thread::Threads;
 
 /// Whether a program is right.
 #[derive(Drop)]
-pub enum Answer {
+pub enum Correctness {
     /// No complete schedule fails or gets stuck.
     Right,
     /// This one does.
@@ -96,15 +96,15 @@ fn stop_of(known: &Option<BadSchedule>, bound: u32) -> u32
 
 // The answer where no bad schedule has fewer preemptions than `clear`: the nearer bad one, or the
 // one that was known before.
-fn answer_of(nearer: Option<BadSchedule>, known: Option<BadSchedule>, clear: u32) -> Answer
+fn answer_of(nearer: Option<BadSchedule>, known: Option<BadSchedule>, clear: u32) -> Correctness
     ensures { result ≡ answer_of nearer known clear }
 {
     match (nearer, known) {
-        (Some(bad), _) | (None, Some(bad)) => Answer::Bad {
+        (Some(bad), _) | (None, Some(bad)) => Correctness::Bad {
             is_fewest: bad.preemptions <= clear,
             bad,
         },
-        (None, None) => Answer::Undecided { below: clear },
+        (None, None) => Correctness::Undecided { below: clear },
     }
 }
 
@@ -124,7 +124,7 @@ fn answer_by_bounds<R, W: Write>(
     limits: Limits,
     known: Option<BadSchedule>,
     out: &mut W,
-) -> Result<Answer, ExploreError>
+) -> Result<Correctness, ExploreError>
 where
     R: Threads + Wait + Sync + Alloc<A = Global>,
     requires known { IsLeft (arc_value program.now) (options_of Unbounded limits.limit) known }
@@ -134,10 +134,10 @@ where
     let stop = stop_of(&known, limits.bound);
     for bound in 0..stop {
         let search = Search::UpTo(bound);
-        let found = find(rt, program, search, limits, &Open)?;
+        let found = run_search(rt, program, search, limits, &Open)?;
         tell(out, search, &found);
         if found.is_right() {
-            return Ok(Answer::Right);
+            return Ok(Correctness::Right);
         }
         if !found.is_clean() {
             return Ok(answer_of(found.bad, known, bound));
@@ -160,16 +160,16 @@ pub fn verify<R, W: Write>(
     program: &Arc<Program>,
     limits: Limits,
     out: &mut W,
-) -> Result<Answer, ExploreError>
+) -> Result<Correctness, ExploreError>
 where
     R: Threads + Wait + Sync + Alloc<A = Global>,
     ensures answer { IfOk result (AnswerMeans (arc_value program.now) limits) }
     ensures error { IfErr result (λ e. e ≡ OutOfMemory) }
 {
-    let found = find(rt, program, Search::Unbounded, limits, &Open)?;
+    let found = run_search(rt, program, Search::Unbounded, limits, &Open)?;
     tell(out, Search::Unbounded, &found);
     if found.is_clean() {
-        return Ok(Answer::Right);
+        return Ok(Correctness::Right);
     }
     answer_by_bounds(rt, program, limits, found.bad, out)
 }

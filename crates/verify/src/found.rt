@@ -6,7 +6,7 @@ ghost use Rattle.report.specs.declared.error.ExploreError.TheVariants.{OutOfMemo
 ghost use Rattle.report.specs.Promises.{IsSearch};
 ghost use Rattle.report.specs.Reports.{IsBadSchedule};
 ghost use Rattle.report.specs.ReportText.{named_schedule};
-ghost use Rattle.verify.specs.Shown.{options_of, clear_below, is_right, is_clean, IsBadOf, IsNamedBad, IsFound};
+ghost use Rattle.verify.specs.Shown.{options_of, clean_below, is_right, is_clean, IsBadOf, IsNamedBad, IsFound};
 
 use answering::Limits;
 use guest_code::program::Program;
@@ -38,8 +38,8 @@ pub struct Found {
 
 impl Found {
     /// No bad schedule has fewer preemptions than this; 0 where the search had no bound.
-    pub fn clear_below(&self) -> u64
-        ensures { result ≡ clear_below self.now.report }
+    pub fn clean_below(&self) -> u64
+        ensures { result ≡ clean_below self.now.report }
     {
         match (self.report.bound, &self.report.verdict) {
             (Some(bound), Verdict::Clean { .. }) => past(bound),
@@ -129,7 +129,7 @@ fn named_bad(
 ///
 /// `OutOfMemory` where memory runs out.
 #[tactic(auto, using(crate::proofs::Shows::named_is_bad, crate::proofs::Shows::found_is))]
-pub fn find<G: Gate, R>(
+pub fn run_search<G: Gate, R>(
     rt: &R,
     program: &Arc<Program>,
     search: Search,

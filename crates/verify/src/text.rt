@@ -4,7 +4,7 @@ ghost use Rattle.std.specs.Prelude.{MatchResult};
 ghost use Rattle.report.specs.Texts.{ExploreErrorMeans};
 ghost use Rattle.verify.specs.Answers.{IsAnswerOfText};
 
-use crate::answer::{Answer, verify};
+use crate::answer::{Correctness, verify};
 use answering::Limits;
 use runner::{ExploreError, program_of};
 use std::alloc::{Alloc, Global};
@@ -22,7 +22,7 @@ pub fn verify_text<R, W: Write>(
     text: &[u8],
     limits: Limits,
     out: &mut W,
-) -> Result<Answer, ExploreError>
+) -> Result<Correctness, ExploreError>
 where
     R: Threads + Wait + Sync + Alloc<A = Global>,
     ensures { MatchResult result (IsAnswerOfText text.now limits) (ExploreErrorMeans text.now) }

@@ -9,7 +9,7 @@ pub returns : goal.returns
 returns g c =
     let report = c.in_ok-report.report in
     let text = c.args.text.now in
-    let printed = c.in_ok-output.ensures.line in
+    let printed = c.in_ok-output.ensures in
     elim c.match-schedule.branch [
       | in-Some+in_ok-schedule+in_ok-trace+in_ok-extend_from_slice w ↦
           let trace = w.in_ok-trace.trace in
@@ -26,10 +26,10 @@ returns g c =
                 );
             output = ap (λ (v : Vec ℕ Global). v.items) w.output-is
                 ∙ w.in_ok-extend_from_slice.ensures.items
-                ∙ ap (λ (xs : List ℕ). xs ++ w.as_slice-in-Some.result.now) printed
+                ∙ ap (λ (xs : List ℕ). xs ++ w.as_slice-in-Some.result.now) printed.output
                 ∙ ap (λ (xs : List ℕ). report_text report ++ 10 ∷ [] ++ xs)
                 w.as_slice-in-Some.ensures.value;
-            status = c.verdict_status.ensures;
+            status = printed.status;
           }
       | in_default w ↦
           record {
@@ -38,8 +38,8 @@ returns g c =
             trace = [];
             traced = subst (λ (n : Option (List ℕ)). IsTraceOf text n [])
                 (sym w.in_default.ensures) refl;
-            output = ap (λ (v : Vec ℕ Global). v.items) w.output-is ∙ printed
+            output = ap (λ (v : Vec ℕ Global). v.items) w.output-is ∙ printed.output
                 ∙ sym (append-nil (report_text report ++ 10 ∷ []));
-            status = c.verdict_status.ensures;
+            status = printed.status;
           }
     ]

@@ -2,7 +2,7 @@ use Rattle.std.proofs.Common.{sym, subst}
 use Rattle.guest_code.specs.Program.{Program}
 use Rattle.report.specs.Reports.{IsBadSchedule}
 use Rattle.verify.proofs.Shows.{named_is_bad}
-use Rattle.verify.proofs.found.find.Goals as goal
+use Rattle.verify.proofs.found.run_search.Goals as goal
 
 pub named_bad-requires : goal.named_bad-requires
 named_bad-requires g c w e =
