@@ -200,7 +200,7 @@ pub enum CommandFault<'a> {
     Fault(Fault),
     /// The file or the stream of this name failed.
     Device(&'a str, io::Error),
-    /// This line tells it, and the status is this one.
+    /// The line that tells why, and the status.
     Line(Vec<u8>, u8),
 }
 

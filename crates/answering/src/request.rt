@@ -29,8 +29,8 @@ pub enum Request {
 }
 
 impl Request {
-    /// The file of the guest program, where a person is told that `check` says more of a text that
-    /// is refused.
+    /// The guest program's file, of requests whose refusals `check` explains further: a person is
+    /// told so.
     pub fn guest(&self) -> Option<&str> {
         let file = match self {
             Request::One { file, .. } => file,

@@ -122,7 +122,7 @@ where
     read_bytes(rt, file, TEXT_BYTES as u64 + 1)
 }
 
-/// The first bytes of a file or of standard input, so many at most.
+/// The first bytes of a file or of standard input, at most `most` of them.
 ///
 /// # Errors
 ///

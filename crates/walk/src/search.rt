@@ -138,7 +138,7 @@ impl Found {
         self.part.tried() < limit
     }
 
-    // The walk backtracks to a node after so many of its steps.
+    // Backtracks: the walk is at a node this many steps from its start.
     fn backtrack(&mut self, steps: usize)
         ensures { self.new ≡ record self.old { shared = min self.old.shared steps } }
     {
