@@ -18,6 +18,8 @@ import tempfile
 from pathlib import Path
 
 SHOWN = 92  # how many bytes of a line are shown
+PIECE = re.compile(r"[ \t\r\n]+|#[^\n]*|([A-Za-z_]\w*|\d+|==|!=|<=|>=|.)", re.S | re.A)
+ENDS = (";", "{", "}")
 
 # The text, with ^ before the byte that is marked, how many bytes are, the short form but for its
 # place, and words that the lines below it have.
@@ -25,8 +27,8 @@ REFUSED = [
     ("# caf^\xe9\nthread A { }", 1, "syntax S1 NotAscii at", "ASCII"),
     ("^\xef\xbb\xbfthread A { }", 1, "syntax S1 NotAscii at", "byte order mark"),
     ("thread A { store x 1^, }", 1, "syntax S2 BadChar at", "no commas"),
-    ("mutex m; thread A { lock^(m); }", 1, "syntax S2 BadChar at", "no parentheses: lock MUTEX;"),
-    ("var x^, y; thread A { }", 1, "syntax S2 BadChar at", "write: var y;"),
+    ("mutex m; thread A { lock^(m); }", 1, "syntax S2 BadChar at", "= write: lock m;\n"),
+    ("var x^, y; thread A { }", 1, "syntax S2 BadChar at", "= write: var x; var y;\n"),
     ("thread A { assert p ^&& q; }", 1, "syntax S2 BadChar at", "assert p; assert q;"),
     ("thread A { ^// a note\n }", 1, "syntax S2 BadChar at", "a comment begins with `#`"),
     ("thread A { set r ^!q; }", 1, "syntax S2 BadChar at", "compare with 0"),
@@ -34,16 +36,16 @@ REFUSED = [
     ("thread A { set r ^$; }", 1, "syntax S2 BadChar at", "no token begins"),
     ("var x;\nthread A { store x ^}", 1, "syntax S3 Expected at", "a local or a number was expected"),
     ("thread A {\n    set r 1;\n^", 1, "syntax S3 Expected at", "this `{` is never closed"),
-    ("thread A { repeat ^0 { } }", 1, "syntax S3 Expected at", "once at least"),
+    ("thread A { repeat ^0 { } }", 1, "syntax S3 Expected at", "a number from 1 to 100 was expected"),
     ("var x; thread A { ^while r == 0 { load r x; } }", 5, "syntax S3 Expected at",
      "write: repeat 3 { load r x; if r != 0 { leave; } }"),
-    ("var x; thread A { ^x = 1; }", 1, "syntax S3 Expected at", "write: store x 1;"),
-    ("thread A { set r ^= 1; }", 1, "syntax S3 Expected at", "write: set LOCAL VALUE;"),
+    ("var x; thread A { ^x = 1; }", 1, "syntax S3 Expected at", "= write: store x 1;\n"),
+    ("thread A { set r ^= 1; }", 1, "syntax S3 Expected at", "= write: set r 1;\n"),
     ("thread A { set r 1 + 2 ^+ 3; }", 1, "syntax S3 Expected at", "`;` was expected"),
-    ("thread A { if r { } else ^if q { } }", 2, "syntax S3 Expected at", "} else { if VALUE"),
+    ("thread A { if r { } else ^if q { } }", 2, "syntax S3 Expected at", "= write: else { if q { .. } }\n"),
     ("thread A { ^var r; }", 3, "syntax S3 Expected at", "a local isn't declared"),
-    ("sem s^; thread A { }", 1, "syntax S3 Expected at", "sem NAME = COUNT;"),
-    ("var x; thread A { add x ^1; }", 1, "syntax S3 Expected at", "here: add old x .."),
+    ("sem s^; thread A { }", 1, "syntax S3 Expected at", "= write: sem s = 0;\n"),
+    ("var x; thread A { add x ^1; }", 1, "syntax S3 Expected at", "= write: add r x 1;\n"),
     ("var x; thread A { store x 1\n ^store x 2; }", 5, "syntax S3 Expected at",
      "is a `;` missing after `1`"),
     ("thread A { } ^}", 1, "syntax S3 Expected at", "closes no block"),
@@ -53,8 +55,8 @@ REFUSED = [
      "syntax S3 Expected at",
      "this `{` is closed by the `}` at 5:1: is one missing after line 3?"),
     ("var x = ^9223372036854775808;", 19, "syntax S4 NumberTooBig at", "9223372036854775807"),
-    ("sem s = ^65536;", 5, "syntax S4 NumberTooBig at", "65,535"),
-    ("thread A { repeat ^101 { } }", 3, "syntax S4 NumberTooBig at", "100 times"),
+    ("sem s = ^65536;", 5, "syntax S4 NumberTooBig at", "a number from 0 to 65535 was expected"),
+    ("thread A { repeat ^101 { } }", 3, "syntax S4 NumberTooBig at", "a number from 1 to 100 was expected"),
     ("^" + "#" * 65537, 1, "syntax S5 TooLong at", "65,536 bytes"),
     ("thread A {\n" + "if 1 { " * 32 + "if 1 ^{", 1, "syntax S6 TooDeep at", "32 blocks"),
     ("var x;\nmutex ^x;\nthread A { }", 1, "check C1 Duplicate at", "the first is this variable"),
@@ -66,11 +68,11 @@ REFUSED = [
     # three bytes of four are others
     ("var wxyd; thread A { load r ^abcd; store wxyd r; }", 4, "check C2 Unknown at",
      "declare it: var abcd;"),
-    ("var x;\nthread A { lock ^x; }", 1, "check C3 WrongKind at", "a mutex must be here"),
-    ("var x; thread A { if ^x == 0 { } }", 1, "check C3 WrongKind at", "load r x; if r"),
-    ("var x; var y; thread A { store x ^y; }", 1, "check C3 WrongKind at", "load r y;"),
-    ("var x;\nthread A { set ^x 1; }", 1, "check C3 WrongKind at", "a name of its own"),
-    ("mutex m; cond c; thread A { wait ^m c; }", 1, "check C3 WrongKind at", "wait COND MUTEX;"),
+    ("var x;\nthread A { lock ^x; }", 1, "check C3 WrongKind at", "the name of a mutex was expected"),
+    ("var x; thread A { if ^x == 0 { } }", 1, "check C3 WrongKind at", "= write: load r x; if r == 0 { .. }\n"),
+    ("var x; var y; thread A { store x ^y; }", 1, "check C3 WrongKind at", "= write: load r y; store x r;\n"),
+    ("var x;\nthread A { set ^x 1; }", 1, "check C3 WrongKind at", "= write: store x 1;\n"),
+    ("mutex m; cond c; thread A { wait ^m c; }", 1, "check C3 WrongKind at", "= write: wait c m;\n"),
     ("mutex a; mutex b; mutex c; mutex d; mutex e; mutex f; mutex g; mutex h;\nmutex ^i;", 1,
      "check C5 TooMany at", "the 9th mutex: at most 8"),
     ("thread A { ^leave; }", 5, "check C7 LeaveOutside at", "no `repeat` is round this"),
@@ -90,47 +92,47 @@ REFUSED = [
     # two edits from the first name, one from the second
     ("var balanced; var balance; thread A { load r ^balnce; load r balanced; }", 6,
      "check C2 Unknown at", "did you mean `balance` (declared at 1:19)?"),
-    ("var x; thread A { ^sotre x 1; }", 5, "syntax S3 Expected at", "did you mean `store`?"),
-    ("var x; ^thraed A { }", 6, "syntax S3 Expected at", "did you mean `thread`?"),
+    ("var x; thread A { ^sotre x 1; }", 5, "syntax S3 Expected at", "= write: store x 1;\n"),
+    ("var x; ^thraed A { }", 6, "syntax S3 Expected at", "= write: thread A { .. }\n"),
     # one edit from `unlock`, two from `lock`
-    ("mutex m; thread A { ^ulock m; }", 5, "syntax S3 Expected at", "did you mean `lock`?"),
-    ("mutex m; thread A { ^unlok m; }", 5, "syntax S3 Expected at", "did you mean `unlock`?"),
-    ("var x; thread A { if r ^= 1 { } }", 1, "syntax S3 Expected at", "is `==` meant?"),
-    ("var x ^== 1; thread A { }", 2, "syntax S3 Expected at", "is `=` meant?"),
+    ("mutex m; thread A { ^ulock m; }", 5, "syntax S3 Expected at", "= write: lock m;\n"),
+    ("mutex m; thread A { ^unlok m; }", 5, "syntax S3 Expected at", "= write: unlock m;\n"),
+    ("var x; thread A { if r ^= 1 { } }", 1, "syntax S3 Expected at", "= write: if r == 1 { .. }\n"),
+    ("var x ^== 1; thread A { }", 2, "syntax S3 Expected at", "= write: var x = 1;\n"),
     ("var x; thread A { set r -^q; }", 1, "syntax S3 Expected at",
-     "only a number has a sign: write 0 - q in a `set`"),
+     "= write: set r 0 - q;\n"),
     ("var x; thread A { ^x += 2; }", 1, "syntax S3 Expected at",
-     "write: add old x 2; for a variable, set x x + 2; for a local"),
+     "= write: add r x 2; # one step\n      = or: load r x; set r r + 2; store x r;\n"),
     ("var x; thread A { ^x -= 2; }", 1, "syntax S3 Expected at",
-     "write: add old x -2; for a variable, set x x - 2; for a local"),
-    ("var x; thread A { ^x++; }", 1, "syntax S3 Expected at", "write: add old x 1; for a variable"),
-    ("var x; thread A { ^x = x + 1; }", 1, "syntax S3 Expected at", "write: add old x 1; for a variable"),
-    ("var x; thread A { ^x = y * 2; }", 1, "syntax S3 Expected at", "write: set x y * 2; for a local"),
-    ("var x; thread A { ^x = -1; }", 1, "syntax S3 Expected at", "write: store x -1; for a variable, set x -1; for a local"),
-    ("var x; thread A { ^x = !x; }", 1, "syntax S3 Expected at", "write: store x VALUE; for a variable"),
+     "= write: add r x -2; # one step\n      = or: load r x; set r r - 2; store x r;\n"),
+    ("var x; thread A { ^x++; }", 1, "syntax S3 Expected at", "= write: add r x 1; # one step\n      = or: load r x; set r r + 1; store x r;\n"),
+    ("var x; thread A { ^x = x + 1; }", 1, "syntax S3 Expected at", "= write: add r x 1; # one step\n      = or: load r x; set r r + 1; store x r;\n"),
+    ("var x; thread A { ^x = y * 2; }", 1, "syntax S3 Expected at", "= write: set r y * 2; store x r;\n"),
+    ("var x; thread A { ^x = -1; }", 1, "syntax S3 Expected at", "= write: store x -1;\n"),
+    ("var x; thread A { ^x = !x; }", 1, "syntax S3 Expected at", "= write: load s x; set r s == 0; store x r;\n"),
     # a word for a truth value would be a local, which is 0
-    ("var x; thread A { ^x = true; }", 1, "syntax S3 Expected at", "write: store x 1; for a variable"),
-    ("var x; thread A { ^r = x; }", 1, "syntax S3 Expected at", "write: load r x;\n"),
-    ("var x; thread A { store x ^= 1; }", 1, "syntax S3 Expected at", "write: store VAR VALUE;"),
+    ("var x; thread A { ^x = true; }", 1, "syntax S3 Expected at", "= write: store x 1;\n"),
+    ("var x; thread A { ^r = x; }", 1, "syntax S3 Expected at", "= write: load r x;\n"),
+    ("var x; thread A { store x ^= 1; }", 1, "syntax S3 Expected at", "= write: store x 1;\n"),
     ("thread A { assert p ^|| q; }", 1, "syntax S2 BadChar at",
-     "write, where both are 0 or 1: set r p + q; assert r;"),
+     "= write: set r p != 0; set s q != 0; set r r + s; assert r;\n"),
     # words of other languages, some of which are near to another keyword
-    ("var x; thread A { ^write x 1; }", 5, "syntax S3 Expected at", "= write: store VAR VALUE;\n"),
-    ("var x; thread A { ^get r x; }", 3, "syntax S3 Expected at", "= write: load LOCAL VAR;\n"),
-    ("var x; thread A { ^fetch_add x 1; }", 9, "syntax S3 Expected at", "= write: add LOCAL VAR AMOUNT;\n"),
-    ("var x; thread A { ^CAS r x 0 1; }", 3, "syntax S3 Expected at", "= write: cas LOCAL VAR OLD NEW;\n"),
-    ("cond c; thread A { ^notify c; }", 6, "syntax S3 Expected at", "= write: signal COND;\n"),
-    ("cond c; thread A { ^signal_all c; }", 10, "syntax S3 Expected at", "= write: broadcast COND;\n"),
-    ("sem s = 1; thread A { ^P(s); }", 1, "syntax S3 Expected at", "= write: acquire SEM;\n"),
-    ("sem s = 1; thread A { ^up s; }", 2, "syntax S3 Expected at", "= write: release SEM;\n"),
-    ("mutex m; thread A { ^mutex_lock m; }", 10, "syntax S3 Expected at", "= write: lock MUTEX;\n"),
-    ("thread A { ^let r = 1; }", 3, "syntax S3 Expected at", "= write: set LOCAL VALUE; or"),
-    ("thread A { ^fail; }", 4, "syntax S3 Expected at", "= write: assert VALUE; or"),
+    ("var x; thread A { ^write x 1; }", 5, "syntax S3 Expected at", "= write: store x 1;\n"),
+    ("var x; thread A { ^get r x; }", 3, "syntax S3 Expected at", "= write: load r x;\n"),
+    ("var x; thread A { ^fetch_add x 1; }", 9, "syntax S3 Expected at", "= write: add r x 1;\n"),
+    ("var x; thread A { ^CAS r x 0 1; }", 3, "syntax S3 Expected at", "= write: cas r x 0 1;\n"),
+    ("cond c; thread A { ^notify c; }", 6, "syntax S3 Expected at", "= write: signal c;\n"),
+    ("cond c; thread A { ^signal_all c; }", 10, "syntax S3 Expected at", "= write: broadcast c;\n"),
+    ("sem s = 1; thread A { ^P(s); }", 1, "syntax S3 Expected at", "= write: acquire s;\n"),
+    ("sem s = 1; thread A { ^up s; }", 2, "syntax S3 Expected at", "= write: release s;\n"),
+    ("mutex m; thread A { ^mutex_lock m; }", 10, "syntax S3 Expected at", "= write: lock m;\n"),
+    ("thread A { ^let r = 1; }", 3, "syntax S3 Expected at", "= write: set r 1;\n"),
+    ("thread A { ^fail; }", 4, "syntax S3 Expected at", "`assert` is written: assert VALUE; or"),
     ("thread A { ^sleep 1; }", 5, "syntax S3 Expected at", "= leave it out: a thread may be interrupted"),
     ("thread A { ^join B; } thread B { }", 4, "syntax S3 Expected at", "acquire a semaphore that the other thread releases"),
     ("thread A { ^continue; }", 8, "syntax S3 Expected at", "`leave` leaves the nearest `repeat`"),
-    ("^const x = 1; thread A { }", 5, "syntax S3 Expected at", "= write: var NAME; or"),
-    ("^semaphore s = 1; thread A { }", 9, "syntax S3 Expected at", "= write: sem NAME = COUNT;\n"),
+    ("^const x = 1; thread A { }", 5, "syntax S3 Expected at", "= write: var x = 1;\n"),
+    ("^semaphore s = 1; thread A { }", 9, "syntax S3 Expected at", "= write: sem s = 1;\n"),
     ("thread A { set r 1;^; }", 1, "syntax S3 Expected at", "is this `;` one too many?"),
     # a sign is no value of its own
     ("var x; thread A { cas r x -1 ^; }", 1, "syntax S3 Expected at", "a local or a number was expected"),
@@ -144,6 +146,251 @@ REFUSED = [
      "check C5 TooMany at", "the 17th thread: at most 16"),
     ("thread A { " + " ".join("set r%02d 1;" % n for n in range(16)) + " set ^r16 1; }", 3,
      "check C5 TooMany at", "the 17th local of its thread: at most 16"),
+]
+
+# What a person writes who comes from another language: a statement of a thread of the text below, marked
+# as above, how many bytes are, the number and the name of the refusal, what is said of the place, and
+# all notes.
+IN_THREAD = "var x; var y; mutex m; cond c; sem s = 1;\nthread A {\n    %s\n}\nthread B { }\n"
+STATEMENTS = [
+    ("^x = y;", 1, "S3 Expected", "a statement begins with its keyword", ["write: load r y; store x r;"]),
+    ("^x = y + 1;", 1, "S3 Expected", "a statement begins with its keyword",
+     ["write: load t y; set r t + 1; store x r;"]),
+    ("^x = x + y;", 1, "S3 Expected", "a statement begins with its keyword",
+     ["write: load t y; add r x t; # one step", "or: load r x; load t y; set r r + t; store x r;"]),
+    ("^x = x + y + 1;", 1, "S3 Expected", "a statement begins with its keyword",
+     ["write: load t x; load u y; set r t + u; set r r + 1; store x r;"]),
+    ("^x = -y;", 1, "S3 Expected", "a statement begins with its keyword",
+     ["write: load t y; set r 0 - t; store x r;"]),
+    ("^r = !x;", 1, "S3 Expected", "a statement begins with its keyword", ["write: load t x; set r t == 0;"]),
+    ("^r = x == 1;", 1, "S3 Expected", "a statement begins with its keyword", ["write: load t x; set r t == 1;"]),
+    ("^r := 1;", 1, "S3 Expected", "a statement or `}` was expected", ["write: set r 1;"]),
+    ("^x = ;", 1, "S3 Expected", "a statement begins with its keyword; after the `=` a value is missing",
+     ["write: store x VALUE;"]),
+    ("^r = ;", 1, "S3 Expected", "a statement begins with its keyword; after the `=` a value is missing",
+     ["write: set r VALUE;"]),
+    ("^x = (y + 1) * 2;", 1, "S3 Expected", "a statement begins with its keyword", []),
+    ("^r = q / 2;", 1, "S3 Expected", "a statement begins with its keyword", []),
+    ("^m = 1;", 1, "S3 Expected", "a statement begins with its keyword", []),
+    ("^r = 1.5;", 1, "S3 Expected", "a statement begins with its keyword", []),
+    ("^r = f(x);", 1, "S3 Expected", "a statement begins with its keyword", []),
+    ("^r = x.load();", 1, "S3 Expected", "a statement begins with its keyword", ["write: load r x;"]),
+    ("^r = x.fetch_add(1);", 1, "S3 Expected", "a statement begins with its keyword", ["write: add r x 1;"]),
+    ("^x = y = 1;", 1, "S3 Expected", "a statement begins with its keyword", []),
+    ("^x += y;", 1, "S3 Expected", "a statement or `}` was expected",
+     ["write: load t y; add r x t; # one step", "or: load r x; load t y; set r r + t; store x r;"]),
+    ("^x += y + 1;", 1, "S3 Expected", "a statement or `}` was expected",
+     ["write: load t y; set r t + 1; add u x r; # one step", "or: load t y; set r t + 1; load u x; set u u + r; store x u;"]),
+    ("^x += r + 1;", 1, "S3 Expected", "a statement or `}` was expected",
+     ["write: set t r + 1; add u x t; # one step", "or: set t r + 1; load u x; set u u + t; store x u;"]),
+    ("^x -= r;", 1, "S3 Expected", "a statement or `}` was expected", ["write: load t x; set t t - r; store x t;"]),
+    ("^r -= q - 1;", 1, "S3 Expected", "a statement or `}` was expected", ["write: set t q - 1; set r r - t;"]),
+    ("^x -= 9223372036854775807;", 1, "S3 Expected", "a statement or `}` was expected",
+     ["write: add r x -9223372036854775807; # one step", "or: load r x; set r r - 9223372036854775807; store x r;"]),
+    ("^x *= 2;", 1, "S3 Expected", "a statement or `}` was expected", ["write: load r x; set r r * 2; store x r;"]),
+    ("^r *= 2;", 1, "S3 Expected", "a statement or `}` was expected", ["write: set r r * 2;"]),
+    ("^x--;", 1, "S3 Expected", "a statement or `}` was expected",
+     ["write: add r x -1; # one step", "or: load r x; set r r - 1; store x r;"]),
+    ("^r++;", 1, "S3 Expected", "a statement or `}` was expected", ["write: set r r + 1;"]),
+    ("^++x;", 1, "S3 Expected", "a statement or `}` was expected",
+     ["write: add r x 1; # one step", "or: load r x; set r r + 1; store x r;"]),
+    ("^m++;", 1, "S3 Expected", "a statement or `}` was expected", []),
+    ("^int r = 0;", 3, "S3 Expected", "a local isn't declared: it is 0 until it gets a value", ["write: set r 0;"]),
+    ("^int r = x;", 3, "S3 Expected", "a local isn't declared: it is 0 until it gets a value", ["write: load r x;"]),
+    ("^int r;", 3, "S3 Expected", "a local isn't declared: it is 0 until it gets a value", []),
+    ("^let mut r = x;", 3, "S3 Expected", "a local isn't declared: it is 0 until it gets a value",
+     ["write: load r x;"]),
+    ("^var r = 1;", 3, "S3 Expected", "a local isn't declared: it is 0 until it gets a value", ["write: set r 1;"]),
+    ("^let r: i64 = 1;", 3, "S3 Expected", "a local isn't declared: it is 0 until it gets a value",
+     ["write: set r 1;"]),
+    ("^bool done = false;", 4, "S3 Expected", "a local isn't declared: it is 0 until it gets a value",
+     ["write: set done 0;"]),
+    ("^while (r == 0) { load r x; }", 5, "S3 Expected", "there is no `while`: every run of a guest ends",
+     ["write: repeat 3 { load r x; if r != 0 { leave; } }"]),
+    ("^while true { store x 1; }", 5, "S3 Expected", "there is no `while`: every run of a guest ends",
+     ["write: repeat 3 { .. }"]),
+    ("^for i in range(3) { store x 1; }", 3, "S3 Expected", "there is no `for`: every run of a guest ends",
+     ["write: set i 0; repeat 3 { .. set i i + 1; }"]),
+    ("^for i in 0..3 { store x 1; }", 3, "S3 Expected", "there is no `for`: every run of a guest ends",
+     ["write: set i 0; repeat 3 { .. set i i + 1; }"]),
+    ("^loop { store x 1; }", 4, "S3 Expected", "there is no `loop`: every run of a guest ends",
+     ["write: repeat 3 { .. }"]),
+    ("^do :: x = 1; od;", 2, "S3 Expected", "there is no `do`: every run of a guest ends", []),
+    ("if ^(r == 0) { store x 1; }", 1, "S2 BadChar", "there are no parentheses", ["write: if r == 0 { .. }"]),
+    ("if ^(x == 0) { store x 1; }", 1, "S2 BadChar", "there are no parentheses",
+     ["write: load r x; if r == 0 { .. }"]),
+    ("if ^(!r) { store x 1; }", 1, "S2 BadChar", "there are no parentheses", ["write: if r == 0 { .. }"]),
+    ("if not ^r { store x 1; }", 1, "S3 Expected", "an operator or `{` was expected", ["write: if r == 0 { .. }"]),
+    ("if ^!(r == 0) { store x 1; }", 1, "S2 BadChar", "there is no `!`: compare with 0, as r == 0",
+     ["`if` is written: if VALUE { .. } or if VALUE OP VALUE { .. }"]),
+    ("if ^x == y { store x 1; }", 1, "C3 WrongKind", "`x` is a variable (1:5); a local or a number was expected",
+     ["write: load r x; load t y; if r == t { .. }"]),
+    ("if r == 0 ^&& q == 1 { store x 1; }", 1, "S2 BadChar", "one operator a statement, and none of these",
+     ["write: set t r == 0; set u q == 1; set t t * u; if t { .. }"]),
+    ("if r ^|| q { store x 1; }", 1, "S2 BadChar", "one operator a statement, and none of these",
+     ["write: set t r != 0; set u q != 0; set t t + u; if t { .. }"]),
+    ("if r ^and q { store x 1; }", 3, "S3 Expected", "an operator or `{` was expected",
+     ["write: set t r != 0; set u q != 0; set t t * u; if t { .. }"]),
+    ("if r + 1 ^== 2 { store x 1; }", 2, "S3 Expected", "`{` was expected", ["write: set t r + 1; if t == 2 { .. }"]),
+    ("if 0 < r ^< 3 { store x 1; }", 1, "S3 Expected", "`{` was expected",
+     ["`if` is written: if VALUE { .. } or if VALUE OP VALUE { .. }"]),
+    ("if ^m { store x 1; }", 1, "C3 WrongKind", "`m` is a mutex (1:21); a local or a number was expected",
+     ["`if` is written: if VALUE { .. } or if VALUE OP VALUE { .. }"]),
+    ("if r { store x 1; } else ^if q { store x 2; }", 2, "S3 Expected", "`{` was expected",
+     ["write: else { if q { .. } }"]),
+    ("if r { store x 1; } ^elif q { store x 2; }", 4, "S3 Expected", "a statement or `}` was expected",
+     ["write: else { if q { .. } }"]),
+    ("^return;", 6, "S3 Expected", "a statement or `}` was expected",
+     ["a thread ends at the end of its braces; put the rest into an `if`"]),
+    ("repeat 2 { ^break; }", 5, "S3 Expected", "a statement or `}` was expected", ["write: leave;"]),
+    ("^switch r { }", 6, "S3 Expected", "a statement or `}` was expected",
+     ["an `if` for each case, one in the `else` of another, does the same"]),
+    ("^{ store x 1; }", 1, "S3 Expected", "a statement or `}` was expected",
+     ["a block belongs to a thread, an `if`, an `else` or a `repeat`"]),
+    ("^m.lock();", 1, "S3 Expected", "a statement or `}` was expected", ["write: lock m;"]),
+    ("lock^(&m);", 1, "S2 BadChar", "there are no parentheses", ["write: lock m;"]),
+    ("^let g = m.lock();", 3, "S3 Expected", "a local isn't declared: it is 0 until it gets a value",
+     ["write: lock m;"]),
+    ("^LOCK m;", 4, "S3 Expected", "a statement or `}` was expected", ["write: lock m;"]),
+    ("lock m ^{ store x 1; }", 1, "S3 Expected", "`;` was expected", ["`lock` is written: lock MUTEX;"]),
+    ("wait c^;", 1, "S3 Expected", "the name of a mutex was expected", ["`wait` is written: wait COND MUTEX;"]),
+    ("^c.wait(m);", 1, "S3 Expected", "a statement or `}` was expected", ["write: wait c m;"]),
+    ("wait c^, m;", 1, "S2 BadChar", "there are no commas", ["write: wait c m;"]),
+    ("signal c^, m;", 1, "S2 BadChar", "there are no commas", ["`signal` is written: signal COND;"]),
+    ("^c.notifyAll();", 1, "S3 Expected", "a statement or `}` was expected", ["write: broadcast c;"]),
+    ("^sem_wait(&s);", 8, "S3 Expected", "a statement or `}` was expected", ["write: acquire s;"]),
+    ("^x.store(1);", 1, "S3 Expected", "a statement or `}` was expected", ["write: store x 1;"]),
+    ("store ^1 x;", 1, "S3 Expected", "the name of a variable was expected", ["write: store x 1;"]),
+    ("store x^;", 1, "S3 Expected", "a local or a number was expected", ["write: store x VALUE;"]),
+    ("store x r ^+ 1;", 1, "S3 Expected", "`;` was expected", ["write: set t r + 1; store x t;"]),
+    ("store x x ^+ 1;", 1, "S3 Expected", "`;` was expected",
+     ["write: add r x 1; # one step", "or: load r x; set r r + 1; store x r;"]),
+    ("store x r ^+ q + 1;", 1, "S3 Expected", "`;` was expected", ["write: set t r + q; set t t + 1; store x t;"]),
+    ("store x -^r;", 1, "S3 Expected", "a local or a number was expected", ["write: set t 0 - r; store x t;"]),
+    ("store x ^!r;", 1, "S2 BadChar", "there is no `!`: compare with 0, as r == 0",
+     ["write: set t r == 0; store x t;"]),
+    ("load x^;", 1, "S3 Expected", "the name of a variable was expected", ["write: load r x;"]),
+    ("load ^x r;", 1, "C3 WrongKind", "`x` is a variable (1:5); the name of a local was expected",
+     ["write: load r x; # the local first", "or: store x r;"]),
+    ("load ^x y;", 1, "C3 WrongKind", "`x` is a variable (1:5); the name of a local was expected",
+     ["write: load r y; store x r;"]),
+    ("load r ^1;", 1, "S3 Expected", "the name of a variable was expected", ["write: set r 1;"]),
+    ("load r x ^+ 1;", 1, "S3 Expected", "`;` was expected", ["write: load t x; set r t + 1;"]),
+    ("add r x ^y;", 1, "C3 WrongKind", "`y` is a variable (1:12); a local or a number was expected",
+     ["write: load t y; add r x t;"]),
+    ("add ^x r 1;", 1, "C3 WrongKind", "`x` is a variable (1:5); the name of a local was expected",
+     ["write: add r x 1;"]),
+    ("cas^(x, 0, 1);", 1, "S2 BadChar", "there are no parentheses", ["write: cas r x 0 1;"]),
+    ("^r = cas(x, 0, 1);", 1, "S3 Expected", "a statement begins with its keyword", ["write: cas r x 0 1;"]),
+    ("^x.compare_exchange(0, 1);", 1, "S3 Expected", "a statement or `}` was expected", ["write: cas r x 0 1;"]),
+    ("cas r x ^y 1;", 1, "C3 WrongKind", "`y` is a variable (1:12); a local or a number was expected",
+     ["write: load t y; cas r x t 1;"]),
+    ("set ^x x + 1;", 1, "C3 WrongKind", "`x` is a variable (1:5); the name of a local was expected",
+     ["write: add r x 1; # one step", "or: load r x; set r r + 1; store x r;"]),
+    ("set r ^x + y;", 1, "C3 WrongKind", "`x` is a variable (1:5); a local or a number was expected",
+     ["write: load t x; load u y; set r t + u;"]),
+    ("set r 1 + 2 ^+ 3;", 1, "S3 Expected", "`;` was expected", ["write: set t 1 + 2; set r t + 3;"]),
+    ("set r ^(1 + 2);", 1, "S2 BadChar", "there are no parentheses", ["write: set r 1 + 2;"]),
+    ("set r ^(q + 1) * 2;", 1, "S2 BadChar", "there are no parentheses",
+     ["`set` is written: set LOCAL VALUE; or set LOCAL VALUE OP VALUE;"]),
+    ("set r ^+= 1;", 1, "S3 Expected", "a local or a number was expected", ["write: set r r + 1;"]),
+    ("set r^++;", 1, "S3 Expected", "a local or a number was expected", ["write: set r r + 1;"]),
+    ("assert ^x == 1;", 1, "C3 WrongKind", "`x` is a variable (1:5); a local or a number was expected",
+     ["write: load r x; assert r == 1;"]),
+    ("assert ^x == y;", 1, "C3 WrongKind", "`x` is a variable (1:5); a local or a number was expected",
+     ["write: load r x; load t y; assert r == t;"]),
+    ("assert^(x == 1);", 1, "S2 BadChar", "there are no parentheses", ["write: load r x; assert r == 1;"]),
+    ("assert r ^= 1;", 1, "S3 Expected", "an operator or `;` was expected", ["write: assert r == 1;"]),
+    ("assert x == 1 ^&& y == 2;", 1, "S2 BadChar", "one operator a statement, and none of these",
+     ["write: load r x; assert r == 1; load t y; assert t == 2;"]),
+    ("assert r + 1 ^== 2;", 2, "S3 Expected", "`;` was expected", ["write: set t r + 1; assert t == 2;"]),
+    ("assert 0 < r ^< 2;", 1, "S3 Expected", "`;` was expected",
+     ["`assert` is written: assert VALUE; or assert VALUE OP VALUE;"]),
+    ("assert ^m == 0;", 1, "C3 WrongKind", "`m` is a mutex (1:21); a local or a number was expected",
+     ["`assert` is written: assert VALUE; or assert VALUE OP VALUE;"]),
+    ("set ^B 1;", 1, "C3 WrongKind", "`B` is a thread (5:8); the name of a local was expected",
+     ["`set` is written: set LOCAL VALUE; or set LOCAL VALUE OP VALUE;"]),
+    ("^await x == 1;", 5, "S3 Expected", "a statement or `}` was expected",
+     ["a `repeat` that loads and tests, with a `leave`, or a `wait` does the same"]),
+    ("^thread B { }", 6, "S3 Expected", "a statement or `}` was expected",
+     ["threads stand beside each other, and none is inside another"]),
+    ("^while x == 0 { store y 1; }", 5, "S3 Expected", "there is no `while`: every run of a guest ends",
+     ["write: repeat 3 { load r x; if r == 0 { .. } else { leave; } }"]),
+    ("^while r != 1 { load r x; }", 5, "S3 Expected", "there is no `while`: every run of a guest ends",
+     ["write: repeat 3 { load r x; if r != 1 { } else { leave; } }"]),
+    ("set r p ^& -1;", 1, "S2 BadChar", "there are no operators on bits",
+     ["`set` is written: set LOCAL VALUE; or set LOCAL VALUE OP VALUE;"]),
+]
+
+# The same of declarations, before a thread.
+BEFORE_THREAD = "%s\nthread A { }\n"
+DECLARATIONS = [
+    ("^int x = 0;", 3, "S3 Expected", "a declaration or `thread` was expected", ["write: var x = 0;"]),
+    ("^let mut x = 0;", 3, "S3 Expected", "a declaration or `thread` was expected", ["write: var x = 0;"]),
+    ("^static int x = 0;", 6, "S3 Expected", "a declaration or `thread` was expected", ["write: var x = 0;"]),
+    ("var x^, y, z;", 1, "S2 BadChar", "there are no commas: each name has a declaration of its own",
+     ["write: var x; var y; var z;"]),
+    ("var x = 1^, y = 2;", 1, "S2 BadChar", "there are no commas: each name has a declaration of its own",
+     ["write: var x = 1; var y = 2;"]),
+    ("sem s = 1^, t = 2;", 1, "S2 BadChar", "there are no commas: each name has a declaration of its own",
+     ["write: sem s = 1; sem t = 2;"]),
+    ("mutex m^, n;", 1, "S2 BadChar", "there are no commas: each name has a declaration of its own",
+     ["write: mutex m; mutex n;"]),
+    ("var x ^y;", 1, "S3 Expected", "`=` or `;` was expected", ["write: var x; var y;"]),
+    ("var x = ^;", 1, "S3 Expected", "a number was expected", ["write: var x = 0;"]),
+    ("var x^: int = 3;", 1, "S2 BadChar", "a declaration has no type: all values are numbers", ["write: var x = 3;"]),
+    ("var x ^:= 3;", 1, "S2 BadChar", "a declaration has no type: all values are numbers", ["write: var x = 3;"]),
+    ("var x ^3;", 1, "S3 Expected", "`=` or `;` was expected", ["write: var x = 3;"]),
+    ("var x^(3);", 1, "S2 BadChar", "there are no parentheses", ["write: var x = 3;"]),
+    ("var x = ^+1;", 1, "S3 Expected", "a number was expected", ["write: var x = 1;"]),
+    ("var x = ^true;", 4, "S3 Expected", "a number was expected", ["write: var x = 1;"]),
+    ("var int ^x;", 1, "S3 Expected", "`=` or `;` was expected", ["write: var x;"]),
+    ("var x = 1 ^+ 2;", 1, "S3 Expected", "`;` was expected", ["`var` is written: var NAME; or var NAME = NUMBER;"]),
+    ("var a^[3];", 1, "S2 BadChar", "there are no arrays", ["`var` is written: var NAME; or var NAME = NUMBER;"]),
+    ("var ^3x;", 1, "S3 Expected", "a name that is no keyword was expected",
+     ["`var` is written: var NAME; or var NAME = NUMBER;"]),
+    ("sem s^;", 1, "S3 Expected", "`=` with an opening count was expected", ["write: sem s = 0;"]),
+    ("sem s = ^-1;", 1, "S3 Expected", "a number from 0 to 65535 was expected",
+     ["`sem` is written: sem NAME = COUNT;"]),
+    ("sem s^(1);", 1, "S2 BadChar", "there are no parentheses", ["write: sem s = 1;"]),
+    ("sem s ^1;", 1, "S3 Expected", "`=` with an opening count was expected", ["write: sem s = 1;"]),
+    ("sem s = ^;", 1, "S3 Expected", "a number from 0 to 65535 was expected", ["write: sem s = 0;"]),
+    ("mutex m ^= 0;", 1, "S3 Expected", "`;` was expected", ["write: mutex m;"]),
+    ("mutex m^();", 1, "S2 BadChar", "there are no parentheses", ["write: mutex m;"]),
+    ("^VAR x;", 3, "S3 Expected", "a declaration or `thread` was expected", ["write: var x;"]),
+    ("^semaphore s;", 9, "S3 Expected", "a declaration or `thread` was expected", ["write: sem s = 0;"]),
+    ("^condition c;", 9, "S3 Expected", "a declaration or `thread` was expected", ["write: cond c;"]),
+    ("^pthread_mutex_t m;", 15, "S3 Expected", "a declaration or `thread` was expected", ["write: mutex m;"]),
+    ("^x = 0;", 1, "S3 Expected", "a declaration or `thread` was expected", ["write: var x = 0;"]),
+    ("^x = 1, y;", 1, "S3 Expected", "a declaration or `thread` was expected", []),
+]
+
+# The same of whole texts.
+TEXTS = [
+    ("var x\n^thread A { }", 6, "S3 Expected", "`=` or `;` was expected", ["is a `;` missing after `x` in line 1?"]),
+    ("var x; thread A ^, B { }", 1, "S2 BadChar", "each thread has one name and a block of its own",
+     ["write: thread A { .. } thread B { .. }"]),
+    ("var x; thread A ^B { }", 1, "S3 Expected", "`{` was expected", ["write: thread A { .. } thread B { .. }"]),
+    ("var x; thread A { ^thread B { } }", 6, "S3 Expected", "a statement or `}` was expected",
+     ["threads stand beside each other, and none is inside another"]),
+    ("var x; thread A { store x 1; ^thread B { store x 2; } }", 6, "S3 Expected", "a statement or `}` was expected",
+     ["threads stand beside each other, and none is inside another"]),
+    ("var x; thread A^() { }", 1, "S2 BadChar", "there are no parentheses", ["write: thread A { .. }"]),
+    ("var x; thread A^;", 1, "S3 Expected", "`{` was expected", ["write: thread A { .. }"]),
+    ("var x; ^fn main() { }", 2, "S3 Expected", "a declaration or `thread` was expected",
+     ["write: thread main { .. }"]),
+    ("var x; ^int main() { }", 3, "S3 Expected", "a declaration or `thread` was expected",
+     ["write: thread main { .. }"]),
+    ("var x; ^proctype A() { store x 1; }", 8, "S3 Expected", "a declaration or `thread` was expected",
+     ["write: thread A { .. }"]),
+    ("var x; ^process A { }", 7, "S3 Expected", "a declaration or `thread` was expected", ["write: thread A { .. }"]),
+    ("var x; ^init { }", 4, "S3 Expected", "a declaration or `thread` was expected", ["write: thread init { .. }"]),
+    ("var x; ^A { store x 1; }", 1, "S3 Expected", "a declaration or `thread` was expected",
+     ["write: thread A { .. }"]),
+    ("var x; ^THREAD A { }", 6, "S3 Expected", "a declaration or `thread` was expected", ["write: thread A { .. }"]),
+    ("var x; ^store x 1;\nthread A { }", 5, "S3 Expected", "a declaration or `thread` was expected",
+     ["a statement is inside the braces of its thread"]),
+    ("var x; ^class A { }", 5, "S3 Expected", "a declaration or `thread` was expected", []),
 ]
 
 # Refusals without a place.
@@ -388,6 +635,50 @@ class Checker:
                     err)
         self.expect("%r: %s" % (text[:80], words), words in err, err)
 
+    def slip(self, text, length, name, said, notes):
+        """All that is told of a text, and that each proposal is taken."""
+        data, line, column = marked(text)
+        got, err = self.run(data)
+        source, carets = block(data, line, column, length)
+        kind = "check" if name[0] == "C" else "syntax"
+        want = ["ctxbound: %s %s at %d:%d" % (kind, name, line, column), source, "%s %s" % (carets, said)]
+        want += ["      = %s" % note for note in notes] + [""]
+        self.expect("%r" % text[:80], got == 2 and err.split("\n") == want, err)
+        self.pasted(text)
+
+    def pasted(self, text):
+        """What is proposed as a whole is taken in place of the wrong statement or declaration. In place
+        of `..` stands the block that was there; words in capitals stand for others."""
+        data, line, column = marked(text)
+        _, err = self.run(data)
+        source = data.decode("latin-1")
+        at = sum(len(row) + 1 for row in source.split("\n")[:line - 1]) + column - 1
+        pieces = [(m.start(1), m[1]) for m in PIECE.finditer(source) if m[1]] + [(len(source), "")]
+        before = [i for i, (place, piece) in enumerate(pieces) if place < at and piece in ENDS]
+        first = max(before) + 1 if before else 0
+        last = first + 1
+        while last < len(pieces) - 1 and pieces[last][1] not in ENDS \
+                and "\n" not in source[pieces[last - 1][0]:pieces[last][0]]:
+            last += 1
+        place, piece = pieces[min(last, len(pieces) - 1)]
+        begin, end = pieces[first][0], place + (piece == ";")
+        for code in re.findall(r"^      = (?:write|or): (.*)$", err, re.M):
+            if re.search(r"\b(VALUE|VAR|LOCAL|OP)\b", code):
+                continue
+            block = ""
+            if piece == "{" and "{" in code:
+                depth, close = 0, last
+                while depth != 1 or pieces[close][1] != "}":
+                    depth += {"{": 1, "}": -1}.get(pieces[close][1], 0)
+                    close += 1
+                block, end = source[place + 1:pieces[close][0]], pieces[close][0] + 1
+            whole = source[:begin] + code.replace("..", block) + "\n"
+            status, seen = self.run((whole + source[end:]).encode("latin-1"))
+            places = re.findall(r" at (\d+):(\d+)$", seen.split("\n")[0])
+            until = whole.count("\n") + 1
+            self.expect("%r: %s" % (text[:80], code),
+                        status != 2 or (places and int(places[0][0]) >= until), seen)
+
     def replays(self, text):
         """The schedule that is named with a loop runs, and leads a thread past that loop: to its end here."""
         data, _, _ = marked(text)
@@ -513,6 +804,10 @@ def main():
         check = Checker(str(Path(sys.argv[1]).resolve()), folder)
         for text, length, head, words in REFUSED:
             check.place(text, length, head, words, 2)
+            check.pasted(text)
+        for form, slips in ((IN_THREAD, STATEMENTS), (BEFORE_THREAD, DECLARATIONS), ("%s", TEXTS)):
+            for text, *told in slips:
+                check.slip(form % text, *told)
         for text, head, words in WHOLE:
             status, err = check.run(text.encode())
             check.expect("%r" % text, status == 2 and words in err

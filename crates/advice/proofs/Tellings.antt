@@ -11,9 +11,9 @@ use Rattle.guest_code.specs.declared.error.CheckError.{CheckError}
 use Rattle.guest_code.specs.declared.error.CheckError.TheVariants.{Duplicate, Unknown, WrongKind, NoThreads, TooMany, CodeTooLong, LeaveOutside, OutOfMemory}
 use Rattle.guest_code.specs.ErrorTexts.{check_error_text}
 use Rattle.guest_code.specs.Fault.{fault, Refuses}
-use Rattle.messages.specs.declared.message.Advice.{Advice}
+use Rattle.messages.specs.declared.message.Diagnostic.{Diagnostic}
 use Rattle.advice.specs.declared.Checked.TheVariants.{Sound, Refused}
-use Rattle.hints.specs.Refusals.{syntax_place, check_place, IsAdviceOf}
+use Rattle.hints.specs.Refusals.{syntax_place, check_place, IsDiagnosticOf}
 use Rattle.advice.specs.Allowed.{is_allowed}
 use Rattle.advice.specs.Told.{Tells, is_sound, spells_none, has_fault}
 
@@ -28,17 +28,18 @@ refused_by (CodeTooLong k) f other r = r
 refused_by (LeaveOutside at) f other r = r
 refused_by OutOfMemory f other r = absurd (other refl)
 
-pub told_sound : (text : List ℕ) (t : Tree) (as_ : Vec Advice Global) → Spells text t
+pub told_sound : (text : List ℕ) (t : Tree) (as_ : Vec Diagnostic Global) → Spells text t
     → fault t ≡ None → All (λ a. is_allowed text a ≡ false) as_.items → Tells text (Sound as_)
 told_sound text t as_ spells sound loud = is_sound t spells sound loud
 
-pub told_fault : (text : List ℕ) (t : Tree) (e : CheckError) (a : Advice) → Spells text t
+pub told_fault : (text : List ℕ) (t : Tree) (e : CheckError) (a : Diagnostic) → Spells text t
     → e ≢ OutOfMemory → Refuses e (fault t)
-    → IsAdviceOf a (check_error_text e) (check_place t e) → Tells text (Refused a)
-told_fault text t e a spells other r advice =
-    has_fault t spells e (refused_by e (fault t) other r) advice
+    → IsDiagnosticOf a (check_error_text e) (check_place t e) → Tells text (Refused a)
+told_fault text t e a spells other r diagnostic =
+    has_fault t spells e (refused_by e (fault t) other r) diagnostic
 
-pub told_none : (text : List ℕ) (e : SyntaxError) (a : Advice) → ((t : Tree) → Spells text t → ⊥)
-    → RefusalIn start text e → IsAdviceOf a (syntax_error_text e) (Some (syntax_place e))
+pub told_none : (text : List ℕ) (e : SyntaxError) (a : Diagnostic)
+    → ((t : Tree) → Spells text t → ⊥)
+    → RefusalIn start text e → IsDiagnosticOf a (syntax_error_text e) (Some (syntax_place e))
     → Tells text (Refused a)
-told_none text e a spells r advice = spells_none spells e r advice
+told_none text e a spells r diagnostic = spells_none spells e r diagnostic

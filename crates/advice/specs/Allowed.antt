@@ -4,7 +4,7 @@ use Rattle.std.specs.Char.{is_ascii_whitespace}
 use Rattle.std.specs.List.{prefix_len, starts_with}
 use Rattle.std.specs.Str.{bytes_eq}
 use Rattle.messages.specs.declared.message.Span.{Span}
-use Rattle.messages.specs.declared.message.Advice.{Advice}
+use Rattle.messages.specs.declared.message.Diagnostic.{Diagnostic}
 use Rattle.messages.specs.Lines.{line_of, code_number}
 
 -- what a line has from its first `#` on
@@ -56,5 +56,5 @@ abbrev pub allowed_at : List ℕ → Option Span → List ℕ → Bool
 allowed_at text None number = false
 allowed_at text (Some s) number = allows (comment_of (line_of text s.at.line)) number
 
-abbrev pub is_allowed : List ℕ → Advice → Bool
+abbrev pub is_allowed : List ℕ → Diagnostic → Bool
 is_allowed text a = allowed_at text a.span (code_number (string_bytes a.headline))

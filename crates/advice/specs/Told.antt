@@ -12,13 +12,13 @@ use Rattle.guest_syntax.specs.Tree.{Tree}
 use Rattle.guest_code.specs.declared.error.CheckError.{CheckError}
 use Rattle.guest_code.specs.ErrorTexts.{check_error_text}
 use Rattle.guest_code.specs.Fault.{fault}
-use Rattle.messages.specs.declared.message.Advice.{Advice}
-use Rattle.messages.specs.declared.message.Grade.{Grade}
-use Rattle.messages.specs.declared.message.Grade.TheVariants as grades
+use Rattle.messages.specs.declared.message.Diagnostic.{Diagnostic}
+use Rattle.messages.specs.declared.message.Severity.{Severity}
+use Rattle.messages.specs.declared.message.Severity.TheVariants as severities
 use Rattle.messages.specs.declared.message.Span.{Span}
-use Rattle.messages.specs.Lines.{advice_lines, shown}
+use Rattle.messages.specs.Lines.{diagnostic_lines, shown}
 use Rattle.text_lines.specs.Marks.{Line, origin_at, origins}
-use Rattle.hints.specs.Refusals.{syntax_place, check_place, IsAdviceOf}
+use Rattle.hints.specs.Refusals.{syntax_place, check_place, IsDiagnosticOf}
 use Rattle.advice.specs.Allowed.{is_allowed}
 use Rattle.advice.specs.declared.Checked.{Checked}
 use Rattle.advice.specs.declared.Checked.TheVariants.{Sound, Refused}
@@ -26,25 +26,25 @@ use Rattle.advice.specs.declared.Checked.TheVariants.{Sound, Refused}
 -- What is told of a text: that it is refused, and why, exactly where it spells no tree without a
 -- fault; else warnings, none of which a comment allows.
 pub data Tells (text : List ℕ) : Checked → Type 0 where
-  is_sound : {as_ : Vec Advice Global} → (t : Tree) → Spells text t → fault t ≡ None
+  is_sound : {as_ : Vec Diagnostic Global} → (t : Tree) → Spells text t → fault t ≡ None
       → All (λ a. is_allowed text a ≡ false) as_.items → Tells text (Sound as_)
-  spells_none : {a : Advice} → ((t : Tree) → ¬ Spells text t) → (e : SyntaxError)
-      → RefusalIn start text e → IsAdviceOf a (syntax_error_text e) (Some (syntax_place e))
+  spells_none : {a : Diagnostic} → ((t : Tree) → ¬ Spells text t) → (e : SyntaxError)
+      → RefusalIn start text e → IsDiagnosticOf a (syntax_error_text e) (Some (syntax_place e))
       → Tells text (Refused a)
-  has_fault : {a : Advice} → (t : Tree) → Spells text t → (e : CheckError) → fault t ≡ Some e
-      → IsAdviceOf a (check_error_text e) (check_place t e) → Tells text (Refused a)
+  has_fault : {a : Diagnostic} → (t : Tree) → Spells text t → (e : CheckError) → fault t ≡ Some e
+      → IsDiagnosticOf a (check_error_text e) (check_place t e) → Tells text (Refused a)
 
--- an advice is a warning, and some of a text are
-abbrev pub is_warning : Grade → Bool
-is_warning grades.Refusal = false
-is_warning grades.Warning = true
-is_warning grades.Remark = false
+-- a diagnostic is a warning, and some of a text are
+abbrev pub is_warning : Severity → Bool
+is_warning severities.Refusal = false
+is_warning severities.Warning = true
+is_warning severities.Remark = false
 
 abbrev pub is_warned : Checked → Bool
-is_warned (Sound as_) = list_any (λ a. is_warning a.grade) as_.items
+is_warned (Sound as_) = list_any (λ a. is_warning a.severity) as_.items
 is_warned (Refused a) = false
 
--- the row above an advice at a place: the file and the line that a mark says it comes from, and the
+-- the row above a diagnostic at a place: the file and the line that a mark says it comes from, and the
 -- column in the text that was read
 abbrev pub row_by : Option Line → ℕ → List ℕ
 row_by None column = []
@@ -55,11 +55,11 @@ abbrev pub origin_row : List (Option Line) → Option Span → List ℕ
 origin_row os None = []
 origin_row os (Some s) = row_by (origin_at os s.at.line) s.at.col
 
--- an advice, by the origins of all lines; and several
-abbrev pub told_lines : List (Option Line) → List ℕ → Advice → List ℕ
-told_lines os text a = origin_row os a.span ++ advice_lines text a
+-- a diagnostic, by the origins of all lines; and several
+abbrev pub told_lines : List (Option Line) → List ℕ → Diagnostic → List ℕ
+told_lines os text a = origin_row os a.span ++ diagnostic_lines text a
 
-abbrev pub all_told : List (Option Line) → List ℕ → List Advice → List ℕ
+abbrev pub all_told : List (Option Line) → List ℕ → List Diagnostic → List ℕ
 all_told os text [] = []
 all_told os text (a ∷ as_) = told_lines os text a ++ all_told os text as_
 

@@ -1,27 +1,27 @@
-//! The words of what schedules show.
+//! Diagnostics of what schedules show.
 
-use crate::source::Source;
+use crate::compiled::Compiled;
 use guest_code::program::Instruction;
 use guest_syntax::place::Pos;
+use hints::message::Message;
 use hints::pieces::text_of;
-use hints::told::Told;
 use lint::deep::explore;
-use lint::seen::{Seen, Sight, and_now};
+use lint::seen::{Seen, ValuesSeen, values_with};
 use lint::uses::forbids;
-use messages::message::{Advice, Grade};
+use messages::message::{Diagnostic, Severity};
 use replay::schedule_text;
 use std::alloc::{AllocError, Global};
 
-/// What is told of a `signal` for which several threads wait in some schedule: its number and name,
-/// and what is said.
-const CROWD: (&str, &str) = (
+// The warning of a `signal` for which several threads wait in some schedule: the number and the name,
+// and what is said.
+const SIGNAL_TO_MANY: (&str, &str) = (
     "W13 SignalToOneOfMany",
     "in some schedule two threads or more wait for this: a guest wakes the one that came first, \
      a platform may wake another",
 );
 
-/// What is told of a `repeat` that runs out of turns in some schedule: its number and name, and
-/// what is said.
+// The warning of a `repeat` that runs out of turns in some schedule: the number and the name, and
+// what is said.
 const RAN_OUT: (&str, &str) = (
     "W12 RanOut",
     "this `repeat` runs out of turns with no `leave` in some schedule",
@@ -30,16 +30,16 @@ const RAN_OUT: (&str, &str) = (
 /// How far schedules are gone through, and what is told of them.
 #[derive(Clone, Copy, Debug)]
 pub struct Depth {
-    /// Up to how many, those among them that sleep sets cut short.
+    /// Up to how many schedules, those that sleep sets cut short among them.
     pub limit: u64,
-    /// Whether that is told too in which nothing needs to be wrong.
+    /// Whether remarks are told too: that in which nothing needs to be wrong.
     pub remarks: bool,
 }
 
 impl Depth {
-    /// That the limit was reached.
-    fn cut_short(self, alloc: Global) -> Result<Advice, AllocError> {
-        let told = Told::new(
+    // The remark that the limit was reached before all schedules were gone through.
+    fn cut_short_remark(self, alloc: Global) -> Result<Diagnostic, AllocError> {
+        let message = Message::new(
             alloc,
             "assertions are told of only where all schedules were gone through",
         )?;
@@ -49,42 +49,42 @@ impl Depth {
             "schedules"
         };
         let headline = format!(in alloc; "remark W21 CutShort after {} {schedules}", self.limit)?;
-        Ok(told.advice(Grade::Remark, headline, None))
+        Ok(message.into_diagnostic(Severity::Remark, headline, None))
     }
 }
 
-/// What was seen of a statement, of two of its instructions.
-fn both(first: Sight, second: Sight) -> Sight {
+// What was seen of one assertion, by what was seen of two instructions of it.
+fn joined(first: ValuesSeen, second: ValuesSeen) -> ValuesSeen {
     match (first, second) {
-        (Sight::Unseen, sight) | (sight, Sight::Unseen) => sight,
-        (sight, Sight::Same(left, right)) => and_now(sight, left, right),
-        (_, Sight::Varied) => Sight::Varied,
+        (ValuesSeen::Unseen, values) | (values, ValuesSeen::Unseen) => values,
+        (values, ValuesSeen::Same(left, right)) => values_with(values, left, right),
+        (_, ValuesSeen::Varied) => ValuesSeen::Varied,
     }
 }
 
-impl Source<'_> {
-    /// Adds what schedules show of the program.
-    pub fn add_depths(&self, depth: Depth, all: &mut Vec<Advice>) -> Result<(), AllocError> {
+impl Compiled<'_> {
+    /// Adds the diagnostics of what schedules of the program show, up to the limit of a depth.
+    pub fn add_explored(&self, depth: Depth, all: &mut Vec<Diagnostic>) -> Result<(), AllocError> {
         let alloc = *all.allocator();
         let spins = self.spins(alloc)?;
-        let depths = explore(alloc, self.program, &spins, depth.limit)?;
-        self.add_crowds(&depths.seen, all)?;
-        for (spin, ran_out) in spins.iter().zip(&depths.seen.ran_out) {
+        let explored = explore(alloc, self.program, &spins, depth.limit)?;
+        self.add_signals(&explored.seen, all)?;
+        for (spin, ran_out) in spins.iter().zip(&explored.seen.ran_out) {
             if let Some(path) = ran_out {
-                self.add_shown(all, RAN_OUT, spin.at, path)?;
+                self.add_with_replay(all, RAN_OUT, spin.at, path)?;
             }
         }
-        if depths.is_whole {
-            return self.add_assertions(&depths.seen, depth.remarks, all);
+        if explored.is_whole {
+            return self.add_assertions(&explored.seen, depth.remarks, all);
         }
-        all.push(depth.cut_short(alloc)?)?;
+        all.push(depth.cut_short_remark(alloc)?)?;
         Ok(())
     }
 
-    /// Adds what a schedule shows of the statement at a place.
-    fn add_shown(
+    // Adds a warning of the statement at a place, with a note on how to replay the steps that show it.
+    fn add_with_replay(
         &self,
-        all: &mut Vec<Advice>,
+        all: &mut Vec<Diagnostic>,
         (name, said): (&str, &str),
         at: Pos,
         path: &[u8],
@@ -92,42 +92,42 @@ impl Source<'_> {
         let alloc = *all.allocator();
         let schedule = schedule_text(alloc, path)?;
         let replay = format_args!("replay: {}", text_of(&schedule));
-        let told = Told::new(alloc, said)?.with(replay)?;
-        self.add(all, (Grade::Warning, name), at, told)
+        let message = Message::new(alloc, said)?.with_note(replay)?;
+        self.add_diagnostic(all, (Severity::Warning, name), at, message)
     }
 
-    /// Adds what is told of the `signal`s for which several threads wait in some schedule.
-    fn add_crowds(&self, seen: &Seen, all: &mut Vec<Advice>) -> Result<(), AllocError> {
+    // Adds the warnings of the `signal`s for which several threads wait in some schedule.
+    fn add_signals(&self, seen: &Seen, all: &mut Vec<Diagnostic>) -> Result<(), AllocError> {
         for thread in 0..self.program.threads() {
-            for (i, scene) in seen.scenes_of(thread).iter().enumerate() {
-                if let Some(path) = &scene.crowd {
-                    self.add_shown(all, CROWD, self.place(thread, i), path)?;
+            for (i, instruction) in seen.instructions_of(thread).iter().enumerate() {
+                if let Some(path) = &instruction.signal_to_many {
+                    self.add_with_replay(all, SIGNAL_TO_MANY, self.place(thread, i), path)?;
                 }
             }
         }
         Ok(())
     }
 
-    /// Adds what is told of the assertions, with remarks or without.
+    // Adds the warnings of the assertions, and the remarks if those are wanted.
     fn add_assertions(
         &self,
         seen: &Seen,
         remarks: bool,
-        all: &mut Vec<Advice>,
+        all: &mut Vec<Diagnostic>,
     ) -> Result<(), AllocError> {
         for thread in 0..self.program.threads() {
             for i in 0..self.code(thread).len() {
                 if self.is_first_assert(thread, i) {
                     let at = self.place(thread, i);
-                    self.add_assertion(self.sight_at(seen, thread, at), at, remarks, all)?;
+                    self.add_assertion(self.values_seen_at(seen, thread, at), at, remarks, all)?;
                 }
             }
         }
         Ok(())
     }
 
-    /// Whether the instruction is the first assertion of its statement, and no `assert 0;`, which
-    /// says that no run is to come there.
+    // Whether an instruction is the first assertion of its statement, and no `assert 0;`, which says
+    // that no run is to come there.
     fn is_first_assert(&self, thread: u8, at: usize) -> bool {
         match self.code(thread).get(at) {
             Some(assertion @ Instruction::Assert(_)) => {
@@ -138,41 +138,41 @@ impl Source<'_> {
         }
     }
 
-    /// What was seen of the assertion at a place, over all its instructions, and whether it held in
-    /// some schedule.
-    fn sight_at(&self, seen: &Seen, thread: u8, at: Pos) -> (Sight, bool) {
-        let mut sight = Sight::Unseen;
+    // What was seen of the assertion at a place, over all its instructions, and whether one of them
+    // held in some schedule.
+    fn values_seen_at(&self, seen: &Seen, thread: u8, at: Pos) -> (ValuesSeen, bool) {
+        let mut values = ValuesSeen::Unseen;
         let mut has_held = false;
-        for (i, scene) in seen.scenes_of(thread).iter().enumerate() {
+        for (i, instruction) in seen.instructions_of(thread).iter().enumerate() {
             if self.place(thread, i) == at {
-                sight = both(sight, scene.sight);
-                has_held = has_held || scene.has_held;
+                values = joined(values, instruction.values);
+                has_held = has_held || instruction.has_held;
             }
         }
-        (sight, has_held)
+        (values, has_held)
     }
 
-    /// Adds what is told of an assertion that was seen so, and that held in some schedule or in none.
+    // Adds the diagnostic, if any, of an assertion of which these values were seen, and whether it held.
     fn add_assertion(
         &self,
-        (sight, has_held): (Sight, bool),
+        (values, has_held): (ValuesSeen, bool),
         at: Pos,
         remarks: bool,
-        all: &mut Vec<Advice>,
+        all: &mut Vec<Diagnostic>,
     ) -> Result<(), AllocError> {
         let alloc = *all.allocator();
-        let (title, told) = match sight {
-            Sight::Unseen => (
-                (Grade::Warning, "W10 NeverRun"),
-                Told::new(alloc, "no schedule comes to this assertion")?,
+        let (title, message) = match values {
+            ValuesSeen::Unseen => (
+                (Severity::Warning, "W10 NeverRun"),
+                Message::new(alloc, "no schedule comes to this assertion")?,
             ),
             _ if !has_held => (
-                (Grade::Warning, "W20 NeverHolds"),
-                Told::new(alloc, "in each schedule that comes here it fails")?,
+                (Severity::Warning, "W20 NeverHolds"),
+                Message::new(alloc, "in each schedule that comes here it fails")?,
             ),
-            Sight::Same(left, right) if remarks => (
-                (Grade::Remark, "W11 OneOutcome"),
-                Told::new(
+            ValuesSeen::Same(left, right) if remarks => (
+                (Severity::Remark, "W11 OneOutcome"),
+                Message::new(
                     alloc,
                     format_args!(
                         "in all schedules this assertion has the values {left} and {right}"
@@ -181,6 +181,6 @@ impl Source<'_> {
             ),
             _ => return Ok(()),
         };
-        self.add(all, title, at, told)
+        self.add_diagnostic(all, title, at, message)
     }
 }

@@ -4,11 +4,11 @@
 //!   exactly where it spells no tree or its tree has a fault, and the short form and the place are
 //!   those of the refusal.
 //! - The warnings are those of `lint`; here they get their places and their words. With a depth, what
-//!   that saw in schedules is told too.
-//! - [`advice_text`] answers the lines that `hints` defines: carets lie under the bytes that are meant.
-//!   Above them is told where a mark says that the line comes from.
+//!   `lint` saw in schedules is told too.
+//! - [`advice_text`] answers the lines that `messages` defines: carets lie under the bytes that are
+//!   meant. Above those lines is told where a mark says that the marked line comes from.
 //!
-//! Which words an advice has, and all that schedules show, is shown by tests.
+//! Which words a diagnostic has, and all that schedules show, is shown by tests.
 #![tactic(auto)]
 
 ghost use Rattle.std.specs.Prelude.{◌≡◌, ◌≢◌, IfOk, All, false};
@@ -24,17 +24,17 @@ ghost use Rattle.advice.specs.Allowed.{is_allowed};
 ghost use Rattle.advice.specs.Told.{Tells, is_warning, is_warned, checked_lines};
 
 mod allowed;
+mod compiled;
 mod depths;
 mod findings;
 mod origin;
 mod remarks;
-mod source;
 mod spins;
 
 use crate::allowed::is_allowed;
+use crate::compiled::Compiled;
 pub use crate::depths::Depth;
-use crate::origin::{put_all, put_told};
-use crate::source::Source;
+use crate::origin::{put_all, put_diagnostic};
 use guest_code::error::CheckError;
 use guest_code::lowering::lower;
 use guest_code::program::Program;
@@ -42,22 +42,22 @@ use guest_code::source_map::SourceMap;
 use guest_syntax::tree::Tree as SyntaxTree;
 use guest_syntax::{SyntaxError, parse};
 use hints::pieces::pieces;
-use hints::refusal::{check_advice, syntax_advice};
-pub use messages::message::{Advice, Grade, Note, Span};
+use hints::refusal::{check_diagnostic, syntax_diagnostic};
+pub use messages::message::{Diagnostic, Note, Severity, Span};
 use std::alloc::{AllocError, Global};
 use text_lines::Marks;
 
 /// What [`check`] finds.
 #[derive(Debug, Drop)]
 pub enum Checked {
-    /// The text is a program; these are its warnings.
-    Sound(Vec<Advice>),
-    /// It is refused.
-    Refused(Advice),
+    /// The text is a program; these are its warnings and remarks.
+    Sound(Vec<Diagnostic>),
+    /// The text is refused, by this diagnostic.
+    Refused(Diagnostic),
 }
 
 impl Checked {
-    /// Whether there is a warning.
+    /// Whether the text is a program, and there is a warning.
     pub fn is_warned(&self) -> bool
         ensures { result ≡ is_warned self.now }
     {
@@ -68,16 +68,15 @@ impl Checked {
     }
 }
 
-/// Whether some advice is a warning.
-fn has_warning(all: &[Advice]) -> bool
-    ensures { result ≡ list_any (λ a. is_warning a.grade) all.now }
+// Whether some diagnostic is a warning.
+fn has_warning(all: &[Diagnostic]) -> bool
+    ensures { result ≡ list_any (λ a. is_warning a.severity) all.now }
 {
-    all.iter()
-        .any(|advice| matches!(advice.grade, Grade::Warning))
+    all.iter().any(|diagnostic| matches!(diagnostic.severity, Severity::Warning))
 }
 
 /// Why a text is refused, or what is odd about its program, in the order of the text. With a depth,
-/// schedules are gone through.
+/// schedules of the program are gone through, and what they show is told too.
 ///
 /// # Errors
 ///
@@ -91,7 +90,7 @@ pub fn check(alloc: Global, text: &[u8], depth: Option<Depth>) -> Result<Checked
     }
 }
 
-/// That memory ran out, or why a text is refused with this.
+// That memory ran out, or why a text that spells no tree is refused with this error.
 fn refused_text(alloc: Global, text: &[u8], error: SyntaxError) -> Result<Checked, AllocError>
     requires refused { error ≢ syntax.OutOfMemory → (t : Tree) → Spells text.now t → ⊥ }
     requires place { RefusalIn start text.now error }
@@ -100,13 +99,13 @@ fn refused_text(alloc: Global, text: &[u8], error: SyntaxError) -> Result<Checke
     match error {
         SyntaxError::OutOfMemory => Err(AllocError),
         _ => {
-            let advice = syntax_advice(alloc, text, error)?;
-            Ok(Checked::Refused(advice))
+            let diagnostic = syntax_diagnostic(alloc, text, error)?;
+            Ok(Checked::Refused(diagnostic))
         }
     }
 }
 
-/// That memory ran out, or why a tree is refused with this.
+// That memory ran out, or why a tree, which the text spells, is refused with this error.
 fn refused_tree(
     alloc: Global,
     text: &[u8],
@@ -120,13 +119,13 @@ fn refused_tree(
     match error {
         CheckError::OutOfMemory => Err(AllocError),
         _ => {
-            let advice = check_advice(alloc, text, tree, error)?;
-            Ok(Checked::Refused(advice))
+            let diagnostic = check_diagnostic(alloc, text, tree, error)?;
+            Ok(Checked::Refused(diagnostic))
         }
     }
 }
 
-/// Why a text that spells a tree is refused, or what is odd about its program.
+// Why a text that spells this tree is refused, or what is odd about its program.
 fn check_tree(
     alloc: Global,
     text: &[u8],
@@ -138,21 +137,21 @@ fn check_tree(
 {
     match lower(alloc, tree) {
         Ok(program) => {
-            let all = all_advice(alloc, text, depth, tree, &program)?;
+            let all = all_diagnostics(alloc, text, depth, tree, &program)?;
             Ok(Checked::Sound(all))
         }
         Err(error) => refused_tree(alloc, text, tree, error),
     }
 }
 
-/// All warnings of the program of a tree that no comment allows, in the order of the text.
-fn all_advice(
+// All warnings and remarks on the program of a tree that no comment allows, in the order of the text.
+fn all_diagnostics(
     alloc: Global,
     text: &[u8],
     depth: Option<Depth>,
     tree: &SyntaxTree,
     program: &Program,
-) -> Result<Vec<Advice>, AllocError>
+) -> Result<Vec<Diagnostic>, AllocError>
     requires { program.now ≡ code (tree_view tree.now) }
     ensures { IfOk result (λ v. All (λ a. is_allowed text.now a ≡ false) v.items) }
 {
@@ -160,23 +159,23 @@ fn all_advice(
         return Err(AllocError);
     };
     let pieces = pieces(alloc, text)?;
-    let source = Source {
+    let compiled = Compiled {
         tree,
         program,
         map: &map,
         pieces: &pieces,
     };
     let mut all = Vec::new(alloc);
-    source.add_warnings(&mut all)?;
+    compiled.add_warnings(&mut all)?;
     if let Some(depth) = depth {
-        source.add_depths(depth, &mut all)?;
+        compiled.add_explored(depth, &mut all)?;
     }
-    all.retain(|advice| !is_allowed(text, advice));
-    all.sort_by_key(|advice| advice.place())?;
+    all.retain(|diagnostic| !is_allowed(text, diagnostic));
+    all.sort_by_key(|diagnostic| diagnostic.place())?;
     Ok(all)
 }
 
-/// The lines of what was found, for standard error.
+/// The lines of what a check of a text found, for standard error.
 ///
 /// # Errors
 ///
@@ -187,7 +186,7 @@ pub fn advice_text(alloc: Global, text: &[u8], checked: &Checked) -> Result<Vec<
     let marks = Marks::new(alloc, text)?;
     let mut out = Vec::new(alloc);
     match checked {
-        Checked::Refused(advice) => put_told(&mut out, text, &marks, advice)?,
+        Checked::Refused(diagnostic) => put_diagnostic(&mut out, text, &marks, diagnostic)?,
         Checked::Sound(all) => put_all(&mut out, text, &marks, all)?,
     }
     Ok(out)

@@ -1,14 +1,14 @@
-//! Where a mark says that the line of an advice comes from.
+//! Where a mark says that the line of a diagnostic comes from.
 
 ghost use Rattle.text_lines.specs.Marks.{origins_in};
 ghost use Rattle.messages.specs.Puts.{Puts};
 ghost use Rattle.advice.specs.Told.{all_told, origin_row, told_lines};
 
-use messages::message::{Advice, Span, put_shown};
+use messages::message::{Diagnostic, Span, put_shown};
 use std::alloc::AllocError;
 use text_lines::Marks;
 
-/// Adds where the line of a place comes from, if a mark says so.
+// Adds a row with the file and line that the line of a span comes from, if a mark says so.
 fn put_origin(out: &mut Vec<u8>, marks: &Marks, span: Option<Span>) -> Result<(), AllocError>
     ensures { Puts result out.old out.new (origin_row (origins_in marks.now) span) }
 {
@@ -23,30 +23,31 @@ fn put_origin(out: &mut Vec<u8>, marks: &Marks, span: Option<Span>) -> Result<()
     out.extend_from_slice(place.as_bytes())
 }
 
-/// Adds where an advice comes from, and its lines.
-pub fn put_told(
+/// Adds the lines of a diagnostic on a text, and above them the origin of its line, if a mark has one.
+pub fn put_diagnostic(
     out: &mut Vec<u8>,
     text: &[u8],
     marks: &Marks,
-    advice: &Advice,
+    diagnostic: &Diagnostic,
 ) -> Result<(), AllocError>
-    ensures { Puts result out.old out.new (told_lines (origins_in marks.now) text.now advice.now) }
+    ensures { Puts result out.old out.new
+        (told_lines (origins_in marks.now) text.now diagnostic.now) }
 {
-    put_origin(out, marks, advice.span)?;
-    advice.put(out, text)
+    put_origin(out, marks, diagnostic.span)?;
+    diagnostic.put(out, text)
 }
 
-/// Adds the same of several.
+/// Adds the lines of several diagnostics on a text, each with the origin of its line.
 pub fn put_all(
     out: &mut Vec<u8>,
     text: &[u8],
     marks: &Marks,
-    all: &[Advice],
+    all: &[Diagnostic],
 ) -> Result<(), AllocError>
     ensures { Puts result out.old out.new (all_told (origins_in marks.now) text.now all.now) }
 {
-    for advice in all {
-        put_told(out, text, marks, advice)?;
+    for diagnostic in all {
+        put_diagnostic(out, text, marks, diagnostic)?;
     }
     Ok(())
 }

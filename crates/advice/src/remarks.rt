@@ -1,111 +1,99 @@
 //! The words of a warning.
 
-use crate::source::Source;
+use crate::compiled::Compiled;
 use guest_code::limits::LOCALS;
 use hints::declared::Nearest;
-use hints::told::Told;
+use hints::message::Message;
 use lint::uses::Use;
 use lint::warning::{Warning, WarningKind};
 use std::alloc::{AllocError, Global};
 
-/// The number and the name of a kind of warnings.
-pub fn title(kind: WarningKind) -> &'static str {
+// `NUMBER NAME: WORDS` of a kind of warnings. The words go on after the name of a thread where that is
+// said to do something, and are missing where a local is named.
+fn words_of(kind: WarningKind) -> &'static str {
     match kind {
         WarningKind::NeverSet(_) => "W1 NeverSet",
         WarningKind::NeverRead(_) => "W2 NeverRead",
-        WarningKind::UnusedVariable
-        | WarningKind::UnusedMutex
-        | WarningKind::UnusedCondition
-        | WarningKind::UnusedSemaphore => "W3 Unused",
-        WarningKind::NeverStored => "W4 NeverStored",
-        WarningKind::NeverLoaded => "W5 NeverLoaded",
-        WarningKind::Constant(_) => "W6 Constant",
-        WarningKind::Unreached(_) => "W7 Unreached",
-        WarningKind::MayKeep(_) => "W8 MayKeep",
-        WarningKind::MayLack(_) => "W9 MayLack",
-        WarningKind::WaitNotLookedAtAgain(_) => "W14 WaitNotLookedAtAgain",
-        WarningKind::LocksAgain(_) => "W15 LocksAgain",
-        WarningKind::NeverSignalled => "W16 NeverSignalled",
-        WarningKind::NeverWaitedFor => "W17 NeverWaitedFor",
-        WarningKind::NeverReleased => "W18 NeverReleased",
-        WarningKind::WaitsElsewhere(_) => "W19 WaitsElsewhere",
-    }
-}
-
-/// What is said of a kind of warnings. It goes on after the name of the thread where one is said to
-/// do something, and is nothing where a local is named.
-fn said(kind: WarningKind) -> &'static str {
-    match kind {
-        WarningKind::NeverSet(_) | WarningKind::NeverRead(_) => "",
-        WarningKind::UnusedVariable => "no statement names this variable",
-        WarningKind::UnusedMutex => "no statement names this mutex",
-        WarningKind::UnusedCondition => "no statement names this condition",
-        WarningKind::UnusedSemaphore => "no statement names this semaphore",
-        WarningKind::NeverStored => "no statement writes this variable: it keeps its first value",
-        WarningKind::NeverLoaded => "no statement reads this variable",
-        WarningKind::NeverSignalled =>
-            "no statement signals this condition: who waits for it waits for ever",
-        WarningKind::NeverWaitedFor => "no statement waits for this condition",
-        WarningKind::NeverReleased =>
-            "it starts at 0 and no statement releases it: who acquires it waits for ever",
-        WarningKind::Constant(_) => "an assertion of numbers alone has one outcome in all runs",
-        WarningKind::Unreached(_) => "no run comes here: what is before it always leaves",
+        WarningKind::UnusedVariable => "W3 Unused: no statement names this variable",
+        WarningKind::UnusedMutex => "W3 Unused: no statement names this mutex",
+        WarningKind::UnusedCondition => "W3 Unused: no statement names this condition",
+        WarningKind::UnusedSemaphore => "W3 Unused: no statement names this semaphore",
+        WarningKind::NeverStored =>
+            "W4 NeverStored: no statement writes this variable: it keeps its first value",
+        WarningKind::NeverLoaded => "W5 NeverLoaded: no statement reads this variable",
+        WarningKind::Constant(_) =>
+            "W6 Constant: an assertion of numbers alone has one outcome in all runs",
+        WarningKind::Unreached(_) =>
+            "W7 Unreached: no run comes here: what is before it always leaves",
         WarningKind::MayKeep(_) =>
-            "may end with this mutex locked: on some way to its end nothing unlocks it",
+            "W8 MayKeep: may end with this mutex locked: on some way to its end nothing unlocks it",
         WarningKind::MayLack(_) =>
-            "may come here without this mutex: on some way to here nothing locks it, \
+            "W9 MayLack: may come here without this mutex: on some way to here nothing locks it, \
              or it is unlocked again",
-        WarningKind::LocksAgain(_) =>
-            "comes here with this mutex locked by itself: it would wait for ever",
         WarningKind::WaitNotLookedAtAgain(_) =>
-            "on some way from here no value is loaded and tested before the thread goes on: \
-             a platform may wake it for nothing, a guest doesn't",
+            "W14 WaitNotLookedAtAgain: on some way from here no value is loaded and tested before the \
+             thread goes on: a platform may wake it for nothing, a guest doesn't",
+        WarningKind::LocksAgain(_) =>
+            "W15 LocksAgain: comes here with this mutex locked by itself: it would wait for ever",
+        WarningKind::NeverSignalled =>
+            "W16 NeverSignalled: no statement signals this condition: who waits for it waits for ever",
+        WarningKind::NeverWaitedFor => "W17 NeverWaitedFor: no statement waits for this condition",
+        WarningKind::NeverReleased =>
+            "W18 NeverReleased: it starts at 0 and no statement releases it: who acquires it waits for ever",
         WarningKind::WaitsElsewhere(_) =>
-            "another statement waits for this condition with another mutex",
+            "W19 WaitsElsewhere: another statement waits for this condition with another mutex",
     }
 }
 
-impl<'a> Source<'a> {
-    /// What is told of a warning.
-    pub fn told(&self, alloc: Global, warning: Warning) -> Result<Told, AllocError> {
-        let said = said(warning.kind);
+/// The number and the name of a kind of warnings, as `W9 MayLack`, and what is said of such a warning.
+pub fn title_and_words(kind: WarningKind) -> (&'static str, &'static str) {
+    let words = words_of(kind);
+    words.split_once(": ").unwrap_or((words, ""))
+}
+
+impl<'a> Compiled<'a> {
+    /// The message of a warning, with its notes.
+    pub fn warning_message(&self, alloc: Global, warning: Warning) -> Result<Message, AllocError> {
+        let (_, said) = title_and_words(warning.kind);
         match warning.kind {
-            WarningKind::NeverSet(thread) => self.never_set(alloc, thread, warning.number),
+            WarningKind::NeverSet(thread) => self.unset_local(alloc, thread, warning.number),
             WarningKind::NeverRead(thread) => {
-                let (name, local) = (
-                    self.thread_name(thread),
-                    self.local_name(thread, warning.number),
-                );
-                Told::new(
-                    alloc,
-                    format_args!("no statement of {name} reads `{local}`"),
-                )
+                let name = self.thread_name(thread);
+                let local = self.local_name(thread, warning.number);
+                let never = format_args!("no statement of {name} reads `{local}`");
+                Message::new(alloc, never)
             }
             WarningKind::MayKeep(thread)
             | WarningKind::MayLack(thread)
             | WarningKind::LocksAgain(thread) => {
-                Told::new(alloc, format_args!("{} {said}", self.thread_name(thread)))
+                Message::new(alloc, format_args!("{} {said}", self.thread_name(thread)))
             }
-            WarningKind::WaitNotLookedAtAgain(_) => Told::new(alloc, said)?.with(
+            WarningKind::WaitNotLookedAtAgain(_) => Message::new(alloc, said)?.with_note(
                 "write: repeat 3 { load r x; if r { leave; } wait c m; }",
             ),
-            _ => Told::new(alloc, said),
+            _ => Message::new(alloc, said),
         }
     }
 
-    /// What is told of a local that no statement sets.
-    fn never_set(&self, alloc: Global, thread: u8, local: usize) -> Result<Told, AllocError> {
+    // The message of a local of a thread that no statement sets.
+    fn unset_local(&self, alloc: Global, thread: u8, local: usize) -> Result<Message, AllocError> {
         let (name, local) = (self.thread_name(thread), self.local_name(thread, local));
         let never = format_args!("no statement of {name} gives `{local}` a value: it is 0");
-        let told = Told::new(alloc, never)?;
-        match self.near(alloc, thread, local)? {
-            Some(near) => told.with(format_args!("did you mean `{near}`?")),
-            None => Ok(told),
+        let message = Message::new(alloc, never)?;
+        match (local, self.nearest_local(alloc, thread, local)?) {
+            ("true" | "false", _) => message.with_note("write 1 or 0: there are no words for them"),
+            (_, Some(near)) => message.with_note(format_args!("did you mean `{near}`?")),
+            _ => Ok(message),
         }
     }
 
-    /// The name nearest to this one of a local of the thread that gets a value, where one is near.
-    fn near(&self, alloc: Global, thread: u8, name: &str) -> Result<Option<&'a str>, AllocError> {
+    // Of the locals of a thread that get a value, the name nearest to a name, if one is near.
+    fn nearest_local(
+        &self,
+        alloc: Global,
+        thread: u8,
+        name: &str,
+    ) -> Result<Option<&'a str>, AllocError> {
         let mut nearest = Nearest::new(name.as_bytes());
         for local in 0..LOCALS {
             if Use::Sets.is_made_in(local, self.code(thread)) {

@@ -1,14 +1,14 @@
 //! The loops of a program that a `leave` may end.
 
-use crate::source::Source;
+use crate::compiled::Compiled;
 use guest_code::program::Instruction;
 use guest_syntax::pieces::Piece;
 use guest_syntax::place::Pos;
-use hints::pieces::{closing, is_before, piece_at};
+use hints::pieces::{closing_piece, is_before, piece_number_at};
 use lint::spin::Spin;
 use std::alloc::{AllocError, Global};
 
-/// Where a `repeat` is among the pieces of a text: its keyword, and the braces of its block.
+// Where a `repeat` is in a text: its keyword, and the braces of its block.
 #[derive(Clone, Copy)]
 struct Block {
     keyword: Pos,
@@ -16,14 +16,14 @@ struct Block {
     close: Pos,
 }
 
-/// The block of the `repeat` that is this piece, where it lies round another piece.
-fn block_round(pieces: &[Piece<'_>], keyword: usize, inside: usize) -> Option<Block> {
+// The block of the `repeat` whose keyword is a piece, if the block lies round the piece `inside`.
+fn block_around(pieces: &[Piece<'_>], keyword: usize, inside: usize) -> Option<Block> {
     let repeat = pieces.get(keyword)?;
     if !matches!(repeat.text, b"repeat") {
         return None;
     }
     let open = keyword.saturating_add(2);
-    let close = closing(pieces, open).filter(|close| inside < *close)?;
+    let close = closing_piece(pieces, open).filter(|close| inside < *close)?;
     Some(Block {
         keyword: repeat.at,
         open: pieces.get(open)?.at,
@@ -31,20 +31,20 @@ fn block_round(pieces: &[Piece<'_>], keyword: usize, inside: usize) -> Option<Bl
     })
 }
 
-/// The nearest `repeat` round the `leave` at a place; none where no `leave` is there.
+// The nearest `repeat` round the `leave` at a place, which it leaves; none where no `leave` is there.
 fn block_left(pieces: &[Piece<'_>], at: Pos) -> Option<Block> {
-    let number = piece_at(pieces, at);
+    let number = piece_number_at(pieces, at);
     if !matches!(pieces.get(number)?.text, b"leave") {
         return None;
     }
     (0..number)
         .rev()
-        .find_map(|keyword| block_round(pieces, keyword, number))
+        .find_map(|keyword| block_around(pieces, keyword, number))
 }
 
-impl Source<'_> {
-    /// The instructions of a thread that are inside a block, but for its own `leave`s.
-    fn inside(&self, alloc: Global, thread: u8, block: Block) -> Result<Vec<bool>, AllocError> {
+impl Compiled<'_> {
+    // For each instruction of a thread, whether it is in a block and none of the block's own `leave`s.
+    fn in_block(&self, alloc: Global, thread: u8, block: Block) -> Result<Vec<bool>, AllocError> {
         let is_inside = |at: usize| {
             let place = self.place(thread, at);
             let left = block_left(self.pieces, place);
@@ -55,7 +55,7 @@ impl Source<'_> {
         (0..self.code(thread).len()).map(is_inside).collect(alloc)
     }
 
-    /// Adds the copies of each `repeat` of a thread that have a `leave`.
+    // Adds the copies of each `repeat` of a thread that has a `leave`.
     fn add_spins(
         &self,
         alloc: Global,
@@ -72,7 +72,7 @@ impl Source<'_> {
                     && spin.exit == exit
                     && spin.at == at;
                 if !spins.iter().any(is_such) {
-                    let inside = self.inside(alloc, thread, block)?;
+                    let inside = self.in_block(alloc, thread, block)?;
                     spins.push(Spin {
                         thread,
                         at,
@@ -85,7 +85,7 @@ impl Source<'_> {
         Ok(())
     }
 
-    /// The copies of each `repeat` that have a `leave`.
+    /// The copies of each `repeat` of the program that has a `leave`.
     pub fn spins(&self, alloc: Global) -> Result<Vec<Spin>, AllocError> {
         let mut spins = Vec::new(alloc);
         for thread in 0..self.program.threads() {

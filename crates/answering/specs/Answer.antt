@@ -158,7 +158,7 @@ abbrev pub IsDeviceFault : ErrorKind → Fault → Type 0
 IsDeviceFault kind fault =
     ((kind ≡ io.OutOfMemory) × (fault ≡ Memory)) ⊎ ((kind ≢ io.OutOfMemory) × (fault ≡ File))
 
--- a device's, whatever its kind
+-- a fault of a device, whatever the kind of its error
 abbrev pub IsOfDevice : Fault → Type 0
 IsOfDevice fault = (fault ≡ Memory) ⊎ (fault ≡ File)
 
@@ -168,7 +168,7 @@ pub record AnswerView : Type 0 where
   pub error : List ℕ
   pub status : ℕ
 
--- what is printed, and its status; after a fault its line and its status
+-- the answer of a result: what was printed, and its status; or a fault's line, and its status
 abbrev pub answer_of : Result Printed Fault → AnswerView
 answer_of (Ok printed) = record {
   output = printed.output.items;

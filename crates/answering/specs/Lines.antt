@@ -16,6 +16,6 @@ fault_text (Schedule e) = schedule_error_text e
 fault_text (Replay e) = replay_error_text e
 fault_text Memory = codes "memory"
 
--- its line
+-- the line of a fault on standard error
 abbrev pub fault_line : Fault → List ℕ
 fault_line fault = codes "ctxbound: " ++ fault_text fault ++ codes "\n"

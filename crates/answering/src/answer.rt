@@ -8,7 +8,7 @@ ghost use Rattle.answering.specs.Serve.{IsWritten};
 
 use crate::exploration::{Exploration, GuestRequest};
 use crate::fault::Fault;
-use crate::progress::Teller;
+use crate::progress::ProgressGate;
 use guest_code::lowering::lower;
 use guest_syntax::parse;
 use replay::{replay, schedule_from, schedule_text, trace_text};
@@ -26,7 +26,7 @@ use std::thread::Threads;
 pub struct Printed {
     /// The bytes for standard output.
     pub output: Vec<u8>,
-    /// The status.
+    /// The status that the program ends with.
     pub status: u8,
 }
 
@@ -80,8 +80,8 @@ pub fn replay_status(kind: Option<Kind>) -> u8
     }
 }
 
-/// The report of a search of the program that `text` spells, by as many workers as asked for, and a
-/// line feed.
+/// The report of a search of the program that `text` spells, by as many workers as `exploration`
+/// says, and a line feed.
 ///
 /// # Errors
 ///
@@ -96,7 +96,7 @@ pub fn explore_text<R: Threads + Wait + Sync + Eprint>(
     ensures { ExplorationMeans text.now exploration.options result }
 {
     let (options, workers) = (exploration.options, exploration.workers);
-    let gate = Teller::new(rt, exploration.progress);
+    let gate = ProgressGate::new(rt, exploration.progress);
     let report = runner::explore_text(rt, alloc, text, options, workers, &gate)?;
     Ok(Printed::of_report(alloc, &report)?)
 }
@@ -116,7 +116,7 @@ pub fn explore_and_trace<R: Threads + Wait + Sync + Eprint>(
     ensures { TracedMeans text.now exploration.options result }
 {
     let (options, workers) = (exploration.options, exploration.workers);
-    let gate = Teller::new(rt, exploration.progress);
+    let gate = ProgressGate::new(rt, exploration.progress);
     let report = runner::explore_text(rt, alloc, text, options, workers, &gate)?;
     let Printed { mut output, status } = Printed::of_report(alloc, &report)?;
     if let Some(schedule) = report.schedule() {
@@ -155,7 +155,7 @@ impl Model for Answer {
 }
 
 impl Answer {
-    /// The answer to a request, where the reader gave this text or failed so.
+    /// The answer to a request. `given` is the text of the guest program, or why it wasn't read.
     pub fn new<R: Threads + Wait + Sync + Eprint>(
         rt: &R,
         alloc: Global,
@@ -189,7 +189,7 @@ impl Answer {
         }
     }
 
-    /// Writes the bytes for standard error.
+    /// Writes the bytes for standard error, which are the line of a fault or none, to `err`.
     ///
     /// # Errors
     ///
@@ -203,7 +203,7 @@ impl Answer {
         }
     }
 
-    /// The status to end with.
+    /// The status that the program ends with.
     pub fn status(&self) -> u8
         ensures { result ≡ self.now.status }
     {

@@ -7,7 +7,7 @@ ghost use Rattle.answering.specs.inner.Searches.{IsSearch-prop};
 
 use report::{Options, Search};
 
-/// The bound of a search that asks for none.
+/// The bound of a search, in preemptions, where the command words give none.
 pub const DEFAULT_BOUND: u32 = 2;
 
 /// What is asked of a guest program.
@@ -21,11 +21,11 @@ pub enum GuestRequest {
     Trace(Exploration),
 }
 
-/// A search, and by how many workers. Its report doesn't depend on them, unless it is incomplete.
+/// A search, and by how many workers. Only where it is cut short its report depends on the workers.
 #[derive(Clone, Copy, Debug)]
 pub struct Exploration {
     pub options: Options,
-    /// At least 1, at most [`WORKERS`](workers::WORKERS).
+    /// The workers of the search, at least 1, at most [`WORKERS`](workers::WORKERS).
     pub workers: u32,
     /// Whether it is told on standard error how far the search is.
     pub progress: bool,
@@ -35,9 +35,9 @@ pub struct Exploration {
     ghost few_workers: { workers ≤ WORKERS },
 }
 
-impl Exploration {
-    /// The search that is made where no more is asked for.
-    pub fn usual() -> Exploration {
+impl Default for Exploration {
+    /// The search up to [`DEFAULT_BOUND`] preemptions, by one worker.
+    fn default() -> Exploration {
         Exploration {
             options: Options::new(Search::UpTo(DEFAULT_BOUND)),
             workers: 1,

@@ -13,10 +13,10 @@ use std::alloc::{AllocError, AllocFailed};
 use std::io::{ErrorKind, Write};
 use std::{fmt, io};
 
-/// The status where what the user gave is refused.
+/// The status that the program ends with where what the user gave is refused.
 pub const REFUSED: u8 = 2;
 
-/// A fault, in the order in which they are looked for.
+/// Why a run of the program has no answer. Faults are looked for in the order of the variants.
 #[derive(Debug, Drop)]
 pub enum Fault {
     /// The file can't be read, or the output can't be written.
@@ -44,7 +44,7 @@ impl Fault {
         }
     }
 
-    /// Writes its line: the name of the program, what the user is told, and a line feed.
+    /// Writes the fault's line: the name of the program, what the user is told, and a line feed.
     ///
     /// # Errors
     ///
@@ -55,7 +55,7 @@ impl Fault {
         writeln!(err, "ctxbound: {self}")
     }
 
-    /// Writes its line, and answers the status. A failing stream changes no status.
+    /// Writes the fault's line, and answers the fault's status, which a failing `err` doesn't change.
     pub fn report<E: Write>(&self, err: &mut E) -> u8
         ensures { result ≡ fault_status self.now }
     {
@@ -193,19 +193,19 @@ impl From<io::Error> for Fault {
     }
 }
 
-/// Why a command that names what failed printed nothing.
+/// Why a command printed nothing, with the name of the device where one failed.
 #[derive(Drop)]
 pub enum CommandFault<'a> {
-    /// A fault that has no name.
+    /// A fault that no device is named with.
     Fault(Fault),
-    /// The file or the stream of this name failed.
+    /// The file or the stream of this name failed with this error.
     Device(&'a str, io::Error),
-    /// The line that tells why, and the status.
+    /// The line that tells the fault, and the status.
     Line(Vec<u8>, u8),
 }
 
 impl CommandFault<'_> {
-    /// Writes its line, and answers the status. A failing stream changes no status.
+    /// Writes the fault's line, and answers the fault's status, which a failing `err` doesn't change.
     pub fn report<E: Write>(&self, err: &mut E) -> u8 {
         match self {
             CommandFault::Fault(fault) => fault.report(err),

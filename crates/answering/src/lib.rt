@@ -9,12 +9,12 @@
 //!   Their contracts speak of nothing else.
 //! - [`Fault`] is why there is no answer, the line that tells so, and its status.
 //! - An [`Answer`] is all that is written, and the status. [`serve`] reads a text, answers and
-//!   writes; [`ended`] is the status that the program ends with then; [`serve_file`] does all that
+//!   writes; [`exit_status`] is the status that the program ends with then; [`serve_file`] does all that
 //!   with a file.
 //! - A [`CommandFault`] is why a command that names the device that failed printed nothing.
-//!   [`serve_text`] reads the text of a file, answers and writes for such a command;
-//!   [`serve_printed`], [`read_file`] and [`write_out`] do parts of that.
-//! - [`Teller`] is the gate of the searches: where it is asked to, it tells how far they are.
+//!   [`read_file`] reads the text of a file for such a command, and [`serve_printed`] writes what it
+//!   answers.
+//! - [`ProgressGate`] is the gate of the searches: where it is asked to, it tells how far they are.
 #![tactic(auto)]
 
 mod answer;
@@ -30,13 +30,13 @@ pub use answer::{
 };
 pub use exploration::{DEFAULT_BOUND, Exploration, GuestRequest};
 pub use fault::{CommandFault, Fault, REFUSED};
-pub use limits::{LIMIT, Limits};
-pub use progress::Teller;
+pub use limits::{DEFAULT_LIMIT, Limits};
+pub use progress::ProgressGate;
 pub use request::{
-    CheckForm, CheckRequest, ExplainRequest, Form, JoinRequest, PrefixesRequest, Request, STEPS,
-    SuiteRequest, UnderRequest, VerifyRequest, WIDTH,
+    CheckForm, CheckRequest, DEFAULT_STEPS, DEFAULT_WIDTH, ExplainForm, ExplainRequest,
+    JoinRequest, PrefixesRequest, Request, SuiteRequest, UnderRequest, VerifyRequest,
 };
 pub use serving::{
-    STANDARD_OUTPUT, ended, is_standard_input, read_bytes, read_file, serve, serve_file,
-    serve_printed, serve_text, write_out,
+    STANDARD_OUTPUT, exit_status, is_standard_input, read_bytes, read_file, serve, serve_file,
+    serve_printed, write_out,
 };

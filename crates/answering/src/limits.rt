@@ -1,4 +1,4 @@
-//! How far the searches of one question go.
+//! How far several searches of one text go.
 
 ghost use Rattle.std.specs.Prelude.{◌≤◌};
 ghost use Rattle.workers.specs.declared.limits.TheConstants.{WORKERS};
@@ -6,18 +6,18 @@ ghost use Rattle.report.specs.declared.options.Search.TheVariants.{UpTo};
 ghost use Rattle.report.specs.Promises.{IsSearch};
 ghost use Rattle.answering.specs.inner.Searches.{IsSearch-prop};
 
-/// The limit of a search that is given none.
-pub const LIMIT: u64 = 1_000_000;
+/// The limit of a search, in schedules, where the command words give none.
+pub const DEFAULT_LIMIT: u64 = 1_000_000;
 
 /// How far each search of a text goes, where several may be made of it, and by how many workers.
 #[derive(Clone, Copy, Debug)]
 pub struct Limits {
-    /// After a round in which this number of schedules was tried in all, a search is cut short.
+    /// A search is cut short after the round in which it has tried this number of schedules in all.
     pub limit: u64,
     /// The most preemptions of a schedule, in a search after one without a bound that was cut
     /// short; at most [`BOUND`](report::limits::BOUND).
     pub bound: u32,
-    /// At least 1, at most [`WORKERS`](workers::WORKERS).
+    /// The workers of a search, at least 1, at most [`WORKERS`](workers::WORKERS).
     pub workers: u32,
     ghost is_bound: { IsSearch (UpTo bound) } by { IsSearch-prop (UpTo bound) },
     ghost some_worker: { 1 ≤ workers },

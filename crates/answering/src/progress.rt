@@ -5,11 +5,11 @@ use std::fmt;
 use std::io::Eprint;
 use std::sync::atomic::{AtomicU64, Ordering};
 
-/// A number, with a comma before each three digits but the first ones.
+/// A number that is shown with its digits in groups of three, with commas between them.
 #[derive(Clone, Copy)]
-struct Grouped(u64);
+struct GroupedNumber(u64);
 
-impl fmt::Display for Grouped {
+impl fmt::Display for GroupedNumber {
     fn fmt<W: fmt::Write>(&self, f: &mut fmt::Formatter<W>) -> fmt::Result {
         let groups = [
             self.0 / 1_000_000_000_000_000_000,
@@ -29,22 +29,22 @@ impl fmt::Display for Grouped {
     }
 }
 
-/// The line of a search that is so far.
+/// The line that tells how far a search is.
 #[derive(Clone, Copy)]
-struct Line(Progress);
+struct ProgressLine(Progress);
 
-impl fmt::Display for Line {
+impl fmt::Display for ProgressLine {
     fn fmt<W: fmt::Write>(&self, f: &mut fmt::Formatter<W>) -> fmt::Result {
-        let so_far = self.0;
-        match so_far.bound {
+        let progress = self.0;
+        match progress.bound {
             Some(bound) => write!(f, "bound {bound}: ")?,
             None => write!(f, "unbounded: ")?,
         }
-        let (tried, bad) = (Grouped(so_far.tried), Grouped(so_far.bad));
-        let open_items = Grouped(so_far.open_items as u64);
+        let (tried, bad) = (GroupedNumber(progress.tried), GroupedNumber(progress.bad));
+        let open_items = GroupedNumber(progress.open_items as u64);
         write!(f, "{tried} tried, {bad} bad, {open_items} open")?;
-        if so_far.lists {
-            write!(f, ", {} deferred", Grouped(so_far.deferred as u64))?;
+        if progress.lists {
+            write!(f, ", {} deferred", GroupedNumber(progress.deferred as u64))?;
         }
         Ok(())
     }
@@ -52,22 +52,22 @@ impl fmt::Display for Line {
 
 /// The gate of the program's searches: it stops nobody. Where it is asked to, it tells on standard
 /// error how far the search is, at each bound and each time that twice as many schedules were tried
-/// as when it told last. A failing stream changes nothing.
+/// as when it told last. Where standard error fails the search goes on.
 #[derive(Drop)]
-pub struct Teller<'a, R> {
+pub struct ProgressGate<'a, R> {
     rt: &'a R,
     is_asked: bool,
-    /// Two more than the bound that it told last, 1 after a line without a bound; 0 before the
-    /// first.
+    /// Two more than the bound that the last line told of, 1 after a line without a bound, 0 before
+    /// the first line.
     told: AtomicU64,
-    /// How many schedules have to be tried before it tells of this bound again.
+    /// How many schedules have to be tried before another line tells of the bound that `told` has.
     next: AtomicU64,
 }
 
-impl<'a, R> Teller<'a, R> {
-    /// A gate that tells how far a search is where it is asked to.
-    pub fn new(rt: &'a R, is_asked: bool) -> Teller<'a, R> {
-        Teller {
+impl<'a, R> ProgressGate<'a, R> {
+    /// A gate that stops nobody, and tells how far a search is where `is_asked`.
+    pub fn new(rt: &'a R, is_asked: bool) -> ProgressGate<'a, R> {
+        ProgressGate {
             rt,
             is_asked,
             told: AtomicU64::new(0),
@@ -76,7 +76,7 @@ impl<'a, R> Teller<'a, R> {
     }
 }
 
-impl<R: Eprint + Sync> Gate for Teller<'_, R> {
+impl<R: Eprint + Sync> Gate for ProgressGate<'_, R> {
     ghost use Rattle.std.specs.Prelude.{false};
 
     ghost stops = { λ _. false };
@@ -91,7 +91,7 @@ impl<R: Eprint + Sync> Gate for Teller<'_, R> {
         if self.is_asked && (is_new || progress.tried >= self.next.load(Ordering::SeqCst)) {
             let next = progress.tried.saturating_mul(2).max(1);
             self.next.store(next, Ordering::SeqCst);
-            let _ = self.rt.eprintln(Line(progress));
+            let _ = self.rt.eprintln(ProgressLine(progress));
         }
     }
 }

@@ -10,11 +10,11 @@ use report::Search;
 /// What the command words ask for.
 #[derive(Debug, Drop)]
 pub enum Request {
-    /// Something of the guest program in this file.
-    One { file: String, request: GuestRequest },
-    /// To explain a schedule, and tell that in this form.
-    Explain { request: ExplainRequest, form: Form },
-    /// A suite.
+    /// To replay or search the guest program in this file.
+    Guest { file: String, request: GuestRequest },
+    /// To explain a schedule, in this form.
+    Explain(ExplainRequest, ExplainForm),
+    /// To search the guest programs of a suite.
     Suite(SuiteRequest),
     /// To say whether a guest program is right.
     Verify(VerifyRequest),
@@ -24,17 +24,17 @@ pub enum Request {
     Prefixes(PrefixesRequest),
     /// To search what is under a prefix of the schedules of a guest program.
     Under(UnderRequest),
-    /// To join what such searches found.
+    /// To join what searches under prefixes found.
     Join(JoinRequest),
 }
 
 impl Request {
-    /// The guest program's file, of requests whose refusals `check` explains further: a person is
-    /// told so.
-    pub fn guest(&self) -> Option<&str> {
+    /// The guest program's file, where `ctxbound check` says more of a refused text than this request
+    /// does: a person is told so then.
+    pub fn guest_file(&self) -> Option<&str> {
         let file = match self {
-            Request::One { file, .. } => file,
-            Request::Explain { request, .. } => &request.file,
+            Request::Guest { file, .. } => file,
+            Request::Explain(request, _) => &request.file,
             Request::Prefixes(request) => &request.file,
             Request::Under(request) => &request.file,
             Request::Join(request) => &request.file,
@@ -47,22 +47,22 @@ impl Request {
 /// To list prefixes of the schedules of the guest program in a file.
 #[derive(Debug, Drop)]
 pub struct PrefixesRequest {
-    /// The file, by the name that it is told with.
+    /// The guest program's file, by the name that the user gave.
     pub file: String,
-    /// How many prefixes are listed at least, where a program ever has as many.
+    /// How many prefixes are listed at least, where the program has as many of one length.
     pub at_least: u32,
-    /// Whether those alone are listed that sleep sets enter, for searches without a bound.
+    /// Whether only those prefixes are listed that a search with sleep sets, and no bound, enters.
     pub is_pruned: bool,
 }
 
 /// To search, of the schedules of the guest program in a file, those that begin with a prefix.
 #[derive(Debug, Drop)]
 pub struct UnderRequest {
-    /// The file, by the name that it is told with.
+    /// The guest program's file, by the name that the user gave.
     pub file: String,
     /// The prefix, in schedule text.
     pub prefix: String,
-    /// A quick search is made as one that isn't.
+    /// The search. Whether it is quick makes no difference under a prefix.
     pub search: Exploration,
 }
 
@@ -70,43 +70,43 @@ pub struct UnderRequest {
 /// a file, to the report of a search.
 #[derive(Debug, Drop)]
 pub struct JoinRequest {
-    /// The file, by the name that it is told with.
+    /// The guest program's file, by the name that the user gave.
     pub file: String,
-    /// The files of the parts, by the names that they are told with.
+    /// The files of the parts, by the names that the user gave.
     pub parts: Vec<String>,
     pub search: Search,
     ghost is_search: { IsSearch search } by { IsSearch-prop search },
 }
 
-/// To check the guest program in each of these files, and tell what is wrong or odd.
+/// To check the guest program in each of several files, and tell what is wrong or odd.
 #[derive(Debug, Drop)]
 pub struct CheckRequest {
-    /// A folder stands for the files in it, and in the folders in it, whose names end in `.guest`.
+    /// A folder stands for the files in it, and in its folders, whose names end in `.guest`.
     pub files: Vec<String>,
-    /// Whether a warning counts.
+    /// Whether the status is 1 where there is a warning.
     pub strict: bool,
-    /// Up to how many schedules are gone through for the deeper warnings, if for any.
+    /// How many schedules are gone through at most for deeper warnings, where these are asked for.
     pub depth: Option<u64>,
-    /// Whether these tell too what need not be wrong.
+    /// Whether deeper warnings also tell what need not be wrong.
     pub remarks: bool,
     pub form: CheckForm,
 }
 
-/// What a check is told as.
+/// The form in which a check tells what is wrong or odd.
 #[derive(Clone, Copy, Debug)]
 pub enum CheckForm {
     /// In lines for people, with the source.
     Lines,
-    /// A line each.
+    /// In a line for each refusal and each warning.
     Short,
-    /// A JSON object each.
+    /// In a JSON object for each refusal and each warning.
     Json,
 }
 
-/// A suite: to search the guest program in each of these files, and print a table or JSON.
+/// To search the guest program in each file of a suite, and print a table or JSON.
 #[derive(Debug, Drop)]
 pub struct SuiteRequest {
-    /// A folder stands for the files in it, and in the folders in it, whose names end in `.guest`.
+    /// A folder stands for the files in it, and in its folders, whose names end in `.guest`.
     pub files: Vec<String>,
     pub limits: Limits,
     pub json: bool,
@@ -117,7 +117,7 @@ pub struct SuiteRequest {
 /// To say whether the guest program in a file is right.
 #[derive(Debug, Drop)]
 pub struct VerifyRequest {
-    /// The file, by the name that it is told with.
+    /// The guest program's file, by the name that the user gave.
     pub file: String,
     pub limits: Limits,
 }
@@ -125,26 +125,26 @@ pub struct VerifyRequest {
 /// To explain a schedule of the guest program in a file, or the schedule that a search finds.
 #[derive(Debug, Drop)]
 pub struct ExplainRequest {
-    /// The file, by the name that it is told with.
+    /// The guest program's file, by the name that the user gave.
     pub file: String,
     /// The schedule, in schedule text. Where there is none, a search finds one.
     pub schedule: Option<String>,
     pub search: Exploration,
 }
 
-/// The columns of an explanation, where no number is asked for.
-pub const WIDTH: u32 = 100;
+/// The columns of an explanation in text, where the command words give no number.
+pub const DEFAULT_WIDTH: u32 = 100;
 
-/// The steps of an explanation that folds none, where no number is asked for.
-pub const STEPS: u32 = 40;
+/// The most steps of an explanation that folds none, where the command words give no number.
+pub const DEFAULT_STEPS: u32 = 40;
 
-/// What an explanation is told as.
+/// The form in which an explanation is told.
 #[derive(Clone, Copy, Debug)]
-pub enum Form {
-    /// As text of this width: each step, where there are at most so many, or those that matter.
+pub enum ExplainForm {
+    /// As text of this width: each step, where there are at most `steps`, else those that matter.
     Text { width: usize, steps: usize },
     /// As JSON.
     Json,
-    /// As a page.
+    /// As an HTML page.
     Html,
 }

@@ -16,10 +16,10 @@ use std::sync::Wait;
 use std::thread::Threads;
 use std::{fs, io};
 
-/// The name that standard output is told with.
+/// The name of standard output in a fault's line.
 pub const STANDARD_OUTPUT: &str = "standard output";
 
-/// The text of a guest program, or one byte more than a program may have where it is too long.
+// The text of a guest program that `input` gives; of one that is too long, one byte more than may be.
 fn read_text<R: Read>(alloc: Global, input: &mut R) -> io::Result<Vec<u8>>
     ensures { IfOk result (λ text. IfSome (R.remaining input.old) (IsPartRead text.items)) }
 {
@@ -28,7 +28,7 @@ fn read_text<R: Read>(alloc: Global, input: &mut R) -> io::Result<Vec<u8>>
     Ok(text)
 }
 
-/// Writes the output, so that it is seen at once. Where there is none, the device isn't touched.
+/// Writes `output` to `out`, to be seen at once. Where it is empty, the device isn't touched.
 ///
 /// # Errors
 ///
@@ -43,8 +43,8 @@ pub fn write_out<W: Write>(out: &mut W, output: &[u8]) -> io::Result<()>
     out.flush()
 }
 
-/// Does what is asked with the guest program that `input` gives: the answer goes to `out`, the line
-/// of a fault that it tells to `err`. Answers the status of the answer, which was written then.
+/// Does what `request` asks of the guest program that `input` gives. What the answer has for standard
+/// output is written to `out`, the line of a fault to `err`; the answer's status is given back.
 ///
 /// # Errors
 ///
@@ -70,9 +70,9 @@ where
     Ok(answer.status())
 }
 
-/// The status that the program ends with: that of the answer that was served. Where a device failed
-/// the fault's line is written, and the status is the fault's.
-pub fn ended<E: Write>(served: Result<u8, Fault>, err: &mut E) -> u8
+/// The status that the program ends with: the answer's, where [`serve`] gave it back. Where a device
+/// failed the fault's line is written to `err`, and the status is the fault's.
+pub fn exit_status<E: Write>(served: Result<u8, Fault>, err: &mut E) -> u8
     ensures { MatchResult served (λ status. result ≡ status)
         (λ fault. result ≡ fault_status fault) }
 {
@@ -82,12 +82,12 @@ pub fn ended<E: Write>(served: Result<u8, Fault>, err: &mut E) -> u8
     }
 }
 
-/// Whether this word in the place of a file stands for standard input.
+/// Whether a word in the place of a file stands for standard input.
 pub fn is_standard_input(file: &str) -> bool {
     file == "-"
 }
 
-/// Does what is asked with the guest program in a file, as [`serve`] does.
+/// Does what `request` asks of the guest program in a file, as [`serve`] does, and answers the status.
 pub fn serve_file<H, W: Write, E: Write>(
     rt: &H,
     file: &str,
@@ -106,11 +106,11 @@ where
             Err(error) => Err(Fault::from(error)),
         }
     };
-    ended(served, err)
+    exit_status(served, err)
 }
 
-/// The text of the guest program in a file or on standard input, or one byte more than a program
-/// may have where it is too long.
+/// The text of the guest program in a file or on standard input; of a text that is too long, one byte
+/// more than a program may have.
 ///
 /// # Errors
 ///
@@ -140,7 +140,7 @@ where
     Ok(bytes)
 }
 
-/// Writes what a command printed, or why it printed nothing. Answers the status.
+/// Writes what a command printed to `out`, or why it printed nothing to `err`. Answers the status.
 pub fn serve_printed<W: Write, E: Write>(
     printed: Result<Printed, CommandFault<'_>>,
     out: &mut W,
@@ -153,25 +153,4 @@ pub fn serve_printed<W: Write, E: Write>(
         },
         Err(fault) => fault.report(err),
     }
-}
-
-/// Reads the guest program in a file, and writes what a command answers to its text: what it prints,
-/// after what it wrote on `out` before, or why it prints nothing. Answers the status.
-pub fn serve_text<'a, H, W: Write, E: Write, F>(
-    rt: &H,
-    file: &'a str,
-    out: &mut W,
-    err: &mut E,
-    answer: F,
-) -> u8
-where
-    H: Files + Input + Alloc<A = Global>,
-    F: FnOnce(&[u8], &mut W) -> Result<Printed, CommandFault<'a>>,
-    requires { F.IsAlwaysCallable answer }
-{
-    let printed = match read_file(rt, file) {
-        Ok(text) => answer(text.as_slice(), out),
-        Err(error) => Err(CommandFault::Device(file, error)),
-    };
-    serve_printed(printed, out, err)
 }

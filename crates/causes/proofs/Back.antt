@@ -7,10 +7,11 @@ use Rattle.guest_code.specs.declared.limits.TheConstants.{THREADS, VARIABLES}
 use Rattle.guest_code.specs.Program.{Program, IsWellFormed}
 use Rattle.causes.specs.declared.event.Event.{Event}
 use Rattle.causes.specs.declared.wanted.Wanted.{Wanted}
-use Rattle.causes.specs.Events.{is, is_use, variable_of}
+use Rattle.lint.specs.Uses.{is, variable_used}
+use Rattle.causes.specs.Events.{is_use}
 use Rattle.causes.specs.Causes.{is_needed, marks_in}
 use Rattle.causes.specs.inner.Wanting.{IsValidEvent, IsWanted}
-use Rattle.causes.specs.inner.Keeping.{IsTaken, needs}
+use Rattle.causes.specs.inner.Keeping.{IsMovedBefore, needs}
 use Rattle.causes.proofs.Following.{needs_alike, one_more, taken_on}
 use Rattle.causes.proofs.Places.{marked_at, rest_marked, set_at, up_to}
 
@@ -23,7 +24,7 @@ module _ (p : Program) (events : List Event) (k : ℕ) (d : Event) (old : Wanted
       (get_or events k d) f v w
 
   pub wanted_back : (mark : Bool) (new : Wanted) → mark ≡ needs p old (get_or events k d) →
-      IsTaken (get_or events k d) mark old new →
+      IsMovedBefore (get_or events k d) mark old new →
       IsWanted (take k events) (rest_marked p events k) new
   wanted_back mark new e h = subst (λ ms. IsWanted (take k events) ms new)
       (ap (λ b. record { event = get_or events k d; mark = b } ∷ rest_marked p events (k + 1))
@@ -41,14 +42,14 @@ module _ (p : Program) (events : List Event) (k : ℕ) (d : Event) (old : Wanted
       ∙ sym (ap (λ ms. marks_in ms) (marked_at p events k d l))))
 
   -- a variable that the event uses is used up to it
-  pub used_here : (o : Option ℕ) → variable_of (get_or events k d).statement ≡ o →
+  pub used_here : (o : Option ℕ) → variable_used (get_or events k d).statement ≡ o →
       IfSome o (λ x. x < VARIABLES) →
       IfSome o (λ x. 0 < slice_index_or (slice_index_or old.uses (get_or events k d).thread []) x 0)
   used_here None e m = tt
   used_here (Some x) e m = let t = (get_or events k d).thread in
       let few : t < THREADS = (let a = v.thread in let b = f.threads in omega (arith, a, b)) in
       let there : is_use t x (get_or events k d) ≡ true = (ap (λ b. b && is x
-      (variable_of (get_or events k d).statement)) (eq-eqb t t refl)
+      (variable_used (get_or events k d).statement)) (eq-eqb t t refl)
       ∙ (ap (λ o. is x o) e ∙ eq-eqb x x refl)) in
       let one : cond {A = ℕ} (is_use t x (get_or events k d)) 1 0 ≡ 1 = ap (λ b. cond {A = ℕ} b 1 0) there in
       let all = w.uses t x few m in

@@ -6,11 +6,12 @@ use Rattle.guest_code.specs.declared.limits.TheConstants.{LOCALS, THREADS, VARIA
 use Rattle.guest_code.specs.Program.{Program, IsWellFormed}
 use Rattle.causes.specs.declared.event.Event.{Event}
 use Rattle.causes.specs.declared.wanted.Wanted.{Wanted}
-use Rattle.causes.specs.Events.{local_set, written_by, is_end, reads, writes, is_use, sets_local, uses_local}
+use Rattle.lint.specs.Uses.{local_set}
+use Rattle.causes.specs.Events.{written_by, is_end, reads, writes, is_use, sets_local, uses_local}
 use Rattle.causes.specs.Asked.{asks_for}
 use Rattle.causes.specs.Causes.{Marked, any_below, decides, flows_on, is_missed, is_missed_by, is_needed, is_next, is_read_from, least_with, ends_with}
 use Rattle.causes.specs.inner.Wanting.{IsValidEvent, IsWanted}
-use Rattle.causes.specs.inner.Keeping.{IsTaken, count, decides_by, entry, found, is_missed_by_in, is_missed_in, needs}
+use Rattle.causes.specs.inner.Keeping.{IsMovedBefore, count, decides_by, entry, found, is_missed_by_in, is_missed_in, needs}
 use Rattle.std.proofs.lemmas.List.Sums.{sum_by-append}
 use Rattle.causes.proofs.Valid.{sets_few, writes_few}
 
@@ -81,7 +82,7 @@ one_off true n m h = let g : m ≡ n + 1 = h in omega (arith, g)
 one_off false n m h = let g : m ≡ n + 0 = h in omega (arith, g)
 
 pub taken_on : (before : List Event) (ms : List Marked) (e : Event) (mark : Bool)
-    (old new : Wanted) → IsTaken e mark old new → IsWanted (before ++ e ∷ []) ms old →
+    (old new : Wanted) → IsMovedBefore e mark old new → IsWanted (before ++ e ∷ []) ms old →
     IsWanted before (record { event = e; mark = mark } ∷ ms) new
 taken_on before ms e mark old new h k = record {
   read = λ x l. h.read x l ∙ ap (λ b. (mark && reads x e) || (not (writes x e) && b)) (k.read x l);

@@ -8,9 +8,11 @@ use Rattle.std.proofs.lemmas.Bool.{eqb-true, eq-eqb, le-leb, lt-ltb, leb-true, l
 use Rattle.guest_code.specs.declared.limits.TheConstants.{THREADS}
 use Rattle.guest_code.specs.Program.{Program, code_of}
 use Rattle.causes.specs.declared.event.Event.{Event}
-use Rattle.causes.specs.Events.{is, is_end, is_use, local_set, reads, sets_local, uses_local, writes, written_by}
+use Rattle.lint.specs.Uses.{is, local_set}
+use Rattle.causes.specs.Events.{is_end, is_use, reads, sets_local, uses_local, writes, written_by}
 use Rattle.causes.specs.Asked.{asks_for}
-use Rattle.causes.specs.Tests.{is_test, reach_of}
+use Rattle.lint.specs.Paths.{is_test}
+use Rattle.causes.specs.Tests.{merge_point}
 use Rattle.causes.specs.Causes.{Marked, NoneOf, any_below, decides, ends_in, event_at, flows_on, is_missed, is_missed_by, is_needed, is_next, is_read_from, is_up_to, least_in, least_with, lesser, marked, marks_in, no_event, soon}
 use Rattle.causes.specs.Needs.{AreMarks, Asks, FlowsFrom, InCause, IsDecidedBy, Misses, ReadsFrom, ends, needed}
 use Rattle.causes.proofs.Places.{marked_at, rest_marked}
@@ -586,8 +588,8 @@ module _ (p : Program) (events : List Event) (j k : ℕ) (l : k < j) (m : j < le
       (local_set (event_at events k).statement)) _
       (left_true (decides p (rest_marked p events (k + 1)) (event_at events k)) _
       (both_true (is_test (event_at events k).statement) _ r.test
-      (ap (λ o. is_up_to (reach_of (code_of p t) (event_at events k).instruction) o) least.1
-      ∙ le-leb least.0 (reach_of (code_of p t) (event_at events k).instruction)
+      (ap (λ o. is_up_to (merge_point (code_of p t) (event_at events k).instruction) o) least.1
+      ∙ le-leb least.0 (merge_point (code_of p t) (event_at events k).instruction)
       (let a = least.2 in let b = r.reaches in omega (arith, a, b)))))))
 
   counted : (f : Event → Bool) (xs : List Event) (i : ℕ) → i < length xs →

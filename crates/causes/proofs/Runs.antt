@@ -7,7 +7,8 @@ use Rattle.guest_code.specs.declared.program.Instruction.{Instruction}
 use Rattle.guest_code.specs.Program.{Program, code_of}
 use Rattle.explain.specs.declared.step.Step.{Step}
 use Rattle.causes.specs.declared.event.Event.{Event}
-use Rattle.causes.specs.Events.{local_set, value_by}
+use Rattle.lint.specs.Uses.{local_set}
+use Rattle.causes.specs.Events.{value_by}
 use Rattle.causes.specs.Course.{all_after, events_by, events_from, events_in, local_events, locals_after, locals_with, opening_from, row, visible_event}
 
 -- an instruction that is passed over

@@ -18,7 +18,8 @@ use Rattle.explain.specs.declared.step.Step.{Step}
 use Rattle.causes.specs.declared.event.Deed.{Deed}
 use Rattle.causes.specs.declared.event.Deed.TheVariants.{Stepped, Blocked}
 use Rattle.causes.specs.declared.event.Event.{Event}
-use Rattle.causes.specs.Events.{local_set, variable_of, written_by}
+use Rattle.lint.specs.Uses.{local_set, variable_used}
+use Rattle.causes.specs.Events.{written_by}
 use Rattle.causes.specs.Course.{all_after, all_zero, blocked_by, blocked_from, blocked_in, course, events_by, events_from, events_in, listed, local_events, opening_from, owner_for, row, visible_event}
 use Rattle.causes.specs.inner.Wanting.{IsValidEvent}
 
@@ -35,7 +36,7 @@ writes_few p (Cas r x a b) (Stepped (Swaps y o (Some w)) stop) f v = below p x f
 writes_few p i d f v = tt
 
 pub uses_few : (p : Program) (i : Instruction) → IsWellFormed p → IsValid p i →
-    IfSome (variable_of i) (λ x. x < VARIABLES)
+    IfSome (variable_used i) (λ x. x < VARIABLES)
 uses_few p (Load r x) f v = below p x f v.1
 uses_few p (Store x a) f v = below p x f v.0
 uses_few p (Add r x a) f v = below p x f v.1

@@ -2,7 +2,7 @@
 use Rattle.std.specs.Prelude.{ℕ, nat_eq, nat_le, ◌+◌, Bool, false, not, ◌||◌, ◌&&◌, drop, take, Option, Some, None}
 use Rattle.std.specs.List.{list_any}
 use Rattle.guest_code.specs.declared.program.Instruction.{Instruction}
-use Rattle.guest_code.specs.declared.program.Instruction.TheVariants.{Lock, Unlock, Wait, Signal, Broadcast, Acquire, Release}
+use Rattle.guest_code.specs.declared.program.Instruction.TheVariants.{Unlock, Wait, Release}
 use Rattle.guest_code.specs.Program.{Program, code_of}
 use Rattle.explain.specs.declared.explanation.Holder.{Holder}
 use Rattle.explain.specs.declared.standing.Reason.{Reason}
@@ -10,40 +10,22 @@ use Rattle.explain.specs.declared.standing.Reason.TheVariants as reasons
 use Rattle.causes.specs.declared.event.Deed.{Deed}
 use Rattle.causes.specs.declared.event.Deed.TheVariants.{Stepped, Ran, Blocked}
 use Rattle.causes.specs.declared.event.Event.{Event}
-use Rattle.causes.specs.Events.{is, is_step, jump_by}
+use Rattle.lint.specs.Uses.{is, names_mutex, names_condition, names_semaphore, signals, releases}
+use Rattle.causes.specs.Events.{is_step, jump_by}
 
--- a statement is on mutex m, on condition c, on semaphore k
-abbrev pub is_on_mutex : ℕ → Instruction → Bool
-is_on_mutex m (Lock n) = nat_eq n m
-is_on_mutex m (Unlock n) = nat_eq n m
-is_on_mutex m (Wait c n) = nat_eq n m
-is_on_mutex m _ = false
-
-abbrev pub is_on_condition : ℕ → Instruction → Bool
-is_on_condition c (Wait d m) = nat_eq d c
-is_on_condition c (Signal d) = nat_eq d c
-is_on_condition c (Broadcast d) = nat_eq d c
-is_on_condition c _ = false
-
-abbrev pub is_on_semaphore : ℕ → Instruction → Bool
-is_on_semaphore k (Acquire l) = nat_eq l k
-is_on_semaphore k (Release l) = nat_eq l k
-is_on_semaphore k _ = false
-
--- a statement is on the mutex or the semaphore at which a thread stops at the first statement
-abbrev pub shares_stop : Instruction → Instruction → Bool
-shares_stop (Unlock m) i = is_on_mutex m i
-shares_stop (Wait c m) i = is_on_mutex m i
-shares_stop (Release k) i = is_on_semaphore k i
-shares_stop _ i = false
+-- a statement names the mutex or the semaphore at which a thread stops at the first statement
+abbrev pub shares_object : Instruction → Instruction → Bool
+shares_object (Unlock m) i = names_mutex m i
+shares_object (Wait c m) i = names_mutex m i
+shares_object (Release k) i = names_semaphore k i
+shares_object _ i = false
 
 -- a statement could end a wait for this reason: it gives the mutex back, wakes, or releases
 abbrev pub could_end : Reason → Instruction → Bool
 could_end (reasons.Lock m) (Unlock n) = nat_eq n m
 could_end (reasons.Retake m) (Unlock n) = nat_eq n m
-could_end (reasons.Signal c) (Signal d) = nat_eq d c
-could_end (reasons.Signal c) (Broadcast d) = nat_eq d c
-could_end (reasons.Acquire k) (Release l) = nat_eq l k
+could_end (reasons.Signal c) i = signals c i
+could_end (reasons.Acquire k) i = releases k i
 could_end _ _ = false
 
 -- an event passes over a statement that could end a wait for this reason
@@ -52,24 +34,24 @@ passes_by p e reason = list_any (could_end reason)
     (take (jump_by e.statement e.deed) (drop (e.instruction + 1) (code_of p e.thread)))
 
 -- a step is there and not before step k
-abbrev pub is_from : ℕ → Option ℕ → Bool
-is_from k None = false
-is_from k (Some step) = nat_le k step
+abbrev pub is_not_before : ℕ → Option ℕ → Bool
+is_not_before k None = false
+is_not_before k (Some step) = nat_le k step
 
 -- the event is the step by which the owner of a mutex took it
-abbrev pub takes_for : Holder → Event → Bool
-takes_for holder e = is_step e.deed && is holder.since e.step
+abbrev pub is_taking_step : Holder → Event → Bool
+is_taking_step holder e = is_step e.deed && is holder.since e.step
 
 -- the event is of the owner, in that step or after it
 abbrev pub is_by_owner : Holder → Event → Bool
-is_by_owner holder e = nat_eq e.thread holder.thread && is_from holder.since e.step
+is_by_owner holder e = nat_eq e.thread holder.thread && is_not_before holder.since e.step
 
 -- a thread that waits for a mutex asks for an event, where this is who owns it: for the step by
 -- which the owner took it, and where the owner passed an `unlock` of it by since then
 abbrev pub is_asked_of_owner : Program → Reason → Option Holder → Event → Bool
 is_asked_of_owner p reason None e = false
 is_asked_of_owner p reason (Some holder) e =
-    takes_for holder e || (is_by_owner holder e && passes_by p e reason)
+    is_taking_step holder e || (is_by_owner holder e && passes_by p e reason)
 
 -- an end of thread t asks for an event: where the thread stopped at a mutex or a semaphore, for all
 -- that is on it; where it waits for a condition, for each statement on it, and where another thread
@@ -78,11 +60,11 @@ is_asked_of_owner p reason (Some holder) e =
 abbrev pub asks_by : Program → ℕ → Instruction → Deed → Event → Bool
 asks_by p t i (Ran v) e = false
 asks_by p t i (Stepped act None) e = false
-asks_by p t i (Stepped act (Some why)) e = shares_stop i e.statement
+asks_by p t i (Stepped act (Some why)) e = shares_object i e.statement
 asks_by p t i (Blocked (reasons.Signal c) holder) e =
-    is_on_condition c e.statement || (not (nat_eq e.thread t) && passes_by p e (reasons.Signal c))
+    names_condition c e.statement || (not (nat_eq e.thread t) && passes_by p e (reasons.Signal c))
 asks_by p t i (Blocked (reasons.Acquire k) holder) e =
-    is_on_semaphore k e.statement || passes_by p e (reasons.Acquire k)
+    names_semaphore k e.statement || passes_by p e (reasons.Acquire k)
 asks_by p t i (Blocked (reasons.Lock m) holder) e = is_asked_of_owner p (reasons.Lock m) holder e
 asks_by p t i (Blocked (reasons.Retake m) holder) e =
     is_asked_of_owner p (reasons.Retake m) holder e

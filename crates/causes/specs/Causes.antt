@@ -8,9 +8,11 @@ use Rattle.guest_code.specs.declared.program.Instruction.TheVariants.{Skip}
 use Rattle.guest_code.specs.Program.{Program, code_of}
 use Rattle.causes.specs.declared.event.Deed.TheVariants.{Ran}
 use Rattle.causes.specs.declared.event.Event.{Event}
-use Rattle.causes.specs.Events.{local_set, written_by, is_end, reads, writes, is_use, sets_local, uses_local}
+use Rattle.lint.specs.Uses.{local_set}
+use Rattle.causes.specs.Events.{written_by, is_end, reads, writes, is_use, sets_local, uses_local}
 use Rattle.causes.specs.Asked.{asks_for}
-use Rattle.causes.specs.Tests.{is_test, reach_of}
+use Rattle.lint.specs.Paths.{is_test}
+use Rattle.causes.specs.Tests.{merge_point}
 
 -- an event, and whether it is in the cause
 pub record Marked : Type 0 where
@@ -90,7 +92,7 @@ is_missed before ms t (Some x) = any_below (is_missed_by before ms t x) THREADS
 -- an event is a test by which its thread came to one in the cause
 abbrev pub decides : Program → List Marked → Event → Bool
 decides p ms e = is_test e.statement
-    && is_up_to (reach_of (code_of p e.thread) e.instruction) (least_in ms e.thread)
+    && is_up_to (merge_point (code_of p e.thread) e.instruction) (least_in ms e.thread)
 
 -- an event is needed by those after it, where these are the events up to it
 abbrev pub is_needed : Program → List Event → List Marked → Event → Bool

@@ -17,7 +17,8 @@ use Rattle.explain.specs.declared.step.Step.{Step}
 use Rattle.explain.specs.Blocked.{mutex_of}
 use Rattle.causes.specs.declared.event.Deed.TheVariants.{Stepped, Ran, Blocked}
 use Rattle.causes.specs.declared.event.Event.{Event}
-use Rattle.causes.specs.Events.{local_set, value_by}
+use Rattle.lint.specs.Uses.{local_set}
+use Rattle.causes.specs.Events.{value_by}
 
 -- a thread, after a step or before the first one, carries an instruction out by itself
 abbrev pub ran : ℕ → Option ℕ → ℕ → Instruction → ℤ → Event

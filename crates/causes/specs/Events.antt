@@ -1,72 +1,22 @@
 -- What is to be seen of one thing that happens in a run.
 use Rattle.std.specs.Prelude.{ℕ, nat_eq, ℤ, pos, Bool, true, false, ◌||◌, ◌&&◌, Option, Some, None, is_some, if◌then◌else◌}
-use Rattle.guest_code.specs.declared.program.Value.{Value}
-use Rattle.guest_code.specs.declared.program.Value.TheVariants.{Local, Literal}
-use Rattle.guest_code.specs.declared.program.Expression.{Expression}
-use Rattle.guest_code.specs.declared.program.Expression.TheVariants.{Single, Both}
 use Rattle.guest_code.specs.declared.program.Instruction.{Instruction}
-use Rattle.guest_code.specs.declared.program.Instruction.TheVariants.{Load, Store, Add, Cas, Set, Assert, SkipIfZero, Skip}
+use Rattle.guest_code.specs.declared.program.Instruction.TheVariants.{Store, Add, Cas, Assert, SkipIfZero, Skip}
 use Rattle.semantics.specs.declared.state.Stop.{Stop}
 use Rattle.semantics.specs.declared.state.Stop.TheVariants.{Assert as FailedAssert}
 use Rattle.semantics.specs.Expressions.{is_zero, one_or_zero}
 use Rattle.replay.specs.declared.run.Act.TheVariants.{Load as Loads, Add as Adds, Cas as Swaps}
+use Rattle.lint.specs.Uses.{is, local_set, variable_read, variable_used, reads as reads_local}
 use Rattle.causes.specs.declared.event.Deed.{Deed}
 use Rattle.causes.specs.declared.event.Deed.TheVariants.{Stepped, Ran, Blocked}
 use Rattle.causes.specs.declared.event.Event.{Event}
 
--- it is this number
-abbrev pub is : ℕ → Option ℕ → Bool
-is x None = false
-is x (Some y) = nat_eq y x
-
--- the local that a statement gives a value
-abbrev pub local_set : Instruction → Option ℕ
-local_set (Load r x) = Some r
-local_set (Add r x a) = Some r
-local_set (Cas r x a b) = Some r
-local_set (Set r e) = Some r
-local_set _ = None
-
--- a value, or an expression, names local r
-abbrev pub is_local : ℕ → Value → Bool
-is_local r (Local s) = nat_eq s r
-is_local r (Literal n) = false
-
-abbrev pub names : ℕ → Expression → Bool
-names r (Single a) = is_local r a
-names r (Both a op b) = is_local r a || is_local r b
-
--- a statement uses the value of local r
-abbrev pub uses : Instruction → ℕ → Bool
-uses (Store x a) r = is_local r a
-uses (Add q x a) r = is_local r a
-uses (Cas q x a b) r = is_local r a || is_local r b
-uses (Set q e) r = names r e
-uses (Assert e) r = names r e
-uses (SkipIfZero e n) r = names r e
-uses _ r = false
-
--- the variable that a statement reads
-abbrev pub read_by : Instruction → Option ℕ
-read_by (Load r x) = Some x
-read_by (Add r x a) = Some x
-read_by (Cas r x a b) = Some x
-read_by _ = None
-
--- the variable that it writes, where this happens: a `cas` that misses writes none
+-- the variable that a statement writes, where this happens: a `cas` that misses writes none
 abbrev pub written_by : Instruction → Deed → Option ℕ
 written_by (Store x a) d = Some x
 written_by (Add r x a) d = Some x
 written_by (Cas r x a b) (Stepped (Swaps y v (Some w)) stop) = Some x
 written_by _ d = None
-
--- the variable that it reads or writes
-abbrev pub variable_of : Instruction → Option ℕ
-variable_of (Load r x) = Some x
-variable_of (Store x a) = Some x
-variable_of (Add r x a) = Some x
-variable_of (Cas r x a b) = Some x
-variable_of _ = None
 
 -- the value that its local gets, or that its expression has; 0 where it has neither
 abbrev pub value_by : Deed → ℤ
@@ -106,18 +56,18 @@ is_end e = is_some (stop_by e.statement e.deed) || is_blocked e.deed
 
 -- the event reads variable x, writes it, or does one of the two
 abbrev pub reads : ℕ → Event → Bool
-reads x e = is x (read_by e.statement)
+reads x e = is x (variable_read e.statement)
 
 abbrev pub writes : ℕ → Event → Bool
 writes x e = is x (written_by e.statement e.deed)
 
 -- it is of thread t, and reads or writes variable x
 abbrev pub is_use : ℕ → ℕ → Event → Bool
-is_use t x e = nat_eq e.thread t && is x (variable_of e.statement)
+is_use t x e = nat_eq e.thread t && is x (variable_used e.statement)
 
 -- it is of thread t, and sets local r, or uses it
 abbrev pub sets_local : ℕ → ℕ → Event → Bool
 sets_local t r e = nat_eq e.thread t && is r (local_set e.statement)
 
 abbrev pub uses_local : ℕ → ℕ → Event → Bool
-uses_local t r e = nat_eq e.thread t && uses e.statement r
+uses_local t r e = nat_eq e.thread t && reads_local r e.statement

@@ -5,7 +5,8 @@ use Rattle.guest_code.specs.Program.{Program, code_of}
 use Rattle.causes.specs.declared.event.Event.{Event}
 use Rattle.causes.specs.Events.{is_end, reads, writes, is_use, sets_local, uses_local}
 use Rattle.causes.specs.Asked.{asks_for}
-use Rattle.causes.specs.Tests.{is_test, reach_of}
+use Rattle.lint.specs.Paths.{is_test}
+use Rattle.causes.specs.Tests.{merge_point}
 use Rattle.causes.specs.Causes.{event_at, NoneOf}
 
 -- the event at place j reads a variable that the one at place k wrote last
@@ -28,7 +29,7 @@ pub record IsDecidedBy (p : Program) (events : List Event) (j k : ℕ) : Type 0 
   pub thread : (event_at events j).thread ≡ (event_at events k).thread
   pub test : is_test (event_at events k).statement ≡ true
   pub reaches : (event_at events j).instruction
-      ≤ reach_of (code_of p (event_at events k).thread) (event_at events k).instruction
+      ≤ merge_point (code_of p (event_at events k).thread) (event_at events k).instruction
 
 -- it uses a variable, its thread used that before, and between the two uses another thread wrote
 -- it, at place k

@@ -7,8 +7,8 @@ use Rattle.causes.specs.declared.event.Deed.{Deed}
 use Rattle.causes.specs.declared.event.Deed.TheVariants.{Stepped}
 use Rattle.causes.specs.declared.event.Event.{Event}
 use Rattle.causes.specs.declared.failure.Failure.{Failure}
-use Rattle.causes.specs.declared.origins.Sought.{Sought}
-use Rattle.causes.specs.declared.origins.Sought.TheVariants.{Setter, Writer, Mover}
+use Rattle.causes.specs.declared.origins.EventRole.{EventRole}
+use Rattle.causes.specs.declared.origins.EventRole.TheVariants.{Setter, Writer, OwnerChanger}
 use Rattle.causes.specs.Events.{stop_by, sets_local, writes}
 use Rattle.causes.specs.Causes.{event_at, NoneOf}
 
@@ -34,11 +34,11 @@ gives_by m _ = false
 abbrev pub moves : ℕ → Event → Bool
 moves m e = takes_by m e.deed || gives_by m e.deed
 
--- the event is sought
-abbrev pub is_sought : Sought → Event → Bool
-is_sought (Setter t r) e = sets_local t r e
-is_sought (Writer x) e = writes x e
-is_sought (Mover m) e = moves m e
+-- the event does what is sought
+abbrev pub has_role : EventRole → Event → Bool
+has_role (Setter t r) e = sets_local t r e
+has_role (Writer x) e = writes x e
+has_role (OwnerChanger m) e = moves m e
 
 -- mutex m is owned before place `at` since the event at place k, which took it: since then nobody
 -- took it or gave it back
@@ -51,9 +51,9 @@ abbrev pub stops : Event → Bool
 stops e = is_some (stop_by e.statement e.deed)
 
 -- how many steps are taken up to this one
-abbrev pub taken_up_to : Option ℕ → ℕ
-taken_up_to None = 0
-taken_up_to (Some step) = step + 1
+abbrev pub steps_up_to : Option ℕ → ℕ
+steps_up_to None = 0
+steps_up_to (Some step) = step + 1
 
 -- a thread stopped first here, after this many preempting switches
 pub record IsFailure (steps : List Step) (events : List Event) (f : Failure) : Type 0 where
@@ -63,4 +63,4 @@ pub record IsFailure (steps : List Step) (events : List Event) (f : Failure) : T
   pub thread : f.thread ≡ (event_at events f.event).thread
   pub step : f.step ≡ (event_at events f.event).step
   pub preemptions : f.preemptions ≡ count_by (λ s. s.line.preempting)
-      (take (taken_up_to f.step) steps)
+      (take (steps_up_to f.step) steps)

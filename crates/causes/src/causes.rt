@@ -24,7 +24,7 @@ pub struct Causes {
 }
 
 impl Causes {
-    /// The cause of how the run ended that is explained.
+    /// The events of a run that is explained, and the cause of how it ended.
     ///
     /// # Errors
     ///
@@ -40,7 +40,7 @@ impl Causes {
         let events = events_of(alloc, program, explanation)?;
         let marks = marks_of(alloc, program, events.as_slice())?;
         let count = explanation.steps().len();
-        let steps = steps_of(alloc, count, events.as_slice(), marks.as_slice())?;
+        let steps = step_marks_of(alloc, count, events.as_slice(), marks.as_slice())?;
         let failure = failure_of(explanation.steps(), events.as_slice());
         Ok(Causes {
             events,
@@ -50,7 +50,7 @@ impl Causes {
         })
     }
 
-    /// What happened, in the order of the run.
+    /// What happened in the run, in its order.
     pub fn events(&self) -> &[Event]
         ensures { result.now ≡ self.now.events.items }
     {
@@ -64,7 +64,7 @@ impl Causes {
         self.marks.as_slice()
     }
 
-    /// For each step whether it, or what its thread did by itself after it, is in the cause.
+    /// For each step whether it is in the cause, or what its thread did by itself after it.
     pub fn steps(&self) -> &[bool]
         ensures { result.now ≡ self.now.steps.items }
     {
@@ -91,14 +91,14 @@ fn marks_of(alloc: Global, program: &Program, events: &[Event]) -> Result<Vec<bo
     'events: while at > 0 {
         at -= 1;
         let needed = wanted.needs(program, &events[at]);
-        wanted.take(&events[at], needed)?;
+        wanted.move_before(&events[at], needed)?;
         marks[at] = needed;
     }
     Ok(marks)
 }
 
-// For each step whether an event of it is marked.
-fn steps_of(
+// For each of `count` steps whether an event of that step is marked.
+fn step_marks_of(
     alloc: Global,
     count: usize,
     events: &[Event],
@@ -117,7 +117,7 @@ fn steps_of(
     Ok(steps)
 }
 
-// The step of an event that is marked.
+// The step of the event at place `at`, where that event is marked and has a step.
 fn marked_step(events: &[Event], marks: &[bool], at: usize) -> Option<usize>
     requires { at < length events.now }
     ensures { result ≡ (if slice_index_or marks.now at false then (event_at events.now at).step

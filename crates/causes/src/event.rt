@@ -1,10 +1,12 @@
 //! One thing that happens in a run.
 
 ghost use Rattle.std.specs.Prelude.{◌≡◌};
-ghost use Rattle.causes.specs.Events.{is, is_end, is_local, is_blocked, is_step, jump_by, local_set, names, read_by, stop_by, uses, value_by, variable_of, written_by};
+ghost use Rattle.lint.specs.Uses.{local_set, variable_read};
+ghost use Rattle.causes.specs.Events.{is_end, is_blocked, is_step, jump_by, stop_by, value_by, written_by};
 
 use explain::{Holder, Reason};
-use guest_code::program::{Expression, Instruction, Value};
+use guest_code::program::Instruction;
+use lint::uses;
 use replay::Act;
 use semantics::state::Stop;
 
@@ -13,7 +15,7 @@ use semantics::state::Stop;
 pub enum Deed {
     /// The step of a visible statement: what it did, and, where the thread stopped at it, why.
     Stepped(Act, Option<Stop>),
-    /// A statement that the thread carries out by itself: what its expression was. 0 of a jump
+    /// A statement that the thread carries out by itself: the value of its expression; 0 of a jump
     /// that has none.
     Ran(i64),
     /// At the end of the run the thread can't go on, for this reason. Where it waits for a mutex:
@@ -26,8 +28,8 @@ pub enum Deed {
 pub struct Event {
     /// The thread, by its number.
     pub thread: u8,
-    /// The place of the step that it is, or after which the thread did it by itself. `None` before
-    /// the first step, and of a thread that can't go on.
+    /// The place of the step that the event is, or after which its thread ran by itself. `None`
+    /// before the first step, and of a thread that can't go on.
     pub step: Option<usize>,
     /// The number of the instruction.
     pub instruction: usize,
@@ -38,20 +40,14 @@ pub struct Event {
 }
 
 impl Event {
-    /// The local that gets a value.
+    /// The local that the event sets, if it sets one.
     pub fn local_set(&self) -> Option<usize>
         ensures { result ≡ local_set self.now.statement }
     {
-        match self.statement {
-            Instruction::Load { local, .. }
-            | Instruction::Add { local, .. }
-            | Instruction::Cas { local, .. }
-            | Instruction::Set { local, .. } => Some(local),
-            _ => None,
-        }
+        uses::local_set(&self.statement)
     }
 
-    /// The value that its local gets, or that its expression has; 0 where it has neither.
+    /// The value that the event's local gets, or that its expression has; 0 where it has neither.
     pub fn value(&self) -> i64
         ensures { result ≡ value_by self.now.deed }
     {
@@ -64,37 +60,14 @@ impl Event {
         }
     }
 
-    /// Whether the value of this local is used.
-    pub fn uses(&self, local: usize) -> bool
-        ensures { result ≡ uses self.now.statement local }
-    {
-        match self.statement {
-            Instruction::Store { value, .. } | Instruction::Add { value, .. } => {
-                is_local(local, value)
-            }
-            Instruction::Cas { expected, new, .. } => {
-                is_local(local, expected) || is_local(local, new)
-            }
-            Instruction::Set { value, .. }
-            | Instruction::Assert(value)
-            | Instruction::SkipIfZero(value, _) => names(local, value),
-            _ => false,
-        }
-    }
-
-    /// The variable that is read.
+    /// The variable that the event reads, if it reads one.
     pub fn variable_read(&self) -> Option<usize>
-        ensures { result ≡ read_by self.now.statement }
+        ensures { result ≡ variable_read self.now.statement }
     {
-        match self.statement {
-            Instruction::Load { variable, .. }
-            | Instruction::Add { variable, .. }
-            | Instruction::Cas { variable, .. } => Some(variable),
-            _ => None,
-        }
+        uses::variable_read(&self.statement)
     }
 
-    /// The variable that is written: a `cas` that misses writes none.
+    /// The variable that the event writes, if it writes one: a `cas` that misses writes none.
     pub fn variable_written(&self) -> Option<usize>
         ensures { result ≡ written_by self.now.statement self.now.deed }
     {
@@ -108,20 +81,7 @@ impl Event {
         }
     }
 
-    /// The variable that is read or written.
-    pub fn variable_used(&self) -> Option<usize>
-        ensures { result ≡ variable_of self.now.statement }
-    {
-        match self.statement {
-            Instruction::Load { variable, .. }
-            | Instruction::Store { variable, .. }
-            | Instruction::Add { variable, .. }
-            | Instruction::Cas { variable, .. } => Some(variable),
-            _ => None,
-        }
-    }
-
-    /// Why the thread stops here, if it does.
+    /// Why the thread stops in this event, if it does.
     pub fn stop(&self) -> Option<Stop>
         ensures { result ≡ stop_by self.now.statement self.now.deed }
     {
@@ -132,28 +92,28 @@ impl Event {
         }
     }
 
-    /// Whether it is the step of a visible statement.
+    /// Whether the event is the step of a visible statement.
     pub fn is_step(&self) -> bool
         ensures { result ≡ is_step self.now.deed }
     {
         matches!(self.deed, Deed::Stepped(_, _))
     }
 
-    /// Whether the thread can't go on.
+    /// Whether the event is that the thread can't go on.
     pub fn is_blocked(&self) -> bool
         ensures { result ≡ is_blocked self.now.deed }
     {
         matches!(self.deed, Deed::Blocked(_, _))
     }
 
-    /// Whether it is an end of the run: the thread stops, or can't go on.
+    /// Whether the event is an end of the run: the thread stops, or can't go on.
     pub fn is_end(&self) -> bool
         ensures { result ≡ is_end self.now }
     {
         self.stop().is_some() || self.is_blocked()
     }
 
-    /// How many of the next instructions are passed over.
+    /// How many of the next instructions the event passes over.
     pub fn jump(&self) -> usize
         ensures { result ≡ jump_by self.now.statement self.now.deed }
     {
@@ -162,35 +122,5 @@ impl Event {
             (Instruction::Skip(n), _) => n,
             _ => 0,
         }
-    }
-}
-
-// Whether a value is that of this local.
-fn is_local(local: usize, value: Value) -> bool
-    ensures { result ≡ is_local local value }
-{
-    match value {
-        Value::Local(r) => r == local,
-        Value::Literal(_) => false,
-    }
-}
-
-// Whether an expression names a local.
-fn names(local: usize, expression: Expression) -> bool
-    ensures { result ≡ names local expression }
-{
-    match expression {
-        Expression::Single(a) => is_local(local, a),
-        Expression::Both(a, _, b) => is_local(local, a) || is_local(local, b),
-    }
-}
-
-/// Whether it is there, and is this number.
-pub fn is(number: usize, there: Option<usize>) -> bool
-    ensures { result ≡ is number there }
-{
-    match there {
-        Some(other) => other == number,
-        None => false,
     }
 }

@@ -9,7 +9,8 @@ ghost use Rattle.semantics.specs.Ends.{is_stopped};
 ghost use Rattle.explain.specs.Blocked.{mutex_of};
 ghost use Rattle.explain.specs.declared.step.Step.{Step};
 ghost use Rattle.causes.specs.Course.{all_after, all_blocked, blocked_at, blocked_from, course, events_from, events_in, listed, local_events, locals_after, locals_with, opening_from, owner_for, row, stop_in_step, visible_event};
-ghost use Rattle.causes.specs.Events.{local_set, value_by};
+ghost use Rattle.lint.specs.Uses.{local_set};
+ghost use Rattle.causes.specs.Events.{value_by};
 ghost use Rattle.causes.specs.inner.Running.{events_on, locals_on};
 
 use crate::event::{Deed, Event};
@@ -35,40 +36,40 @@ pub fn events_of(
     ensures { IfOk result (λ v. v.items ≡ course program.now explanation.now) }
 {
     program.keeps_limits();
-    let mut telling = Telling {
+    let mut log = EventLog {
         events: Vec::new(alloc),
         locals: [[0; LOCALS]; THREADS],
     };
-    telling.put_opening(program)?;
-    telling.put_steps(program, explanation.steps())?;
+    log.put_opening(program)?;
+    log.put_steps(program, explanation.steps())?;
     if !some_stopped(explanation.standings()) {
         put_blocked(
-            &mut telling.events,
+            &mut log.events,
             program,
             explanation.holders(),
             explanation.standings(),
         )?;
     }
-    Ok(telling.events)
+    Ok(log.events)
 }
 
 // The events so far, with the values of each thread's locals after them.
 #[derive(Drop)]
-struct Telling {
+struct EventLog {
     events: Vec<Event>,
     locals: [[i64; LOCALS]; THREADS],
 }
 
 // Where a thread runs by itself: after which step, and from which instruction on.
 #[derive(Clone, Copy)]
-struct Run {
+struct LocalRun {
     thread: u8,
     step: Option<usize>,
     from: usize,
 }
 
-impl Telling {
-    // What each thread does by itself before the first step.
+impl EventLog {
+    // Adds what each thread does by itself before the first step.
     fn put_opening(&mut self, program: &Program) -> Result<(), AllocError>
         ensures { OnOk result ((steps : List Step) →
             self.new.events.items ++ events_from program.now self.new.locals 0 steps
@@ -77,7 +78,7 @@ impl Telling {
     {
         program.keeps_limits();
         for thread in 0..program.threads() {
-            let run = Run {
+            let run = LocalRun {
                 thread,
                 step: None,
                 from: 0,
@@ -87,7 +88,7 @@ impl Telling {
         Ok(())
     }
 
-    // Each step, with what its thread does by itself after it.
+    // Adds each step, with what its thread does by itself after that step.
     fn put_steps(&mut self, program: &Program, steps: &[Step]) -> Result<(), AllocError>
         ensures { OnOk result (self.new.events.items
             ≡ self.old.events.items ++ events_from program.now self.old.locals 0 steps.now) }
@@ -102,7 +103,7 @@ impl Telling {
         Ok(())
     }
 
-    // A step, and what its thread does by itself after it.
+    // Adds the step at place `at`, and what its thread does by itself after that step.
     fn put_step(&mut self, code: &[Instruction], at: usize, step: &Step) -> Result<(), AllocError>
         requires valid { (p : Program) × IsValidCode p code.now }
         requires thread { step.now.line.thread < THREADS }
@@ -119,7 +120,7 @@ impl Telling {
         if step.next == step.instruction {
             return Ok(());
         }
-        let run = Run {
+        let run = LocalRun {
             thread: step.line.thread,
             step: Some(at),
             from: step.instruction + 1,
@@ -127,7 +128,7 @@ impl Telling {
         self.put_run(code, run)
     }
 
-    // The event of a step, after which the locals of its thread have these values.
+    // Adds the event of a step, and sets the local that the step sets.
     fn put_visible(&mut self, event: Event) -> Result<(), AllocError>
         requires valid { (p : Program) × IsValid p event.statement }
         requires thread { event.thread < THREADS }
@@ -138,12 +139,12 @@ impl Telling {
             (value_by event.deed))) }
     {
         self.events.push(event)?;
-        set(&mut self.locals[event.thread as usize], &event);
+        set_local(&mut self.locals[event.thread as usize], &event);
         Ok(())
     }
 
-    // What a thread does by itself.
-    fn put_run(&mut self, code: &[Instruction], run: Run) -> Result<(), AllocError>
+    // Adds what a thread does by itself in a local run.
+    fn put_run(&mut self, code: &[Instruction], run: LocalRun) -> Result<(), AllocError>
         requires valid { (p : Program) × IsValidCode p code.now }
         requires thread { run.thread < THREADS }
         ensures events { OnOk result (self.new.events.items ≡ self.old.events.items
@@ -162,21 +163,21 @@ impl Telling {
     }
 }
 
-// The instruction of this number, if there is one.
+// The instruction of this number in a code, if there is one.
 fn instruction_at(code: &[Instruction], number: usize) -> Option<Instruction>
     ensures { result ≡ slice_get code.now number }
 {
     code.get(number).copied()
 }
 
-// Whether a thread has stopped.
+// Whether some thread has stopped.
 fn some_stopped(standings: &[Standing]) -> bool
     ensures { result ≡ list_any (λ s. is_stopped s.status) standings.now }
 {
     standings.iter().any(|standing| standing.is_stopped())
 }
 
-// The event of the step at a place.
+// The event of the step at place `at`, which carries a statement out.
 fn visible_event(at: usize, step: &Step, statement: Instruction) -> Event
     ensures { result ≡ visible_event at step.now statement }
 {
@@ -189,7 +190,7 @@ fn visible_event(at: usize, step: &Step, statement: Instruction) -> Event
     }
 }
 
-// Why a thread stopped in its step, and not by itself after it.
+// Why a thread stopped in its step; `None` where it didn't, or only after that at an assertion.
 fn stop_in_step(stop: Option<Stop>) -> Option<Stop>
     ensures { result ≡ stop_in_step stop }
 {
@@ -199,8 +200,8 @@ fn stop_in_step(stop: Option<Stop>) -> Option<Stop>
     }
 }
 
-// The locals after an event.
-fn set(locals: &mut [i64; LOCALS], event: &Event)
+// Sets the local that an event sets, if it sets one.
+fn set_local(locals: &mut [i64; LOCALS], event: &Event)
     requires { (p : Program) × IsValid p event.now.statement }
     ensures { locals.new
         ≡ locals_with locals.old (local_set event.now.statement) (value_by event.now.deed) }
@@ -210,12 +211,12 @@ fn set(locals: &mut [i64; LOCALS], event: &Event)
     }
 }
 
-// Adds what a thread does by itself.
+// Adds what a thread does by itself in a local run, and sets the locals that it sets.
 fn put_local_events(
     events: &mut Vec<Event>,
     code: &[Instruction],
     locals: &mut [i64; LOCALS],
-    run: Run,
+    run: LocalRun,
 ) -> Result<(), AllocError>
     requires { (p : Program) × IsValidCode p code.now }
     ensures events { OnOk result (events.new.items ≡ events.old.items
@@ -243,7 +244,7 @@ fn put_local_event(
     events: &mut Vec<Event>,
     statement: &Instruction,
     locals: &mut [i64; LOCALS],
-    run: Run,
+    run: LocalRun,
     at: usize,
 ) -> Result<Option<usize>, AllocError>
     requires { (p : Program) × IsValid p statement.now }
@@ -269,14 +270,14 @@ fn put_local_event(
         deed: Deed::Ran(value),
     };
     events.push(event)?;
-    set(locals, &event);
+    set_local(locals, &event);
     if event.stop().is_some() {
         return Ok(None);
     }
     Ok(Some(event.jump()))
 }
 
-// Each thread that can't go on.
+// Adds an event for each thread that can't go on.
 fn put_blocked(
     events: &mut Vec<Event>,
     program: &Program,
@@ -292,7 +293,7 @@ fn put_blocked(
     Ok(())
 }
 
-// Adds an event, if there is one.
+// Adds an event to a list, if there is one.
 fn put_some(events: &mut Vec<Event>, event: Option<Event>) -> Result<(), AllocError>
     ensures { OnOk result (events.new.items ≡ events.old.items ++ listed event) }
 {
@@ -302,7 +303,7 @@ fn put_some(events: &mut Vec<Event>, event: Option<Event>) -> Result<(), AllocEr
     Ok(())
 }
 
-// The event of a thread, where it can't go on.
+// The event that a thread can't go on, where that is so.
 fn blocked_at(
     program: &Program,
     holders: &[Option<Holder>],
@@ -324,7 +325,7 @@ fn blocked_at(
     })
 }
 
-// Who owns the mutex that a thread waits for.
+// Who owns a mutex, where there is one and it is owned.
 fn owner_for(holders: &[Option<Holder>], mutex: Option<usize>) -> Option<Holder>
     ensures { result ≡ owner_for holders.now mutex }
 {

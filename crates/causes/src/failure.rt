@@ -3,7 +3,7 @@
 ghost use Rattle.std.specs.Prelude.{◌≡◌, MatchOption, length, min};
 ghost use Rattle.std.specs.List.{count_by};
 ghost use Rattle.causes.specs.Causes.{NoneOf};
-ghost use Rattle.causes.specs.Origins.{IsFailure, stops, taken_up_to};
+ghost use Rattle.causes.specs.Origins.{IsFailure, steps_up_to, stops};
 
 use crate::event::Event;
 use explain::Step;
@@ -15,7 +15,7 @@ pub struct Failure {
     pub event: usize,
     /// The thread that stopped, by its number.
     pub thread: u8,
-    /// The step in which it stopped, or after which; `None` before the first step.
+    /// The step in which the thread stopped, or after which; `None` before the first step.
     pub step: Option<usize>,
     /// How many switches up to that step were preempting, the one to it included.
     pub preemptions: usize,
@@ -33,16 +33,16 @@ pub fn failure_of(steps: &[Step], events: &[Event]) -> Option<Failure>
                 event,
                 thread: events[event].thread,
                 step,
-                preemptions: preemptions_in(&steps[..taken_up_to(step, steps.len())]),
+                preemptions: preemptions_in(&steps[..steps_up_to(step, steps.len())]),
             });
         }
     }
     None
 }
 
-// How many of the steps are taken up to this one, where these are all.
-fn taken_up_to(step: Option<usize>, all: usize) -> usize
-    ensures { result ≡ min (taken_up_to step) all }
+// How many of `all` steps are taken up to a step, that one included; 0 before the first step.
+fn steps_up_to(step: Option<usize>, all: usize) -> usize
+    ensures { result ≡ min (steps_up_to step) all }
 {
     match step {
         Some(step) if step < all => step + 1,
@@ -51,7 +51,7 @@ fn taken_up_to(step: Option<usize>, all: usize) -> usize
     }
 }
 
-// How many switches were preempting in these steps.
+// To how many of these steps a preempting switch led.
 fn preemptions_in(steps: &[Step]) -> usize
     ensures { result ≡ count_by (λ s. s.line.preempting) steps.now }
 {

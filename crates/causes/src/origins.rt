@@ -3,10 +3,11 @@
 ghost use Rattle.std.specs.Prelude.{◌≡◌, ℕ, MatchOption};
 ghost use Rattle.causes.specs.Events.{sets_local, writes};
 ghost use Rattle.causes.specs.Causes.{NoneOf};
-ghost use Rattle.causes.specs.Origins.{IsLastBefore, IsTakenAt, gives_by, is_sought, moves, takes_by};
+ghost use Rattle.causes.specs.Origins.{IsLastBefore, IsTakenAt, gives_by, has_role, moves, takes_by};
 
 use crate::causes::Causes;
-use crate::event::{Deed, Event, is};
+use crate::event::{Deed, Event};
+use lint::uses::is_in_option;
 use replay::Act;
 
 impl Causes {
@@ -16,27 +17,27 @@ impl Causes {
         ensures { MatchOption result (NoneOf self.now.events.items (sets_local thread local) 0 at)
             (IsLastBefore self.now.events.items (sets_local thread local) at) }
     {
-        last_before(self.events(), at, Sought::Setter(thread, local))
+        last_before(self.events(), at, EventRole::Setter(thread, local))
     }
 
-    /// The place of the last event before a place that wrote a variable; `None` where it still has
-    /// its opening value.
+    /// The place of the last event before a place that wrote a variable; `None` where the variable
+    /// still has its opening value.
     pub fn writer(&self, at: usize, variable: usize) -> Option<usize>
         ensures { MatchOption result (NoneOf self.now.events.items (writes variable) 0 at)
             (IsLastBefore self.now.events.items (writes variable) at) }
     {
-        last_before(self.events(), at, Sought::Writer(variable))
+        last_before(self.events(), at, EventRole::Writer(variable))
     }
 
-    /// The place of the event by which the thread took a mutex that owns it before a place; `None`
-    /// where nobody owns it.
+    /// The place of the event by which the thread that owns a mutex before a place took it; `None`
+    /// where nobody owns the mutex there.
     pub fn taker(&self, at: usize, mutex: usize) -> Option<usize>
         ensures { MatchOption result
             ((k : ℕ) → ¬ IsTakenAt self.now.events.items mutex at k)
             (IsTakenAt self.now.events.items mutex at) }
     {
-        let last = last_before(self.events(), at, Sought::Mover(mutex))?;
-        if takes(self.events()[last].deed, mutex) {
+        let last = last_before(self.events(), at, EventRole::OwnerChanger(mutex))?;
+        if takes_mutex(self.events()[last].deed, mutex) {
             Some(last)
         } else {
             None
@@ -44,41 +45,42 @@ impl Causes {
     }
 }
 
-/// An event that is sought.
+/// What an event that is sought does.
 #[derive(Clone, Copy)]
-pub enum Sought {
-    /// By which this thread sets this local.
+pub enum EventRole {
+    /// The event sets this local of this thread.
     Setter(u8, usize),
-    /// That writes this variable.
+    /// The event writes this variable.
     Writer(usize),
-    /// That takes this mutex or gives it back.
-    Mover(usize),
+    /// The event takes this mutex or gives it back.
+    OwnerChanger(usize),
 }
 
-impl Sought {
-    // Whether it is this one.
-    fn is(self, event: &Event) -> bool
-        ensures { result ≡ is_sought self event.now }
+impl EventRole {
+    // Whether an event does this.
+    fn matches(self, event: &Event) -> bool
+        ensures { result ≡ has_role self event.now }
     {
         match self {
-            Sought::Setter(thread, local) => {
-                event.thread == thread && is(local, event.local_set())
+            EventRole::Setter(thread, local) => {
+                event.thread == thread && is_in_option(local, event.local_set())
             }
-            Sought::Writer(variable) => is(variable, event.variable_written()),
-            Sought::Mover(mutex) => takes(event.deed, mutex) || gives(event.deed, mutex),
+            EventRole::Writer(variable) => is_in_option(variable, event.variable_written()),
+            EventRole::OwnerChanger(mutex) => takes_mutex(event.deed, mutex)
+                || gives_mutex_back(event.deed, mutex),
         }
     }
 }
 
-// The place of the last event before a place that is sought.
-fn last_before(events: &[Event], at: usize, sought: Sought) -> Option<usize>
-    ensures { MatchOption result (NoneOf events.now (is_sought sought) 0 at)
-        (IsLastBefore events.now (is_sought sought) at) }
+// The place of the last event before place `at` that does what is sought.
+fn last_before(events: &[Event], at: usize, sought: EventRole) -> Option<usize>
+    ensures { MatchOption result (NoneOf events.now (has_role sought) 0 at)
+        (IsLastBefore events.now (has_role sought) at) }
 {
     let mut place = at.min(events.len());
     'places: while place > 0 {
         place -= 1;
-        if sought.is(&events[place]) {
+        if sought.matches(&events[place]) {
             return Some(place);
         }
     }
@@ -86,7 +88,7 @@ fn last_before(events: &[Event], at: usize, sought: Sought) -> Option<usize>
 }
 
 // Whether a deed takes a mutex.
-fn takes(deed: Deed, mutex: usize) -> bool
+fn takes_mutex(deed: Deed, mutex: usize) -> bool
     ensures { result ≡ takes_by mutex deed }
 {
     match deed {
@@ -96,7 +98,7 @@ fn takes(deed: Deed, mutex: usize) -> bool
 }
 
 // Whether a deed gives a mutex back.
-fn gives(deed: Deed, mutex: usize) -> bool
+fn gives_mutex_back(deed: Deed, mutex: usize) -> bool
     ensures { result ≡ gives_by mutex deed }
 {
     match deed {

@@ -4,38 +4,42 @@ ghost use Rattle.std.specs.Prelude.{◌≡◌, ℕ, ◌<◌, ◌+◌, ◌-◌, �
 ghost use Rattle.std.specs.List.{list_any};
 ghost use Rattle.guest_code.specs.declared.limits.TheConstants.{THREADS, LOCALS, VARIABLES};
 ghost use Rattle.guest_code.specs.Program.{Program, JumpsWithin, skip_of};
-ghost use Rattle.causes.specs.Events.{is, local_set, reads, uses, variable_of, writes};
+ghost use Rattle.lint.specs.Uses.{is, local_set, reads as uses_value, variable_used};
+ghost use Rattle.causes.specs.Events.{reads, writes};
 ghost use Rattle.causes.specs.Asked.{asks_for};
-ghost use Rattle.causes.specs.Tests.{is_test, reach_of};
+ghost use Rattle.lint.specs.Paths.{is_test};
+ghost use Rattle.causes.specs.Tests.{merge_point};
 ghost use Rattle.causes.specs.Causes.{any_below, ends_with, least_with, lesser};
 ghost use Rattle.causes.specs.inner.Wanting.{IsValidEvent, IsWanted};
-ghost use Rattle.causes.specs.inner.Keeping.{IsTaken, decides_by, found, is_missed_by_in, is_missed_in, needs};
+ghost use Rattle.causes.specs.inner.Keeping.{IsMovedBefore, decides_by, found, is_missed_by_in, is_missed_in, needs};
 
 use crate::asked::asks_for;
-use crate::event::{Event, is};
+use crate::event::Event;
 use guest_code::limits::{LOCALS, THREADS, VARIABLES};
 use guest_code::program::{Instruction, Program};
+use lint::paths::{is_test, skip_of};
+use lint::uses::{is_in_option, reads, variable_used};
 use std::alloc::{AllocError, Global};
 
-// What the events from a place on that are in the cause need of those before it.
+// What the events of the cause from a place on need of the events before that place.
 #[derive(Drop)]
 pub struct Wanted {
-    // Whether the variable is read before it is written.
+    // For each variable whether it is read, from the place on, before it is written.
     pub read: [bool; VARIABLES],
-    // Whether the thread uses the local before it sets it.
+    // For each thread and local whether the thread uses it, from the place on, before it sets it.
     pub used: [[bool; LOCALS]; THREADS],
-    // Whether the thread's next use of the variable is in the cause.
+    // For each thread and variable whether the thread's next use of it is in the cause.
     pub next: [[bool; VARIABLES]; THREADS],
-    // How often the thread uses the variable before the place.
+    // For each thread and variable how often the thread uses it before the place.
     pub uses: [[usize; VARIABLES]; THREADS],
-    // The least number of an instruction of the thread.
+    // For each thread the least number of its instructions in the cause, from the place on.
     pub least: [Option<usize>; THREADS],
-    // The ends of the run, the last one first.
+    // The ends of the run, from the place on, the last one first.
     pub ends: Vec<Event>,
 }
 
 impl Wanted {
-    // What is needed after the last event.
+    // What is needed where the place is behind the last event: nothing.
     pub fn nothing(alloc: Global, program: &Program, events: &[Event]) -> Wanted
         requires { All (IsValidEvent program.now) events.now }
         ensures { IsWanted events.now [] result }
@@ -43,7 +47,10 @@ impl Wanted {
         program.keeps_limits();
         let mut uses = [[0; VARIABLES]; THREADS];
         for event in events {
-            put_on(&mut uses[event.thread as usize], event.variable_used());
+            count_use(
+                &mut uses[event.thread as usize],
+                variable_used(&event.statement),
+            );
         }
         Wanted {
             read: [false; VARIABLES],
@@ -55,7 +62,7 @@ impl Wanted {
         }
     }
 
-    // Whether an event before the place is needed.
+    // Whether the event right before the place is needed.
     pub fn needs(&self, program: &Program, event: &Event) -> bool
         requires { IsValidEvent program.now event.now }
         ensures { result ≡ needs program.now self.now event.now }
@@ -63,13 +70,13 @@ impl Wanted {
         program.keeps_limits();
         event.is_end()
             || self.is_read_from(event.variable_written())
-            || self.flows_on(event.thread, event.local_set())
-            || self.is_decided(program, event)
+            || self.is_setting_used(event.thread, event.local_set())
+            || self.is_deciding_test(program, event)
             || self.is_missed(event.thread, event.variable_written())
             || self.is_asked_for(program, event)
     }
 
-    // Whether a variable is read that an event wrote last.
+    // Whether the variable that an event wrote, if it wrote one, is read from the place on.
     fn is_read_from(&self, written: Option<usize>) -> bool
         requires { IfSome written (λ x. x < VARIABLES) }
         ensures { result ≡ found self.now.read written }
@@ -80,8 +87,8 @@ impl Wanted {
         }
     }
 
-    // Whether a local of a thread is used that an event set last.
-    fn flows_on(&self, thread: u8, set: Option<usize>) -> bool
+    // Whether the local that an event of a thread set, if it set one, is used from the place on.
+    fn is_setting_used(&self, thread: u8, set: Option<usize>) -> bool
         requires thread { thread < THREADS }
         requires local { IfSome set (λ r. r < LOCALS) }
         ensures { result ≡ found (slice_index_or self.now.used thread []) set }
@@ -93,7 +100,7 @@ impl Wanted {
     }
 
     // Whether an event is a test by which its thread came to something needed.
-    fn is_decided(&self, program: &Program, event: &Event) -> bool
+    fn is_deciding_test(&self, program: &Program, event: &Event) -> bool
         requires { IsValidEvent program.now event.now }
         ensures { result ≡ decides_by program.now event.now
             (slice_index_or self.now.least event.now.thread None) }
@@ -103,13 +110,13 @@ impl Wanted {
             return false;
         }
         match self.least[event.thread as usize] {
-            Some(least) => least <= reach_of(program.code(event.thread), event.instruction),
+            Some(least) => least <= merge_point(program.code(event.thread), event.instruction),
             None => false,
         }
     }
 
-    // Whether a write of a thread is missed by another one, which used the variable before and whose
-    // next use of it is needed.
+    // Whether the write of a thread, if there is one, is missed by another thread, which used the
+    // variable before and whose next use of it is needed.
     fn is_missed(&self, thread: u8, written: Option<usize>) -> bool
         requires { IfSome written (λ x. x < VARIABLES) }
         ensures { result ≡ is_missed_in self.now thread written }
@@ -120,7 +127,7 @@ impl Wanted {
         }
     }
 
-    // Whether a write of a variable by a thread is missed by another one.
+    // Whether a write of a variable by a thread is missed by some other thread.
     fn is_missed_by_one(&self, thread: usize, variable: usize) -> bool
         requires { variable < VARIABLES }
         ensures { result ≡ any_below (is_missed_by_in self.now thread variable) THREADS }
@@ -133,7 +140,7 @@ impl Wanted {
         false
     }
 
-    // Whether a write of a variable by a thread is missed by this one.
+    // Whether a write of a variable by a thread is missed by thread `other`.
     fn is_missed_by(&self, thread: usize, variable: usize, other: usize) -> bool
         requires variable { variable < VARIABLES }
         requires other { other < THREADS }
@@ -142,7 +149,7 @@ impl Wanted {
         other != thread && self.next[other][variable] && self.uses[other][variable] > 0
     }
 
-    // Whether an end asks for the event.
+    // Whether an end of the run asks for an event.
     fn is_asked_for(&self, program: &Program, event: &Event) -> bool
         requires { IsValidEvent program.now event.now }
         ensures { result ≡ list_any (λ end. asks_for program.now end event.now)
@@ -151,27 +158,27 @@ impl Wanted {
         self.ends.iter().any(|end| asks_for(program, end, event))
     }
 
-    // The event right before the place is from now on after it.
-    pub fn take(&mut self, event: &Event, needed: bool) -> Result<(), AllocError>
+    // Moves the place before an event, which is in the cause where `needed` says so.
+    pub fn move_before(&mut self, event: &Event, needed: bool) -> Result<(), AllocError>
         requires thread { event.now.thread < THREADS }
-        requires inside { IfSome (variable_of event.now.statement) (λ x. x < VARIABLES) }
-        requires used { IfSome (variable_of event.now.statement)
+        requires inside { IfSome (variable_used event.now.statement) (λ x. x < VARIABLES) }
+        requires used { IfSome (variable_used event.now.statement)
             (λ x. 0 < slice_index_or (slice_index_or self.old.uses event.now.thread []) x 0) }
-        ensures { OnOk result (IsTaken event.now needed self.old self.new) }
+        ensures { OnOk result (IsMovedBefore event.now needed self.old self.new) }
     {
         let thread = event.thread as usize;
-        let used = event.variable_used();
-        take_write(&mut self.read, event, needed);
-        take_setting(&mut self.used[thread], event, needed);
-        take_use(&mut self.next[thread], used, needed);
-        take_off(&mut self.uses[thread], used);
+        let used = variable_used(&event.statement);
+        update_read(&mut self.read, event, needed);
+        update_used(&mut self.used[thread], event, needed);
+        update_next(&mut self.next[thread], used, needed);
+        uncount_use(&mut self.uses[thread], used);
         self.least[thread] = least_with(self.least[thread], event.instruction, needed);
         put_end(&mut self.ends, event)
     }
 }
 
-// Which variables are read before they are written, from an event on.
-fn take_write(read: &mut [bool; VARIABLES], event: &Event, needed: bool)
+// Updates which variables are read before they are written, for the place before an event.
+fn update_read(read: &mut [bool; VARIABLES], event: &Event, needed: bool)
     ensures { (x : ℕ) → x < VARIABLES → slice_index_or read.new x false
         ≡ ((needed && reads x event.now)
         || (not (writes x event.now) && slice_index_or read.old x false)) }
@@ -179,14 +186,14 @@ fn take_write(read: &mut [bool; VARIABLES], event: &Event, needed: bool)
     let reads = event.variable_read();
     let writes = event.variable_written();
     for x in 0..VARIABLES {
-        read[x] = needed && is(x, reads) || !is(x, writes) && read[x];
+        read[x] = needed && is_in_option(x, reads) || !is_in_option(x, writes) && read[x];
     }
 }
 
-// Which locals of its thread are used before they are set, from an event on.
-fn take_setting(used: &mut [bool; LOCALS], event: &Event, needed: bool)
+// Updates which locals of a thread are used before they are set, for the place before its event.
+fn update_used(used: &mut [bool; LOCALS], event: &Event, needed: bool)
     ensures { (r : ℕ) → r < LOCALS → slice_index_or used.new r false
-        ≡ ((needed && uses event.now.statement r)
+        ≡ ((needed && uses_value r event.now.statement)
         || (not (is r (local_set event.now.statement)) && slice_index_or used.old r false)) }
 {
     for r in 0..LOCALS {
@@ -194,16 +201,16 @@ fn take_setting(used: &mut [bool; LOCALS], event: &Event, needed: bool)
     }
 }
 
-// Whether a local is used before it is set, from an event on.
+// Whether a local is used before it is set, from an event on; `after`: from the next event on.
 fn is_used_from(event: &Event, local: usize, needed: bool, after: bool) -> bool
-    ensures { result ≡ ((needed && uses event.now.statement local)
+    ensures { result ≡ ((needed && uses_value local event.now.statement)
         || (not (is local (local_set event.now.statement)) && after)) }
 {
-    needed && event.uses(local) || !is(local, event.local_set()) && after
+    needed && reads(local, &event.statement) || !is_in_option(local, event.local_set()) && after
 }
 
-// Of which variables the next use of its thread is needed, from an event on.
-fn take_use(next: &mut [bool; VARIABLES], used: Option<usize>, needed: bool)
+// Puts down whether the next use of a variable, where an event uses one, is needed.
+fn update_next(next: &mut [bool; VARIABLES], used: Option<usize>, needed: bool)
     requires { IfSome used (λ x. x < VARIABLES) }
     ensures { (x : ℕ) → x < VARIABLES → slice_index_or next.new x false
         ≡ (if is x used then needed else slice_index_or next.old x false) }
@@ -213,8 +220,8 @@ fn take_use(next: &mut [bool; VARIABLES], used: Option<usize>, needed: bool)
     }
 }
 
-// How often its thread uses the variables, where it uses this one once more.
-fn put_on(uses: &mut [usize; VARIABLES], used: Option<usize>)
+// Counts one more use of a variable, if there is one, in a thread's `uses` of each variable.
+fn count_use(uses: &mut [usize; VARIABLES], used: Option<usize>)
     requires inside { IfSome used (λ x. x < VARIABLES) }
     requires few { IfSome used (λ x. slice_index_or uses.old x 0 + 1 < 2 ^ 64) }
     ensures { (x : ℕ) → x < VARIABLES → slice_index_or uses.new x 0
@@ -225,8 +232,8 @@ fn put_on(uses: &mut [usize; VARIABLES], used: Option<usize>)
     }
 }
 
-// How often its thread used the variables before an event.
-fn take_off(uses: &mut [usize; VARIABLES], used: Option<usize>)
+// Counts one use less of a variable, if there is one, in a thread's `uses` of each variable.
+fn uncount_use(uses: &mut [usize; VARIABLES], used: Option<usize>)
     requires inside { IfSome used (λ x. x < VARIABLES) }
     requires some { IfSome used (λ x. 0 < slice_index_or uses.old x 0) }
     ensures { (x : ℕ) → x < VARIABLES → slice_index_or uses.new x 0
@@ -237,7 +244,7 @@ fn take_off(uses: &mut [usize; VARIABLES], used: Option<usize>)
     }
 }
 
-// The least number of an instruction of its thread, from an event of this instruction on.
+// The least number of a thread's instructions in the cause, this one added where it is needed.
 fn least_with(least: Option<usize>, instruction: usize, needed: bool) -> Option<usize>
     ensures { result ≡ least_with least instruction needed }
 {
@@ -248,7 +255,7 @@ fn least_with(least: Option<usize>, instruction: usize, needed: bool) -> Option<
     }
 }
 
-// The ends, from an event on.
+// Adds an event to the ends of the run, if it is one.
 fn put_end(ends: &mut Vec<Event>, event: &Event) -> Result<(), AllocError>
     ensures { OnOk result (ends.new.items ≡ ends_with ends.old.items event.now) }
 {
@@ -258,7 +265,7 @@ fn put_end(ends: &mut Vec<Event>, event: &Event) -> Result<(), AllocError>
     Ok(())
 }
 
-// The lesser of the two.
+// The lesser of two numbers of instructions, of which `least` may be missing.
 fn lesser(least: Option<usize>, instruction: usize) -> usize
     ensures { result ≡ lesser least instruction }
 {
@@ -268,20 +275,13 @@ fn lesser(least: Option<usize>, instruction: usize) -> usize
     }
 }
 
-// Whether it is a test.
-fn is_test(statement: &Instruction) -> bool
-    ensures { result ≡ is_test statement.now }
-{
-    matches!(statement, Instruction::SkipIfZero(_, _))
-}
-
-// The number of the first instruction behind all that a jump passes over, together with what the
-// jumps among that pass over.
-fn reach_of(code: &[Instruction], instruction: usize) -> usize
+// Where the ways of a jump merge: the number of the first instruction behind all that the jump
+// passes over, together with what the jumps among that pass over.
+fn merge_point(code: &[Instruction], instruction: usize) -> usize
     requires short { length code.now < 2 ^ 32 }
     requires jumps { JumpsWithin code.now }
     requires inside { instruction < length code.now }
-    ensures { result ≡ reach_of code.now instruction }
+    ensures { result ≡ merge_point code.now instruction }
 {
     let mut reach = instruction + 1;
     for at in instruction..code.len() {
@@ -291,14 +291,4 @@ fn reach_of(code: &[Instruction], instruction: usize) -> usize
         reach = reach.max(at + 1 + skip_of(&code[at]));
     }
     reach
-}
-
-// How many of the next instructions an instruction may pass over.
-fn skip_of(instruction: &Instruction) -> usize
-    ensures { result ≡ skip_of instruction.now }
-{
-    match instruction {
-        Instruction::SkipIfZero(_, n) | Instruction::Skip(n) => *n,
-        _ => 0,
-    }
 }

@@ -22,18 +22,20 @@ pub record IsJoined (p : Program) (search : Search) (parts : List Part) (printed
   pub output : printed.output.items ≡ report_text report ++ codes "\n"
   pub status : printed.status ≡ verdict_status report.verdict
 
--- the line of an error
+-- how the line of an error begins
 abbrev pub error_begin : JoinError → List ℕ
 error_begin OutOfMemory = codes "ctxbound: "
 error_begin e = codes "ctxbound: parts: "
 
+-- the line of an error
 abbrev pub error_line : JoinError → List ℕ
 error_line e = error_begin e ++ join_error_text e ++ codes "\n"
 
--- its status: 3 where more parts would help
+-- the status of an error where more parts would not help
 abbrev pub refusal_status : JoinError → ℕ
 refusal_status OutOfMemory = 4
 refusal_status e = 2
 
+-- the status of an error: 3 where more parts would help
 abbrev pub error_status : JoinError → ℕ
 error_status e = if needs_work e then 3 else refusal_status e

@@ -10,9 +10,9 @@ use Rattle.items.specs.Items.{ItemView}
 use Rattle.cover.specs.Prefixes.{IsListOf, prefix_line}
 
 -- the mode whose prefixes are listed; a prefix may have more preemptions than the bound
-abbrev pub mode_of : Bool → Mode
-mode_of true = Reduced
-mode_of false = Bounded BOUND
+abbrev pub listing_mode : Bool → Mode
+listing_mode true = Reduced
+listing_mode false = Bounded BOUND
 
 -- a line for each prefix of the program that the text spells, of the least length at which there
 -- are so many at least
@@ -21,5 +21,5 @@ pub record IsListingOf (text : List ℕ) (is_pruned : Bool) (at_least : ℕ) (ou
   pub program : Program
   pub of : IsProgramOf text program
   pub items : List ItemView
-  pub all : IsListOf (mode_of is_pruned) program at_least items
+  pub all : IsListOf (listing_mode is_pruned) program at_least items
   pub lines : output ≡ flat_map prefix_line items

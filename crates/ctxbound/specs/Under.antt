@@ -18,22 +18,22 @@ use Rattle.report.specs.declared.options.Search.TheVariants.{UpTo, Unbounded}
 use Rattle.report.specs.declared.report.Cause.{Cause}
 use Rattle.report.specs.Texts.{IsProgramOf}
 use Rattle.runner.specs.Levels.{AreLevels}
-use Rattle.parts.specs.declared.guest.Guest.{Guest}
+use Rattle.parts.specs.declared.guest.GuestDigest.{GuestDigest}
 use Rattle.parts.specs.PartText.{guest_of, part_text}
 use Rattle.answering.specs.declared.answer.Printed.{Printed}
 use Rattle.answering.specs.declared.fault.Fault.{Fault}
 use Rattle.answering.specs.declared.fault.Fault.TheVariants.{Memory}
 use Rattle.answering.specs.Answer.{of_replay}
-use Rattle.ctxbound.specs.Prefixes.{mode_of}
+use Rattle.ctxbound.specs.Prefixes.{listing_mode}
 
 -- the mode of the prefixes of a search; the bound makes no difference
 abbrev pub prefix_mode : Search → Mode
-prefix_mode (UpTo last) = mode_of false
-prefix_mode Unbounded = mode_of true
+prefix_mode (UpTo last) = listing_mode false
+prefix_mode Unbounded = listing_mode true
 
--- what is found where no schedule is under a prefix
-abbrev pub nothing_found : Level
-nothing_found = record { bound = None; summary = nothing; cause = None }
+-- the level of a prefix that no schedule is under
+abbrev pub empty_level : Level
+empty_level = record { bound = None; summary = nothing; cause = None }
 
 -- the levels of the item of a prefix; where no schedule that sleep sets leave begins with it, one
 -- of nothing
@@ -41,7 +41,7 @@ abbrev pub AreLevelsUnder : Program → Options → List ℕ → List Level → 
 AreLevelsUnder p o prefix levels =
     ((i : ItemView) × IsUnder (prefix_mode o.search) p prefix i
     × AreLevels false o.search o.limit i levels)
-    ⊎ (HasNoneUnder (prefix_mode o.search) p prefix × (levels ≡ nothing_found ∷ []))
+    ⊎ (HasNoneUnder (prefix_mode o.search) p prefix × (levels ≡ empty_level ∷ []))
 
 -- memory ran out, or a step of the prefix can't be taken
 abbrev pub IsNoItem : Program → List ℕ → Fault → Type 0
@@ -49,7 +49,7 @@ IsNoItem p prefix fault =
     (fault ≡ Memory) ⊎ ((e : ReplayError) × ReplayErrorMeans p prefix e × (fault ≡ of_replay e))
 
 -- the line of a level
-abbrev pub level_line : Guest → List ℕ → Level → List ℕ
+abbrev pub level_line : GuestDigest → List ℕ → Level → List ℕ
 level_line guest prefix level =
     part_text (record { under = prefix; level = level; guest = guest }) ++ codes "\n"
 

@@ -7,7 +7,7 @@ ghost use Rattle.advice.specs.Told.{checked_lines};
 ghost use Rattle.answering.specs.declared.request.CheckForm.TheVariants.{Lines};
 
 use crate::diagnostics::diagnostics_text;
-use crate::files::{Named, files_of};
+use crate::files::{GuestFile, guest_files};
 use advice::{Checked, Depth, advice_text, check};
 use answering::{CheckForm, CheckRequest, CommandFault, Fault, Printed, read_file, serve_printed};
 use std::alloc::{Alloc, AllocError, Global};
@@ -15,8 +15,8 @@ use std::fs;
 use std::fs::Files;
 use std::io::{Input, Write};
 
-/// Checks each file, and tells what is wrong or odd: in lines for people on `err`, else on `out`.
-/// Answers the status: the greatest of those of the files.
+/// Checks each file, and tells what is wrong or odd: lines for people on `err`, other forms on `out`.
+/// Answers the greatest of the files' statuses.
 pub fn serve_check<H, W: Write, E: Write>(
     rt: &H,
     request: &CheckRequest,
@@ -28,7 +28,7 @@ where
 {
     let mut worst = 0;
     for name in &request.files {
-        let files = match files_of(rt, name.as_str()) {
+        let files = match guest_files(rt, name.as_str()) {
             Ok(files) => files,
             Err(error) => {
                 worst = worst.max(Fault::from(error).report(err));
@@ -37,8 +37,8 @@ where
         };
         let several = request.files.len() > 1 || files.len() > 1;
         for file in &files {
-            let status = match (request.form, checked_file(rt, file, request)) {
-                (CheckForm::Lines, Ok(printed)) => put_lines(err, file, several, &printed),
+            let status = match (request.form, check_file(rt, file, request)) {
+                (CheckForm::Lines, Ok(printed)) => write_lines(err, file, several, &printed),
                 (_, printed) => serve_printed(printed, out, err),
             };
             worst = worst.max(status);
@@ -47,10 +47,10 @@ where
     worst
 }
 
-// What is told of the text of a file.
-fn checked_file<'a, H>(
+// What a check prints of the text of a file, or why it prints nothing.
+fn check_file<'a, H>(
     rt: &H,
-    file: &'a Named,
+    file: &'a GuestFile,
     request: &CheckRequest,
 ) -> Result<Printed, CommandFault<'a>>
 where
@@ -63,9 +63,9 @@ where
     Ok(check_text(rt.alloc(), text.as_slice(), name, request)?)
 }
 
-// Puts lines for people, and answers the status. Where there are several files, the name of this
-// one stands above what is told of it.
-fn put_lines<E: Write>(err: &mut E, file: &Named, several: bool, printed: &Printed) -> u8 {
+// Writes lines for people to `err`, and answers the status. Where several files are checked, the name
+// of this file stands above its lines.
+fn write_lines<E: Write>(err: &mut E, file: &GuestFile, several: bool, printed: &Printed) -> u8 {
     let lines = printed.output.as_slice();
     // a failing stream changes no status
     if several && !lines.is_empty() {
@@ -75,7 +75,7 @@ fn put_lines<E: Write>(err: &mut E, file: &Named, several: bool, printed: &Print
     printed.status
 }
 
-/// What is told of the text of a file, and its status.
+/// What a check prints of the text of a file, by this name, and the status.
 ///
 /// # Errors
 ///
@@ -95,13 +95,13 @@ pub fn check_text(
         request.depth.map(|limit| Depth { limit, remarks }),
     )?;
     Ok(Printed {
-        output: told_as(alloc, text, file, &checked, request.form)?,
+        output: check_output(alloc, text, file, &checked, request.form)?,
         status: checked_status(&checked, request.strict),
     })
 }
 
-// What is told of a text that was checked, in this form.
-fn told_as(
+// What is printed of a text of this file that was checked, in this form.
+fn check_output(
     alloc: Global,
     text: &[u8],
     file: &str,
@@ -117,8 +117,8 @@ fn told_as(
     }
 }
 
-/// The status of a text that was checked: 2 where it is refused, 1 where it has a warning and that
-/// counts, else 0.
+/// The status of a text that was checked: 2 where the text is refused, 1 where it has a warning and
+/// the check is strict, else 0.
 pub fn checked_status(checked: &Checked, strict: bool) -> u8
     ensures { result ≡ checked_status strict checked.now }
 {
@@ -129,8 +129,8 @@ pub fn checked_status(checked: &Checked, strict: bool) -> u8
     }
 }
 
-/// Whether a file is there whose text is refused. It is read again, so standard input and pipes are
-/// passed by.
+/// Whether this name is that of a plain file whose text is refused. The file may have been read before:
+/// standard input and pipes, which can't be read twice, aren't read.
 pub fn is_refused<H>(rt: &H, file: &str) -> bool
 where
     H: Files + Input + Alloc<A = Global>,

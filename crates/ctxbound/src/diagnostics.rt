@@ -1,6 +1,6 @@
-//! What a check tells, for editors: a line each, or a JSON object each.
+//! What a check tells, for editors: a line or a JSON object for each refusal and each warning.
 
-use advice::{Advice, Checked, Span};
+use advice::{Checked, Diagnostic, Span};
 use serde_json::{Map, Value, json, put};
 use std::alloc::{AllocError, Global};
 use std::fmt::Write;
@@ -8,8 +8,8 @@ use text_lines::Marks;
 
 /// A line for each refusal and each warning of a text that was read from this file: a JSON object,
 /// or `FILE:LINE:COLUMN: warning W5 NeverLoaded: MESSAGE`, where a refusal is an `error` and what
-/// has no place is told of the first byte. File and line are those of the mark where one comes
-/// before.
+/// has no place is told of the first byte. Where a mark of a preprocessor comes before, file and line
+/// are those that the mark says.
 ///
 /// # Errors
 ///
@@ -25,64 +25,65 @@ pub fn diagnostics_text(
     let mut lines = String::new(alloc);
     let all = match checked {
         Checked::Sound(all) => all.as_slice(),
-        Checked::Refused(advice) => std::slice::from_ref(advice),
+        Checked::Refused(diagnostic) => std::slice::from_ref(diagnostic),
     };
-    for advice in all {
+    for diagnostic in all {
         let line = if is_json {
-            Value::Object(members_of(alloc, &marks, file, advice)?).to_string(alloc)?
+            Value::Object(diagnostic_members(alloc, &marks, file, diagnostic)?).to_string(alloc)?
         } else {
-            short_line(alloc, &marks, file, advice)?
+            short_line(alloc, &marks, file, diagnostic)?
         };
         writeln!(lines, "{line}")?;
     }
     Ok(lines.into_bytes())
 }
 
-// The line of an advice.
+// The line `FILE:LINE:COLUMN: warning W5 NeverLoaded: MESSAGE` of a diagnostic.
 fn short_line(
     alloc: Global,
     marks: &Marks,
     file: &str,
-    advice: &Advice,
+    diagnostic: &Diagnostic,
 ) -> Result<String, AllocError> {
-    let (line, column) = match advice.span {
+    let (line, column) = match diagnostic.span {
         Some(span) => (span.at.line, span.at.col),
         None => (1, 1),
     };
-    let place = marks.told(file, line).named();
-    let grade = advice.grade;
-    let (number, name) = advice.code();
-    let message = ascii(alloc, advice.message.as_slice())?;
-    format!(in alloc; "{place}:{column}: {grade} {number} {name}: {message}")
+    let place = marks.file_line(file, line).with_name();
+    let severity = diagnostic.severity;
+    let (number, name) = diagnostic.code();
+    let message = ascii_text(alloc, diagnostic.message.as_slice())?;
+    format!(in alloc; "{place}:{column}: {severity} {number} {name}: {message}")
 }
 
-// The members of the object of an advice.
-fn members_of(
+// The members of the JSON object of a diagnostic.
+fn diagnostic_members(
     alloc: Global,
     marks: &Marks,
     file: &str,
-    advice: &Advice,
+    diagnostic: &Diagnostic,
 ) -> Result<Map<String, Value>, AllocError> {
     let mut notes = Vec::new(alloc);
-    for note in &advice.notes {
-        let members = placed(alloc, marks, None, note.span, note.text.as_slice())?;
+    for note in &diagnostic.notes {
+        let members = message_members(alloc, marks, None, note.span, note.text.as_slice())?;
         notes.push(Value::Object(members))?;
     }
     let file = Some(file.as_bytes());
-    let mut members = placed(alloc, marks, file, advice.span, advice.message.as_slice())?;
-    let (number, name) = advice.code();
+    let (span, said) = (diagnostic.span, diagnostic.message.as_slice());
+    let mut members = message_members(alloc, marks, file, span, said)?;
+    let (number, name) = diagnostic.code();
     let code = format!(in alloc; "{number} {name}")?;
-    let severity = advice.grade.to_string(alloc)?;
+    let severity = diagnostic.severity.to_string(alloc)?;
     put(&mut members, alloc, "code", Value::String(code))?;
     put(&mut members, alloc, "notes", Value::Array(notes))?;
     put(&mut members, alloc, "severity", Value::String(severity))?;
     Ok(members)
 }
 
-// What is said, and where: the place of the first byte, and as its end that after the last one, in
-// the same line; or null. The file is that of the mark where one comes before, else this one, if
-// any.
-fn placed(
+// The members of a message at a span: what is said, where the span begins, and as its `end` the column
+// after its last byte; null without a span. The member `file` is what a mark before the span says, else
+// `file`, if any.
+fn message_members(
     alloc: Global,
     marks: &Marks,
     file: Option<&[u8]>,
@@ -91,7 +92,7 @@ fn placed(
 ) -> Result<Map<String, Value>, AllocError> {
     let (line, column, end) = match span {
         Some(span) => {
-            let line = marks.told("", span.at.line).line;
+            let line = marks.file_line("", span.at.line).line;
             let column = u64::from(span.at.col);
             let past = column.saturating_add(span.length as u64);
             let end = json!(in alloc; {"column": past, "line": line})?;
@@ -100,12 +101,12 @@ fn placed(
         None => (Value::Null, Value::Null, Value::Null),
     };
     let origin = span.and_then(|span| marks.origin(span.at.line));
-    let message = Value::String(ascii(alloc, said)?);
+    let message = Value::String(ascii_text(alloc, said)?);
     let mut members = Map::new(alloc);
     put(&mut members, alloc, "column", column)?;
     put(&mut members, alloc, "end", end)?;
     if let Some(file) = origin.map_or(file, |origin| Some(origin.file())) {
-        let file = Value::String(ascii(alloc, file)?);
+        let file = Value::String(ascii_text(alloc, file)?);
         put(&mut members, alloc, "file", file)?;
     }
     put(&mut members, alloc, "line", line)?;
@@ -114,7 +115,7 @@ fn placed(
 }
 
 // Bytes as text, with a question mark for each that isn't printable ASCII.
-fn ascii(alloc: Global, bytes: &[u8]) -> Result<String, AllocError> {
+fn ascii_text(alloc: Global, bytes: &[u8]) -> Result<String, AllocError> {
     let shown = bytes.iter().map(|byte| match byte {
         b' '..=b'~' => *byte as char,
         _ => '?',

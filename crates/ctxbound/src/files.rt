@@ -7,21 +7,21 @@ use std::io::{ErrorKind, Input};
 use std::{fs, io};
 
 /// How the names of guest programs in a folder end.
-const ENDING: &str = ".guest";
+const GUEST_SUFFIX: &str = ".guest";
 
-/// What is said of a folder that has none.
+/// What is said of a folder that has no guest program.
 const NO_GUESTS: &str = "no file in it ends in .guest";
 
-/// A file that a name stands for, or a name that stands for none, and why.
+/// A file of a guest program, by its name; or a name that stands for no file, and why.
 #[derive(Drop)]
-pub struct Named {
+pub struct GuestFile {
     /// The name.
     pub name: String,
     error: Option<io::Error>,
 }
 
-impl Named {
-    /// The text of the guest program in it, as that of [`read_file`].
+impl GuestFile {
+    /// The text of the guest program in the file, as [`read_file`] reads it.
     ///
     /// # Errors
     ///
@@ -41,7 +41,7 @@ impl Named {
 ///
 /// # Errors
 ///
-/// What the device answers, with the file's name.
+/// What the device answers, with the name `file`.
 pub fn guest_text<'a, H>(rt: &H, file: &'a str) -> Result<Vec<u8>, CommandFault<'a>>
 where
     H: Files + Input + Alloc<A = Global>,
@@ -52,31 +52,31 @@ where
     }
 }
 
-/// The files that a name stands for: itself, or where it is a folder the guest programs in it and
-/// in the folders in it, sorted by name. A link to a folder inside it isn't followed.
+/// The files that a name stands for: the file of that name, or all guest programs in the folder of that
+/// name and in the folders in it, sorted by name. In there links to folders aren't followed.
 ///
 /// # Errors
 ///
 /// `AllocError` where memory runs out.
-pub fn files_of<H>(rt: &H, name: &str) -> Result<Vec<Named>, AllocError>
+pub fn guest_files<H>(rt: &H, name: &str) -> Result<Vec<GuestFile>, AllocError>
 where
     H: Files + Alloc<A = Global> + Clone + Drop,
 {
-    match names_of(rt, name) {
+    match guest_names(rt, name) {
         Ok(names) => names
             .into_iter()
-            .map(|name| Named { name, error: None })
+            .map(|name| GuestFile { name, error: None })
             .collect(rt.alloc()),
         Err(error) => {
             let name = String::from_str(rt.alloc(), name)?;
             let error = Some(error);
-            Ok(vec![in rt.alloc(); Named { name, error }]?)
+            Ok(vec![in rt.alloc(); GuestFile { name, error }]?)
         }
     }
 }
 
-// Their names, or why there is none.
-fn names_of<H>(rt: &H, name: &str) -> io::Result<Vec<String>>
+// The sorted names of the files that a name stands for, or why it stands for none.
+fn guest_names<H>(rt: &H, name: &str) -> io::Result<Vec<String>>
 where
     H: Files + Alloc<A = Global> + Clone + Drop,
 {
@@ -92,7 +92,7 @@ where
         let Some(folder) = folders.pop() else {
             break;
         };
-        put_listed(rt, folder.as_str(), &mut guests, &mut folders)?;
+        push_entries(rt, folder.as_str(), &mut guests, &mut folders)?;
     }
     if guests.is_empty() {
         return Err(io::Error::new(ErrorKind::NotFound, NO_GUESTS));
@@ -101,8 +101,8 @@ where
     Ok(guests)
 }
 
-// Puts the guest programs in a folder, and the folders in it, after the others.
-fn put_listed<H>(
+// Pushes the names of the guest programs in a folder to `guests`, those of its folders to `folders`.
+fn push_entries<H>(
     rt: &H,
     folder: &str,
     guests: &mut Vec<String>,
@@ -117,7 +117,7 @@ where
         let name = String::from_str(rt.alloc(), path.as_str())?;
         if entry.file_type()?.is_dir() {
             folders.push(name)?;
-        } else if path.as_str().ends_with(ENDING) {
+        } else if path.as_str().ends_with(GUEST_SUFFIX) {
             guests.push(name)?;
         }
     }

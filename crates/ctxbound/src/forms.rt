@@ -1,49 +1,50 @@
-//! The forms of an explanation that aren't text in columns.
+//! The forms of an explanation that aren't text in columns: JSON and an HTML page.
 
 use explain::Source;
-use explain_json::{explanation_json, nothing_json};
-use explain_page::{explanation_html, nothing_html};
+use explain_json::{explanation_json, no_schedule_json};
+use explain_page::{explanation_html, no_schedule_html};
 use explain_text::{Layout, why_text};
-use explained::{Explained, Tell, Told, is_fewest, sentence_of};
+use explained::{Explained, Output, Render, is_fewest, no_schedule_text};
 use runner::report_value;
 use std::alloc::Global;
 
-/// Tells what is explained as JSON.
+/// The form that tells an explanation as JSON.
 #[derive(Clone, Copy, Debug)]
 pub struct Json;
 
-/// Tells what is explained as a page.
+/// The form that tells an explanation as an HTML page.
 #[derive(Clone, Copy, Debug)]
 pub struct Html;
 
-/// The columns of the words on a page, which wraps them where they are too wide for it.
+/// The columns of a line of the text on a page, which wraps the lines that are too wide for its window.
 const PAGE_WIDTH: usize = 100;
 
-impl Tell for Json {
-    fn tell(&self, alloc: Global, explained: &Explained, source: &Source<'_>, file: &str) -> Told {
-        match explained {
+impl Render for Json {
+    fn render(&self, alloc: Global, answer: &Explained, source: &Source<'_>, file: &str) -> Output {
+        match answer {
             Explained::Asked(explanation) => explanation_json(alloc, explanation, source, None),
             Explained::Found(report, told) => {
                 let ends = report_value(alloc, report)?;
                 match told {
                     Some(explanation) => explanation_json(alloc, explanation, source, Some(ends)),
-                    None => nothing_json(alloc, file, ends),
+                    None => no_schedule_json(alloc, file, ends),
                 }
             }
         }
     }
 }
 
-impl Tell for Html {
-    fn tell(&self, alloc: Global, explained: &Explained, source: &Source<'_>, file: &str) -> Told {
-        let (explanation, is_fewest, ends) = match explained {
+impl Render for Html {
+    fn render(&self, alloc: Global, answer: &Explained, source: &Source<'_>, file: &str) -> Output {
+        let (explanation, is_fewest, ends) = match answer {
             Explained::Asked(explanation) => (explanation, false, None),
             Explained::Found(report, Some(explanation)) => {
                 let ends = report_value(alloc, report)?;
                 (explanation, is_fewest(report), Some(ends))
             }
             Explained::Found(report, None) => {
-                return nothing_html(alloc, file, sentence_of(alloc, file, report)?.as_str());
+                let sentence = no_schedule_text(alloc, file, report)?;
+                return no_schedule_html(alloc, file, sentence.as_str());
             }
         };
         let layout = Layout {

@@ -8,7 +8,7 @@ ghost use Rattle.ctxbound.specs.Joins.{IsJoined, error_line, error_status};
 use answering::{CommandFault, Fault, JoinRequest, Printed, REFUSED, read_bytes};
 use guest_code::program::Program;
 use joining::{JoinError, join};
-use parts::{Guest, Part, PartError, parts_from};
+use parts::{GuestDigest, Part, PartError, parts_from};
 use replay::schedule_text;
 use report::Search;
 use std::alloc::{Alloc, AllocError, Global};
@@ -17,14 +17,14 @@ use std::io::Input;
 use std::sync::Arc;
 use verify::program_of;
 
-/// What is printed of the report that the parts of a request join to, for the guest program of this
-/// text. Where something is missing or refused nothing is.
+/// What is printed of the report that the parts in the files of a request join to, for the guest
+/// program of this text. Where a part is missing or refused, nothing is printed.
 ///
 /// # Errors
 ///
 /// What is wrong first: with the text, with the program that it spells, with a file of parts, or
 /// with the parts.
-pub fn joined_files<'a, H>(
+pub fn join_files<'a, H>(
     rt: &H,
     text: &[u8],
     request: &'a JoinRequest,
@@ -34,22 +34,22 @@ where
 {
     let alloc = rt.alloc();
     let program = program_of(alloc, text)?;
-    let guest = Guest::of_text(text);
+    let guest = GuestDigest::of_text(text);
     let mut parts = Vec::new(alloc);
     for file in &request.parts {
-        put_file(rt, &mut parts, guest, file.as_str())?;
+        push_parts(rt, &mut parts, guest, file.as_str())?;
     }
-    match joined_text(alloc, &program, request.search, parts.as_slice()) {
+    match joined_report(alloc, &program, request.search, parts.as_slice()) {
         Ok(printed) => Ok(printed),
         Err(error) => Err(CommandFault::Line(error_line(alloc, &error)?, error_status(&error))),
     }
 }
 
-// Puts the parts of a file, which have to be of this guest, after the others.
-fn put_file<'a, H>(
+// Pushes the parts that a file has, which have to be parts of this guest's search, to `parts`.
+fn push_parts<'a, H>(
     rt: &H,
     parts: &mut Vec<Part>,
-    guest: Guest,
+    guest: GuestDigest,
     file: &'a str,
 ) -> Result<(), CommandFault<'a>>
 where
@@ -86,7 +86,7 @@ fn error_line(alloc: Global, error: &JoinError) -> Result<Vec<u8>, AllocError>
     Ok(line)
 }
 
-// The status where parts aren't joined: 3 where more of them would help, 4 for memory, else 2.
+// The status where parts aren't joined: 3 where more parts would help, 4 for memory, else 2.
 fn error_status(error: &JoinError) -> u8
     ensures { result ≡ error_status error.now }
 {
@@ -99,8 +99,8 @@ fn error_status(error: &JoinError) -> u8
     }
 }
 
-// What is printed of the report that parts join to, and its status.
-fn joined_text(
+// What is printed of the report that parts of a search join to, and the status of its verdict.
+fn joined_report(
     alloc: Global,
     program: &Arc<Program>,
     search: Search,

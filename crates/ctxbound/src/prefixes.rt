@@ -2,7 +2,7 @@
 
 ghost use Rattle.std.specs.Prelude.{◌≡◌, IfOk, IfErr};
 ghost use Rattle.report.specs.Texts.{ExploreErrorMeans};
-ghost use Rattle.ctxbound.specs.Prefixes.{mode_of, IsListingOf};
+ghost use Rattle.ctxbound.specs.Prefixes.{listing_mode, IsListingOf};
 
 use cover::{prefix_lines, prefixes};
 use items::limits::BOUND;
@@ -11,7 +11,7 @@ use runner::ExploreError;
 use std::alloc::Global;
 use verify::program_of;
 
-/// The lines of the prefixes of the program that a text spells.
+/// The lines of prefixes of the program that a text spells: `at_least` so many, where it has so many.
 ///
 /// # Errors
 ///
@@ -26,13 +26,13 @@ pub fn prefixes_text(
     ensures error { IfErr result (ExploreErrorMeans text.now) }
 {
     let program = program_of(alloc, text)?;
-    let items = prefixes(alloc, program, mode_of(is_pruned), at_least as usize)?;
+    let items = prefixes(alloc, program, listing_mode(is_pruned), at_least as usize)?;
     Ok(prefix_lines(alloc, items.as_slice())?)
 }
 
-/// The mode whose prefixes are listed. The bound makes no difference.
-pub fn mode_of(is_pruned: bool) -> Mode
-    ensures { result ≡ mode_of is_pruned }
+/// The mode whose prefixes are listed, with sleep sets or without. The bound makes no difference.
+pub fn listing_mode(is_pruned: bool) -> Mode
+    ensures { result ≡ listing_mode is_pruned }
 {
     if is_pruned {
         Mode::Reduced

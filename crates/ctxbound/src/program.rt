@@ -1,18 +1,18 @@
-//! The whole program, but for where its words come from and where its answer goes.
+//! The whole program, but for where the command words come from and where the answer goes.
 
 use crate::checks::{is_refused, serve_check};
 use crate::files::guest_text;
 use crate::forms::{Html, Json};
-use crate::joins::joined_files;
+use crate::joins::join_files;
 use crate::prefixes::prefixes_text;
 use crate::suites::serve_suite;
-use crate::under::under_text;
-use crate::verified::verified;
+use crate::under::search_under_prefix;
+use crate::verified::verify_guest;
 use answering::{
-    CommandFault, ExplainRequest, Form, JoinRequest, PrefixesRequest, Printed, REFUSED, Request,
-    UnderRequest, VerifyRequest, serve_file, serve_printed,
+    CommandFault, ExplainForm, ExplainRequest, JoinRequest, PrefixesRequest, Printed, REFUSED,
+    Request, UnderRequest, VerifyRequest, serve_file, serve_printed,
 };
-use explained::{Lines, serve_explain};
+use explained::{Text, serve_explain};
 use std::alloc::{Alloc, Global};
 use std::fs::Files;
 use std::io::{Eprint, Input, Write};
@@ -20,9 +20,9 @@ use std::sync::Wait;
 use std::thread::Threads;
 use words::request;
 
-/// Does what the command words ask for: the answer goes to `out`, the lines of faults to `err`.
-/// Where these are seen by a person, they are told which command says more. Answers the status that
-/// the program ends with.
+/// Does what the command words ask for: the answer goes to `out`, the lines of faults to `err`. Where
+/// `is_seen`, a person reads `err`, and is told which command says more. Answers the status that the
+/// program ends with.
 pub fn serve_words<H, W: Write, E: Write>(
     rt: &H,
     words: &[String],
@@ -40,7 +40,7 @@ where
     let status = serve_request(rt, &request, out, err);
     if is_seen
         && status == REFUSED
-        && let Some(file) = request.guest()
+        && let Some(file) = request.guest_file()
         && is_refused(rt, file)
     {
         let _ = writeln!(err, "(ctxbound check {file} says more)");
@@ -48,14 +48,14 @@ where
     status
 }
 
-/// Does what is asked for, and answers the status.
+// Does what a request asks for, and answers the status.
 fn serve_request<H, W: Write, E: Write>(rt: &H, request: &Request, out: &mut W, err: &mut E) -> u8
 where
     H: Threads + Wait + Sync + Eprint + Files + Input + Alloc<A = Global> + Clone + Drop,
 {
     match request {
-        Request::One { file, request } => serve_file(rt, file.as_str(), request, out, err),
-        Request::Explain { request, form } => explain_as(rt, request, *form, out, err),
+        Request::Guest { file, request } => serve_file(rt, file.as_str(), request, out, err),
+        Request::Explain(request, form) => explain_in_form(rt, request, *form, out, err),
         Request::Check(request) => serve_check(rt, request, out, err),
         Request::Suite(request) => serve_suite(rt, request, out, err),
         Request::Verify(request) => {
@@ -68,7 +68,7 @@ where
     }
 }
 
-/// Whether the guest program in a file is right, after what is written on `out` meanwhile.
+// The answer to print to whether the guest program in a file is right. Lines on searches go to `out`.
 fn verify_file<'a, H, W: Write>(
     rt: &H,
     request: &'a VerifyRequest,
@@ -78,10 +78,10 @@ where
     H: Threads + Wait + Sync + Files + Input + Alloc<A = Global>,
 {
     let text = guest_text(rt, request.file.as_str())?;
-    Ok(verified(rt, text.as_slice(), request, out)?)
+    Ok(verify_guest(rt, text.as_slice(), request, out)?)
 }
 
-/// The prefixes of the guest program in a file.
+// What is printed of the prefixes of the schedules of the guest program in a file.
 fn list_prefixes<'a, H>(rt: &H, request: &'a PrefixesRequest) -> Result<Printed, CommandFault<'a>>
 where
     H: Files + Input + Alloc<A = Global>,
@@ -92,30 +92,30 @@ where
     Ok(Printed { output, status: 0 })
 }
 
-/// A search under a prefix of the guest program in a file.
+// What is printed of a search under a prefix of the schedules of the guest program in a file.
 fn search_under<'a, H>(rt: &H, request: &'a UnderRequest) -> Result<Printed, CommandFault<'a>>
 where
     H: Threads + Wait + Sync + Eprint + Files + Input + Alloc<A = Global>,
 {
     let text = guest_text(rt, request.file.as_str())?;
     let prefix = request.prefix.as_bytes();
-    Ok(under_text(rt, text.as_slice(), prefix, request.search)?)
+    Ok(search_under_prefix(rt, text.as_slice(), prefix, request.search)?)
 }
 
-/// The report that parts of a search of the guest program in a file join to.
+// What is printed of the report that parts of a search of the guest program in a file join to.
 fn join_parts<'a, H>(rt: &H, request: &'a JoinRequest) -> Result<Printed, CommandFault<'a>>
 where
     H: Files + Input + Alloc<A = Global>,
 {
     let text = guest_text(rt, request.file.as_str())?;
-    joined_files(rt, text.as_slice(), request)
+    join_files(rt, text.as_slice(), request)
 }
 
-/// Explains a schedule of the guest program in a file, in this form.
-fn explain_as<H, W: Write, E: Write>(
+// Explains a schedule of the guest program in a file, in this form, and answers the status.
+fn explain_in_form<H, W: Write, E: Write>(
     rt: &H,
     request: &ExplainRequest,
-    form: Form,
+    form: ExplainForm,
     out: &mut W,
     err: &mut E,
 ) -> u8
@@ -123,10 +123,10 @@ where
     H: Threads + Wait + Sync + Eprint + Files + Input + Alloc<A = Global>,
 {
     match form {
-        Form::Text { width, steps } => {
-            serve_explain(rt, request, &Lines { width, steps }, out, err)
+        ExplainForm::Text { width, steps } => {
+            serve_explain(rt, request, &Text { width, steps }, out, err)
         }
-        Form::Json => serve_explain(rt, request, &Json, out, err),
-        Form::Html => serve_explain(rt, request, &Html, out, err),
+        ExplainForm::Json => serve_explain(rt, request, &Json, out, err),
+        ExplainForm::Html => serve_explain(rt, request, &Html, out, err),
     }
 }

@@ -1,7 +1,7 @@
 //! The command `suite`.
 
-use crate::files::{Named, files_of};
-use answering::{CommandFault, STANDARD_OUTPUT, SuiteRequest, Teller, write_out};
+use crate::files::{GuestFile, guest_files};
+use answering::{CommandFault, ProgressGate, STANDARD_OUTPUT, SuiteRequest, write_out};
 use runner::ExploreError;
 use std::alloc::{Alloc, Global};
 use std::fs::Files;
@@ -12,8 +12,8 @@ use std::thread::Threads;
 use suite::{Entry, Outcome, Table, Tally, json_line};
 use text_lines::Marks;
 
-/// Searches each file of a suite and prints what became of it as soon as that is known. Answers the
-/// status: the greatest of those of its files, or that of a device that failed.
+/// Searches each file of a suite, and prints what became of the file as soon as that is known. Answers
+/// the greatest of the files' statuses, or a fault's status where nothing more can be written.
 pub fn serve_suite<H, W: Write, E: Write>(
     rt: &H,
     request: &SuiteRequest,
@@ -29,7 +29,7 @@ where
     }
 }
 
-// Prints what becomes of the files, one after the other, and how many came to what.
+// Prints what becomes of the files of a suite, one after the other, and at last the tally of statuses.
 fn print_suite<H, W: Write, E: Write>(
     rt: &H,
     request: &SuiteRequest,
@@ -43,7 +43,7 @@ where
     let mut table = Table::new(alloc);
     let mut files = Vec::new(alloc);
     for name in &request.files {
-        for file in files_of(rt, name.as_str())? {
+        for file in guest_files(rt, name.as_str())? {
             table.make_room(file.name.as_str())?;
             files.push(file)?;
         }
@@ -53,7 +53,7 @@ where
     }
     let mut tally = Tally::new(alloc);
     for file in &files {
-        let (entry, marks) = entry_of(rt, file, request, err)?;
+        let (entry, marks) = search_file(rt, file, request, err)?;
         tally.push(entry.status())?;
         let line = if request.json {
             json_line(alloc, &entry, &marks)?
@@ -69,10 +69,10 @@ where
     Ok(tally)
 }
 
-// What becomes of a file, and where its lines come from.
-fn entry_of<H, E: Write>(
+// What becomes of a file of a suite, and the marks that say where its lines come from.
+fn search_file<H, E: Write>(
     rt: &H,
-    named: &Named,
+    guest: &GuestFile,
     request: &SuiteRequest,
     err: &mut E,
 ) -> io::Result<(Entry, Marks)>
@@ -80,13 +80,13 @@ where
     H: Threads + Wait + Sync + Eprint + Files + Input + Alloc<A = Global>,
 {
     let alloc = rt.alloc();
-    let file = String::from_str(alloc, named.name.as_str())?;
-    let outcome = match named.read(rt) {
+    let file = String::from_str(alloc, guest.name.as_str())?;
+    let outcome = match guest.read(rt) {
         Ok(text) => {
             if request.progress {
                 let _ = writeln!(err, "{file}:");
             }
-            let gate = Teller::new(rt, request.progress);
+            let gate = ProgressGate::new(rt, request.progress);
             let marks = Marks::new(alloc, text.as_slice())?;
             let entry = Entry::new(rt, file, text.as_slice(), request.limits, &gate);
             return Ok((entry, marks));

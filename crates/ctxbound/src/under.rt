@@ -5,14 +5,14 @@ ghost use Rattle.std.specs.Arc.{arc_value};
 ghost use Rattle.std.specs.List.{flat_map};
 ghost use Rattle.answering.specs.Answer.{FaultMeans};
 ghost use Rattle.ctxbound.specs.Under.{prefix_mode, AreLevelsUnder, level_line, level_status};
-ghost use Rattle.ctxbound.specs.Under.{last_status, nothing_found, IsNoItem, IsSearchUnder};
+ghost use Rattle.ctxbound.specs.Under.{last_status, empty_level, IsNoItem, IsSearchUnder};
 
-use crate::prefixes::mode_of;
-use answering::{Exploration, Fault, Printed, Teller};
+use crate::prefixes::listing_mode;
+use answering::{Exploration, Fault, Printed, ProgressGate};
 use cover::item_under;
 use guest_code::program::Program;
 use items::mode::Mode;
-use parts::{Guest, Part, part_line};
+use parts::{GuestDigest, Part, part_line};
 use replay::schedule_from;
 use report::{Level, Options, Search};
 use runner::explore_under;
@@ -24,14 +24,14 @@ use summary::Summary;
 use verify::program_of;
 
 /// What is printed of a search under a prefix of the schedules of the program that a text spells: a
-/// line for each bound. Nothing is printed before the search has ended, so that what is printed is
-/// never a part that its end is missing of.
+/// line for each bound. Nothing is printed before the search has ended, so that no part is
+/// printed whose end is missing.
 ///
 /// # Errors
 ///
 /// What is wrong first: with the text, with the program that it spells, with the prefix's text, or
 /// with a step of the prefix; `Memory` where memory runs out.
-pub fn under_text<H>(
+pub fn search_under_prefix<H>(
     rt: &H,
     text: &[u8],
     prefix: &[u8],
@@ -46,13 +46,13 @@ where
     let program = program_of(alloc, text)?;
     let prefix = schedule_from(alloc, prefix)?;
     let levels = levels_under(rt, program, prefix.as_slice(), search)?;
-    let status = status_after(levels.as_slice());
-    let guest = Guest::of_text(text);
+    let status = last_status(levels.as_slice());
+    let guest = GuestDigest::of_text(text);
     let output = level_lines(alloc, guest, prefix.as_slice(), levels)?;
     Ok(Printed { output, status })
 }
 
-// The levels of what is under a prefix, or why it doesn't run.
+// The levels of the search under a prefix, or why the prefix doesn't run.
 fn levels_under<H>(
     rt: &H,
     program: Arc<Program>,
@@ -68,22 +68,22 @@ where
     let alloc = rt.alloc();
     let mode = prefix_mode(search.options.search);
     let Some(item) = item_under(alloc, program, mode, prefix)? else {
-        return Ok(vec![in alloc; nothing_found(alloc)]?);
+        return Ok(vec![in alloc; empty_level(alloc)]?);
     };
-    let gate = Teller::new(rt, search.progress);
+    let gate = ProgressGate::new(rt, search.progress);
     Ok(explore_under(rt, alloc, item, search.options, search.workers, &gate)?)
 }
 
-// The mode of the prefixes of a search.
+// The mode in which the prefixes for this search are listed.
 fn prefix_mode(search: Search) -> Mode
     ensures { result ≡ prefix_mode search }
 {
-    mode_of(matches!(search, Search::Unbounded))
+    listing_mode(matches!(search, Search::Unbounded))
 }
 
-// What is found where no schedule is under a prefix.
-fn nothing_found(alloc: Global) -> Level
-    ensures { result ≡ nothing_found }
+// The level of a prefix that no schedule is under.
+fn empty_level(alloc: Global) -> Level
+    ensures { result ≡ empty_level }
 {
     Level {
         bound: None,
@@ -92,8 +92,8 @@ fn nothing_found(alloc: Global) -> Level
     }
 }
 
-// The status after these levels: that of the last one.
-fn status_after(levels: &[Level]) -> u8
+// The status after a search that has these levels: that of the last one, 0 without one.
+fn last_status(levels: &[Level]) -> u8
     ensures { result ≡ last_status levels.now }
 {
     match levels.last() {
@@ -102,7 +102,7 @@ fn status_after(levels: &[Level]) -> u8
     }
 }
 
-// The status after a level: 3 where it was cut short, 1 where it has a bad schedule.
+// The status after a level: 3 where it was cut short, 1 where it has a bad schedule, else 0.
 fn level_status(level: &Level) -> u8
     ensures { result ≡ level_status level.now }
 {
@@ -113,10 +113,10 @@ fn level_status(level: &Level) -> u8
     }
 }
 
-// The lines of the levels of a prefix.
+// The lines of the levels of the search under a prefix, a part of the guest's search each.
 fn level_lines(
     alloc: Global,
-    guest: Guest,
+    guest: GuestDigest,
     prefix: &[u8],
     levels: Vec<Level>,
 ) -> Result<Vec<u8>, AllocError>

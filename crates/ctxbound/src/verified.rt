@@ -3,7 +3,7 @@
 ghost use Rattle.std.specs.Prelude.{◌≡◌};
 ghost use Rattle.ctxbound.specs.Status.{verified_status};
 
-use advice::{Advice, Checked, Depth, check};
+use advice::{Checked, Depth, Diagnostic, check};
 use answering::{Fault, Printed, VerifyRequest};
 use guest_syntax::pieces::Piece;
 use hints::pieces::pieces;
@@ -17,16 +17,16 @@ use std::thread::Threads;
 use text_lines::Marks;
 use verify::{BadSchedule, Correctness, Preemptions, verify_text};
 
-/// What is said where a search was cut short.
-const MORE: &str = "A higher --limit says more.";
+/// What is said where the searches leave open whether a program is right.
+const HIGHER_LIMIT: &str = "A higher --limit says more.";
 
-/// Whether the guest program of this text is right. On `out` there is a line on each search as it
-/// ends; what is printed after that is the answer.
+/// The answer to print to whether the guest program of this text is right. A line on each search is
+/// written to `out` as the search ends.
 ///
 /// # Errors
 ///
 /// What is wrong first with the text, or `Memory`.
-pub fn verified<H, W: io::Write>(
+pub fn verify_guest<H, W: io::Write>(
     rt: &H,
     text: &[u8],
     request: &VerifyRequest,
@@ -49,8 +49,8 @@ where
     })
 }
 
-/// The status of an answer: 0 where the program is right, 1 where a schedule is bad, 3 where the
-/// searches left it open.
+// The status of an answer: 0 where the program is right, 1 where a schedule is bad, 3 where the
+// searches left that open.
 fn verified_status(answer: &Correctness) -> u8
     ensures { result ≡ verified_status answer.now }
 {
@@ -61,7 +61,7 @@ fn verified_status(answer: &Correctness) -> u8
     }
 }
 
-// That a program is right, and what weakens that.
+// The text that a program is right, and what weakens that answer.
 fn right_text(alloc: Global, request: &VerifyRequest, text: &[u8]) -> Result<String, AllocError> {
     let file = request.file.as_str();
     let mut told = format!(in alloc; "RIGHT: no schedule of {file} fails or gets stuck.\n")?;
@@ -72,13 +72,13 @@ fn right_text(alloc: Global, request: &VerifyRequest, text: &[u8]) -> Result<Str
     let pieces = pieces(alloc, text)?;
     let marks = Marks::new(alloc, text)?;
     if let Checked::Sound(all) = check(alloc, text, Some(depth))? {
-        for advice in &all {
-            let (line, column) = advice.place();
+        for diagnostic in &all {
+            let (line, column) = diagnostic.place();
             let at = match marks.origin(line) {
-                Some(_) => format!(in alloc; "{}:{column}", marks.told("", line).named())?,
+                Some(_) => format!(in alloc; "{}:{column}", marks.file_line("", line).with_name())?,
                 None => format!(in alloc; "{line}:{column}")?,
             };
-            put_weakness(&mut told, alloc, advice, at.as_str(), &pieces)?;
+            put_weakness(&mut told, alloc, diagnostic, at.as_str(), &pieces)?;
         }
     }
     Ok(told)
@@ -91,19 +91,19 @@ const WEAKNESSES: [(&str, &[u8], &str); 2] = [
     ("W13", b"signal", "signals for which several threads wait"),
 ];
 
-// Puts what an advice on a place in the text of these pieces says against a right answer: what
-// weakens it, or that not all schedules were looked at for that.
+// Puts what a diagnostic on the place `at` in the text of these pieces says against a right answer:
+// what weakens that answer, or that not all schedules were searched for what could.
 fn put_weakness(
     told: &mut String,
     alloc: Global,
-    advice: &Advice,
+    diagnostic: &Diagnostic,
     at: &str,
     pieces: &[Piece<'_>],
 ) -> Result<(), AllocError> {
-    let (number, name) = advice.code();
+    let (number, name) = diagnostic.code();
     for (weakness, word, sought) in WEAKNESSES {
         if number == weakness {
-            let message = String::from_utf8_lossy(alloc, advice.message.as_slice())?;
+            let message = String::from_utf8_lossy(alloc, diagnostic.message.as_slice())?;
             writeln!(told, "But {number} {name} at {at}: {message}")?;
         } else if number == "W21" && pieces.iter().any(|piece| piece.text == word) {
             writeln!(told, "But {sought} were looked for up to the limit alone.")?;
@@ -112,7 +112,7 @@ fn put_weakness(
     Ok(())
 }
 
-// That a schedule is bad, and how to see why.
+// The text that a schedule is bad, one with fewest preemptions where `is_fewest`, and how to see why.
 fn bad_text(
     alloc: Global,
     file: &str,
@@ -137,15 +137,15 @@ fn bad_text(
     )
 }
 
-// What is known where the searches left it open.
+// The text that no more is known than that schedules with fewer preemptions than `below` aren't bad.
 fn undecided_text(alloc: Global, file: &str, below: u32) -> Result<String, AllocError> {
     let known = below.saturating_sub(1);
     let at_most = if known == 0 { "" } else { "at most " };
     let count = Preemptions(known);
     match below {
-        0 => format!(in alloc; "UNDECIDED: nothing is known of {file}. {MORE}\n"),
+        0 => format!(in alloc; "UNDECIDED: nothing is known of {file}. {HIGHER_LIMIT}\n"),
         _ => format!(in alloc;
-            "UNDECIDED: no schedule of {file} with {at_most}{count} is bad. {MORE}\n"
+            "UNDECIDED: no schedule of {file} with {at_most}{count} is bad. {HIGHER_LIMIT}\n"
         ),
     }
 }

@@ -14,7 +14,7 @@ use Rattle.explain.specs.declared.explanation.Holder.{Holder}
 use Rattle.explain.specs.Steps.{Tells, IsTakenStep}
 use Rattle.explain.specs.Holders.{IsHeldBy}
 use Rattle.explain.specs.Explains.{carried_out, TellsHolders}
-use Rattle.explain.specs.inner.Carrying.{AreFollowed}
+use Rattle.explain.specs.inner.Carrying.{AreHoldersAfter}
 use Rattle.explain.proofs.Pushed.{pushed_at}
 use Rattle.explain.proofs.HeldOn.{held_on, held_by_none}
 
@@ -65,7 +65,7 @@ pub carried_more : (p : Program) (w : List ℕ) (k t : ℕ) (e new : ExecutionVi
     (steps more : List Step) (holders follow : List (Option Holder)) (told : Step) →
     IsWellFormed p → k < length w → t ≡ get_or w k 0 → is_enabled p e.state t ≡ true →
     IsCarriedUpTo p w k e steps holders → IsTakenStep p e new t told →
-    more ≡ steps ++ told ∷ [] → AreFollowed holders follow new.state k →
+    more ≡ steps ++ told ∷ [] → AreHoldersAfter holders follow new.state k →
     IsCarriedUpTo p w (k + 1) new more follow
 carried_more p w k t e new steps more holders follow told f inside_w is can old taken pushed next =
     record {

@@ -5,7 +5,7 @@ use Rattle.std.proofs.lemmas.Bool.Decides.{nat_tests}
 use Rattle.guest_code.specs.Program.{Program}
 use Rattle.explain.specs.declared.explanation.Holder.{Holder}
 use Rattle.explain.specs.Holders.{owner_at, HoldsSince, IsHeldBy}
-use Rattle.explain.specs.inner.Carrying.{is_followed, kept_or_new}
+use Rattle.explain.specs.inner.Carrying.{holder_after, kept_or_new}
 
 -- a thread that takes a mutex by the step at place k
 taken : (p : Program) (w : List ℕ) (k m t : ℕ) → owner_at p w m (k + 1) ≡ Some t →
@@ -61,7 +61,7 @@ kept_or_taken p w k m t g old now false h =
 
 followed : (p : Program) (w : List ℕ) (k m : ℕ) (h : Option Holder) (owner : Option ℕ) →
     IsHeldBy p w k m h → owner_at p w m (k + 1) ≡ owner →
-    IsHeldBy p w (k + 1) m (is_followed h owner k)
+    IsHeldBy p w (k + 1) m (holder_after h owner k)
 followed p w k m h None old now = record {
   nobody = λ e. now;
   somebody = λ g e. absurd cc;
@@ -82,7 +82,7 @@ followed p w k m (Some h) (Some t) old now = record {
 
 -- the owner of a mutex after one more step
 pub held_on : (p : Program) (w : List ℕ) (k m : ℕ) (h new : Option Holder) (owner : Option ℕ) →
-    IsHeldBy p w k m h → owner_at p w m (k + 1) ≡ owner → new ≡ is_followed h owner k →
+    IsHeldBy p w k m h → owner_at p w m (k + 1) ≡ owner → new ≡ holder_after h owner k →
     IsHeldBy p w (k + 1) m new
 held_on p w k m h new owner old now e =
     subst (IsHeldBy p w (k + 1) m) (sym e) (followed p w k m h owner old now)

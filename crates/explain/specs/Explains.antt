@@ -6,7 +6,7 @@ use Rattle.semantics.specs.Machine.{Snapshot, start, thread_at}
 use Rattle.schedules.specs.Schedules.{state_after, runs, preemptions, last_of}
 use Rattle.semantics.specs.Ends.{kind_of, stop_of}
 use Rattle.schedules.specs.Execution.{ExecutionView}
-use Rattle.replay.specs.Run.{lines_from, number_at, IsFirstBad}
+use Rattle.replay.specs.Run.{lines_from, number_at, state_before, IsFirstBad}
 use Rattle.explain.specs.declared.explanation.Explanation.{Explanation}
 use Rattle.explain.specs.declared.explanation.Start.{Start}
 use Rattle.explain.specs.declared.standing.Standing.{Standing}
@@ -24,10 +24,6 @@ carried_out p w k = record {
   last = last_of (take k w);
   preemptions = preemptions p (take k w);
 }
-
--- the state that the steps lead to
-abbrev pub reached : Program → List ℕ → ℕ → Snapshot
-reached p w n = state_after p (start p) (take n w)
 
 -- the first n steps run, and they are told each once and in order
 pub record TellsSteps (p : Program) (w : List ℕ) (n : ℕ) (steps : List Step) : Type 0 where
@@ -70,7 +66,7 @@ pub record Explains (p : Program) (w : List ℕ) (told : Explanation) : Type 0 w
   pub steps : TellsSteps p w (length told.steps.items) told.steps.items
   pub stops : StopsAt p w (length told.steps.items) told.refused
   pub opening : TellsOpening p told.opening.items
-  pub threads : TellsThreads p (reached p w (length told.steps.items)) told.standings.items
+  pub threads : TellsThreads p (state_before p w (length told.steps.items)) told.standings.items
   pub holders : TellsHolders p w (length told.steps.items) told.holders.items
   pub preemptions : told.preemptions ≡ preemptions p (take (length told.steps.items) w)
-  pub kind : told.kind ≡ kind_of p (reached p w (length told.steps.items))
+  pub kind : told.kind ≡ kind_of p (state_before p w (length told.steps.items))

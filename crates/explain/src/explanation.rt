@@ -6,7 +6,7 @@ ghost use Rattle.semantics.specs.Machine.{is_enabled};
 ghost use Rattle.semantics.specs.Reachable.{IsOf};
 ghost use Rattle.explain.specs.Blocked.{reason_of};
 ghost use Rattle.explain.specs.Explains.{Explains, TellsOpening, TellsThreads};
-ghost use Rattle.explain.specs.inner.Carrying.{IsCarriedOut, AreFollowed, is_followed};
+ghost use Rattle.explain.specs.inner.Carrying.{IsCarriedOut, AreHoldersAfter, holder_after};
 
 use crate::settings::{Setting, put_settings};
 use crate::standing::{Reason, Standing};
@@ -23,18 +23,18 @@ use std::alloc::{AllocError, Global};
 pub struct Holder {
     /// The thread, by its number.
     pub thread: u8,
-    /// The place of the step by which it took the mutex.
+    /// The place of the step by which the thread took the mutex.
     pub since: usize,
 }
 
 /// A thread before its first step.
 #[derive(Debug, Drop)]
 pub struct Start {
-    /// The locals that it set by itself.
+    /// The locals that the thread set by itself.
     pub settings: Vec<Setting>,
-    /// The number of the instruction that it came to.
+    /// The number of the instruction that the thread came to.
     pub next: usize,
-    /// Why it stopped, if it did.
+    /// Why the thread stopped, if it did.
     pub stop: Option<Stop>,
 }
 
@@ -60,25 +60,25 @@ impl Explanation {
     pub fn new(alloc: Global, program: &Program, schedule: &[u8]) -> Result<Explanation, AllocError>
         ensures { IfOk result (Explains program.now schedule.now) }
     {
-        let carried = Carried::along(alloc, program, schedule)?;
-        let state = carried.execution.state();
+        let run = Run::new(alloc, program, schedule)?;
+        let state = run.execution.state();
         let standings = standings_in(alloc, state, program)?;
         let kind = state.kind(program);
-        let preemptions = carried.execution.preemptions();
+        let preemptions = run.execution.preemptions();
         let opening = starts_of(alloc, program)?;
         Ok(Explanation {
             schedule: schedule.to_vec(alloc)?,
-            steps: carried.steps,
+            steps: run.steps,
             opening,
             standings,
-            holders: carried.holders,
+            holders: run.holders,
             preemptions,
             kind,
-            refused: carried.refused,
+            refused: run.refused,
         })
     }
 
-    /// The schedule, with what didn't run.
+    /// The schedule that is explained, with what of it didn't run.
     pub fn schedule(&self) -> &[u8]
         ensures { result.now ≡ self.now.schedule.items }
     {
@@ -99,7 +99,7 @@ impl Explanation {
         self.steps.as_slice()
     }
 
-    /// Each thread at the end of what ran.
+    /// Where each thread is at the end of what ran.
     pub fn standings(&self) -> &[Standing]
         ensures { result.now ≡ self.now.standings.items }
     {
@@ -113,7 +113,7 @@ impl Explanation {
         self.holders.as_slice()
     }
 
-    /// How many of its switches were preempting.
+    /// How many switches of the schedule, as far as it ran, were preempting.
     pub fn preemptions(&self) -> usize
         ensures { result ≡ self.now.preemptions }
     {
@@ -134,7 +134,7 @@ impl Explanation {
         self.refused
     }
 
-    /// A thread at the end of what ran.
+    /// Where a thread is at the end of what ran; `None` where no thread has this number.
     pub fn standing(&self, thread: u8) -> Option<&Standing>
         ensures { option_copied result ≡ slice_get self.now.standings.items thread }
     {
@@ -156,18 +156,18 @@ impl Explanation {
     }
 }
 
-// A schedule as far as it runs.
+// A schedule that was carried out as far as it runs, and what was kept of its steps.
 #[derive(Drop)]
-struct Carried {
+struct Run {
     execution: Execution,
     steps: Vec<Step>,
     holders: Vec<Option<Holder>>,
     refused: Option<u8>,
 }
 
-impl Carried {
+impl Run {
     // Carries a schedule out, up to its end or to where it can't go on.
-    fn along(alloc: Global, program: &Program, schedule: &[u8]) -> Result<Carried, AllocError>
+    fn new(alloc: Global, program: &Program, schedule: &[u8]) -> Result<Run, AllocError>
         ensures { IfOk result (IsCarriedOut program.now schedule.now) }
     {
         program.keeps_limits();
@@ -178,9 +178,9 @@ impl Carried {
             if can_step(execution.state(), program, *thread) {
                 let step = Step::take(alloc, &mut execution, program, *thread)?;
                 steps.push(step)?;
-                follow(&mut holders, execution.state(), at);
+                update_holders(&mut holders, execution.state(), at);
             } else {
-                return Ok(Carried {
+                return Ok(Run {
                     execution,
                     steps,
                     holders,
@@ -188,7 +188,7 @@ impl Carried {
                 });
             }
         }
-        Ok(Carried {
+        Ok(Run {
             execution,
             steps,
             holders,
@@ -205,19 +205,19 @@ fn can_step(state: &State, program: &Program, thread: u8) -> bool
     thread < program.threads() && state.is_enabled(program, thread)
 }
 
-// The owners of the mutexes after the step at a place.
-fn follow(holders: &mut [Option<Holder>], state: &State, at: usize)
+// Brings the owners of the mutexes up to date after the step at place `at`, which led to a state.
+fn update_holders(holders: &mut [Option<Holder>], state: &State, at: usize)
     requires { length holders.old ≡ length state.now.owners }
-    ensures { AreFollowed holders.old holders.new state.now at }
+    ensures { AreHoldersAfter holders.old holders.new state.now at }
 {
     for m in 0..holders.len() {
-        holders[m] = followed(holders[m], state.owner(m), at);
+        holders[m] = holder_after(holders[m], state.owner(m), at);
     }
 }
 
-// The owner of a mutex, who has it since this step or since before.
-fn followed(holder: Option<Holder>, owner: Option<u8>, at: usize) -> Option<Holder>
-    ensures { result ≡ is_followed holder owner at }
+// Who owns a mutex after the step at place `at`: `holder` did before, and now thread `owner` does.
+fn holder_after(holder: Option<Holder>, owner: Option<u8>, at: usize) -> Option<Holder>
+    ensures { result ≡ holder_after holder owner at }
 {
     let thread = owner?;
     match holder {
@@ -226,7 +226,7 @@ fn followed(holder: Option<Holder>, owner: Option<u8>, at: usize) -> Option<Hold
     }
 }
 
-// Each thread in a state.
+// Where each thread is in a state.
 fn standings_in(
     alloc: Global,
     state: &State,

@@ -2,7 +2,7 @@
 //!
 //! [`Explanation::new`] carries a schedule out as far as it runs, and keeps of each step what it
 //! did and what changed, and of each thread why it can't go on. [`Source`] has the names and the
-//! places that it is told with; the texts are made in crates above.
+//! places that an explanation is told with; the texts are made in crates above.
 #![tactic(auto)]
 
 mod explanation;

@@ -46,7 +46,7 @@ impl Object {
         }
     }
 
-    /// What it is in a state.
+    /// What the object is in a state.
     pub fn reading(self, state: &State) -> Reading
         requires { (p : Program) × IsOf p state.now × IsObjectOf p self }
         ensures { result ≡ reading_of state.now self }

@@ -14,11 +14,11 @@ use std::alloc::{AllocError, Global};
 /// A local that gets a value.
 #[derive(Clone, Copy, Debug, PartialEq, Eq)]
 pub struct Setting {
-    /// The number of the instruction that sets it.
+    /// The number of the instruction that sets the local.
     pub instruction: usize,
     /// The local, by its number.
     pub local: usize,
-    /// What it gets.
+    /// The value that the local gets.
     pub value: i64,
 }
 
@@ -27,13 +27,13 @@ pub struct Setting {
 pub struct Passage {
     /// The number of the instruction of the step.
     pub from: usize,
-    /// The number of the instruction that it came to; the first one where it didn't run on.
+    /// The number of the instruction that the thread came to; `from` where it didn't run on.
     pub to: usize,
-    /// The values of its locals before the step.
+    /// The values of the thread's locals before the step.
     pub locals: [i64; LOCALS],
 }
 
-/// The locals that a thread set in a step that did this, and by itself after it.
+/// The locals that a thread set in a step that did `act`, and by itself after that step.
 ///
 /// # Errors
 ///
@@ -50,9 +50,9 @@ pub fn settings_of(
         ≡ settings_by code.now passage.from passage.to passage.locals act) }
 {
     let first = setting_of(passage.from, &code[passage.from], act);
-    let mut settings = listed(alloc, first)?;
+    let mut settings = list_of(alloc, first)?;
     let mut locals = passage.locals;
-    set(&mut locals, first);
+    set_local(&mut locals, first);
     if passage.to == passage.from {
         return Ok(settings);
     }
@@ -60,7 +60,7 @@ pub fn settings_of(
     Ok(settings)
 }
 
-// The local that a visible statement sets, where its step did this.
+// The local that a visible statement sets in a step that did `act`, if it sets one.
 fn setting_of(instruction: usize, statement: &Instruction, act: Act) -> Option<Setting>
     requires { (p : Program) × IsValid p statement.now }
     ensures value { result ≡ setting_by instruction statement.now act }
@@ -86,8 +86,8 @@ fn setting_of(instruction: usize, statement: &Instruction, act: Act) -> Option<S
     }
 }
 
-// A list of it, if it is there.
-fn listed(alloc: Global, setting: Option<Setting>) -> Result<Vec<Setting>, AllocError>
+// A list of one setting, or of none.
+fn list_of(alloc: Global, setting: Option<Setting>) -> Result<Vec<Setting>, AllocError>
     ensures { IfOk result (λ v. v.items ≡ listed setting) }
 {
     let mut settings = Vec::new(alloc);
@@ -97,8 +97,8 @@ fn listed(alloc: Global, setting: Option<Setting>) -> Result<Vec<Setting>, Alloc
     Ok(settings)
 }
 
-// The locals after it.
-fn set(locals: &mut [i64; LOCALS], setting: Option<Setting>)
+// Gives a local the value of a setting, if there is one.
+fn set_local(locals: &mut [i64; LOCALS], setting: Option<Setting>)
     requires { IfSome setting (λ setting. setting.local < LOCALS) }
     ensures { locals.new ≡ locals_with locals.old setting }
 {
@@ -107,7 +107,7 @@ fn set(locals: &mut [i64; LOCALS], setting: Option<Setting>)
     }
 }
 
-/// Adds what a local run sets from an instruction on, where the locals have these values.
+/// Adds to `settings` what a local run from instruction `from` on sets, and sets it in `locals`.
 pub fn put_settings(
     settings: &mut Vec<Setting>,
     code: &[Instruction],
@@ -126,8 +126,8 @@ pub fn put_settings(
     Ok(())
 }
 
-// Adds the local that a thread has set by itself at an instruction, after which these are its
-// locals.
+// Adds the local that a thread has set by itself at instruction `at`, if it has set one; `locals`
+// are the thread's locals after that.
 fn put_setting(
     settings: &mut Vec<Setting>,
     at: usize,

@@ -1,4 +1,4 @@
-//! What a text is told with: the file, its text, and the program that it spells.
+//! What an explanation is told with: the file, its text, and the program that the text spells.
 
 ghost use Rattle.std.specs.Prelude.{◌≡◌, ℕ, length};
 ghost use Rattle.guest_code.specs.Program.{thread_at};
@@ -14,9 +14,9 @@ use guest_syntax::Pos;
 pub struct Source<'a> {
     /// The name of the file.
     pub file: &'a [u8],
-    /// What is in it.
+    /// The text in the file.
     pub text: &'a [u8],
-    /// The program that it spells.
+    /// The program that the text spells.
     pub program: &'a Program,
     /// The place of each instruction in the text, and the names of the locals.
     pub map: &'a SourceMap,
@@ -26,7 +26,7 @@ pub struct Source<'a> {
 }
 
 impl<'a> Source<'a> {
-    /// The name of a thread.
+    /// The name of a thread; `?` where there is no such thread.
     pub fn thread(&self, thread: u8) -> &'a [u8] {
         if thread < self.program.threads() {
             self.program.thread_name(thread)
@@ -35,7 +35,7 @@ impl<'a> Source<'a> {
         }
     }
 
-    /// The name of an object.
+    /// The name of an object; `?` where there is no such object.
     pub fn object(&self, object: Object) -> &'a [u8] {
         match object {
             Object::Variable(x) if x < self.program.variables() as usize => {
@@ -52,7 +52,7 @@ impl<'a> Source<'a> {
         }
     }
 
-    /// The name of a local of a thread.
+    /// The name of a local of a thread; `?` where there is no such local.
     pub fn local(&self, thread: u8, local: usize) -> &'a [u8] {
         if thread < self.program.threads() && local < self.program.locals(thread) {
             self.map.local(thread, local)

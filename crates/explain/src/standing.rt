@@ -13,18 +13,18 @@ use semantics::state::{Action, MutexAction, SemaphoreAction, State, Status};
 /// What a blocked thread waits for.
 #[derive(Clone, Copy, Debug, PartialEq, Eq)]
 pub enum Reason {
-    /// It is to lock the mutex of this number, which a thread owns.
+    /// To lock the mutex of this number, which a thread owns.
     Lock(usize),
-    /// It was woken and is to take the mutex of this number again, which a thread owns.
+    /// To take the mutex of this number again, as one who was woken; a thread owns the mutex.
     Retake(usize),
-    /// It is to acquire the semaphore of this number, whose count is 0.
+    /// To acquire the semaphore of this number, whose count is 0.
     Acquire(usize),
-    /// It is in the queue of the condition of this number.
+    /// To be woken from the queue of the condition of this number.
     Signal(usize),
 }
 
 impl Reason {
-    /// The mutex that it waits for.
+    /// The mutex that a thread waits for by this reason, if it waits for one.
     pub fn mutex(self) -> Option<usize>
         ensures { result ≡ mutex_of self }
     {
@@ -36,7 +36,7 @@ impl Reason {
 }
 
 impl Reason {
-    /// The object that it waits for.
+    /// The object that a thread waits for by this reason.
     pub fn object(self) -> Object
         ensures { result ≡ waited_for self }
     {
@@ -48,16 +48,16 @@ impl Reason {
     }
 }
 
-/// A thread at the end of what ran.
+/// Where a thread is at the end of what ran.
 #[derive(Clone, Copy, Debug)]
 pub struct Standing {
-    /// Whether it goes on, waits, ended or stopped.
+    /// Whether the thread goes on, waits, ended or stopped.
     pub status: Status,
-    /// The number of the instruction that it has come to; the length of its code at the end.
+    /// The number of the instruction that the thread came to; at the end the length of its code.
     pub instruction: usize,
-    /// The values of its locals.
+    /// The values of the thread's locals.
     pub locals: [i64; LOCALS],
-    /// What it waits for; `None` where it is enabled, ended or stopped.
+    /// What the thread waits for; `None` where it is enabled, ended or stopped.
     pub reason: Option<Reason>,
     enabled: bool,
 }
@@ -85,7 +85,7 @@ impl Standing {
         self.enabled
     }
 
-    /// Whether it has stopped.
+    /// Whether the thread has stopped.
     pub fn is_stopped(&self) -> bool
         ensures { result ≡ is_stopped self.now.status }
     {

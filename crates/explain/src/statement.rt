@@ -1,4 +1,4 @@
-//! Statements as a text spells them.
+//! Statements as a guest's text spells them.
 
 use crate::object::Object;
 use crate::source::Source;
@@ -44,41 +44,10 @@ impl fmt::Display for Operand<'_> {
     }
 }
 
-// An expression of a thread's statement.
-#[derive(Clone, Copy)]
-struct Spelled<'a> {
-    source: &'a Source<'a>,
-    thread: u8,
-    expression: Expression,
-}
-
-impl Spelled<'_> {
-    // One of its operands.
-    fn operand(&self, value: Value) -> Operand<'_> {
-        Operand {
-            source: self.source,
-            thread: self.thread,
-            value,
-        }
-    }
-}
-
-impl fmt::Display for Spelled<'_> {
-    fn fmt<W: fmt::Write>(&self, f: &mut fmt::Formatter<W>) -> fmt::Result {
-        match self.expression {
-            Expression::Single(a) => write!(f, "{}", self.operand(a)),
-            Expression::Both(a, op, b) => {
-                let word = op_text(op);
-                write!(f, "{} {word} {}", self.operand(a), self.operand(b))
-            }
-        }
-    }
-}
-
-/// The statement at which a thread is; nothing at the end of its code.
+/// A statement of a thread, as a text spells it; nothing at the end of the thread's code.
 #[derive(Clone, Copy)]
 pub struct Statement<'a> {
-    /// What has the names.
+    /// The guest file and its program, which have the names.
     pub source: &'a Source<'a>,
     /// The thread, by its number.
     pub thread: u8,
@@ -86,8 +55,28 @@ pub struct Statement<'a> {
     pub instruction: usize,
 }
 
-impl Statement<'_> {
-    // The name of a local.
+// An expression of a thread's statement.
+#[derive(Clone, Copy)]
+struct ExpressionText<'a> {
+    statement: Statement<'a>,
+    expression: Expression,
+}
+
+impl fmt::Display for ExpressionText<'_> {
+    fn fmt<W: fmt::Write>(&self, f: &mut fmt::Formatter<W>) -> fmt::Result {
+        let statement = &self.statement;
+        match self.expression {
+            Expression::Single(a) => write!(f, "{}", statement.operand(a)),
+            Expression::Both(a, op, b) => {
+                let (a, b) = (statement.operand(a), statement.operand(b));
+                write!(f, "{a} {} {b}", op_text(op))
+            }
+        }
+    }
+}
+
+impl<'a> Statement<'a> {
+    // The name of a local of the thread.
     fn local(&self, local: usize) -> &str {
         name_text(self.source.local(self.thread, local))
     }
@@ -97,7 +86,7 @@ impl Statement<'_> {
         name_text(self.source.object(object))
     }
 
-    // A local's name or a number.
+    // An operand of the statement: a local's name, or a number.
     fn operand(&self, value: Value) -> Operand<'_> {
         Operand {
             source: self.source,
@@ -106,17 +95,16 @@ impl Statement<'_> {
         }
     }
 
-    // An expression.
-    fn spelled(&self, expression: Expression) -> Spelled<'_> {
-        Spelled {
-            source: self.source,
-            thread: self.thread,
+    // An expression of the statement.
+    fn expression(&self, expression: Expression) -> ExpressionText<'a> {
+        ExpressionText {
+            statement: *self,
             expression,
         }
     }
 
-    // Writes an access to a variable, or what the thread does by itself.
-    fn write_value<W: fmt::Write>(
+    // Writes a statement on a variable, or one that the thread carries out by itself.
+    fn write_value_statement<W: fmt::Write>(
         &self,
         f: &mut fmt::Formatter<W>,
         instruction: Instruction,
@@ -157,10 +145,10 @@ impl Statement<'_> {
                 write!(f, "cas {} {x} {expected} {new}", self.local(local))
             }
             Instruction::Set { local, value } => {
-                write!(f, "set {} {}", self.local(local), self.spelled(value))
+                write!(f, "set {} {}", self.local(local), self.expression(value))
             }
-            Instruction::Assert(value) => write!(f, "assert {}", self.spelled(value)),
-            Instruction::SkipIfZero(value, _) => write!(f, "if {}", self.spelled(value)),
+            Instruction::Assert(value) => write!(f, "assert {}", self.expression(value)),
+            Instruction::SkipIfZero(value, _) => write!(f, "if {}", self.expression(value)),
             _ => f.write_str("leave"),
         }
     }
@@ -184,7 +172,7 @@ impl fmt::Display for Statement<'_> {
             }
             Instruction::Acquire(k) => write!(f, "acquire {}", self.object(Object::Semaphore(k))),
             Instruction::Release(k) => write!(f, "release {}", self.object(Object::Semaphore(k))),
-            _ => self.write_value(f, instruction),
+            _ => self.write_value_statement(f, instruction),
         }
     }
 }

@@ -21,26 +21,26 @@ use std::alloc::{AllocError, Global};
 pub struct Step {
     /// The thread, what it did, whether the switch to it was preempting, and whether it stopped.
     pub line: Line,
-    /// The number of the instruction that was carried out.
+    /// The number of the instruction that the step carried out.
     pub instruction: usize,
-    /// The number of the instruction that its thread came to.
+    /// The number of the instruction that the thread came to.
     pub next: usize,
-    /// The object that it is on: of a `wait` the condition.
+    /// The object that the step is on: of a `wait` the condition.
     pub object: Object,
-    /// What the object was before.
+    /// What the object was before the step.
     pub old: Reading,
-    /// What the object was afterwards.
+    /// What the object was after the step.
     pub new: Reading,
     /// The locals that the thread set, in the step and by itself after it.
     pub settings: Vec<Setting>,
-    /// The threads that it woke, the one that waited longest first.
+    /// The threads that the step woke, the one that waited longest first.
     pub woken: Vec<u8>,
-    /// The mutexes that its thread owned when it took the step, rising.
+    /// The mutexes that the thread owned when it took the step, in rising order.
     pub held: Vec<usize>,
 }
 
 impl Step {
-    /// Takes a step of a thread that is enabled, and says what it was.
+    /// Takes a step of a thread that is enabled, and answers what the step did and changed.
     ///
     /// # Errors
     ///
@@ -94,7 +94,7 @@ impl Step {
     }
 }
 
-// The mutexes that a thread owns, rising.
+// The mutexes that a thread owns, in rising order.
 fn held_by(
     alloc: Global,
     state: &State,
@@ -127,7 +127,7 @@ fn woken_by(alloc: Global, state: &State, action: Action) -> Result<Vec<u8>, All
     }
 }
 
-// The first threads in the queue of a condition, up to a number of them.
+// The first threads in the queue of a condition, at most `most` of them.
 fn first_queued(
     alloc: Global,
     state: &State,

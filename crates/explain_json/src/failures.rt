@@ -12,8 +12,8 @@ use std::alloc::AllocError;
 use std::collections::BTreeSet;
 
 impl Facts<'_> {
-    // The places of the events from which the value of a local came that a thread uses at a place:
-    // by which it set that and the locals that it made it of, and which wrote what these read.
+    // The places of the events before `end` that the value of a thread's local came from: those that set
+    // the local or the locals that its value was made of, and those that wrote what the former read.
     fn origins(&self, end: usize, thread: u8, local: usize) -> Result<BTreeSet<usize>, AllocError> {
         let mut wanted = BTreeSet::new(self.alloc);
         let mut origins = BTreeSet::new(self.alloc);
@@ -34,7 +34,7 @@ impl Facts<'_> {
 }
 
 impl<S: Serializer> Scribe<'_, S> {
-    /// Writes each thread that stopped, in the order in which they did.
+    /// Writes each thread that stopped, the first one to stop first.
     pub fn put_failures(&mut self) -> Written<S> {
         self.begin_list("failures")?;
         for (at, event) in self.facts.causes.events().iter().enumerate() {
@@ -45,7 +45,7 @@ impl<S: Serializer> Scribe<'_, S> {
         self.out.end_seq()
     }
 
-    // The thread that stopped by an event. At an `unlock` or a `wait` it didn't own the mutex.
+    // Writes the thread that stopped by the event at a place; of an `unlock` or a `wait` also the mutex.
     fn put_failure(&mut self, at: usize, event: &Event, stop: Stop) -> Written<S> {
         let facts = self.facts;
         let statement = facts.statement(event.thread, event.instruction);
@@ -60,9 +60,9 @@ impl<S: Serializer> Scribe<'_, S> {
         let preempting = steps.filter(|step| step.line.preempting);
         self.out.begin_map(None)?;
         self.put_place(statement)?;
-        self.put("mutex", mutex.map(|m| facts.object(Object::Mutex(m))))?;
-        self.put("name", facts.name(event.thread))?;
-        self.put("owner", owner.map(|owner| facts.name(owner.thread)))?;
+        self.put("mutex", mutex.map(|m| facts.object_name(Object::Mutex(m))))?;
+        self.put("name", facts.thread_name(event.thread))?;
+        self.put("owner", owner.map(|owner| facts.thread_name(owner.thread)))?;
         self.put("preemptions", preempting.count())?;
         self.put("step", event.step)?;
         self.put("stop", stop_word(stop))?;
@@ -72,7 +72,7 @@ impl<S: Serializer> Scribe<'_, S> {
         self.out.end_map()
     }
 
-    // The locals of the assertion at a place, in its order, each once.
+    // Writes the locals of the assertion at a place, in the assertion's order, each once.
     fn put_values(&mut self, at: usize, event: &Event) -> Written<S> {
         let facts = self.facts;
         let locals = match event.statement {
@@ -84,7 +84,7 @@ impl<S: Serializer> Scribe<'_, S> {
             let standing = facts.explanation.standing(event.thread);
             let value = standing.and_then(|standing| standing.locals.get(local));
             self.out.begin_map(None)?;
-            self.put("local", facts.local(event.thread, local))?;
+            self.put("local", facts.local_name(event.thread, local))?;
             self.put_origins(at, event.thread, local)?;
             self.put("value", value.copied().unwrap_or(0))?;
             self.out.end_map()?;
@@ -92,19 +92,17 @@ impl<S: Serializer> Scribe<'_, S> {
         self.out.end_seq()
     }
 
-    // The statements that the value of a local came from which a thread uses at a place.
+    // Writes the statements that the value of a thread's local came from, up to the event at a place.
     fn put_origins(&mut self, at: usize, thread: u8, local: usize) -> Written<S> {
         let facts = self.facts;
-        let origins = self.made(facts.origins(at, thread, local))?;
+        let origins = self.allocated(facts.origins(at, thread, local))?;
         self.begin_list("origins")?;
-        for event in origins
-            .iter()
-            .filter_map(|at| facts.causes.events().get(*at))
-        {
+        let events = facts.causes.events();
+        for event in origins.iter().filter_map(|at| events.get(*at)) {
             let statement = facts.statement(event.thread, event.instruction);
             self.out.begin_map(None)?;
             self.put_place(statement)?;
-            self.put("name", facts.name(event.thread))?;
+            self.put("name", facts.thread_name(event.thread))?;
             self.put("step", event.step)?;
             self.put_text(statement)?;
             self.out.end_map()?;

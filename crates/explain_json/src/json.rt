@@ -18,18 +18,18 @@ pub fn explanation_json<'a>(
     source: &'a Source<'a>,
     search: Option<Value>,
 ) -> Result<Vec<u8>, AllocError> {
-    let mut data = data_of(&Facts::new(alloc, explanation, source, search, None)?)?;
+    let mut data = facts_json(&Facts::new(alloc, explanation, source, search, None)?)?;
     data.push(b'\n')?;
     Ok(data)
 }
 
-/// What is told as JSON where a search found no bad schedule: the file, no schedule, and the report
-/// of the search.
+/// What is told as JSON where a search found no bad schedule: the file, `null` as the schedule, and
+/// the report of the search.
 ///
 /// # Errors
 ///
 /// `AllocError` where memory runs out.
-pub fn nothing_json(alloc: Global, file: &str, search: Value) -> Result<Vec<u8>, AllocError> {
+pub fn no_schedule_json(alloc: Global, file: &str, search: Value) -> Result<Vec<u8>, AllocError> {
     let told = json!(in alloc; {"file": file, "schedule": null, "search": search})?;
     let mut data = told.to_vec(alloc)?;
     data.push(b'\n')?;
@@ -49,10 +49,10 @@ pub fn page_json<'a>(
     search: Option<Value>,
     why: &'a str,
 ) -> Result<Vec<u8>, AllocError> {
-    data_of(&Facts::new(alloc, explanation, source, search, Some(why))?)
+    facts_json(&Facts::new(alloc, explanation, source, search, Some(why))?)
 }
 
-// The JSON of an explanation. All that can go wrong is that memory runs out.
-fn data_of(facts: &Facts<'_>) -> Result<Vec<u8>, AllocError> {
+// The JSON of these facts. All that can go wrong is that memory runs out.
+fn facts_json(facts: &Facts<'_>) -> Result<Vec<u8>, AllocError> {
     serde_json::to_vec(facts.alloc, facts).map_err(|_| AllocError)
 }

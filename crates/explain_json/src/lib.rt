@@ -1,7 +1,7 @@
 //! The explanation of a schedule for programs: as JSON.
 //!
-//! `facts` has what is told, and `scribe` writes it, key by key in the order of their bytes; the
-//! other modules write the parts. `docs/FORMATS.md` says what each key means.
+//! `facts` has what is told, and `scribe` writes the facts, key by key in the order of their bytes;
+//! the other modules write the parts. `docs/FORMATS.md` says what each key means.
 #![tactic(auto)]
 
 mod facts;
@@ -14,4 +14,4 @@ mod steps;
 mod threads;
 mod words;
 
-pub use crate::json::{explanation_json, nothing_json, page_json};
+pub use crate::json::{explanation_json, no_schedule_json, page_json};

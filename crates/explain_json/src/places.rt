@@ -1,4 +1,4 @@
-//! Where statements are, and where lines come from.
+//! Where statements are in the text, and which files the lines of the text come from.
 
 use crate::facts::Facts;
 use crate::scribe::{Scribe, Written};
@@ -9,20 +9,20 @@ use serde::{Serialize, Serializer};
 use std::alloc::{AllocError, Global};
 use std::collections::BTreeMap;
 
-/// A place in the text.
+/// A line and a column of the text, counted from 1.
 #[derive(Clone, Copy, Drop, Serialize)]
 pub struct TextPlace {
     column: u32,
     line: u32,
 }
 
-/// The place after each statement, by the line and the column where it begins.
-pub type Ends = BTreeMap<(u32, u32), TextPlace>;
+/// The place after each statement, by the line and the column where the statement begins.
+pub type StatementEnds = BTreeMap<(u32, u32), TextPlace>;
 
-/// Where the statements of a text end: after the `;`, or, of one that has a block, after what comes
-/// before the `{`.
-pub fn ends_of(alloc: Global, text: &[u8]) -> Result<Ends, AllocError> {
-    let mut ends = Ends::new(alloc);
+/// Where the statements of a text end: after the `;`, or, of a statement that has a block, after what
+/// comes before the `{`.
+pub fn statement_ends(alloc: Global, text: &[u8]) -> Result<StatementEnds, AllocError> {
+    let mut ends = StatementEnds::new(alloc);
     let mut begin = None;
     let mut end = TextPlace { column: 1, line: 1 };
     for piece in Pieces::new(text) {
@@ -48,7 +48,7 @@ pub struct FilePlace<'a> {
     line: u32,
 }
 
-/// From a line of the text on, where the lines come from: this line of a file, and those after it.
+/// Lines of the text, from `at` on, that come from a file one after the other, the first from `first`.
 #[derive(Clone, Copy, Drop, Serialize)]
 pub struct FileRun<'a> {
     at: u32,
@@ -57,13 +57,13 @@ pub struct FileRun<'a> {
 }
 
 impl Facts<'_> {
-    // Where a statement begins; nowhere at the end of a thread's code.
-    fn begin(&self, statement: Statement<'_>) -> Option<Pos> {
+    // Where a statement begins in the text; `None` of the end of a thread's code.
+    fn statement_start(&self, statement: Statement<'_>) -> Option<Pos> {
         self.source.place(statement.thread, statement.instruction)
     }
 
-    // Where a line of the text comes from, if a mark says so.
-    fn origin(&self, line: u32) -> Option<FilePlace<'_>> {
+    // Which line of a file a line of the text comes from, if a preprocessor's mark says so.
+    fn line_origin(&self, line: u32) -> Option<FilePlace<'_>> {
         let origin = self.marks.origin(line)?;
         Some(FilePlace {
             file: name_text(origin.file()),
@@ -71,12 +71,12 @@ impl Facts<'_> {
         })
     }
 
-    /// From which line of the text on the lines come from where, if marks say so.
+    /// The runs of lines of the text that come from files, if a preprocessor's marks say so.
     pub fn file_runs(&self) -> Result<Option<Vec<FileRun<'_>>>, AllocError> {
         let mut runs = Vec::new(self.alloc);
         let mut due = None;
         for (_, at) in self.source.text.split(|byte| *byte == b'\n').zip(1u32..) {
-            let origin = self.origin(at);
+            let origin = self.line_origin(at);
             if let Some(first) = origin
                 && origin != due
             {
@@ -92,26 +92,27 @@ impl Facts<'_> {
 }
 
 impl<S: Serializer> Scribe<'_, S> {
-    /// Writes where a statement is.
+    /// Writes where a statement begins and ends, and its line last.
     pub fn put_place(&mut self, statement: Statement<'_>) -> Written<S> {
         self.put_extent(statement)?;
         self.put_line_number(statement)
     }
 
-    /// Writes the line of a statement. In a step a key comes before it.
+    /// Writes the line of a statement alone: in a step the key `held` comes before that.
     pub fn put_line_number(&mut self, statement: Statement<'_>) -> Written<S> {
-        let begin = self.facts.begin(statement);
+        let begin = self.facts.statement_start(statement);
         self.put("line", begin.map(|begin| begin.line))
     }
 
     /// Writes where a statement begins and ends, all but its line.
     pub fn put_extent(&mut self, statement: Statement<'_>) -> Written<S> {
         let facts = self.facts;
-        let begin = facts.begin(statement);
+        let begin = facts.statement_start(statement);
         self.put("column", begin.map(|begin| begin.col))?;
         let end = begin.and_then(|begin| facts.ends.get(&(begin.line, begin.col)));
         self.put("end", end)?;
-        self.put_some("from", begin.and_then(|begin| facts.origin(begin.line)))
+        let from = begin.and_then(|begin| facts.line_origin(begin.line));
+        self.put_some("from", from)
     }
 
     /// Writes a statement as a text.

@@ -1,6 +1,6 @@
-//! The steps, one after the other.
+//! What writes the steps, one after the other.
 
-use crate::objects::ToldObjects;
+use crate::objects::ObjectStates;
 use crate::scribe::{Scribe, Written};
 use crate::words::{act_word, stop_word};
 use explain::{Object, Reading, Setting, Step};
@@ -8,50 +8,51 @@ use guest_code::program::Instruction;
 use serde::Serializer;
 
 impl<S: Serializer> Scribe<'_, S> {
-    /// Writes each step.
+    /// Writes each step that ran, in order.
     pub fn put_steps(&mut self) -> Written<S> {
         let facts = self.facts;
-        let mut objects = self.made(ToldObjects::opening(facts))?;
+        let mut objects = self.allocated(ObjectStates::opening(facts))?;
         self.begin_list("steps")?;
         for (at, step) in facts.explanation.steps().iter().enumerate() {
-            self.made(objects.take(facts, at, step))?;
+            self.allocated(objects.step(facts, at, step))?;
             self.put_step(at, step, &objects)?;
         }
         self.out.end_seq()
     }
 
-    // A step, after which the objects are these.
-    fn put_step(&mut self, at: usize, step: &Step, objects: &ToldObjects<'_>) -> Written<S> {
+    // Writes the step at a place, after which the objects are these.
+    fn put_step(&mut self, at: usize, step: &Step, objects: &ObjectStates<'_>) -> Written<S> {
         let facts = self.facts;
         let thread = step.line.thread;
         let statement = facts.statement(thread, step.instruction);
-        let held = step.held.iter().map(|m| facts.object(Object::Mutex(*m)));
+        let held = step.held.iter().map(|m| Object::Mutex(*m));
+        let held = held.map(|mutex| facts.object_name(mutex));
         self.out.begin_map(None)?;
         self.put("act", act_word(step.line.act))?;
         self.put_after(step, objects)?;
         self.put("cause", facts.causes.steps().get(at).copied() == Some(true))?;
         self.put_extent(statement)?;
-        self.put_made("held", held.collect::<Vec<&str>>(facts.alloc))?;
+        self.put_allocated("held", held.collect::<Vec<&str>>(facts.alloc))?;
         self.put_line_number(statement)?;
-        self.put_some("mutex", facts.mutex_beside(step))?;
-        self.put("name", facts.name(thread))?;
+        self.put_some("mutex", facts.wait_mutex_name(step))?;
+        self.put("name", facts.thread_name(thread))?;
         self.put_reading("new", step.new)?;
-        self.put_next(thread, step.next)?;
-        self.put("object", facts.object(step.object))?;
+        self.put_next_statement(thread, step.next)?;
+        self.put("object", facts.object_name(step.object))?;
         self.put_reading("old", step.old)?;
         self.put("preempting", step.line.preempting)?;
         self.put_assignments(thread, step.settings.as_slice())?;
         self.put("step", at)?;
         self.put("stop", step.line.stop.map(stop_word))?;
         self.put("thread", thread)?;
-        self.put_made("woken", facts.names(step.woken.as_slice()))?;
+        self.put_allocated("woken", facts.thread_names(step.woken.as_slice()))?;
         self.out.end_map()
     }
 
-    // The objects that a step touched, as they are after it. A name is that of one object.
-    fn put_after(&mut self, step: &Step, objects: &ToldObjects<'_>) -> Written<S> {
-        let touched = Some(self.facts.object(step.object));
-        let beside = self.facts.mutex_beside(step);
+    // Writes the objects that a step touched as they are after the step. No two objects share a name.
+    fn put_after(&mut self, step: &Step, objects: &ObjectStates<'_>) -> Written<S> {
+        let touched = Some(self.facts.object_name(step.object));
+        let beside = self.facts.wait_mutex_name(step);
         let names = [touched.min(beside), touched.max(beside)];
         self.begin_object("after")?;
         for name in names.into_iter().flatten() {
@@ -64,20 +65,20 @@ impl<S: Serializer> Scribe<'_, S> {
         self.out.end_map()
     }
 
-    // What an object was.
+    // Writes what an object was before or after a step.
     fn put_reading(&mut self, key: &str, reading: Reading) -> Written<S> {
         let facts = self.facts;
         match reading {
             Reading::Value(value) => self.put(key, value),
-            Reading::Owner(owner) => self.put(key, owner.map(|thread| facts.name(thread))),
+            Reading::Owner(owner) => self.put(key, owner.map(|thread| facts.thread_name(thread))),
             Reading::Waiting(count) => self.put(key, count),
             Reading::Count(count) => self.put(key, count),
         }
     }
 
-    /// Writes the statement at which a thread is; nothing at the end of its code. Woken or not, a
-    /// thread at a `wait` isn't about to take anything when it comes there.
-    pub fn put_next(&mut self, thread: u8, instruction: usize) -> Written<S> {
+    /// Writes the statement that a thread has come to, with what that takes, or `null` at the end of the
+    /// code. A `wait` takes nothing when a thread comes to it.
+    pub fn put_next_statement(&mut self, thread: u8, instruction: usize) -> Written<S> {
         let facts = self.facts;
         self.out.key("next")?;
         let wanted = match facts.source.instruction(thread, instruction) {
@@ -90,18 +91,18 @@ impl<S: Serializer> Scribe<'_, S> {
         self.out.begin_map(None)?;
         self.put_place(statement)?;
         self.put_text(statement)?;
-        self.put_some("wants", wanted.map(|object| facts.object(object)))?;
+        self.put_some("wants", wanted.map(|object| facts.object_name(object)))?;
         self.out.end_map()
     }
 
-    /// Writes the locals that a thread set.
+    /// Writes the locals that a thread set, with their values and the statements that set them.
     pub fn put_assignments(&mut self, thread: u8, settings: &[Setting]) -> Written<S> {
         let facts = self.facts;
         self.begin_list("sets")?;
         for setting in settings {
             self.out.begin_map(None)?;
             self.put_place(facts.statement(thread, setting.instruction))?;
-            self.put("local", facts.local(thread, setting.local))?;
+            self.put("local", facts.local_name(thread, setting.local))?;
             self.put("value", setting.value)?;
             self.out.end_map()?;
         }

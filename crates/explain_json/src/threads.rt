@@ -1,4 +1,4 @@
-//! The threads after the last step, what they wait for, and who could end that.
+//! The threads after the last step, what they wait for, and who could end the waits.
 
 use crate::facts::Facts;
 use crate::objects::Named;
@@ -10,8 +10,8 @@ use std::alloc::AllocError;
 use std::collections::BTreeMap;
 use waits::{Fate, Wait};
 
-/// A statement that could end a wait, with the steps that carried it out, and whether its thread
-/// may still come to it.
+/// A statement that could end a wait, with the steps that carried the statement out, and whether the
+/// statement's thread may still come to it.
 #[derive(Drop)]
 struct Ender<'a> {
     statement: Statement<'a>,
@@ -20,7 +20,7 @@ struct Ender<'a> {
 }
 
 impl Facts<'_> {
-    // The locals of a thread.
+    // The locals of a thread, with their values.
     fn locals(&self, thread: u8, standing: &Standing) -> Result<Named<'_, i64>, AllocError> {
         let count = if thread < self.source.program.threads() {
             self.source.program.locals(thread)
@@ -28,11 +28,11 @@ impl Facts<'_> {
             0
         };
         let values = standing.locals.iter().take(count).enumerate();
-        let locals = values.map(|(local, value)| (self.local(thread, local), *value));
+        let locals = values.map(|(local, value)| (self.local_name(thread, local), *value));
         locals.collect(self.alloc)
     }
 
-    // The statements that could end a wait, by their threads and places. What a `repeat` has
+    // The statements that could end a wait, by thread, line and column. What a `repeat` has in the code
     // several times is one statement.
     fn enders(&self, wait: &Wait) -> Result<BTreeMap<(u8, u32, u32), Ender<'_>>, AllocError> {
         let mut enders = BTreeMap::new(self.alloc);
@@ -63,8 +63,8 @@ impl<S: Serializer> Scribe<'_, S> {
         for (standing, thread) in facts.explanation.standings().iter().zip(0u8..) {
             self.out.begin_map(None)?;
             self.put_place(facts.statement(thread, standing.instruction))?;
-            self.put_made("locals", facts.locals(thread, standing))?;
-            self.put("name", facts.name(thread))?;
+            self.put_allocated("locals", facts.locals(thread, standing))?;
+            self.put("name", facts.thread_name(thread))?;
             self.put("status", status_word(standing))?;
             self.put_wait(facts.waits.of(thread))?;
             self.out.end_map()?;
@@ -72,7 +72,7 @@ impl<S: Serializer> Scribe<'_, S> {
         self.out.end_seq()
     }
 
-    // What a thread waits for, who owns it since which step, and who could end that.
+    // Writes what a thread waits for, who owns that since which step, and who could end the wait.
     fn put_wait(&mut self, wait: Option<&Wait>) -> Written<S> {
         let facts = self.facts;
         self.out.key("waits")?;
@@ -83,24 +83,24 @@ impl<S: Serializer> Scribe<'_, S> {
         let holder = mutex.and_then(|m| facts.explanation.holder(m));
         self.out.begin_map(None)?;
         self.put("act", reason_word(wait.reason))?;
-        self.put_some("holder", holder.map(|holder| facts.name(holder.thread)))?;
-        self.put("object", facts.object(wait.reason.object()))?;
-        self.put_made("on", facts.members(wait.on))?;
+        self.put_some("holder", holder.map(|h| facts.thread_name(h.thread)))?;
+        self.put("object", facts.object_name(wait.reason.object()))?;
+        self.put_allocated("on", facts.names_in(wait.on))?;
         self.put_some("since", holder.map(|holder| holder.since))?;
         self.put_enders(wait)?;
         self.out.end_map()
     }
 
-    // The statements that could end a wait.
+    // Writes the statements that could end a wait.
     fn put_enders(&mut self, wait: &Wait) -> Written<S> {
         let facts = self.facts;
-        let enders = self.made(facts.enders(wait))?;
+        let enders = self.allocated(facts.enders(wait))?;
         self.begin_list("statements")?;
         for ender in enders.values() {
             self.out.begin_map(None)?;
             self.put("ahead", ender.ahead)?;
             self.put_place(ender.statement)?;
-            self.put("name", facts.name(ender.statement.thread))?;
+            self.put("name", facts.thread_name(ender.statement.thread))?;
             self.put("taken", &ender.taken)?;
             self.put_text(ender.statement)?;
             self.out.end_map()?;

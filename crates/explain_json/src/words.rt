@@ -1,11 +1,11 @@
-//! The words of the JSON.
+//! The words that the JSON of an explanation has for kinds of things.
 
 use explain::{Reason, Standing};
 use replay::Act;
 use semantics::state::{Status, Stop};
 use semantics::view::Kind;
 
-/// How a schedule ends.
+/// The word for how a schedule ends.
 pub fn kind_word(kind: Kind) -> &'static str {
     match kind {
         Kind::Done => "done",
@@ -14,7 +14,7 @@ pub fn kind_word(kind: Kind) -> &'static str {
     }
 }
 
-/// Why a thread stopped.
+/// The word for why a thread stopped.
 pub fn stop_word(stop: Stop) -> &'static str {
     match stop {
         Stop::Assert => "assert",
@@ -23,7 +23,7 @@ pub fn stop_word(stop: Stop) -> &'static str {
     }
 }
 
-/// Where a thread is at the end.
+/// The word for what became of a thread: whether it ended, stopped, is blocked or is enabled.
 pub fn status_word(standing: &Standing) -> &'static str {
     match standing.status {
         Status::Ended => "ended",
@@ -33,7 +33,7 @@ pub fn status_word(standing: &Standing) -> &'static str {
     }
 }
 
-/// What a blocked thread is to do.
+/// The word for what a blocked thread is to do.
 pub fn reason_word(reason: Reason) -> &'static str {
     match reason {
         Reason::Lock(_) => "lock",
@@ -43,7 +43,7 @@ pub fn reason_word(reason: Reason) -> &'static str {
     }
 }
 
-/// What a step did.
+/// The word for what a step did.
 pub fn act_word(act: Act) -> &'static str {
     match act {
         Act::Load { .. } => "load",

@@ -1,18 +1,18 @@
 //! The explanation as a page.
 
-use crate::page::{HEAD, PAGE_BEGIN, PAGE_END, SENTENCE_BEGIN, SENTENCE_END, SENTENCE_TITLE};
+use crate::page::{HEAD, PAGE_BEGIN, PAGE_END, SENTENCE_BEGIN, SENTENCE_END, SENTENCE_MIDDLE};
 use explain::{Explanation, Source};
 use explain_json::page_json;
 use serde_json::Value;
 use std::alloc::{AllocError, Global};
 
-// The digits of a number, with its sign, that a script keeps for certain.
-const DIGITS: usize = 15;
+// How many digits a number may have, its sign counted, so that a script certainly keeps each.
+const SAFE_DIGITS: usize = 15;
 
 /// The explanation as a page: one file, which asks no network. Its data is the JSON of the
-/// explanation with the text of the guest, and its script draws it. `search` is the report of the
-/// search that found the schedule, if one did: the page shows its other ends. `why` says in words how
-/// the schedule ends and why, and its last line is the command that replays it.
+/// explanation with the text of the guest, which its script draws. `search` is the report of the
+/// search that found the schedule, if one did: the page shows how its schedules end. `why` says in words
+/// how the schedule ends and why, and its last line is the command that replays the schedule.
 ///
 /// # Errors
 ///
@@ -32,22 +32,22 @@ pub fn explanation_html<'a>(
     Ok(page)
 }
 
-/// What is told as a page where a search found no bad schedule: a sentence.
+/// The page where a search found no bad schedule: the sentence that says so, with the file's name.
 ///
 /// # Errors
 ///
 /// `AllocError` where memory runs out.
-pub fn nothing_html(alloc: Global, file: &str, sentence: &str) -> Result<Vec<u8>, AllocError> {
+pub fn no_schedule_html(alloc: Global, file: &str, sentence: &str) -> Result<Vec<u8>, AllocError> {
     let mut page = Vec::from_slice(alloc, HEAD.as_bytes())?;
     page.extend_from_slice(SENTENCE_BEGIN.as_bytes())?;
     put_escaped(&mut page, file)?;
-    page.extend_from_slice(SENTENCE_TITLE.as_bytes())?;
+    page.extend_from_slice(SENTENCE_MIDDLE.as_bytes())?;
     put_escaped(&mut page, sentence)?;
     page.extend_from_slice(SENTENCE_END.as_bytes())?;
     Ok(page)
 }
 
-// Text inside an element, in which no name ends it.
+// Adds words as text inside an element, escaped so that nothing in the words ends the element.
 fn put_escaped(page: &mut Vec<u8>, words: &str) -> Result<(), AllocError> {
     for byte in words.as_bytes() {
         match *byte {
@@ -59,8 +59,8 @@ fn put_escaped(page: &mut Vec<u8>, words: &str) -> Result<(), AllocError> {
     Ok(())
 }
 
-// JSON inside a script element: nothing in it ends the element, and no number is one that a script
-// would round.
+// Adds JSON inside a script element, so that nothing in the JSON ends the element, and no number is
+// one that a script would round.
 fn put_data(page: &mut Vec<u8>, alloc: Global, data: &[u8]) -> Result<(), AllocError> {
     let mut number = Vec::new(alloc);
     let mut is_text = false;
@@ -82,9 +82,9 @@ fn put_data(page: &mut Vec<u8>, alloc: Global, data: &[u8]) -> Result<(), AllocE
     Ok(())
 }
 
-// A number, as text where it has more digits than a script keeps.
+// Adds a number, in quotes where it has more digits than a script certainly keeps.
 fn put_number(page: &mut Vec<u8>, number: &[u8]) -> Result<(), AllocError> {
-    let quote = if number.len() > DIGITS { "\"" } else { "" };
+    let quote = if number.len() > SAFE_DIGITS { "\"" } else { "" };
     page.extend_from_slice(quote.as_bytes())?;
     page.extend_from_slice(number)?;
     page.extend_from_slice(quote.as_bytes())

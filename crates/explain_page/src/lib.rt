@@ -4,4 +4,4 @@
 mod html;
 mod page;
 
-pub use crate::html::{explanation_html, nothing_html};
+pub use crate::html::{explanation_html, no_schedule_html};

@@ -1,6 +1,6 @@
-//! The template of the page: all but its data.
+//! The templates of the pages: all but the data, or the sentence that is told.
 
-/// Each page up to its title or its style.
+/// The beginning of each page, up to the title or the style.
 pub const HEAD: &str = r##"<!DOCTYPE html>
 <html lang="en">
 <head>
@@ -9,7 +9,7 @@ pub const HEAD: &str = r##"<!DOCTYPE html>
 <link rel="icon" href="data:,">
 "##;
 
-/// The page from there up to its data.
+/// The page of an explanation, from the title up to the data.
 pub const PAGE_BEGIN: &str = r##"<title>ctxbound</title>
 <style>
 :root { color-scheme: light dark; --ink: #1c2430; --soft: #5b6675; --line: #d7dce3; --paper: #fff; --back: #f5f6f8;
@@ -95,7 +95,7 @@ td { padding: 1px 10px 1px 0; vertical-align: top; }
 </main>
 <script type="application/json" id="data">"##;
 
-/// The page from its data on.
+/// The page of an explanation, from the data on.
 pub const PAGE_END: &str = r##"</script>
 <script>
 "use strict";
@@ -426,7 +426,7 @@ show(failure === null ? steps.length : ran);
 </html>
 "##;
 
-/// The page where a search found no bad schedule, up to the name of the file.
+/// The page where a search found no bad schedule, from the style up to the name of the file.
 pub const SENTENCE_BEGIN: &str = r##"<style>
 :root { color-scheme: light dark; }
 body { margin: 16px; font: 15px/1.5 system-ui, sans-serif; }
@@ -434,8 +434,8 @@ p { white-space: pre-wrap; overflow-wrap: anywhere; }
 </style>
 <title>"##;
 
-/// The page where a search found no bad schedule, from the name of the file on.
-pub const SENTENCE_TITLE: &str = " - ctxbound</title>\n</head>\n<body>\n<p>";
+/// The page where a search found no bad schedule, from the name of the file up to the sentence.
+pub const SENTENCE_MIDDLE: &str = " - ctxbound</title>\n</head>\n<body>\n<p>";
 
-/// The page where a search found no bad schedule, from what is said on.
+/// The page where a search found no bad schedule, from the sentence on.
 pub const SENTENCE_END: &str = "</p>\n</body>\n</html>\n";

@@ -1,6 +1,6 @@
-//! Who could end the waits for a condition or a semaphore, and why it won't.
+//! Who could end the waits for a condition or a semaphore, and why nobody does.
 
-use crate::origins::Shown;
+use crate::origins::ValueLayout;
 use crate::text::TextWriter;
 use causes::Event;
 use explain::{Object, Reason};
@@ -9,18 +9,18 @@ use std::alloc::AllocError;
 use text_lines::Page;
 use waits::{Fate, Statement, Wait};
 
-/// Where the further lines of what is said of a thread begin.
-const FURTHER: usize = 6;
+/// The column from which on the further lines of what is said of a thread stand.
+const INDENT: usize = 6;
 
-/// How the values of a test are shown.
-const SHOWN: Shown = Shown {
-    indent: FURTHER,
-    most: 3,
-    is_later_told: true,
+/// How the values are shown of the test by which a thread passed a statement by.
+const VALUE_LAYOUT: ValueLayout = ValueLayout {
+    indent: INDENT,
+    most_values: 3,
+    is_later_change_told: true,
 };
 
 impl TextWriter<'_> {
-    /// For each condition and each semaphore that a thread waits for, who could end that.
+    /// Writes for each condition and each semaphore that threads wait for who could end the waits.
     pub fn put_enders(&self, page: &mut Page) -> Result<(), AllocError> {
         let waits = self.waits.all();
         for (at, wait) in waits.iter().enumerate() {
@@ -31,35 +31,35 @@ impl TextWriter<'_> {
                 Reason::Acquire(_) if is_new => "release",
                 _ => continue,
             };
-            let name = self.object(wait.reason.object());
+            let name = self.object_name(wait.reason.object());
             let title = format!(in self.alloc; "Who could {verb} {name}")?;
             page.put_line(title.as_str(), 0)?;
-            self.put_enders_of(page, wait)?;
+            self.put_wait_enders(page, wait)?;
         }
         Ok(())
     }
 
-    // Each thread that has a statement which could end a wait, and others for the same reason.
-    fn put_enders_of(&self, page: &mut Page, wait: &Wait) -> Result<(), AllocError> {
+    // Writes which threads have statements that could end this wait and all others for the same reason.
+    fn put_wait_enders(&self, page: &mut Page, wait: &Wait) -> Result<(), AllocError> {
         let mut is_none = true;
         let mut is_one_ahead = false;
         for thread in 0..self.source.program.threads() {
-            let theirs = self.statements_of(thread, wait)?;
+            let theirs = self.ending_statements(thread, wait)?;
             self.put_ender(page, theirs.as_slice())?;
             is_none = is_none && theirs.is_empty();
             is_one_ahead = is_one_ahead || first_with(theirs.as_slice(), Fate::Ahead).is_some();
         }
         if is_none {
-            page.put_line("  Nobody: no other thread has such a statement.", FURTHER)?;
+            page.put_line("  Nobody: no other thread has such a statement.", INDENT)?;
         } else if !is_one_ahead {
-            page.put_line("  Nobody is left who can.", FURTHER)?;
+            page.put_line("  Nobody is left who can.", INDENT)?;
         }
         page.put_blank()
     }
 
-    // The statements of a thread that could end a wait, or another thread's one for the same
-    // reason, if there is one: its own wait has only those before it.
-    fn statements_of(&self, thread: u8, wait: &Wait) -> Result<Vec<Statement>, AllocError> {
+    // The statements of a thread that could end this wait. Those that another thread's wait for the same
+    // reason lists are told, if there is one: a thread's own wait lists only what stands before it.
+    fn ending_statements(&self, thread: u8, wait: &Wait) -> Result<Vec<Statement>, AllocError> {
         let mut others = self.waits.all().iter();
         let other = others.find(|other| other.reason == wait.reason && other.thread != thread);
         let statements = other.unwrap_or(wait).statements.iter().copied();
@@ -68,8 +68,8 @@ impl TextWriter<'_> {
             .collect(self.alloc)
     }
 
-    // What came of the statements of a thread that could end a wait: those that were carried out,
-    // the first one that is ahead, and the first one that was passed by.
+    // Writes what came of the statements of a thread that could end a wait: those that were carried
+    // out, the first one that is ahead, and the first one that was passed by.
     fn put_ender(&self, page: &mut Page, statements: &[Statement]) -> Result<(), AllocError> {
         let last = statements.iter().filter_map(step_of).max();
         if let Some(at) = last {
@@ -80,12 +80,12 @@ impl TextWriter<'_> {
             self.put_ahead(page, statement)?;
         }
         match first_with(statements, Fate::PassedBy) {
-            Some(statement) => self.put_passed(page, statement),
+            Some(statement) => self.put_passed_by(page, statement),
             None => Ok(()),
         }
     }
 
-    // How often a thread did it, and whom it woke the last time.
+    // Writes that a thread took `times` steps that could end a wait, and whom the last one, `at`, woke.
     fn put_taken(&self, page: &mut Page, at: usize, times: usize) -> Result<(), AllocError> {
         let Some(step) = self.step(at) else {
             return Ok(());
@@ -101,32 +101,33 @@ impl TextWriter<'_> {
                 words.push_str(", when nobody waited")?;
             }
             Object::Condition(_) => {
-                write!(words, ", and woke {}", self.names(step.woken.as_slice())?)?;
+                let woken = self.thread_names(step.woken.as_slice())?;
+                write!(words, ", and woke {woken}")?;
             }
             _ => {}
         }
-        page.put_line(words.as_str(), FURTHER)
+        page.put_line(words.as_str(), INDENT)
     }
 
-    // That a thread has yet to come to a statement, and what keeps it.
+    // Writes that a thread has yet to come to a statement, and what keeps the thread from it.
     fn put_ahead(&self, page: &mut Page, ahead: Statement) -> Result<(), AllocError> {
         let thread = ahead.thread;
         let site = self.site(thread, ahead.instruction);
         let mut words = format!(in self.alloc; "  {} has yet to come to {}", site.name, site.line)?;
         let standing = self.explanation.standing(thread);
         if let Some(wait) = self.waits.of(thread) {
-            write!(words, ", but is blocked {}", self.blocked_at(wait)?)?;
+            write!(words, ", but is blocked {}", self.blocked_site(wait)?)?;
         } else if standing.is_some_and(|standing| standing.is_stopped()) {
             write!(words, ", but stopped at {}", self.line_at_end(thread))?;
         }
-        page.put_line(words.as_str(), FURTHER)
+        page.put_line(words.as_str(), INDENT)
     }
 
-    // That a thread passed a statement by, and the test by which it did.
-    fn put_passed(&self, page: &mut Page, passed: Statement) -> Result<(), AllocError> {
+    // Writes that a thread passed a statement by, and the test that led past the statement.
+    fn put_passed_by(&self, page: &mut Page, passed: Statement) -> Result<(), AllocError> {
         let site = self.site(passed.thread, passed.instruction);
         let mut words = format!(in self.alloc; "  {} passed by {site}", site.name)?;
-        if let Some((at, event)) = self.test_passing(passed) {
+        if let Some((at, event)) = self.passing_test(passed) {
             let test = self.site_of(&event);
             if let Instruction::SkipIfZero(expression, _) = event.statement {
                 let outcome = event.value() != 0;
@@ -135,39 +136,39 @@ impl TextWriter<'_> {
                     ", since `{}` in {} was {outcome}",
                     test.statement, test.line
                 )?;
-                page.put_line(words.as_str(), FURTHER)?;
-                return self.put_values(page, at, expression, SHOWN);
+                page.put_line(words.as_str(), INDENT)?;
+                return self.put_values(page, at, expression, VALUE_LAYOUT);
             }
             write!(words, ", by `{}` in {}", test.statement, test.line)?;
         }
-        page.put_line(words.as_str(), FURTHER)
+        page.put_line(words.as_str(), INDENT)
     }
 
-    // The test by which a thread passed a statement by, and its place: the one whose jump passes
-    // it; or, where a `leave` does, the innermost test that led to that, or else the `leave`.
-    fn test_passing(&self, passed: Statement) -> Option<(usize, Event)> {
+    // The event by which a thread passed a statement by, and its place: the test that jumped over the
+    // statement; or, where a `leave` did, the innermost test round the `leave`, or else the `leave`.
+    fn passing_test(&self, passed: Statement) -> Option<(usize, Event)> {
         let (thread, instruction) = (passed.thread, passed.instruction);
         let mut events = self.causes.events().iter().copied().enumerate();
         let (at, event) = events.find(|(_, event)| event.thread == thread
-            && passes_over(event, instruction))?;
+            && jumps_over(event, instruction))?;
         let Instruction::Skip(_) = event.statement else {
             return Some((at, event));
         };
         let earlier = self.causes.events().iter().copied().enumerate().take(at);
         let guard = earlier
-            .filter(|(_, test)| test.thread == thread && is_round(test, event.instruction))
+            .filter(|(_, test)| test.thread == thread && is_guard_of(test, event.instruction))
             .last();
         Some(guard.unwrap_or((at, event)))
     }
 }
 
-// The first of statements of which this came.
+// The first of these statements that has this fate.
 fn first_with(statements: &[Statement], fate: Fate) -> Option<Statement> {
     let mut statements = statements.iter().copied();
     statements.find(|statement| statement.fate == fate)
 }
 
-// The step in which a statement was carried out, if it was.
+// The place of the step in which a statement was carried out, if it was carried out.
 fn step_of(statement: &Statement) -> Option<usize> {
     match statement.fate {
         Fate::Taken(at) => Some(at),
@@ -176,13 +177,13 @@ fn step_of(statement: &Statement) -> Option<usize> {
 }
 
 // Whether an event jumps over an instruction.
-fn passes_over(event: &Event, instruction: usize) -> bool {
+fn jumps_over(event: &Event, instruction: usize) -> bool {
     let last = event.instruction.saturating_add(event.jump());
     event.instruction < instruction && instruction <= last
 }
 
-// Whether an event is a test that was true, and an instruction stands in the block that it guards.
-fn is_round(test: &Event, instruction: usize) -> bool {
+// Whether an event is a test that was true, and guards the block in which an instruction stands.
+fn is_guard_of(test: &Event, instruction: usize) -> bool {
     match test.statement {
         Instruction::SkipIfZero(_, length) => {
             test.value() != 0 && instruction <= test.instruction.saturating_add(length)

@@ -1,6 +1,6 @@
 //! How a schedule ended.
 
-use crate::origins::Shown;
+use crate::origins::ValueLayout;
 use crate::text::TextWriter;
 use causes::{Event, Failure};
 use explain::{Holder, Object};
@@ -9,20 +9,20 @@ use semantics::view::Kind;
 use std::alloc::AllocError;
 use text_lines::{Count, Page};
 
-/// Where what is said of a failure begins, and where further lines do.
-const INDENT: usize = 4;
-
-const FURTHER: usize = 8;
+/// The column from which on it is said why a thread failed.
+const REASON_INDENT: usize = 4;
+/// The column from which on the further lines of a long line stand.
+const INDENT: usize = 8;
 
 /// How the values of an assertion that failed are shown.
-const SHOWN: Shown = Shown {
-    indent: INDENT,
-    most: 8,
-    is_later_told: false,
+const VALUE_LAYOUT: ValueLayout = ValueLayout {
+    indent: REASON_INDENT,
+    most_values: 8,
+    is_later_change_told: false,
 };
 
 impl TextWriter<'_> {
-    /// How the schedule ended.
+    /// Writes how the schedule ended, and after how many steps.
     pub fn put_head(&self, page: &mut Page) -> Result<(), AllocError> {
         if let Some(failure) = self.causes.failure()
             && let Some(event) = self.event(failure.event)
@@ -36,22 +36,22 @@ impl TextWriter<'_> {
             None => "NOT COMPLETE",
         };
         let steps = self.explanation.steps().len();
-        let after = self.after(steps, self.explanation.preemptions())?;
-        let head = format!(in self.alloc; "{}: {ending} {after}", self.told_file())?;
-        page.put_line(head.as_str(), FURTHER)
+        let counts = self.counts_text(steps, self.explanation.preemptions())?;
+        let head = format!(in self.alloc; "{}: {ending} {counts}", self.main_file_name())?;
+        page.put_line(head.as_str(), INDENT)
     }
 
-    // The file of the lines that are told without one, or else the one that was read.
-    fn told_file(&self) -> &str {
+    // The file whose lines are told without its name; where there is none, the file that was read.
+    fn main_file_name(&self) -> &str {
         (0..self.source.program.threads())
             .map(|thread| self.line(thread, 0))
             .find(|line| line.line > 0 && !line.is_named)
-            .map_or(self.file(), |line| line.file)
+            .map_or(self.file_name(), |line| line.file)
     }
 
-    // After how many steps it ended, and that no schedule with fewer preemptions is bad, where a
-    // search showed it.
-    fn after(&self, steps: usize, preemptions: usize) -> Result<String, AllocError> {
+    // After how many steps and preemptions the schedule ended, and that no schedule with fewer
+    // preemptions is bad, where a search showed that.
+    fn counts_text(&self, steps: usize, preemptions: usize) -> Result<String, AllocError> {
         let least = match self.explanation.preemptions() {
             1 if self.layout.is_fewest => " No schedule with 0 is bad.",
             n if self.layout.is_fewest && n > 1 => " No schedule with fewer is bad.",
@@ -61,33 +61,33 @@ impl TextWriter<'_> {
         format!(in self.alloc; "after {steps} with {preemptions}.{least}")
     }
 
-    // What failed, where, and why.
+    // Writes what failed by this event, where, and why.
     fn put_stop(&self, page: &mut Page, failure: Failure, event: Event) -> Result<(), AllocError> {
         let site = self.site_of(&event);
         let steps = failure.step.map_or(0, |at| at.saturating_add(1));
-        let after = self.after(steps, failure.preemptions)?;
+        let counts = self.counts_text(steps, failure.preemptions)?;
         let head = format!(in self.alloc;
-            "{}: FAILED: {}   in {} {after}",
-            site.line.0.named(),
+            "{}: FAILED: {}   in {} {counts}",
+            site.line.0.with_name(),
             site.statement,
             site.name
         )?;
-        page.put_line(head.as_str(), FURTHER)?;
+        page.put_line(head.as_str(), INDENT)?;
         let words = match event.statement {
-            Instruction::Assert(e) => return self.put_values(page, failure.event, e, SHOWN),
+            Instruction::Assert(e) => return self.put_values(page, failure.event, e, VALUE_LAYOUT),
             Instruction::Unlock(m) | Instruction::Wait { mutex: m, .. } => {
-                self.held(m, self.holder_before(failure.event, m))?
+                self.holder_text(m, self.holder_before(failure.event, m))?
             }
             Instruction::Release(k) => {
-                let name = self.object(Object::Semaphore(k));
+                let name = self.object_name(Object::Semaphore(k));
                 format!(in self.alloc; "{name} is 65535, which is its limit")?
             }
             _ => return Ok(()),
         };
-        page.put_indented(words.as_str(), INDENT, FURTHER)
+        page.put_indented(words.as_str(), REASON_INDENT, INDENT)
     }
 
-    // Who owned a mutex before an event, if a thread did.
+    // Who owned a mutex before the event at a place, and since which step, if a thread did.
     fn holder_before(&self, at: usize, mutex: usize) -> Option<Holder> {
         let event = self.event(self.causes.taker(at, mutex)?)?;
         Some(Holder {

@@ -1,7 +1,7 @@
 //! The explanation of a schedule as text, in columns of a terminal.
 //!
-//! `head` says how it ended, and by `origins` where the values came from; `rows` has the table of
-//! the steps; under it `reasons` says why threads can't go on, and `enders` who could end that.
+//! `head` says how the schedule ended, and by `origins` where the values came from; `rows` has the
+//! table of the steps; after that `reasons` says why threads can't go on, `enders` who could help.
 #![tactic(auto)]
 
 mod enders;

@@ -1,4 +1,4 @@
-//! Where values came from.
+//! Where the values of locals came from.
 
 use crate::text::TextWriter;
 use causes::Event;
@@ -7,70 +7,69 @@ use guest_code::program::{Expression, Instruction, Value};
 use std::alloc::AllocError;
 use text_lines::Page;
 
-/// By how many columns what a value was made of stands further to the right, and the further lines
-/// of a long one.
-const DEEPER: usize = 2;
+/// By how many columns the locals that a value was made of stand further to the right than the value.
+const NESTING: usize = 2;
+/// By how many columns the further lines of a long line stand further to the right.
+const INDENT: usize = 4;
 
-const FURTHER: usize = 4;
-
-/// How values are shown: from which column on, how many lines at most, and whether it is told who
-/// wrote a variable after it was read.
+/// How values are shown: from which column on, how many at most, and whether it is told who changed a
+/// variable after a value was read from there.
 #[derive(Clone, Copy)]
-pub struct Shown {
+pub struct ValueLayout {
     pub indent: usize,
-    pub most: usize,
-    pub is_later_told: bool,
+    pub most_values: usize,
+    pub is_later_change_told: bool,
 }
 
-// A local, whose value before an event is asked for, and the column from which it is told.
+// A local that is still to be told, with its value before the event at a place, from a column on.
 #[derive(Clone, Copy)]
-struct Asked {
+struct PendingLocal {
     at: usize,
     local: usize,
     indent: usize,
 }
 
 impl TextWriter<'_> {
-    /// The locals of an event's expression, each with where its value came from, and under a local
-    /// that was set by an expression the locals of that.
+    /// Writes the locals of the expression of the event at a place, each with where its value came
+    /// from, and under a local that was set by an expression the locals of that expression.
     pub fn put_values(
         &self,
         page: &mut Page,
         at: usize,
         expression: Expression,
-        shown: Shown,
+        layout: ValueLayout,
     ) -> Result<(), AllocError> {
         let thread = self.event(at).map_or(0, |event| event.thread);
         let mut stack = Vec::new(self.alloc);
-        put_locals(&mut stack, at, shown.indent, expression)?;
-        for _ in 0..shown.most {
-            let Some(Asked { at, local, indent }) = stack.pop() else {
+        push_locals(&mut stack, at, layout.indent, expression)?;
+        for _ in 0..layout.most_values {
+            let Some(PendingLocal { at, local, indent }) = stack.pop() else {
                 return Ok(());
             };
-            let name = self.local(thread, local);
-            let setting = self.found(self.causes.setter(at, thread, local));
-            let words = self.origin(name, setting, shown.is_later_told)?;
-            page.put_indented(words.as_str(), indent, indent.saturating_add(FURTHER))?;
+            let name = self.local_name(thread, local);
+            let setting = self.event_with_place(self.causes.setter(at, thread, local));
+            let words = self.value_origin(name, setting, layout.is_later_change_told)?;
+            page.put_indented(words.as_str(), indent, indent.saturating_add(INDENT))?;
             if let Some((at, event)) = setting
                 && let Instruction::Set { value, .. } = event.statement
             {
-                put_locals(&mut stack, at, indent.saturating_add(DEEPER), value)?;
+                push_locals(&mut stack, at, indent.saturating_add(NESTING), value)?;
             }
         }
         Ok(())
     }
 
-    // The event at a place, and the place.
-    fn found(&self, at: Option<usize>) -> Option<(usize, Event)> {
+    // The event at a place, where there is a place, with the place itself first.
+    fn event_with_place(&self, at: Option<usize>) -> Option<(usize, Event)> {
         Some((at?, self.event(at?)?))
     }
 
-    // A local with its value, and where that came from: the event that set it.
-    fn origin(
+    // A local with its value, and where the value came from: `setting` is the event that set the local.
+    fn value_origin(
         &self,
         name: &str,
         setting: Option<(usize, Event)>,
-        is_later_told: bool,
+        is_later_change_told: bool,
     ) -> Result<String, AllocError> {
         let Some((at, event)) = setting else {
             return format!(in self.alloc; "{name} = 0   from the start");
@@ -81,37 +80,37 @@ impl TextWriter<'_> {
             write!(words, "set in {site}")?;
             return Ok(words);
         };
-        let x = self.object(Object::Variable(variable));
+        let x = self.object_name(Object::Variable(variable));
         match event.statement {
             Instruction::Load { .. } => {
                 write!(words, "loaded in step {step} ({}) from {x}", site.line)?;
             }
             Instruction::Cas { .. } => {
                 let outcome = if value == 0 { "missed" } else { "hit" };
-                let (old, _) = self.change_of(&event);
+                let (old, _) = self.old_and_new(&event);
                 write!(words, "since step {step} {outcome} ({site}): {x} was {old}")?;
             }
             _ => write!(words, "read in step {step} ({site}) from {x}")?,
         }
-        words.push_str(self.history(event.thread, at, variable)?.as_str())?;
-        if is_later_told || self.causes.writer(at, variable).is_none() {
-            words.push_str(self.later(event.thread, at, variable)?.as_str())?;
+        words.push_str(self.last_write(event.thread, at, variable)?.as_str())?;
+        if is_later_change_told || self.causes.writer(at, variable).is_none() {
+            words.push_str(self.later_change(event.thread, at, variable)?.as_str())?;
         }
         Ok(words)
     }
 
-    // Who wrote a variable last before a thread read it, and what it was before that.
-    fn history(&self, reader: u8, at: usize, variable: usize) -> Result<String, AllocError> {
-        let Some((at, event)) = self.found(self.causes.writer(at, variable)) else {
+    // Who wrote a variable last before the event at a place read it, and what the variable was before.
+    fn last_write(&self, reader: u8, at: usize, variable: usize) -> Result<String, AllocError> {
+        let Some((at, event)) = self.event_with_place(self.causes.writer(at, variable)) else {
             return ", which nobody had written before".to_string(self.alloc);
         };
         let is_own = reader == event.thread;
         let itself = if is_own { " itself" } else { "" };
         let (step, site) = (event.step.unwrap_or(0), self.site_of(&event));
-        let (name, x) = (site.name, self.object(Object::Variable(variable)));
-        let (old, _) = self.change_of(&event);
-        let since = match self.found(self.causes.writer(at, variable)) {
-            Some((_, earlier)) => self.since(&earlier)?,
+        let (name, x) = (site.name, self.object_name(Object::Variable(variable)));
+        let (old, _) = self.old_and_new(&event);
+        let since = match self.event_with_place(self.causes.writer(at, variable)) {
+            Some((_, earlier)) => self.since_step(&earlier)?,
             None => " from the start".to_string(self.alloc)?,
         };
         format!(in self.alloc;
@@ -119,22 +118,22 @@ impl TextWriter<'_> {
         )
     }
 
-    // By which event a variable was written, and who was interrupted there.
-    fn since(&self, event: &Event) -> Result<String, AllocError> {
+    // Since which step a variable has what an event wrote, and who was interrupted before that step.
+    fn since_step(&self, event: &Event) -> Result<String, AllocError> {
         let (step, site) = (event.step.unwrap_or(0), self.site_of(event));
         let (name, line) = (site.name, site.line);
         let mut words = format!(in self.alloc; " since step {step} ({name}, {line})")?;
         if let Some(before) = step.checked_sub(1)
             && self.is_interrupted(before)
-            && let Some(other) = self.thread_of(before)
+            && let Some(other) = self.thread_at(before)
         {
-            write!(words, ", where {} was interrupted", self.thread(other))?;
+            write!(words, ", where {} was interrupted", self.thread_name(other))?;
         }
         Ok(words)
     }
 
-    // Who first changed a variable after another thread read it, if one did.
-    fn later(&self, reader: u8, at: usize, variable: usize) -> Result<String, AllocError> {
+    // Which thread but the reader changed a variable first after the event at a place, if one did.
+    fn later_change(&self, reader: u8, at: usize, variable: usize) -> Result<String, AllocError> {
         let mut later = self.causes.events().iter().skip(at);
         let next = later.find(|event| event.variable_written() == Some(variable)
             && event.thread != reader
@@ -142,19 +141,19 @@ impl TextWriter<'_> {
         let Some(event) = next else {
             return Ok(String::new(self.alloc));
         };
-        let (name, step) = (self.thread(event.thread), event.step.unwrap_or(0));
-        let (_, new) = self.change_of(event);
+        let (name, step) = (self.thread_name(event.thread), event.step.unwrap_or(0));
+        let (_, new) = self.old_and_new(event);
         format!(in self.alloc; "; {name} made it {new} in step {step}")
     }
 
-    // Whether an event's step left its variable with another value than it had before.
+    // Whether the step of an event left the step's variable with another value than before.
     fn is_change(&self, event: &Event) -> bool {
-        let (old, new) = self.change_of(event);
+        let (old, new) = self.old_and_new(event);
         old != new
     }
 
-    // The values of the variable of an event's step before and after it.
-    fn change_of(&self, event: &Event) -> (i64, i64) {
+    // The values that the variable of an event's step had before and after that step.
+    fn old_and_new(&self, event: &Event) -> (i64, i64) {
         let step = event.step.and_then(|at| self.step(at));
         match step.map(|step| (step.old, step.new)) {
             Some((Reading::Value(old), Reading::Value(new))) => (old, new),
@@ -163,9 +162,9 @@ impl TextWriter<'_> {
     }
 }
 
-// Adds the locals of the expression of an event, so that the first one comes off first.
-fn put_locals(
-    stack: &mut Vec<Asked>,
+// Pushes the locals of the expression of an event, so that the first local is popped first.
+fn push_locals(
+    stack: &mut Vec<PendingLocal>,
     at: usize,
     indent: usize,
     expression: Expression,
@@ -177,10 +176,10 @@ fn put_locals(
     if let Value::Local(local) = second
         && first != second
     {
-        stack.push(Asked { at, local, indent })?;
+        stack.push(PendingLocal { at, local, indent })?;
     }
     if let Value::Local(local) = first {
-        stack.push(Asked { at, local, indent })?;
+        stack.push(PendingLocal { at, local, indent })?;
     }
     Ok(())
 }

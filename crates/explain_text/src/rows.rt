@@ -1,6 +1,6 @@
-//! The rows of the table.
+//! The rows of the table of the steps.
 
-use crate::text::{TextWriter, put_listed};
+use crate::text::{TextWriter, push_word};
 use explain::{Object, Reading, Standing, Step, op_text};
 use guest_code::program::{Expression, Instruction, Value};
 use replay::Act;
@@ -11,11 +11,11 @@ use text_lines::{
     COLUMN, Count, GAP, InLine, Page, STEP, line_cell, pad_to, put_cut, put_times, width_of,
 };
 
-/// The fewest columns of a name that is cut, where it shares a column with its statement.
-const SHORTEST: usize = 4;
+/// The fewest columns to which a thread's name is cut before its statement, in a column that is shared.
+const SHORTEST_LABEL: usize = 4;
 
 impl TextWriter<'_> {
-    /// The steps in columns. The answer is how many of them are told.
+    /// Writes the table of the steps. The answer is how many steps have rows of their own.
     pub fn put_table(&self, page: &mut Page) -> Result<usize, AllocError> {
         self.put_header(page)?;
         self.put_opening_stops(page)?;
@@ -23,24 +23,24 @@ impl TextWriter<'_> {
         let mut folded = 0_usize;
         let mut next = 0;
         for at in 0..steps {
-            if steps <= self.layout.steps || self.is_told(at) {
-                folded = folded.saturating_add(self.put_gap(page, next, at)?);
+            if steps <= self.layout.steps || self.has_own_row(at) {
+                folded = folded.saturating_add(self.put_folded(page, next, at)?);
                 self.put_step_rows(page, at)?;
                 next = at + 1;
             }
         }
-        folded = folded.saturating_add(self.put_gap(page, next, steps)?);
+        folded = folded.saturating_add(self.put_folded(page, next, steps)?);
         self.put_end_rows(page)?;
         Ok(steps.saturating_sub(folded))
     }
 
-    /// Columns of the widest line that the table has with the name of its file.
-    pub fn widest_line(&self) -> Result<usize, AllocError> {
+    /// How wide the widest line number is that the table tells with the name of a file; 0 if none is.
+    pub fn line_cell_width(&self) -> Result<usize, AllocError> {
         let steps = self.explanation.steps().iter();
         let threads = 0..self.source.program.threads();
         let places = steps
             .map(|step| (step.line.thread, step.instruction))
-            .chain(threads.map(|thread| (thread, self.place_at_end(thread))));
+            .chain(threads.map(|t| (t, self.instruction_at_end(t))));
         let mut widest = 0;
         for (thread, instruction) in places {
             let line = self.line(thread, instruction);
@@ -51,43 +51,43 @@ impl TextWriter<'_> {
         Ok(widest)
     }
 
-    /// The thread of a step.
-    pub fn thread_of(&self, at: usize) -> Option<u8> {
+    /// The number of the thread that took the step at a place, if that step ran.
+    pub fn thread_at(&self, at: usize) -> Option<u8> {
         self.step(at).map(|step| step.line.thread)
     }
 
-    /// Whether the thread of a step is interrupted after it.
+    /// Whether the thread of the step at a place is interrupted after that step.
     pub fn is_interrupted(&self, at: usize) -> bool {
         let next = self.step(at.saturating_add(1));
         next.is_some_and(|next| next.line.preempting)
     }
 
-    // Whether a step is in the cause.
+    // Whether the step at a place is in the cause of how the schedule ended.
     fn is_in_cause(&self, at: usize) -> bool {
         self.causes.steps().get(at).copied().unwrap_or(false)
     }
 
-    // Whether a step is told where others are folded: where it is in the cause, the first of a run
-    // after a switch, or beside a preemption.
-    fn is_told(&self, at: usize) -> bool {
+    // Whether a step has a row of its own where steps are folded: where it is in the cause, the first
+    // step after a switch, or beside a preemption.
+    fn has_own_row(&self, at: usize) -> bool {
         self.is_in_cause(at)
             || self.is_interrupted(at)
-            || self.thread_of(at.saturating_sub(1)) != self.thread_of(at)
+            || self.thread_at(at.saturating_sub(1)) != self.thread_at(at)
     }
 
-    // The names of the columns, and a rule under each.
+    // Writes the names of the columns, and a rule under each name.
     fn put_header(&self, page: &mut Page) -> Result<(), AllocError> {
         let columns = self.columns;
         let mut header = Header {
             names: String::new(self.alloc),
             rules: String::new(self.alloc),
         };
-        header.put(0, STEP - 1, "step")?;
-        header.put(STEP, columns.margin.saturating_sub(STEP + GAP), "line")?;
+        header.put_column(0, STEP - 1, "step")?;
+        header.put_column(STEP, columns.margin.saturating_sub(STEP + GAP), "line")?;
         for t in (0..self.source.program.threads()).take(columns.own) {
             let mut name = String::new(self.alloc);
-            put_cut(&mut name, self.thread(t), COLUMN)?;
-            header.put(columns.start(t as usize), COLUMN, name.as_str())?;
+            put_cut(&mut name, self.thread_name(t), COLUMN)?;
+            header.put_column(columns.start(t as usize), COLUMN, name.as_str())?;
         }
         if columns.is_shared {
             let start = columns.start(columns.own);
@@ -95,15 +95,15 @@ impl TextWriter<'_> {
                 0 => "thread and step",
                 _ => "other threads",
             };
-            header.put(start, columns.end().saturating_sub(start), name)?;
+            header.put_column(start, columns.end().saturating_sub(start), name)?;
         }
         let rest = columns.width.saturating_sub(columns.changes);
-        header.put(columns.changes, rest, "what changed")?;
+        header.put_column(columns.changes, rest, "what changed")?;
         page.put_whole(header.names.as_str())?;
         page.put_whole(header.rules.as_str())
     }
 
-    // A row for each thread that stopped before its first step.
+    // Writes a row for each thread that stopped before its first step.
     fn put_opening_stops(&self, page: &mut Page) -> Result<(), AllocError> {
         for t in 0..self.source.program.threads() {
             let start = self.explanation.opening().get(t as usize);
@@ -114,9 +114,9 @@ impl TextWriter<'_> {
         Ok(())
     }
 
-    // A row for the steps from one place up to another, which are of one thread, or the row of the
-    // step where it is a single one. The answer is how many are folded.
-    fn put_gap(&self, page: &mut Page, from: usize, to: usize) -> Result<usize, AllocError> {
+    // Writes one row for the steps of the places `from..to`, which are of one thread, or, where that is
+    // a single step, the step's own rows. The answer is how many steps are folded.
+    fn put_folded(&self, page: &mut Page, from: usize, to: usize) -> Result<usize, AllocError> {
         let steps = self.explanation.steps().get(from..to).unwrap_or(&[]);
         let [first, .., _] = steps else {
             if from < to {
@@ -124,7 +124,7 @@ impl TextWriter<'_> {
             }
             return Ok(0);
         };
-        let (last, name) = (to.saturating_sub(1), self.thread(first.line.thread));
+        let (last, name) = (to.saturating_sub(1), self.thread_name(first.line.thread));
         let mut row = format!(in self.alloc; "{from}-{last}")?;
         pad_to(&mut row, self.columns.start(0))?;
         let cell = format!(in self.alloc; ".. {} of {name} ..", Count(steps.len(), "step"))?;
@@ -133,7 +133,7 @@ impl TextWriter<'_> {
         Ok(steps.len())
     }
 
-    // The variables that steps change, with their values after them.
+    // The variables that these steps change, each with its value after the last of the steps.
     fn values_after(&self, steps: &[Step]) -> Result<String, AllocError> {
         let mut changes = String::new(self.alloc);
         for x in 0..self.source.program.variables() as usize {
@@ -143,7 +143,8 @@ impl TextWriter<'_> {
             if let Some(step) = writes.last()
                 && let Reading::Value(value) = step.new
             {
-                put_listed(&mut changes, format_args!("{} {value}", self.object(x)))?;
+                let name = self.object_name(x);
+                push_word(&mut changes, format_args!("{name} {value}"))?;
             }
         }
         Ok(changes)
@@ -155,19 +156,19 @@ impl TextWriter<'_> {
         put_cut(row, words, room)
     }
 
-    // A row with what changed.
+    // Writes a row, and in its last column what changed.
     fn put_row(&self, page: &mut Page, row: &str, changes: &str) -> Result<(), AllocError> {
         page.put_columns(row, changes, self.columns.changes, self.columns.changes)
     }
 
-    // Adds what a thread does at an instruction to the beginning of a row, after the line. A name
-    // before it, where threads share a column, is cut off so far that it fits.
-    fn put_deed(
+    // Adds to the beginning of a row the line of an instruction, and what its thread does there. Where
+    // threads share a column, the thread's name comes before that, cut off so far that both fit.
+    fn put_action(
         &self,
         row: &mut String,
         thread: u8,
         instruction: usize,
-        deed: &str,
+        action: &str,
     ) -> Result<(), AllocError> {
         let line = line_cell(self.alloc, self.line(thread, instruction))?;
         let end = self.columns.margin.saturating_sub(GAP);
@@ -176,20 +177,20 @@ impl TextWriter<'_> {
         pad_to(row, self.columns.start(thread as usize))?;
         if thread as usize >= self.columns.own {
             let room = self.columns.end().saturating_sub(width_of(row.as_str()));
-            let rest = room.saturating_sub(width_of(deed).saturating_add(2));
-            self.put_label(row, thread, rest.max(SHORTEST))?;
+            let rest = room.saturating_sub(width_of(action).saturating_add(2));
+            self.put_label(row, thread, rest.max(SHORTEST_LABEL))?;
         }
-        self.put_fitting(row, deed)
+        self.put_fitting(row, action)
     }
 
-    // Adds the name of a thread, or where it has more columns than these its beginning, or its
-    // number where another name begins alike.
+    // Adds the name of a thread, or, where the name has more columns than `room`, its beginning, or
+    // the thread's number where the name of another thread begins alike.
     fn put_label(&self, row: &mut String, thread: u8, room: usize) -> Result<(), AllocError> {
-        let name = self.thread(thread);
+        let name = self.thread_name(thread);
         let begun = room.saturating_sub(2);
         let is_alike = |other: u8| other != thread
             && self
-                .thread(other)
+                .thread_name(other)
                 .chars()
                 .take(begun)
                 .eq(name.chars().take(begun));
@@ -200,17 +201,17 @@ impl TextWriter<'_> {
         row.push_str(": ")
     }
 
-    // The row of a step, and what belongs under it: that it failed, and that its thread was
-    // interrupted.
+    // Writes the row of the step at a place, and under it that an assertion after the step failed and
+    // that the step's thread was interrupted, where that is so.
     fn put_step_rows(&self, page: &mut Page, at: usize) -> Result<(), AllocError> {
         let Some(step) = self.step(at) else {
             return Ok(());
         };
         let thread = step.line.thread;
         let retakes = matches!(step.line.act, Act::Retake(_));
-        let deed = self.deed(thread, step.instruction, retakes)?;
+        let action = self.action_text(thread, step.instruction, retakes)?;
         let mut row = format!(in self.alloc; "{at:>4}")?;
-        self.put_deed(&mut row, thread, step.instruction, deed.as_str())?;
+        self.put_action(&mut row, thread, step.instruction, action.as_str())?;
         self.put_row(page, row.as_str(), self.changes(at, step)?.as_str())?;
         if step.line.stop == Some(Stop::Assert) {
             self.put_stop_row(page, format!(in self.alloc; "{at:>4}")?, thread)?;
@@ -221,8 +222,8 @@ impl TextWriter<'_> {
         Ok(())
     }
 
-    // What a step changed; of a store in the cause also that another thread wrote the variable
-    // after its own thread used it.
+    // What the step at a place changed; of a store in the cause also that another thread wrote the
+    // variable since the store's own thread used that last.
     fn changes(&self, at: usize, step: &Step) -> Result<String, AllocError> {
         let thread = step.line.thread;
         let mut changes = self.object_change(step)?;
@@ -234,45 +235,46 @@ impl TextWriter<'_> {
                 let line = InLine(self.line(thread, setting.instruction));
                 write!(changes, "{line}: ")?;
             }
-            let (name, value) = (self.local(thread, setting.local), setting.value);
+            let (name, value) = (self.local_name(thread, setting.local), setting.value);
             write!(changes, "{name} = {value}")?;
         }
-        if let Some((writer, since)) = self.written_between(at, step) {
-            let name = self.thread(writer);
+        if let Some((writer, since)) = self.writer_between(at, step) {
+            let name = self.thread_name(writer);
             write!(changes, "; {name} wrote it since step {since}")?;
         }
         Ok(changes)
     }
 
-    // What a step changed of its object, or why it changed nothing.
+    // What a step changed of its object, or why it changed nothing of that.
     fn object_change(&self, step: &Step) -> Result<String, AllocError> {
-        let (thread, name) = (self.thread(step.line.thread), self.object(step.object));
+        let name = self.object_name(step.object);
         match (step.line.act, step.line.stop) {
             (Act::Unlock(m) | Act::Wait { mutex: m, .. }, Some(Stop::NotHeld)) => {
-                let m = self.object(Object::Mutex(m));
+                let thread = self.thread_name(step.line.thread);
+                let m = self.object_name(Object::Mutex(m));
                 format!(in self.alloc; "FALSE: {thread} doesn't own {m}")
             }
             (_, Some(Stop::SemFull)) => "FALSE: its count can't rise".to_string(self.alloc),
             (Act::Load { .. }, _) => Ok(String::new(self.alloc)),
             (Act::Wait { mutex: m, .. }, _) => {
-                let m = self.object(Object::Mutex(m));
+                let m = self.object_name(Object::Mutex(m));
                 format!(in self.alloc; "{m} is free; waits for {name}")
             }
             (Act::Signal(_) | Act::Broadcast(_), _) if step.woken.is_empty() => {
                 "nobody waits".to_string(self.alloc)
             }
             (Act::Signal(_) | Act::Broadcast(_), _) => {
-                format!(in self.alloc; "wakes {}", self.names(step.woken.as_slice())?)
+                format!(in self.alloc; "wakes {}", self.thread_names(step.woken.as_slice())?)
             }
             _ => self.readings(name, step),
         }
     }
 
-    // The object of this name before and after a step.
+    // The value, owner or count that the object of this name had before and after a step.
     fn readings(&self, name: &str, step: &Step) -> Result<String, AllocError> {
         match (step.old, step.new) {
             (_, Reading::Owner(Some(owner))) => {
-                format!(in self.alloc; "{name} -> {}", self.thread(owner))
+                format!(in self.alloc; "{name} -> {}", self.thread_name(owner))
             }
             (_, Reading::Owner(None)) => format!(in self.alloc; "{name} is free"),
             (Reading::Value(old), Reading::Value(new)) if old == new => {
@@ -288,9 +290,9 @@ impl TextWriter<'_> {
         }
     }
 
-    // The other thread that wrote the variable of a store last, and the step before that by which
-    // the store's own thread used it last, where the store is in the cause.
-    fn written_between(&self, at: usize, store: &Step) -> Option<(u8, usize)> {
+    // Of a store in the cause, the step at a place: the other thread that wrote the variable last since
+    // the store's own thread used the variable, and the step of that use.
+    fn writer_between(&self, at: usize, store: &Step) -> Option<(u8, usize)> {
         if !self.is_in_cause(at) || !matches!(store.line.act, Act::Store { .. }) {
             return None;
         }
@@ -303,12 +305,12 @@ impl TextWriter<'_> {
         Some((writes.last()?.line.thread, since))
     }
 
-    // The row of a thread's assertion that failed, after its beginning.
+    // Writes the row of a thread's failed assertion, begun in `row` with a step's number or `start`.
     fn put_stop_row(&self, page: &mut Page, mut row: String, thread: u8) -> Result<(), AllocError> {
         let Some(standing) = self.explanation.standing(thread) else {
             return Ok(());
         };
-        self.put_deed(&mut row, thread, standing.instruction, "assert")?;
+        self.put_action(&mut row, thread, standing.instruction, "assert")?;
         let changes = match self.source.instruction(thread, standing.instruction) {
             Some(Instruction::Assert(e)) => self.comparison(standing, e)?,
             _ => String::new(self.alloc),
@@ -316,7 +318,7 @@ impl TextWriter<'_> {
         self.put_row(page, row.as_str(), changes.as_str())
     }
 
-    // An assertion that failed, with the values of its locals.
+    // An assertion that failed, with the values of its locals, as `FALSE: 1 == 2`.
     fn comparison(&self, standing: &Standing, test: Expression) -> Result<String, AllocError> {
         let value = |value: Value| match value {
             Value::Literal(n) => n,
@@ -330,7 +332,7 @@ impl TextWriter<'_> {
         }
     }
 
-    // That the thread of a step was interrupted after it.
+    // Writes under the row of a step that the step's thread was interrupted after the step.
     fn put_interruption(&self, page: &mut Page, step: &Step) -> Result<(), AllocError> {
         let column = self.columns.start(step.line.thread as usize);
         let row = format!(in self.alloc; "{:column$}{:~<COLUMN$}", "", "")?;
@@ -339,7 +341,7 @@ impl TextWriter<'_> {
         page.put_columns(row.as_str(), words.as_str(), 0, column)
     }
 
-    // Where each thread with a column of its own is at the end of a deadlock.
+    // Writes where each thread with a column of its own is at the end, where that is a deadlock.
     fn put_end_rows(&self, page: &mut Page) -> Result<(), AllocError> {
         if self.explanation.kind() != Some(Kind::Stuck) || self.columns.own == 0 {
             return Ok(());
@@ -356,7 +358,7 @@ impl TextWriter<'_> {
         page.put_whole(under.as_str())
     }
 
-    // Where a thread is at the end, and what it can't do.
+    // Adds to `row` where a thread is at the end, and to `under`, the next row, what it can't do.
     fn put_end(&self, row: &mut String, under: &mut String, thread: u8) -> Result<(), AllocError> {
         let start = self.columns.start(thread as usize);
         pad_to(row, start)?;
@@ -371,11 +373,11 @@ impl TextWriter<'_> {
             blocked.as_str()
         })?;
         pad_to(under, start)?;
-        put_cut(under, self.blocked_deed(wait)?.as_str(), COLUMN)
+        put_cut(under, self.blocked_action(wait)?.as_str(), COLUMN)
     }
 }
 
-// The two lines above a table.
+// The two lines above a table: the names of its columns, and rules under the names.
 #[derive(Drop)]
 struct Header {
     names: String,
@@ -383,8 +385,8 @@ struct Header {
 }
 
 impl Header {
-    // Adds a column that begins here, so wide: its name, and a rule under it.
-    fn put(&mut self, start: usize, width: usize, name: &str) -> Result<(), AllocError> {
+    // Adds the name of a column that begins at `start`, and under the name a rule as wide as the column.
+    fn put_column(&mut self, start: usize, width: usize, name: &str) -> Result<(), AllocError> {
         pad_to(&mut self.names, start)?;
         self.names.push_str(name)?;
         pad_to(&mut self.rules, start)?;
@@ -392,7 +394,7 @@ impl Header {
     }
 }
 
-// Whether a step that did this wrote a variable.
+// Whether an act writes a variable: a `cas` does so only where it hits.
 fn is_write(act: Act) -> bool {
     matches!(
         act,

@@ -1,4 +1,4 @@
-//! The explanation as text.
+//! The explanation of a schedule as text, and the names and places that its parts tell.
 
 use causes::{Causes, Event};
 use explain::{Explanation, Object, Source, Statement, Step, name_text};
@@ -10,18 +10,18 @@ use std::str::from_utf8;
 use text_lines::{Columns, FileLine, InLine, Marks, Page};
 use waits::Waits;
 
-/// How wide a text is, and which steps have rows.
+/// How wide the text of an explanation is, and which steps have rows.
 #[derive(Clone, Copy, Debug)]
 pub struct Layout {
     /// Columns of a line, at most; fewer than 40 count as 40, more than 1,000 as 1,000.
     pub width: usize,
-    /// Each step has a row where there are at most this many; else some are folded.
+    /// Each step has a row where the schedule has at most so many steps; else some are folded.
     pub steps: usize,
     /// Whether a search showed that no schedule with fewer preemptions is bad.
     pub is_fewest: bool,
 }
 
-/// What a text is made of, and how.
+/// What writes the text of an explanation: the facts, their names, and the layout.
 #[derive(Drop)]
 pub struct TextWriter<'a> {
     pub alloc: Global,
@@ -35,8 +35,8 @@ pub struct TextWriter<'a> {
     pub columns: Columns,
 }
 
-/// The explanation as text: a column for each thread, at most as wide as the layout says. Only the
-/// last line, a command, may be longer.
+/// The explanation as text: a column for each thread, and lines at most as wide as the layout says.
+/// Only the last line, the command that replays the schedule, may be longer.
 ///
 /// # Errors
 ///
@@ -68,7 +68,7 @@ pub fn why_text(
 /// A statement of a thread as a sentence tells it, with its line: `line 12: lock m`.
 #[derive(Clone, Copy)]
 pub struct Site<'a> {
-    /// The thread.
+    /// The name of the thread.
     pub name: &'a str,
     pub line: InLine<'a>,
     pub statement: Statement<'a>,
@@ -80,16 +80,16 @@ impl fmt::Display for Site<'_> {
     }
 }
 
-/// Adds a word to a list of them.
-pub fn put_listed<D: fmt::Display + Drop>(list: &mut String, word: D) -> Result<(), AllocError> {
+/// Adds a word to a list of words, which commas part.
+pub fn push_word<D: fmt::Display + Drop>(list: &mut String, word: D) -> Result<(), AllocError> {
     if !list.is_empty() {
         list.push_str(", ")?;
     }
     list.write(word)
 }
 
-// A word as a shell reads it: in quotes where it has more than letters, digits and plain marks.
-fn quoted(alloc: Global, word: &str) -> Result<String, AllocError> {
+// A word as a shell reads one: in quotes where it has more than letters, digits and `_-./+,@%`.
+fn shell_quoted(alloc: Global, word: &str) -> Result<String, AllocError> {
     let is_plain = |byte: &u8| byte.is_ascii_alphanumeric() || b"_-./+,@%".contains(byte);
     if !word.is_empty() && word.as_bytes().iter().all(is_plain) {
         return word.to_string(alloc);
@@ -98,7 +98,7 @@ fn quoted(alloc: Global, word: &str) -> Result<String, AllocError> {
 }
 
 impl<'a> TextWriter<'a> {
-    // What the text of an explanation is made of.
+    // A writer of the text of an explanation; its columns leave room for the widest line number.
     fn new(
         alloc: Global,
         explanation: &'a Explanation,
@@ -116,11 +116,11 @@ impl<'a> TextWriter<'a> {
             columns: Columns::new(layout.width, 0, 0),
         };
         let threads = explanation.standings().len();
-        writer.columns = Columns::new(layout.width, threads, writer.widest_line()?);
+        writer.columns = Columns::new(layout.width, threads, writer.line_cell_width()?);
         Ok(writer)
     }
 
-    // How the schedule ends and why, with the table of its steps or without.
+    // The text that says how the schedule ends and why, with the table of its steps or without.
     fn text(&self, with_steps: bool) -> Result<Vec<u8>, AllocError> {
         let mut page = Page::new(self.alloc, self.columns.width);
         self.put_head(&mut page)?;
@@ -138,80 +138,80 @@ impl<'a> TextWriter<'a> {
             )?;
             page.put_line(words.as_str(), 2)?;
         }
-        page.put_whole(self.replay()?.as_str())?;
+        page.put_whole(self.replay_command()?.as_str())?;
         Ok(page.into_bytes())
     }
 
-    // The command that replays the steps that ran.
-    fn replay(&self) -> Result<String, AllocError> {
+    // The last line of the text: the command that replays the steps that ran.
+    fn replay_command(&self) -> Result<String, AllocError> {
         let ran = self.explanation.steps().len();
         let schedule = self.explanation.schedule().get(..ran).unwrap_or(&[]);
         let spelled = schedule_text(self.alloc, schedule)?;
         let schedule = from_utf8(spelled.as_slice()).unwrap_or("-");
-        let file = quoted(self.alloc, self.file())?;
+        let file = shell_quoted(self.alloc, self.file_name())?;
         format!(in self.alloc; "Replay: ctxbound replay {file} {schedule}")
     }
 
-    /// The name of the file.
-    pub fn file(&self) -> &'a str {
+    /// The name of the guest's file.
+    pub fn file_name(&self) -> &'a str {
         from_utf8(self.source.file).unwrap_or("?")
     }
 
-    /// The name of a thread.
-    pub fn thread(&self, thread: u8) -> &'a str {
+    /// The name of the thread of this number.
+    pub fn thread_name(&self, thread: u8) -> &'a str {
         name_text(self.source.thread(thread))
     }
 
-    /// The names of threads.
-    pub fn names(&self, threads: &[u8]) -> Result<String, AllocError> {
+    /// The names of threads, with commas between.
+    pub fn thread_names(&self, threads: &[u8]) -> Result<String, AllocError> {
         let mut names = String::new(self.alloc);
         for thread in threads {
-            put_listed(&mut names, self.thread(*thread))?;
+            push_word(&mut names, self.thread_name(*thread))?;
         }
         Ok(names)
     }
 
     /// The name of an object.
-    pub fn object(&self, object: Object) -> &'a str {
+    pub fn object_name(&self, object: Object) -> &'a str {
         name_text(self.source.object(object))
     }
 
-    /// The name of a thread's local.
-    pub fn local(&self, thread: u8, local: usize) -> &'a str {
+    /// The name of a local of a thread.
+    pub fn local_name(&self, thread: u8, local: usize) -> &'a str {
         name_text(self.source.local(thread, local))
     }
 
-    /// The step at a place.
+    /// The step at a place in the schedule, if that step ran.
     pub fn step(&self, at: usize) -> Option<&'a Step> {
         self.explanation.steps().get(at)
     }
 
-    /// The event at a place.
+    /// The event at a place among the events of the run.
     pub fn event(&self, at: usize) -> Option<Event> {
         self.causes.events().get(at).copied()
     }
 
-    /// The line of an instruction of a thread.
+    /// The line of the file in which an instruction of a thread is.
     pub fn line(&self, thread: u8, instruction: usize) -> FileLine<'_> {
         let line = self.source.line(thread, instruction);
-        self.marks.told(self.file(), line)
+        self.marks.file_line(self.file_name(), line)
     }
 
-    /// The number of the instruction at which a thread is at the end.
-    pub fn place_at_end(&self, thread: u8) -> usize {
+    /// The number of the instruction that a thread has come to at the end of the run.
+    pub fn instruction_at_end(&self, thread: u8) -> usize {
         let standing = self.explanation.standing(thread);
         standing.map_or(0, |standing| standing.instruction)
     }
 
-    /// The line at which a thread is at the end.
+    /// The line that a thread has come to at the end of the run.
     pub fn line_at_end(&self, thread: u8) -> FileLine<'_> {
-        self.line(thread, self.place_at_end(thread))
+        self.line(thread, self.instruction_at_end(thread))
     }
 
-    /// The statement of an instruction, and its line.
+    /// The statement of an instruction of a thread, with the name of the thread and the line.
     pub fn site(&self, thread: u8, instruction: usize) -> Site<'_> {
         Site {
-            name: self.thread(thread),
+            name: self.thread_name(thread),
             line: InLine(self.line(thread, instruction)),
             statement: Statement {
                 source: self.source,
@@ -221,17 +221,17 @@ impl<'a> TextWriter<'a> {
         }
     }
 
-    /// The statement of an event, and its line.
+    /// The statement of an event, with the name of its thread and the line.
     pub fn site_of(&self, event: &Event) -> Site<'_> {
         self.site(event.thread, event.instruction)
     }
 
-    /// What a thread does or can't do at an instruction: its statement, or after a `wait` to take
-    /// the mutex again.
-    pub fn deed(&self, thread: u8, at: usize, retakes: bool) -> Result<String, AllocError> {
+    /// What a thread does or can't do at instruction `at`: its statement, or, where `retakes` says
+    /// that a `wait` there takes its mutex again, `retake` and the mutex.
+    pub fn action_text(&self, thread: u8, at: usize, retakes: bool) -> Result<String, AllocError> {
         match self.source.instruction(thread, at) {
             Some(Instruction::Wait { mutex: m, .. }) if retakes => {
-                format!(in self.alloc; "retake {}", self.object(Object::Mutex(m)))
+                format!(in self.alloc; "retake {}", self.object_name(Object::Mutex(m)))
             }
             _ => self.site(thread, at).statement.to_string(self.alloc),
         }

@@ -1,4 +1,4 @@
-//! What is explained, and how that is told.
+//! Which schedule is explained, and in which format.
 
 ghost use Rattle.std.specs.Prelude.{◌≡◌, IfOk, IfErr};
 ghost use Rattle.std.specs.Arc.{arc_value};
@@ -9,7 +9,8 @@ ghost use Rattle.explained.specs.Explained.{ExplainMeans, IsExplained, IsAsked, 
 ghost use Rattle.explained.specs.Explained.{IsFaultOf, IsScheduleFault};
 
 use answering::{
-    ExplainRequest, Exploration, Fault, Printed, REFUSED, Teller, replay_status, verdict_status,
+    ExplainRequest, Exploration, Fault, Printed, ProgressGate, REFUSED, replay_status,
+    verdict_status,
 };
 use explain::{Explanation, Source};
 use explain_text::{Layout, explanation_text};
@@ -24,33 +25,33 @@ use std::io::Eprint;
 use std::sync::{Arc, Wait};
 use std::thread::Threads;
 
-// What a search up to a bound leaves open.
+// The line after the answer of a search up to a bound that found no bad schedule.
 const NO_PROOF: &str = "That is no proof: others have more. Try --unbounded, or a higher --bound.";
 
-/// The bytes of what is told, unless memory runs out.
-pub type Told = Result<Vec<u8>, AllocError>;
+/// The bytes of an explanation in some format, unless memory runs out.
+pub type Output = Result<Vec<u8>, AllocError>;
 
-/// What tells what is explained.
-pub trait Tell {
-    /// What is told of what is explained of the program in this file, which is the source's.
-    fn tell(&self, alloc: Global, explained: &Explained, source: &Source<'_>, file: &str) -> Told;
+/// A format of explanations, as text, JSON or a page.
+pub trait Render {
+    /// What is explained, in this format; `source` is the program, and `file` the name of its file.
+    fn render(&self, alloc: Global, answer: &Explained, source: &Source<'_>, file: &str) -> Output;
 }
 
-/// Tells it as text, in lines of this width: each step, where there are at most so many, or those
-/// that matter.
+/// An explanation as text, in lines of at most `width` columns: each step has a row where there are at
+/// most `steps` of them, else those that matter.
 #[derive(Clone, Copy, Debug)]
-pub struct Lines {
+pub struct Text {
     pub width: usize,
     pub steps: usize,
 }
 
-impl Tell for Lines {
-    fn tell(&self, alloc: Global, explained: &Explained, source: &Source<'_>, file: &str) -> Told {
-        let (explanation, is_fewest) = match explained {
+impl Render for Text {
+    fn render(&self, alloc: Global, answer: &Explained, source: &Source<'_>, file: &str) -> Output {
+        let (explanation, is_fewest) = match answer {
             Explained::Asked(explanation) => (explanation, false),
             Explained::Found(report, Some(explanation)) => (explanation, is_fewest(report)),
             Explained::Found(report, None) => {
-                return Ok(sentence_of(alloc, file, report)?.into_bytes());
+                return Ok(no_schedule_text(alloc, file, report)?.into_bytes());
             }
         };
         let layout = Layout {
@@ -62,19 +63,19 @@ impl Tell for Lines {
     }
 }
 
-/// The explanation of the schedule that is asked for, in the program that `text` spells, as far as
-/// it runs; or of the bad schedule that a search finds.
+/// The explanation of the schedule that is asked for, in the program that `text` spells, as far as the
+/// schedule runs; or of the bad schedule that a search finds.
 ///
 /// # Errors
 ///
-/// What is wrong first: with the text, with the program that it spells, or with the schedule's
+/// What is wrong first: with the text, with the program that the text spells, or with the schedule's
 /// text; `Memory` where memory runs out.
-pub fn explain_text<R: Threads + Wait + Sync + Eprint, T: Tell>(
+pub fn explain_text<R: Threads + Wait + Sync + Eprint, T: Render>(
     rt: &R,
     alloc: Global,
     text: &[u8],
     request: &ExplainRequest,
-    teller: &T,
+    renderer: &T,
 ) -> Result<Printed, Fault>
     ensures { ExplainMeans text.now request.now result }
 {
@@ -88,24 +89,24 @@ pub fn explain_text<R: Threads + Wait + Sync + Eprint, T: Tell>(
         program: &program,
         map: &map,
     };
-    let told = teller.tell(alloc, &explained, &source, request.file.as_str())?;
+    let told = renderer.render(alloc, &explained, &source, request.file.as_str())?;
     Ok(Printed {
         output: told,
         status: explained.status(),
     })
 }
 
-/// What is explained.
+/// The schedule that is explained: asked for, or found by a search, if one found any.
 #[derive(Drop)]
 pub enum Explained {
     /// The schedule that was asked for.
     Asked(Explanation),
-    /// What a search found: its report, and the schedule that this names, if it names one.
+    /// The report of a search, and the schedule that the report names, if it names one.
     Found(Report, Option<Explanation>),
 }
 
 impl Explained {
-    // What a request asks for, of a program.
+    // What is explained of a program: the schedule of a request, or else the one that a search finds.
     fn new<R: Threads + Wait + Sync + Eprint>(
         rt: &R,
         alloc: Global,
@@ -116,16 +117,16 @@ impl Explained {
         ensures fault { IfErr result (IsFaultOf request.now.schedule) }
     {
         match &request.schedule {
-            Some(schedule) => Ok(Explained::Asked(asked(alloc, program, schedule.as_bytes())?)),
+            Some(text) => Ok(Explained::Asked(explain_spelled(alloc, program, text.as_bytes())?)),
             None => {
-                let (report, explanation) = found(rt, alloc, program, request.search)?;
+                let (report, explanation) = search_and_explain(rt, alloc, program, request.search)?;
                 Ok(Explained::Found(report, explanation))
             }
         }
     }
 
-    // The status after it: that of an explanation, or of the search where it found nothing to
-    // explain.
+    // The status that the program ends with: that of the explanation, or, where the search found nothing
+    // to explain, that of the search.
     fn status(&self) -> u8
         ensures { result ≡ told_status self.now }
     {
@@ -139,7 +140,7 @@ impl Explained {
 }
 
 // The explanation of the schedule that this text spells.
-fn asked(alloc: Global, program: &Program, schedule: &[u8]) -> Result<Explanation, Fault>
+fn explain_spelled(alloc: Global, program: &Program, schedule: &[u8]) -> Result<Explanation, Fault>
     ensures asked { IfOk result (IsAsked program.now schedule.now) }
     ensures fault { IfErr result (IsScheduleFault schedule.now) }
 {
@@ -148,7 +149,7 @@ fn asked(alloc: Global, program: &Program, schedule: &[u8]) -> Result<Explanatio
 }
 
 // The report of a search, and the explanation of the schedule that it names, if it names one.
-fn found<R: Threads + Wait + Sync + Eprint>(
+fn search_and_explain<R: Threads + Wait + Sync + Eprint>(
     rt: &R,
     alloc: Global,
     program: &Arc<Program>,
@@ -157,14 +158,14 @@ fn found<R: Threads + Wait + Sync + Eprint>(
     ensures found { IfOk result (λ it. IsFound (arc_value program.now) search.options it.0 it.1) }
     ensures fault { IfErr result (λ fault. fault ≡ Memory) }
 {
-    let gate = Teller::new(rt, search.progress);
+    let gate = ProgressGate::new(rt, search.progress);
     let report = explore(rt, alloc, program, search.options, search.workers, &gate)?;
-    let explanation = named(alloc, program, &report)?;
+    let explanation = explain_reported(alloc, program, &report)?;
     Ok((report, explanation))
 }
 
 // The explanation of the schedule that a report names, if it names one.
-fn named(
+fn explain_reported(
     alloc: Global,
     program: &Program,
     report: &Report,
@@ -177,8 +178,8 @@ fn named(
     }
 }
 
-// The status after an explanation: that of a replay, or that of a refusal where the schedule
-// doesn't run to its end.
+// The status after an explanation: that of a replay, or that of a refusal where a step of the schedule
+// can't be taken.
 fn explained_status(explanation: &Explanation) -> u8
     ensures { result ≡ explained_status explanation.now.refused explanation.now.kind }
 {
@@ -188,18 +189,18 @@ fn explained_status(explanation: &Explanation) -> u8
     }
 }
 
-/// Whether a search showed that no schedule with fewer preemptions than the one that it names is
-/// bad.
+/// Whether a search showed that no schedule with fewer preemptions than the bad one that its report
+/// names is bad.
 pub fn is_fewest(search: &Report) -> bool {
     matches!(&search.verdict, Verdict::Bad { .. }) && search.bound.is_some()
 }
 
-/// What is said of a search of the program in this file that found no bad schedule.
+/// What is told as text where a search of the program in this file found no bad schedule.
 ///
 /// # Errors
 ///
 /// `AllocError` where memory runs out.
-pub fn sentence_of(alloc: Global, file: &str, report: &Report) -> Result<String, AllocError> {
+pub fn no_schedule_text(alloc: Global, file: &str, report: &Report) -> Result<String, AllocError> {
     let tried = report.summary.tried();
     match (&report.verdict, report.bound) {
         (Verdict::Clean { all: false }, Some(bound)) => {

@@ -1,6 +1,6 @@
 //! An explanation of the guest program in a file.
 
-use crate::explained::{Tell, explain_text};
+use crate::explained::{Render, explain_text};
 use answering::{CommandFault, ExplainRequest, read_file, serve_printed};
 use std::alloc::{Alloc, Global};
 use std::fs::Files;
@@ -8,11 +8,11 @@ use std::io::{Eprint, Input, Write};
 use std::sync::Wait;
 use std::thread::Threads;
 
-/// Explains a schedule of the guest program in a file. A device that fails is named with the cause.
-pub fn serve_explain<H, T: Tell, W: Write, E: Write>(
+/// Explains a schedule of the guest in a file by `renderer`; names a device that fails, and the cause.
+pub fn serve_explain<H, T: Render, W: Write, E: Write>(
     rt: &H,
     request: &ExplainRequest,
-    teller: &T,
+    renderer: &T,
     out: &mut W,
     err: &mut E,
 ) -> u8
@@ -21,7 +21,7 @@ where
 {
     let file = request.file.as_str();
     let printed = match read_file(rt, file) {
-        Ok(text) => match explain_text(rt, rt.alloc(), text.as_slice(), request, teller) {
+        Ok(text) => match explain_text(rt, rt.alloc(), text.as_slice(), request, renderer) {
             Ok(printed) => Ok(printed),
             Err(fault) => Err(CommandFault::Fault(fault)),
         },

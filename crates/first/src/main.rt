@@ -3,23 +3,26 @@
 //! these need: `make run` and `make try` compile it sooner than the whole program.
 #![tactic(auto)]
 
-use answering::{ExplainRequest, Exploration, GuestRequest, REFUSED, STEPS, WIDTH, serve_file};
-use explained::{Lines, serve_explain};
+use answering::{
+    DEFAULT_STEPS, DEFAULT_WIDTH, ExplainRequest, Exploration, GuestRequest, REFUSED, serve_file,
+};
+use explained::{Text, serve_explain};
 use std::io::Write;
 use std::process::ExitCode;
 
+// What is said where the words ask for nothing.
 const USAGE: &str = "usage: first explain FILE [SCHEDULE], first explore FILE --trace, or first \
                      replay FILE SCHEDULE";
 
-/// What the words ask for.
+// What command words ask for: to replay or search the guest program in a file, or to explain a schedule.
 #[derive(Drop)]
-enum Asked {
-    One { file: String, request: GuestRequest },
+enum Request {
+    Guest { file: String, request: GuestRequest },
     Explain(ExplainRequest),
 }
 
-/// What the words ask for, if for anything.
-fn read_words(rt: &HostRuntime) -> Option<Asked> {
+// What the program's command words ask for, if for anything.
+fn read_request(rt: &HostRuntime) -> Option<Request> {
     let words: Vec<String> = std::env::args(rt).ok()?.collect(rt.alloc()).ok()?;
     let file = words.get(2)?.as_str().to_string(rt.alloc()).ok()?;
     let last = match words.get(3) {
@@ -31,34 +34,34 @@ fn read_words(rt: &HostRuntime) -> Option<Asked> {
     }
     let request = match (words.get(1)?.as_str(), last) {
         ("explain", schedule) => {
-            return Some(Asked::Explain(ExplainRequest {
+            return Some(Request::Explain(ExplainRequest {
                 file,
                 schedule,
-                search: Exploration::usual(),
+                search: Exploration::default(),
             }));
         }
         ("explore", Some(word)) if word.as_str() == "--trace" => {
-            GuestRequest::Trace(Exploration::usual())
+            GuestRequest::Trace(Exploration::default())
         }
         ("replay", Some(schedule)) => GuestRequest::Replay { schedule },
         _ => return None,
     };
-    Some(Asked::One { file, request })
+    Some(Request::Guest { file, request })
 }
 
 fn main(rt: HostRuntime) -> ExitCode {
     let mut out = rt.stdout();
     let mut err = rt.stderr();
-    let status = match read_words(&rt) {
-        Some(Asked::One { file, request }) => {
+    let status = match read_request(&rt) {
+        Some(Request::Guest { file, request }) => {
             serve_file(&rt, file.as_str(), &request, &mut out, &mut err)
         }
-        Some(Asked::Explain(request)) => {
-            let lines = Lines {
-                width: WIDTH as usize,
-                steps: STEPS as usize,
+        Some(Request::Explain(request)) => {
+            let text = Text {
+                width: DEFAULT_WIDTH as usize,
+                steps: DEFAULT_STEPS as usize,
             };
-            serve_explain(&rt, &request, &lines, &mut out, &mut err)
+            serve_explain(&rt, &request, &text, &mut out, &mut err)
         }
         None => {
             let _ = writeln!(err, "{USAGE}");

@@ -7,7 +7,7 @@ use Rattle.guest_syntax.specs.Place.{start}
 use Rattle.guest_syntax.specs.Tree.{Tree}
 use Rattle.guest_code.specs.declared.error.CheckError.{CheckError}
 use Rattle.guest_code.specs.declared.error.CheckError.TheVariants as checks
-use Rattle.messages.specs.declared.message.Advice.{Advice}
+use Rattle.messages.specs.declared.message.Diagnostic.{Diagnostic}
 
 -- where a refusal of a text is
 abbrev pub syntax_place : SyntaxError → Pos
@@ -30,7 +30,7 @@ check_place t (checks.CodeTooLong k) = option_map (λ th. th.name.at) (slice_get
 check_place t checks.NoThreads = None
 check_place t checks.OutOfMemory = None
 
--- an advice has this short form, and marks this place
-pub record IsAdviceOf (a : Advice) (text : List ℕ) (at : Option Pos) : Type 0 where
+-- a diagnostic has this short form, and marks this place
+pub record IsDiagnosticOf (a : Diagnostic) (text : List ℕ) (at : Option Pos) : Type 0 where
   pub headline : string_bytes a.headline ≡ text
   pub place : option_map (λ s. s.at) a.span ≡ at

@@ -9,9 +9,9 @@ use std::alloc::{AllocError, Global};
 use std::fmt;
 use strsim::generic_levenshtein;
 
-/// What a name may be of.
+/// What a declared name is of.
 #[derive(Clone, Copy, Debug, PartialEq, Eq)]
-pub enum Sort {
+pub enum DeclaredKind {
     Variable,
     Mutex,
     Condition,
@@ -19,61 +19,60 @@ pub enum Sort {
     Thread,
 }
 
-impl From<Object> for Sort {
-    fn from(object: Object) -> Sort {
+impl From<Object> for DeclaredKind {
+    fn from(object: Object) -> DeclaredKind {
         match object {
-            Object::Variable(_) => Sort::Variable,
-            Object::Mutex => Sort::Mutex,
-            Object::Condition => Sort::Condition,
-            Object::Semaphore(_) => Sort::Semaphore,
+            Object::Variable(_) => DeclaredKind::Variable,
+            Object::Mutex => DeclaredKind::Mutex,
+            Object::Condition => DeclaredKind::Condition,
+            Object::Semaphore(_) => DeclaredKind::Semaphore,
         }
     }
 }
 
-impl fmt::Display for Sort {
-    fn fmt<W: fmt::Write>(&self, f: &mut fmt::Formatter<W>) -> fmt::Result {
-        f.write_str(match self {
-            Sort::Variable => "variable",
-            Sort::Mutex => "mutex",
-            Sort::Condition => "condition",
-            Sort::Semaphore => "semaphore",
-            Sort::Thread => "thread",
-        })
+/// The word for what a declared name is of.
+pub fn kind_word(kind: DeclaredKind) -> &'static str {
+    match kind {
+        DeclaredKind::Variable => "variable",
+        DeclaredKind::Mutex => "mutex",
+        DeclaredKind::Condition => "condition",
+        DeclaredKind::Semaphore => "semaphore",
+        DeclaredKind::Thread => "thread",
     }
 }
 
-/// A declared name, and what it is of.
+/// A declared name, and whether a variable, another object or a thread has it.
 #[derive(Clone, Copy)]
-pub struct Declared<'a> {
+pub struct DeclaredName<'a> {
     pub name: &'a Name,
-    pub sort: Sort,
+    pub kind: DeclaredKind,
 }
 
-impl fmt::Display for Declared<'_> {
+impl fmt::Display for DeclaredName<'_> {
     fn fmt<W: fmt::Write>(&self, f: &mut fmt::Formatter<W>) -> fmt::Result {
-        let name = text_of(&self.name.text);
-        write!(f, "`{name}` is a {} ({})", self.sort, self.name.at)
+        let (name, kind) = (text_of(&self.name.text), kind_word(self.kind));
+        write!(f, "`{name}` is a {kind} ({})", self.name.at)
     }
 }
 
-/// The first declaration of a name.
-pub fn first_declared<'a>(tree: &'a Tree, name: &[u8]) -> Option<Declared<'a>> {
-    let objects = tree.declarations().iter().map(|object| Declared {
+/// The first declaration of a name, of an object or else of a thread; none where there is none.
+pub fn first_declaration<'a>(tree: &'a Tree, name: &[u8]) -> Option<DeclaredName<'a>> {
+    let objects = tree.declarations().iter().map(|object| DeclaredName {
         name: &object.name,
-        sort: Sort::from(object.object),
+        kind: DeclaredKind::from(object.object),
     });
-    let threads = tree.threads().iter().map(|thread| Declared {
+    let threads = tree.threads().iter().map(|thread| DeclaredName {
         name: &thread.name,
-        sort: Sort::Thread,
+        kind: DeclaredKind::Thread,
     });
     objects
         .chain(threads)
         .find(|declared| declared.name.text.as_slice() == name)
 }
 
-/// How many edits of single bytes lead from a name to another one, where that is near: at most a
-/// third as many as the bytes of the name, rounded up, and fewer than those of the other one.
-pub fn near_name(alloc: Global, name: &[u8], other: &[u8]) -> Result<Option<usize>, AllocError>
+/// How many edits of single bytes lead from a name to the other one, where they are near: at most a
+/// third as many edits as the name has bytes, rounded up, and fewer than the other one has.
+pub fn near_distance(alloc: Global, name: &[u8], other: &[u8]) -> Result<Option<usize>, AllocError>
     ensures { IfOk result (λ n. n ≡ near name.now other.now) }
 {
     let distance = generic_levenshtein(alloc, name, other)?;
@@ -84,7 +83,7 @@ pub fn near_name(alloc: Global, name: &[u8], other: &[u8]) -> Result<Option<usiz
     }
 }
 
-/// What has the name that is nearest to a word, the first of them, where one is near.
+/// A search for what has the name nearest to a word: of what was added, the first with the fewest edits.
 #[derive(Clone, Copy)]
 pub struct Nearest<'a, T> {
     word: &'a [u8],
@@ -92,14 +91,14 @@ pub struct Nearest<'a, T> {
 }
 
 impl<'a, T: Copy> Nearest<'a, T> {
-    /// Nothing has a name that is near to the word.
+    /// A search for a word to which nothing was added yet.
     pub fn new(word: &'a [u8]) -> Nearest<'a, T> {
         Nearest { word, best: None }
     }
 
-    /// One more thing that has a name.
+    /// Adds a thing with its name, which may be the nearest so far.
     pub fn add(&mut self, alloc: Global, name: &[u8], thing: T) -> Result<(), AllocError> {
-        if let Some(distance) = near_name(alloc, self.word, name)? {
+        if let Some(distance) = near_distance(alloc, self.word, name)? {
             if self.best.is_none_or(|(least, _)| distance < least) {
                 self.best = Some((distance, thing));
             }
@@ -107,22 +106,22 @@ impl<'a, T: Copy> Nearest<'a, T> {
         Ok(())
     }
 
-    /// The thing whose name is nearest.
+    /// Of what was added, the thing whose name is nearest to the word, if one is near.
     pub fn found(self) -> Option<T> {
         self.best.map(|(_, thing)| thing)
     }
 }
 
-/// The name of an object of a sort that is nearest, the first of them, where one is near.
+/// The declared name of an object of a kind that is nearest to a word, the first such, if one is near.
 pub fn nearest_object<'a>(
     alloc: Global,
     tree: &'a Tree,
-    sort: Sort,
+    kind: DeclaredKind,
     word: &[u8],
 ) -> Result<Option<&'a Name>, AllocError> {
     let mut nearest = Nearest::new(word);
     for object in tree.declarations() {
-        if Sort::from(object.object) == sort {
+        if DeclaredKind::from(object.object) == kind {
             nearest.add(alloc, &object.name.text, &object.name)?;
         }
     }

@@ -1,82 +1,39 @@
 //! How statements and declarations are written.
 
-use crate::declared::Sort;
-use guest_syntax::limits::REPEATS;
+use guest_syntax::limits::{COUNT, REPEATS};
 use guest_syntax::pieces::Pieces;
 use std::fmt;
+use std::str::from_utf8;
 
-/// What a place of a statement or a declaration is for.
+/// A word of a form: what the place is for.
 #[derive(Clone, Copy, Debug, PartialEq, Eq)]
-pub enum Slot {
-    /// The name of a local.
-    Local,
-    /// The name of an object.
-    Object(Sort),
-    /// A local or a number.
-    Value,
-    /// An operator.
-    Operator,
-    /// How often a block is repeated.
-    Times,
-    /// A name that is declared here.
-    New,
-    /// The opening value of a variable.
-    Number,
-    /// The opening count of a semaphore.
-    Count,
-    /// `=`
-    Start,
-    /// `;`
-    End,
-    /// `{`
-    Block,
-}
-
-impl Slot {
-    /// What a word of a form stands for.
-    fn of(word: &[u8]) -> Slot {
-        match word {
-            b"LOCAL" => Slot::Local,
-            b"VAR" => Slot::Object(Sort::Variable),
-            b"MUTEX" => Slot::Object(Sort::Mutex),
-            b"COND" => Slot::Object(Sort::Condition),
-            b"SEM" => Slot::Object(Sort::Semaphore),
-            b"OP" => Slot::Operator,
-            b"TIMES" => Slot::Times,
-            b"NAME" => Slot::New,
-            b"NUMBER" => Slot::Number,
-            b"COUNT" => Slot::Count,
-            b"=" => Slot::Start,
-            b";" => Slot::End,
-            b"{" => Slot::Block,
-            _ => Slot::Value,
-        }
-    }
-}
+pub struct Slot(pub &'static str);
 
 impl fmt::Display for Slot {
     fn fmt<W: fmt::Write>(&self, f: &mut fmt::Formatter<W>) -> fmt::Result {
-        match self {
-            Slot::Local => write!(f, "the name of a local"),
-            Slot::Object(sort) => write!(f, "the name of a {sort}"),
-            Slot::Value => write!(f, "a local or a number"),
-            Slot::Operator => write!(f, "an operator"),
-            Slot::Times => write!(f, "a number from 1 to {REPEATS}"),
-            Slot::New => write!(f, "a name that is no keyword"),
-            Slot::Number | Slot::Count => write!(f, "a number"),
-            Slot::Start => write!(f, "`=`"),
-            Slot::End => write!(f, "`;`"),
-            Slot::Block => write!(f, "`{{`"),
+        match self.0 {
+            "LOCAL" => write!(f, "the name of a local"),
+            "VAR" => write!(f, "the name of a variable"),
+            "MUTEX" => write!(f, "the name of a mutex"),
+            "COND" => write!(f, "the name of a condition"),
+            "SEM" => write!(f, "the name of a semaphore"),
+            "OP" => write!(f, "an operator"),
+            "TIMES" => write!(f, "a number from 1 to {REPEATS}"),
+            "NAME" => write!(f, "a name that is no keyword"),
+            "NUMBER" => write!(f, "a number"),
+            "COUNT" => write!(f, "a number from 0 to {COUNT}"),
+            "=" | ";" | "{" => write!(f, "`{}`", self.0),
+            _ => write!(f, "a local or a number"),
         }
     }
 }
 
-/// The keyword of a statement or a declaration, and how that is written. Where there are two ways, the
+/// The keyword of a statement or a declaration, and how that is written. Where it has two ways, the
 /// second has all places of the first.
 #[derive(Clone, Copy)]
 pub struct Form(pub &'static str, pub &'static str);
 
-/// The declarations, and the thread.
+/// The forms of the declarations, and of a thread.
 pub static DECLARATIONS: [Form; 5] = [
     Form("var", "var NAME; or var NAME = NUMBER;"),
     Form("mutex", "mutex NAME;"),
@@ -85,7 +42,7 @@ pub static DECLARATIONS: [Form; 5] = [
     Form("thread", "thread NAME { .. }"),
 ];
 
-/// The statements.
+/// The forms of the statements.
 pub static STATEMENTS: [Form; 16] = [
     Form("load", "load LOCAL VAR;"),
     Form("store", "store VAR VALUE;"),
@@ -105,20 +62,26 @@ pub static STATEMENTS: [Form; 16] = [
     Form("leave", "leave;"),
 ];
 
-/// What begins no statement, but goes on with one.
+// The form of `else`, which begins no statement, but goes on with an `if`.
 static ELSE: Form = Form("else", "if VALUE { .. } else { .. }");
 
 impl Form {
-    /// The form with this keyword, if there is one.
-    pub fn of(keyword: &str) -> Option<Form> {
+    /// The form with this keyword, in upper or lower case, if there is one.
+    pub fn with_keyword(keyword: &str) -> Option<Form> {
         let mut all = DECLARATIONS.iter().chain(&STATEMENTS).chain([&ELSE]);
-        all.find(|form| form.0 == keyword).copied()
+        all.find(|form| form.0.eq_ignore_ascii_case(keyword))
+            .copied()
     }
 
-    /// What the places after its keyword are for, as far as it has this many.
+    /// Whether a block ends the form.
+    pub fn has_block(self) -> bool {
+        self.1.ends_with('}')
+    }
+
+    /// What the place of a number after the keyword is for, from 0 on; none where the form has no more.
     pub fn slot(self, number: usize) -> Option<Slot> {
         let (_, places) = self.1.rsplit_once(self.0)?;
         let word = Pieces::new(places.as_bytes()).nth(number)?;
-        Some(Slot::of(word.text))
+        Some(Slot(from_utf8(word.text).ok()?))
     }
 }

@@ -16,7 +16,7 @@ pub fn pieces<'a>(alloc: Global, text: &'a [u8]) -> Result<Vec<Piece<'a>>, Alloc
     Pieces::new(text).collect(alloc)
 }
 
-/// The bytes of a token as text, or a question mark for a byte that can't be printed.
+/// The bytes of a piece as text; a question mark instead of all where one can't be printed.
 pub fn text_of(piece: &[u8]) -> &str {
     match from_utf8(piece) {
         Ok(text) if piece.iter().all(u8::is_ascii_graphic) => text,
@@ -26,25 +26,30 @@ pub fn text_of(piece: &[u8]) -> &str {
 
 /// Whether a piece has digits alone.
 pub fn is_number(piece: &str) -> bool {
-    piece.bytes().all(|byte| byte.is_ascii_digit())
+    !piece.is_empty() && piece.bytes().all(|byte| byte.is_ascii_digit())
 }
 
-/// Whether a place comes before another one.
+/// Whether a piece begins like a name.
+pub fn is_name(piece: &str) -> bool {
+    piece.starts_with(|first: char| first.is_ascii_alphabetic() || first == '_')
+}
+
+/// Whether the first place comes before the second one.
 pub fn is_before(first: Pos, second: Pos) -> bool {
     first.line < second.line || first.line == second.line && first.col < second.col
 }
 
-/// The number of the first piece that doesn't come before a place.
-pub fn piece_at(pieces: &[Piece<'_>], at: Pos) -> usize {
+/// The number of the first piece that is at a place or after it; how many there are where none is.
+pub fn piece_number_at(pieces: &[Piece<'_>], at: Pos) -> usize {
     let before = |piece: &&Piece<'_>| is_before(piece.at, at);
     pieces.iter().take_while(before).count()
 }
 
-/// The span of the piece at a place; of one byte where none is.
+/// The span of the piece at a place; a span of one byte where no piece begins.
 pub fn span_at(pieces: &[Piece<'_>], at: Pos) -> Span
     ensures { result.at ≡ at }
 {
-    let length = match pieces.get(piece_at(pieces, at)) {
+    let length = match pieces.get(piece_number_at(pieces, at)) {
         Some(piece) if piece.at == at => piece.text.len(),
         _ => 1,
     };
@@ -56,16 +61,16 @@ pub fn is_boundary(piece: &Piece<'_>) -> bool {
     matches!(piece.text, b";" | b"{" | b"}")
 }
 
-/// Whether a piece is the first of its line.
-pub fn is_first(pieces: &[Piece<'_>], number: usize) -> bool {
+/// Whether the piece of a number is the first of its line.
+pub fn is_first_in_line(pieces: &[Piece<'_>], number: usize) -> bool {
     match (pieces.get(number), pieces.get(number.saturating_sub(1))) {
         (Some(here), Some(before)) => number == 0 || before.at.line < here.at.line,
         _ => false,
     }
 }
 
-/// The number of the piece that closes the block that this piece opens.
-pub fn closing(pieces: &[Piece<'_>], open: usize) -> Option<usize> {
+/// The number of the piece that closes the block that the piece `open` opens.
+pub fn closing_piece(pieces: &[Piece<'_>], open: usize) -> Option<usize> {
     let first = open.checked_add(1)?;
     let inside = pieces::closing(pieces.get(first..)?)?;
     first.checked_add(inside)

@@ -4,20 +4,20 @@ ghost use Rattle.std.specs.Prelude.{◌≡◌, Some, IfOk};
 ghost use Rattle.guest_syntax.specs.ErrorTexts.{syntax_error_text};
 ghost use Rattle.guest_syntax.specs.Tree.{tree_view};
 ghost use Rattle.guest_code.specs.ErrorTexts.{check_error_text};
-ghost use Rattle.hints.specs.Refusals.{syntax_place, check_place, IsAdviceOf};
+ghost use Rattle.hints.specs.Refusals.{syntax_place, check_place, IsDiagnosticOf};
 
-use crate::context::Context;
-use crate::faults::told_of_fault;
+use crate::faults::fault_message;
 use crate::pieces::{START, pieces, span_at};
-use crate::syntax::told_of_syntax;
+use crate::site::FaultSite;
+use crate::syntax::syntax_message;
 use guest_code::error::CheckError;
 use guest_syntax::SyntaxError;
 use guest_syntax::place::Pos;
 use guest_syntax::tree::Tree;
-use messages::message::{Advice, Grade};
+use messages::message::{Diagnostic, Severity};
 use std::alloc::{AllocError, Global};
 
-/// The place of a refusal of the text; its start where memory ran out.
+// The place of a refusal of a text; the start of the text where memory ran out.
 fn syntax_place(error: SyntaxError) -> Pos
     ensures { result ≡ syntax_place error }
 {
@@ -32,8 +32,8 @@ fn syntax_place(error: SyntaxError) -> Pos
     }
 }
 
-/// The place of a refusal of the program, if it has one; that of too long a code is the name of its
-/// thread.
+// The place of a refusal of a tree, if there is one; too long a code has the place of the name of its
+// thread.
 fn check_place(tree: &Tree, error: CheckError) -> Option<Pos>
     ensures { result ≡ check_place (tree_view tree.now) error }
 {
@@ -48,36 +48,40 @@ fn check_place(tree: &Tree, error: CheckError) -> Option<Pos>
     }
 }
 
-/// Why a text spells no tree.
-pub fn syntax_advice(alloc: Global, text: &[u8], error: SyntaxError) -> Result<Advice, AllocError>
+/// The diagnostic on why a text spells no tree.
+pub fn syntax_diagnostic(
+    alloc: Global,
+    text: &[u8],
+    error: SyntaxError,
+) -> Result<Diagnostic, AllocError>
     ensures { IfOk result (λ a.
-        IsAdviceOf a (syntax_error_text error) (Some (syntax_place error))) }
+        IsDiagnosticOf a (syntax_error_text error) (Some (syntax_place error))) }
 {
     let pieces = pieces(alloc, text)?;
     let at = syntax_place(error);
-    let told = told_of_syntax(alloc, Context::at(&pieces, at), text, error)?;
+    let message = syntax_message(alloc, FaultSite::new(&pieces, at), text, error)?;
     let headline = format!(in alloc; "{error}")?;
-    Ok(told.advice(Grade::Refusal, headline, Some(span_at(&pieces, at))))
+    Ok(message.into_diagnostic(Severity::Refusal, headline, Some(span_at(&pieces, at))))
 }
 
-/// Why a tree is no program.
-pub fn check_advice(
+/// The diagnostic on why a tree, which the text spells, is no program.
+pub fn check_diagnostic(
     alloc: Global,
     text: &[u8],
     tree: &Tree,
     error: CheckError,
-) -> Result<Advice, AllocError>
+) -> Result<Diagnostic, AllocError>
     ensures { IfOk result (λ a.
-        IsAdviceOf a (check_error_text error) (check_place (tree_view tree.now) error)) }
+        IsDiagnosticOf a (check_error_text error) (check_place (tree_view tree.now) error)) }
 {
     let pieces = pieces(alloc, text)?;
     let at = check_place(tree, error);
-    let context = Context::at(&pieces, at.unwrap_or(START));
-    let told = told_of_fault(alloc, context, tree, error)?;
+    let site = FaultSite::new(&pieces, at.unwrap_or(START));
+    let message = fault_message(alloc, site, tree, error)?;
     let headline = format!(in alloc; "{error}")?;
     let span = match at {
         Some(at) => Some(span_at(&pieces, at)),
         None => None,
     };
-    Ok(told.advice(Grade::Refusal, headline, span))
+    Ok(message.into_diagnostic(Severity::Refusal, headline, span))
 }

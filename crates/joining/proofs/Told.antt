@@ -15,17 +15,17 @@ use Rattle.replay.proofs.FirstBadPlace.{first_bad_fails}
 use Rattle.parts.specs.declared.part.Part.{Part}
 use Rattle.report.specs.Reports.{IsBadSchedule}
 use Rattle.joining.specs.Parts.{IsTrue, IsWithinBound}
-use Rattle.joining.specs.inner.Sums.{is_bad_end, is_few, is_bad_run}
+use Rattle.joining.specs.inner.Sums.{is_bad_end, is_within_bound, is_bad_run}
 
-few : (p : Program) (bound : Option ℕ) (w : List ℕ) → is_few bound (preemptions p w) ≡ true →
-    IsWithinBound p bound w
+few : (p : Program) (bound : Option ℕ) (w : List ℕ) →
+    is_within_bound bound (preemptions p w) ≡ true → IsWithinBound p bound w
 few p None w h = tt
 few p (Some bound) w h = grind (arith, nat_tests, h)
 
-is_few_of : (p : Program) (bound : Option ℕ) (w : List ℕ) → IsWithinBound p bound w →
-    is_few bound (preemptions p w) ≡ true
-is_few_of p None w h = refl
-is_few_of p (Some bound) w h =
+is_within_bound_of : (p : Program) (bound : Option ℕ) (w : List ℕ) → IsWithinBound p bound w →
+    is_within_bound bound (preemptions p w) ≡ true
+is_within_bound_of p None w h = refl
+is_within_bound_of p (Some bound) w h =
     let le : preemptions p w ≤ bound = h in grind (arith, nat_tests, le)
 
 bad_end : (p : Program) (s : Snapshot) → is_bad_end (kind_of p s) ≡ true →
@@ -41,7 +41,7 @@ bad_end p s h = go (is_terminal p s) refl h
 pub run_bad : (p : Program) (w : List ℕ) (r : Run) (bound : Option ℕ) → IsRunOf p w r →
     is_bad_run r bound ≡ true → IsBadSchedule p w × IsWithinBound p bound w
 run_bad p w r bound h e =
-    let both = and_parts (is_bad_end (run_of p w).kind) (is_few bound (preemptions p w))
+    let both = and_parts (is_bad_end (run_of p w).kind) (is_within_bound bound (preemptions p w))
     (subst (λ (x : Run). is_bad_run x bound ≡ true) h.same e) in
     let over = bad_end p (state_after p (start p) w) both.0 in (
       ((complete p (start p) w).0 ((complete_is p (start p) w).1 (h.legal, over.0)), over.1),
@@ -53,9 +53,9 @@ pub bad_run : (p : Program) (w : List ℕ) (r : Run) (bound : Option ℕ) → Is
 bad_run p w r bound h bad within =
     let over = ((complete_is p (start p) w).0 ((complete p (start p) w).1 bad.0)).1 in
     subst (λ (x : Run). is_bad_run x bound ≡ true) (sym h.same)
-    (and_from (is_bad_end (run_of p w).kind) (is_few bound (preemptions p w))
+    (and_from (is_bad_end (run_of p w).kind) (is_within_bound bound (preemptions p w))
     (ap (λ b. is_bad_end (cond b (Some (view_at (state_after p (start p) w)).kind) None)) over
-    ∙ bad.1) (is_few_of p bound w within))
+    ∙ bad.1) (is_within_bound_of p bound w within))
 
 -- a schedule that doesn't run is none that a part may tell
 pub not_run : (p : Program) (x : Part) (w : List ℕ) (k : ℕ) → IsFirstBad p w k →

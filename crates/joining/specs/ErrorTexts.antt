@@ -2,7 +2,7 @@
 use Rattle.std.specs.Prelude.{ℕ, Bool, true, false, List, [], ◌++◌, Option, Some, None, codes}
 use Rattle.std.specs.Fmt.{decimal}
 use Rattle.replay.specs.Spelling.{printed}
-use Rattle.joining.specs.declared.error.Place.{Place}
+use Rattle.joining.specs.declared.error.PartPlace.{PartPlace}
 use Rattle.joining.specs.declared.error.JoinError.{JoinError}
 use Rattle.joining.specs.declared.error.JoinError.TheVariants.{Missing, Nested, Unused, Lacks}
 use Rattle.joining.specs.declared.error.JoinError.TheVariants.{Cut, Disagree, Untrue, OutOfMemory}
@@ -11,7 +11,7 @@ abbrev pub bound_text : Option ℕ → List ℕ
 bound_text None = []
 bound_text (Some bound) = codes " at bound " ++ decimal bound
 
-abbrev pub place_text : Place → List ℕ
+abbrev pub place_text : PartPlace → List ℕ
 place_text place = bound_text place.bound ++ (codes " under " ++ printed place.under.items)
 
 abbrev pub join_error_text : JoinError → List ℕ

@@ -19,7 +19,7 @@ use Rattle.report.specs.declared.options.Search.TheVariants.{UpTo, Unbounded}
 use Rattle.report.specs.Reports.{IsBadSchedule}
 use Rattle.parts.specs.declared.part.Part.{Part}
 use Rattle.runner.specs.Levels.{IsModeOf}
-use Rattle.joining.specs.declared.error.Place.{Place}
+use Rattle.joining.specs.declared.error.PartPlace.{PartPlace}
 use Rattle.joining.specs.declared.error.JoinError.{JoinError}
 use Rattle.joining.specs.declared.error.JoinError.TheVariants.{Missing, Nested, Unused, Lacks}
 use Rattle.joining.specs.declared.error.JoinError.TheVariants.{Cut, Disagree, Untrue, OutOfMemory}
@@ -79,13 +79,13 @@ abbrev pub prefixes_for : Search → List Part → List (List ℕ)
 prefixes_for search parts = map (λ x. x.under.items) (filter (has_bound search) parts)
 
 -- the search comes to the bound of the place, and no part tells what is under its prefix
-pub record IsLacking (search : Search) (parts : List Part) (place : Place) : Type 0 where
+pub record IsLacking (search : Search) (parts : List Part) (place : PartPlace) : Type 0 where
   pub of : IsModeOf search (mode_at place.bound)
   pub listed : Contains (prefixes_for search parts) place.under.items
   pub none : All (λ x. Tells place.under.items place.bound x → ⊥) parts
 
 -- the part is of this place
-pub record IsOfPlace (place : Place) (x : Part) : Type 0 where
+pub record IsOfPlace (place : PartPlace) (x : Part) : Type 0 where
   pub under : x.under.items ≡ place.under.items
   pub bound : x.level.bound ≡ place.bound
 
@@ -98,7 +98,7 @@ pub record Differ (one other : Part) : Type 0 where
   pub apart : one.level.summary ≢ other.level.summary
 
 -- two of the parts, which are of the place, differ
-pub record AreApart (parts : List Part) (place : Place) : Type 0 where
+pub record AreApart (parts : List Part) (place : PartPlace) : Type 0 where
   pub one : Part
   pub other : Part
   pub first : Contains parts one

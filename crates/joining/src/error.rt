@@ -9,9 +9,9 @@ use messages::words::decimal;
 use replay::schedule_text;
 use std::alloc::{AllocError, Global};
 
-/// A prefix, and a bound; `None` without one.
+/// Where a part belongs: a prefix, and a bound, which is `None` in a search without one.
 #[derive(Debug, Drop)]
-pub struct Place {
+pub struct PartPlace {
     /// The prefix.
     pub under: Vec<u8>,
     /// The bound.
@@ -21,27 +21,27 @@ pub struct Place {
 /// Why parts don't join to a report.
 #[derive(Debug, Drop)]
 pub enum JoinError {
-    /// No part is under this prefix, with which a schedule begins that no part has.
+    /// This prefix begins a schedule that is under no part, and no part is under this prefix.
     Missing(Vec<u8>),
     /// The first of these prefixes of parts begins the second.
     Nested(Vec<u8>, Vec<u8>),
     /// None of the program's schedules begins with this prefix of a part.
     Unused(Vec<u8>),
-    /// No part says what is under the prefix at the bound.
-    Lacks(Place),
-    /// No part says it but one that was cut short.
-    Cut(Place),
-    /// Two parts say different things of it.
-    Disagree(Place),
-    /// A part tells a schedule that isn't a bad one of the program, that doesn't begin with the
-    /// prefix, or that isn't within the bound.
-    Untrue(Place),
+    /// No part tells what is under this prefix at this bound.
+    Lacks(PartPlace),
+    /// A part that was cut short alone tells what is under this prefix at this bound.
+    Cut(PartPlace),
+    /// Two parts tell different things of this prefix at this bound.
+    Disagree(PartPlace),
+    /// A part of this prefix at this bound tells a schedule that isn't a bad one of the program,
+    /// that doesn't begin with the prefix, or that isn't within the bound.
+    Untrue(PartPlace),
     /// Memory ran out.
     OutOfMemory,
 }
 
 impl JoinError {
-    /// Whether a search of more would help.
+    /// Whether more parts, of a search of what is missing, would help.
     pub fn needs_work(&self) -> bool
         ensures { result ≡ needs_work self.now }
     {
@@ -67,16 +67,16 @@ impl JoinError {
                 Ok(text)
             }
             JoinError::Unused(prefix) => phrase(alloc, b"no schedule begins with ", prefix, b""),
-            JoinError::Lacks(place) => phrase_at(alloc, b"nothing", place),
-            JoinError::Cut(place) => phrase_at(alloc, b"cut short", place),
-            JoinError::Disagree(place) => phrase_at(alloc, b"two parts disagree", place),
-            JoinError::Untrue(place) => phrase_at(alloc, b"an untrue schedule", place),
+            JoinError::Lacks(place) => place_phrase(alloc, b"nothing", place),
+            JoinError::Cut(place) => place_phrase(alloc, b"cut short", place),
+            JoinError::Disagree(place) => place_phrase(alloc, b"two parts disagree", place),
+            JoinError::Untrue(place) => place_phrase(alloc, b"an untrue schedule", place),
             JoinError::OutOfMemory => Vec::from_slice(alloc, b"memory"),
         }
     }
 }
 
-// A prefix in its printed spelling, between words.
+// A prefix in its printed spelling, with words before and after it.
 fn phrase(
     alloc: Global,
     before: &[u8],
@@ -92,8 +92,8 @@ fn phrase(
     Ok(text)
 }
 
-// Words, with a place after them.
-fn phrase_at(alloc: Global, words: &[u8], place: &Place) -> Result<Vec<u8>, AllocError>
+// Words, and after them the bound of a place, if it has one, and its prefix.
+fn place_phrase(alloc: Global, words: &[u8], place: &PartPlace) -> Result<Vec<u8>, AllocError>
     ensures { IfOk result (λ text. text.items ≡ words.now ++ place_text place.now) }
 {
     let mut text = Vec::from_slice(alloc, words)?;

@@ -11,8 +11,8 @@ ghost use Rattle.guest_code.specs.Program.{Program};
 ghost use Rattle.joining.specs.Parts.{AreHonest, AreApart, IsTrue, Tells, JoinErrorMeans, prefixes_for, last_mode, mode_at, options_of};
 ghost use Rattle.joining.specs.inner.Sums.{TellSums, IsFirstOfPart, GoesOnAt};
 
-use crate::error::{JoinError, Place};
-use crate::lines::{Lines, is_cut};
+use crate::error::{JoinError, PartPlace};
+use crate::lines::{PartsByPrefix, is_cut};
 use crate::schedules_told::check_schedules;
 use cover::cover_by;
 use guest_code::program::Program;
@@ -25,20 +25,20 @@ use std::alloc::{AllocError, Global};
 use std::sync::Arc;
 use summary::Summary;
 
-// Parts of a search of a program, and the items of their prefixes.
+// What `join` joins: the parts of a search of a program, and the items of their prefixes.
 #[derive(Clone, Copy)]
 struct Joining<'a, 'p> {
     program: &'a Program,
     search: Search,
-    lines: &'a Lines<'p>,
+    parts: &'a PartsByPrefix<'p>,
     items: &'a [Item],
 }
 
-/// The report of a search of the program, from parts of it: where each part is the sum of what is
-/// under its prefix at its bound, it is one of the program. Of the guests of the parts nothing is
-/// read. A part where nothing is beyond its bound and nothing is bad stands for each greater bound;
-/// one that was cut short is used by none. No two others tell different things of one prefix at one
-/// bound, used or not.
+/// The report of a search of the program, from parts of the search: where each part is the sum of
+/// what is under its prefix at its bound, the report is one of the program. The guests of the parts
+/// aren't looked at. A part where nothing is beyond its bound and nothing is bad stands for each
+/// greater bound; a part that was cut short is never used. Parts that weren't cut short are refused,
+/// used or not, where two tell different things of one prefix at one bound.
 ///
 /// # Errors
 ///
@@ -51,12 +51,12 @@ pub fn join(
 ) -> Result<Report, JoinError>
     ensures report { IfOk result (λ r. AreHonest (arc_value program.now) parts.now →
         IsReport false (arc_value program.now) (options_of search) r) }
-    ensures agree { IfOk result (λ _. (place : Place) → AreApart parts.now place → ⊥) }
+    ensures agree { IfOk result (λ _. (place : PartPlace) → AreApart parts.now place → ⊥) }
     ensures error { IfErr result (JoinErrorMeans (arc_value program.now) search parts.now) }
 {
     check_schedules(alloc, program, parts)?;
-    let lines = Lines::of(alloc, parts)?;
-    lines.check_agreement(alloc)?;
+    let by_prefix = PartsByPrefix::of(alloc, parts)?;
+    by_prefix.check_agreement(alloc)?;
     let last = last_bound(search);
     let prefixes = prefixes_for(alloc, search, parts)?;
     let items = cover_by(
@@ -68,7 +68,7 @@ pub fn join(
     let joining = Joining {
         program,
         search,
-        lines: &lines,
+        parts: &by_prefix,
         items: items.as_slice(),
     };
     if let Some(last) = last {
@@ -84,7 +84,7 @@ pub fn join(
     }
 }
 
-// The prefixes of the parts with a bound, or of those without.
+// The prefixes of the parts that a search uses: of those with a bound, or of those without one.
 fn prefixes_for<'a>(
     alloc: Global,
     search: Search,
@@ -102,20 +102,20 @@ fn prefixes_for<'a>(
 }
 
 impl Joining<'_, '_> {
-    // The report of the search, if it ends at this bound.
+    // The report of the search, if the search ends at this bound.
     fn report_at(&self, alloc: Global, bound: Option<u32>) -> Result<Option<Report>, JoinError>
         requires of { IsModeOf self.now.search (mode_at bound) }
-        requires schedules { All (IsTrue self.now.program.now) self.now.lines.now.parts.now }
+        requires schedules { All (IsTrue self.now.program.now) self.now.parts.now.parts.now }
         requires items { IsCoverBy (last_mode self.now.search) self.now.program.now
-            (prefixes_for self.now.search self.now.lines.now.parts.now) self.now.items.now }
+            (prefixes_for self.now.search self.now.parts.now.parts.now) self.now.items.now }
         ensures some { IfOk result (λ o. IfSome o (λ r.
-            AreHonest self.now.program.now self.now.lines.now.parts.now →
+            AreHonest self.now.program.now self.now.parts.now.parts.now →
             HasPassed (root_of self.now.program.now) (mode_at bound) →
             IsReport false self.now.program.now (options_of self.now.search) r)) }
         ensures none { IfOk result (λ o. IfNone o (GoesOnAt self.now.search bound
-            (AreHonest self.now.program.now self.now.lines.now.parts.now) self.now.program.now)) }
+            (AreHonest self.now.program.now self.now.parts.now.parts.now) self.now.program.now)) }
         ensures error { IfErr result
-            (JoinErrorMeans self.now.program.now self.now.search self.now.lines.now.parts.now) }
+            (JoinErrorMeans self.now.program.now self.now.search self.now.parts.now.parts.now) }
     {
         let sum = self.sum_at(alloc, bound)?;
         let options = Options::new(self.search);
@@ -125,45 +125,45 @@ impl Joining<'_, '_> {
         }
     }
 
-    // What parts tell of all items at the bound, as one.
+    // What the parts tell of all items at the bound, joined to one summary.
     fn sum_at(&self, alloc: Global, bound: Option<u32>) -> Result<Summary, JoinError>
         requires of { IsModeOf self.now.search (mode_at bound) }
         requires listed { All (λ i. Contains
-            (prefixes_for self.now.search self.now.lines.now.parts.now) i.prefix)
+            (prefixes_for self.now.search self.now.parts.now.parts.now) i.prefix)
             self.now.items.now }
-        ensures sum { TellSums bound self.now.lines.now.parts.now self.now.items.now →
+        ensures sum { TellSums bound self.now.parts.now.parts.now self.now.items.now →
             IfOk result (λ s. s ≡ item_sums (mode_at bound) self.now.items.now) }
-        ensures first { IfOk result (IsFirstOfPart self.now.lines.now.parts.now) }
+        ensures first { IfOk result (IsFirstOfPart self.now.parts.now.parts.now) }
         ensures error { (p : Program) →
-            IfErr result (JoinErrorMeans p self.now.search self.now.lines.now.parts.now) }
+            IfErr result (JoinErrorMeans p self.now.search self.now.parts.now.parts.now) }
     {
         let mut sum = Summary::empty(alloc);
         for item in self.items {
-            let line = self.line_of(alloc, item, bound)?;
-            sum = sum.join(alloc, &line.level.summary)?;
+            let part = self.part_of(alloc, item, bound)?;
+            sum = sum.join(alloc, &part.level.summary)?;
         }
         Ok(sum)
     }
 
     // The part that tells what is under the item's prefix at the bound.
-    fn line_of(&self, alloc: Global, item: &Item, bound: Option<u32>) -> Result<&Part, JoinError>
+    fn part_of(&self, alloc: Global, item: &Item, bound: Option<u32>) -> Result<&Part, JoinError>
         requires of { IsModeOf self.now.search (mode_at bound) }
-        requires listed { Contains (prefixes_for self.now.search self.now.lines.now.parts.now)
+        requires listed { Contains (prefixes_for self.now.search self.now.parts.now.parts.now)
             item.now.prefix }
-        ensures line { IfOk result (λ x.
-            Contains self.now.lines.now.parts.now x.now × Tells item.now.prefix bound x.now) }
+        ensures part { IfOk result (λ x.
+            Contains self.now.parts.now.parts.now x.now × Tells item.now.prefix bound x.now) }
         ensures error { (p : Program) →
-            IfErr result (JoinErrorMeans p self.now.search self.now.lines.now.parts.now) }
+            IfErr result (JoinErrorMeans p self.now.search self.now.parts.now.parts.now) }
     {
-        let Some(line) = self.lines.line_at(item.prefix(), bound) else {
-            return Err(lacking(alloc, self.lines.parts, item.prefix(), bound)?);
+        let Some(part) = self.parts.part_at(item.prefix(), bound) else {
+            return Err(lack_error(alloc, self.parts.parts, item.prefix(), bound)?);
         };
-        Ok(line)
+        Ok(part)
     }
 }
 
-// What is missing where no part tells what is under the prefix at the bound.
-fn lacking(
+// The error where no part tells what is under a prefix at a bound: `Cut` or `Lacks`.
+fn lack_error(
     alloc: Global,
     parts: &[Part],
     prefix: &[u8],
@@ -174,7 +174,7 @@ fn lacking(
         All (λ x. Tells prefix.now bound x → ⊥) parts.now →
         IfOk result (JoinErrorMeans p search parts.now) }
 {
-    let place = Place {
+    let place = PartPlace {
         under: prefix.to_vec(alloc)?,
         bound,
     };
@@ -185,7 +185,7 @@ fn lacking(
     }
 }
 
-// The mode of a bound, or of none.
+// The mode of a search at a bound, or of a search without one.
 fn mode_of(bound: Option<u32>) -> Mode
     ensures { result ≡ mode_at bound }
 {
@@ -195,7 +195,7 @@ fn mode_of(bound: Option<u32>) -> Mode
     }
 }
 
-// The last bound of a search; none of one without a bound.
+// The last bound of a search, or none of a search without a bound.
 fn last_bound(search: Search) -> Option<u32>
     ensures mode { mode_at result ≡ last_mode search }
     ensures of { IsModeOf search (mode_at result) }

@@ -7,7 +7,7 @@ ghost use Rattle.report.specs.declared.options.Search.{Search};
 ghost use Rattle.joining.specs.Parts.{IsSettled, Tells, IsOfPlace, Differ, AreApart, JoinErrorMeans};
 ghost use Rattle.joining.specs.inner.Lines.{AreByPrefix};
 
-use crate::error::{JoinError, Place};
+use crate::error::{JoinError, PartPlace};
 use parts::Part;
 use report::Level;
 use semantics::view::EndView;
@@ -15,20 +15,20 @@ use std::alloc::{AllocError, Global};
 use std::collections::BTreeMap;
 use summary::Summary;
 
-/// Parts, and those of each prefix in their order.
+/// Parts of a search, in which those of a prefix are found at once.
 #[derive(Drop)]
-pub struct Lines<'a> {
-    /// All of them.
+pub struct PartsByPrefix<'a> {
+    /// All the parts.
     pub parts: &'a [Part],
-    // Those of each prefix.
+    // The parts of each prefix, in the order of `parts`.
     by_prefix: BTreeMap<&'a [u8], Vec<&'a Part>>,
     ghost valid: { AreByPrefix parts.now by_prefix },
 }
 
-impl<'a> Lines<'a> {
-    /// The parts by their prefixes.
-    pub fn of(alloc: Global, parts: &'a [Part]) -> Result<Lines<'a>, AllocError>
-        ensures { IfOk result (λ lines. lines.parts.now ≡ parts.now) }
+impl<'a> PartsByPrefix<'a> {
+    /// These parts by their prefixes.
+    pub fn of(alloc: Global, parts: &'a [Part]) -> Result<PartsByPrefix<'a>, AllocError>
+        ensures { IfOk result (λ x. x.parts.now ≡ parts.now) }
     {
         let mut by_prefix: BTreeMap<&[u8], Vec<&Part>> = BTreeMap::new(alloc);
         for part in parts {
@@ -37,39 +37,39 @@ impl<'a> Lines<'a> {
                 .or_default()
                 .push(part)?;
         }
-        Ok(Lines { parts, by_prefix })
+        Ok(PartsByPrefix { parts, by_prefix })
     }
 
-    /// The first part that tells what is under the prefix at the bound.
-    pub fn line_at(&self, under: &[u8], bound: Option<u32>) -> Option<&'a Part>
+    /// The first part that tells what is under a prefix at a bound.
+    pub fn part_at(&self, under: &[u8], bound: Option<u32>) -> Option<&'a Part>
         ensures some { IfSome result (λ x.
             Contains self.now.parts.now x.now × Tells under.now bound x.now) }
         ensures none { IfNone result (All (λ x. Tells under.now bound x → ⊥) self.now.parts.now) }
     {
-        let Some(lines) = self.by_prefix.get(under) else {
+        let Some(parts) = self.by_prefix.get(under) else {
             return None;
         };
-        for line in lines {
-            if tells(line, under, bound) {
-                return Some(line);
+        for part in parts {
+            if tells(part, under, bound) {
+                return Some(part);
             }
         }
         None
     }
 
-    /// Refuses parts of which two that weren't cut short tell different things of one place.
+    /// Refuses the parts where two that weren't cut short tell different things of one place.
     ///
     /// # Errors
     ///
     /// `Disagree` with the first such place, `OutOfMemory` where memory runs out.
     pub fn check_agreement(&self, alloc: Global) -> Result<(), JoinError>
-        ensures agree { OnOk result ((place : Place) → AreApart self.now.parts.now place → ⊥) }
+        ensures agree { OnOk result ((place : PartPlace) → AreApart self.now.parts.now place → ⊥) }
         ensures error { (p : Program) (search : Search) →
             IfErr result (JoinErrorMeans p search self.now.parts.now) }
     {
         for part in self.parts {
             if self.is_disputed(part) {
-                return Err(JoinError::Disagree(Place {
+                return Err(JoinError::Disagree(PartPlace {
                     under: part.under.as_slice().to_vec(alloc)?,
                     bound: part.level.bound,
                 }));
@@ -78,15 +78,15 @@ impl<'a> Lines<'a> {
         Ok(())
     }
 
-    // Whether one of the parts tells something else of the part's place.
+    // Whether one of all the parts tells other things of the place of `part` than it does.
     fn is_disputed(&self, part: &Part) -> bool
         ensures { Decides result
             ((x : Part) × Contains self.now.parts.now x × Differ part.now x) }
     {
-        let Some(lines) = self.by_prefix.get(part.under.as_slice()) else {
+        let Some(parts) = self.by_prefix.get(part.under.as_slice()) else {
             return false;
         };
-        for other in lines {
+        for other in parts {
             if differ(part, other) {
                 return true;
             }
@@ -95,7 +95,7 @@ impl<'a> Lines<'a> {
     }
 }
 
-// Whether the part tells what is under the prefix at the bound.
+// Whether a part tells what is under a prefix at a bound.
 fn tells(part: &Part, under: &[u8], bound: Option<u32>) -> bool
     ensures { Decides result (Tells under.now bound part.now) }
 {
@@ -104,7 +104,7 @@ fn tells(part: &Part, under: &[u8], bound: Option<u32>) -> bool
         && (part.level.bound == bound || is_settled(&part.level, bound))
 }
 
-// Whether what was found is what there is at this bound, too, which is greater.
+// Whether what was found at the bound of a level is all that there is at this greater bound, too.
 fn is_settled(level: &Level, bound: Option<u32>) -> bool
     ensures { Decides result (IsSettled bound level.now) }
 {
@@ -114,20 +114,20 @@ fn is_settled(level: &Level, bound: Option<u32>) -> bool
     at <= later && !level.summary.beyond() && level.summary.first_bad().is_none()
 }
 
-/// Whether a part of the place was cut short.
-pub fn is_cut(parts: &[Part], place: &Place) -> bool
+/// Whether one of the parts is of this place and was cut short.
+pub fn is_cut(parts: &[Part], place: &PartPlace) -> bool
     ensures { result ≡ true → (x : Part) × Contains parts.now x × IsOfPlace place.now x
         × (x.level.cause ≢ None) }
 {
     for part in parts {
-        if is_of(part, place) && part.level.cause.is_some() {
+        if is_of_place(part, place) && part.level.cause.is_some() {
             return true;
         }
     }
     false
 }
 
-// Whether the two are of one place, weren't cut short, and tell different things.
+// Whether two parts are of one place, weren't cut short, and tell different things.
 fn differ(one: &Part, other: &Part) -> bool
     ensures { Decides result (Differ one.now other.now) }
 {
@@ -138,14 +138,14 @@ fn differ(one: &Part, other: &Part) -> bool
         && !same_sums(&one.level.summary, &other.level.summary)
 }
 
-// Whether the part is of the place.
-fn is_of(part: &Part, place: &Place) -> bool
+// Whether a part has the prefix and the bound of a place.
+fn is_of_place(part: &Part, place: &PartPlace) -> bool
     ensures { result ≡ true → IsOfPlace place.now part.now }
 {
     part.under.as_slice() == place.under.as_slice() && part.level.bound == place.bound
 }
 
-// Whether the two are equal.
+// Whether two summaries are equal.
 fn same_sums(first: &Summary, second: &Summary) -> bool
     ensures { Decides result (first.now ≡ second.now) }
 {
@@ -157,7 +157,7 @@ fn same_sums(first: &Summary, second: &Summary) -> bool
         && same_ends(first.ends(), second.ends())
 }
 
-// Whether the two lists are equal.
+// Whether two lists of end views are equal.
 fn same_ends(first: &[EndView], second: &[EndView]) -> bool
     ensures { Decides result (first.now ≡ second.now) }
 {
@@ -172,7 +172,7 @@ fn same_ends(first: &[EndView], second: &[EndView]) -> bool
     true
 }
 
-// Whether the two are equal.
+// Whether two end views are equal.
 fn same_end(first: &EndView, second: &EndView) -> bool
     ensures { Decides result (first.now ≡ second.now) }
 {

@@ -4,16 +4,16 @@ ghost use Rattle.std.specs.Prelude.{◌≡◌, true, false, All, IfOk, IfErr, On
 ghost use Rattle.std.specs.Bool.{Decides};
 ghost use Rattle.report.specs.declared.options.Search.{Search};
 ghost use Rattle.joining.specs.Parts.{IsTrue, IsTrueOf, JoinErrorMeans};
-ghost use Rattle.joining.specs.inner.Sums.{is_bad_run, is_few};
+ghost use Rattle.joining.specs.inner.Sums.{is_bad_run, is_within_bound};
 ghost use Rattle.joining.specs.declared.error.JoinError.TheVariants.{OutOfMemory};
 
-use crate::error::{JoinError, Place};
+use crate::error::{JoinError, PartPlace};
 use guest_code::program::Program;
 use parts::Part;
 use replay::{ReplayError, Run, replay};
 use std::alloc::Global;
 
-/// Refuses a part that tells a schedule that isn't bad, or that isn't one of its own.
+/// Refuses parts of which one tells a schedule that isn't bad, or not under its prefix and bound.
 ///
 /// # Errors
 ///
@@ -24,8 +24,8 @@ pub fn check_schedules(alloc: Global, program: &Program, parts: &[Part]) -> Resu
         IfErr result (JoinErrorMeans program.now search parts.now) }
 {
     for part in parts {
-        if !is_true(alloc, program, part)? {
-            return Err(JoinError::Untrue(Place {
+        if !is_truthful(alloc, program, part)? {
+            return Err(JoinError::Untrue(PartPlace {
                 under: part.under.as_slice().to_vec(alloc)?,
                 bound: part.level.bound,
             }));
@@ -34,8 +34,8 @@ pub fn check_schedules(alloc: Global, program: &Program, parts: &[Part]) -> Resu
     Ok(())
 }
 
-// Whether the schedule that the part tells, if it tells one, is a bad one of its own.
-fn is_true(alloc: Global, program: &Program, part: &Part) -> Result<bool, JoinError>
+// Whether a part tells no schedule, or a bad one that is under the prefix and the bound of the part.
+fn is_truthful(alloc: Global, program: &Program, part: &Part) -> Result<bool, JoinError>
     ensures value { IfOk result (λ b. Decides b (IsTrue program.now part.now)) }
     ensures error { IfErr result (λ e. e ≡ OutOfMemory) }
 {
@@ -53,19 +53,19 @@ fn is_true(alloc: Global, program: &Program, part: &Part) -> Result<bool, JoinEr
     }
 }
 
-// Whether the run is a complete and bad one, and within the bound.
+// Whether a run is complete and ends badly, and its schedule is within the bound.
 fn is_bad_within(run: &Run, bound: Option<u32>) -> bool
     ensures { result ≡ is_bad_run run.now bound }
 {
     match run.kind() {
-        Some(kind) => kind.is_bad() && is_few(bound, run.preemptions()),
+        Some(kind) => kind.is_bad() && is_within_bound(bound, run.preemptions()),
         None => false,
     }
 }
 
-// Whether so many preemptions are within the bound, if there is one.
-fn is_few(bound: Option<u32>, preemptions: usize) -> bool
-    ensures { result ≡ is_few bound preemptions }
+// Whether a schedule with so many preemptions is within the bound, if there is one.
+fn is_within_bound(bound: Option<u32>, preemptions: usize) -> bool
+    ensures { result ≡ is_within_bound bound preemptions }
 {
     match bound {
         Some(bound) => preemptions <= bound as usize,

@@ -1,5 +1,6 @@
 -- What an instruction does with locals and with objects.
-use Rattle.std.specs.Prelude.{ℕ, pos, Bool, true, false, ◌||◌, ◌&&◌, not, nat_eq}
+use Rattle.std.specs.Prelude.{ℕ, pos, Bool, true, false, ◌||◌, ◌&&◌, not, nat_eq, Option, Some, None}
+use Rattle.std.specs.Option.{option_or}
 use Rattle.std.specs.Ordering.{int_eq}
 use Rattle.guest_code.specs.declared.program.Value.{Value}
 use Rattle.guest_code.specs.declared.program.Value.TheVariants.{Local, Literal}
@@ -29,13 +30,38 @@ reads r (Assert e) = expression_reads r e
 reads r (SkipIfZero e n) = expression_reads r e
 reads r _ = false
 
+-- the local that it gives a value
+abbrev pub local_set : Instruction → Option ℕ
+local_set (Load q x) = Some q
+local_set (Add q x a) = Some q
+local_set (Cas q x a b) = Some q
+local_set (Set q e) = Some q
+local_set _ = None
+
+-- the variable that it reads, may write, or does one of the two with
+abbrev pub variable_read : Instruction → Option ℕ
+variable_read (Load q x) = Some x
+variable_read (Add q x a) = Some x
+variable_read (Cas q x a b) = Some x
+variable_read _ = None
+
+abbrev pub variable_written : Instruction → Option ℕ
+variable_written (Store x a) = Some x
+variable_written (Add q x a) = Some x
+variable_written (Cas q x a b) = Some x
+variable_written _ = None
+
+abbrev pub variable_used : Instruction → Option ℕ
+variable_used i = option_or (variable_read i) (variable_written i)
+
+-- it is there, and is this number
+abbrev pub is : ℕ → Option ℕ → Bool
+is n None = false
+is n (Some k) = nat_eq k n
+
 -- it gives a local a value
 abbrev pub sets : ℕ → Instruction → Bool
-sets r (Load q x) = nat_eq q r
-sets r (Add q x a) = nat_eq q r
-sets r (Cas q x a b) = nat_eq q r
-sets r (Set q e) = nat_eq q r
-sets r _ = false
+sets r i = is r (local_set i)
 
 -- it does so for that alone: an `add` or a `cas` has another effect, and must name a local
 abbrev pub fills : ℕ → Instruction → Bool
@@ -45,16 +71,10 @@ fills r _ = false
 
 -- it reads a variable, or writes it
 abbrev pub loads : ℕ → Instruction → Bool
-loads x (Load q y) = nat_eq y x
-loads x (Add q y a) = nat_eq y x
-loads x (Cas q y a b) = nat_eq y x
-loads x _ = false
+loads x i = is x (variable_read i)
 
 abbrev pub stores : ℕ → Instruction → Bool
-stores x (Store y a) = nat_eq y x
-stores x (Add q y a) = nat_eq y x
-stores x (Cas q y a b) = nat_eq y x
-stores x _ = false
+stores x i = is x (variable_written i)
 
 -- it names a mutex, a condition or a semaphore
 abbrev pub names_mutex : ℕ → Instruction → Bool

@@ -8,7 +8,7 @@ ghost use Rattle.semantics.specs.Turns.{IsAccessBelow};
 ghost use Rattle.guest_code.specs.Program.{Program, IsValidCode};
 ghost use Rattle.lint.specs.inner.Frames.{TakesBack, IsTour};
 
-use crate::seen::{Seen, Stage};
+use crate::seen::{Seen, SeenStep};
 use crate::spin::Spin;
 use guest_code::limits::LOCALS;
 use guest_code::program::{Instruction, Program};
@@ -19,8 +19,8 @@ use semantics::state::{Action, State, Status, Stop};
 use semantics::undo::Undo;
 use std::alloc::{AllocError, Global};
 
-/// A step that was taken: who slept before it, the thread that is looked at next there, and how to
-/// take it back.
+/// A step that was taken: who slept before the step, the thread that is tried next in the state before
+/// the step, and how to take the step back.
 #[derive(Drop)]
 pub struct Frame {
     asleep: Mask,
@@ -28,8 +28,8 @@ pub struct Frame {
     undo: Undo,
 }
 
-/// Where the going through is: at a state, to which steps have led, with who sleeps there and the
-/// thread that is looked at next.
+/// Where the walk is: a state, the steps that have led there and their threads, who sleeps there and the
+/// thread that is tried next.
 #[derive(Drop)]
 pub struct Tour {
     state: State,
@@ -39,14 +39,14 @@ pub struct Tour {
     next: u8,
 }
 
-/// What was seen, and whether all schedules that sleep sets leave were gone through.
+/// What schedules have shown, and whether all that sleep sets leave were gone through.
 #[derive(Drop)]
-pub struct Depths {
+pub struct Explored {
     pub seen: Seen,
     pub is_whole: bool,
 }
 
-/// The locals after a step that does this, where the variables have these values before it.
+// The locals of a thread after a step that does this action, by the values of the variables before.
 fn locals_after(mut locals: [i64; LOCALS], variables: &[i64], action: Action) -> [i64; LOCALS]
     requires { (p : Program) × IsValidAction p action
         × (length variables.now ≡ length p.variables) }
@@ -58,8 +58,8 @@ fn locals_after(mut locals: [i64; LOCALS], variables: &[i64], action: Action) ->
     locals
 }
 
-/// Whether a thread's next step is a `signal` for which two threads or more wait.
-fn signals_several(program: &Program, state: &State, thread: u8) -> bool
+// Whether a thread's next step is a `signal` for which two threads or more wait.
+fn signals_one_of_many(program: &Program, state: &State, thread: u8) -> bool
     requires of { IsOf program.now state.now }
     requires thread { thread < length program.now.threads }
 {
@@ -75,15 +75,15 @@ fn signals_several(program: &Program, state: &State, thread: u8) -> bool
     waiting >= 2
 }
 
-/// Whether a thread runs by itself after its step.
-fn goes_on(status: Status) -> bool {
+// Whether a thread that a step left in this status ran on by itself at the end of the step.
+fn has_run_locally(status: Status) -> bool {
     match status {
         Status::Running | Status::Woken | Status::Ended | Status::Stopped(Stop::Assert) => true,
         Status::Waiting(_) | Status::Stopped(Stop::NotHeld | Stop::SemFull) => false,
     }
 }
 
-/// The first thread from this one on that can take a step and doesn't sleep.
+// The first thread from thread `from` on that can take a step and doesn't sleep.
 fn next_thread(program: &Program, state: &State, asleep: Mask, from: u8) -> Option<u8>
     requires { IsOf program.now state.now }
     ensures there { IfSome result (λ t. t < length program.now.threads) }
@@ -97,49 +97,49 @@ fn next_thread(program: &Program, state: &State, asleep: Mask, from: u8) -> Opti
     None
 }
 
-/// Takes a step of an enabled thread, and sees what it carries out.
-fn step_seen(
+// Takes a step of an enabled thread, and sees what is carried out. The answer takes the step back.
+fn step_and_see(
     program: &Program,
     state: &mut State,
     seen: &mut Seen,
-    stage: Stage<'_>,
+    step: SeenStep<'_>,
 ) -> Result<Undo, AllocError>
     requires of { IsOf program.now state.old }
-    requires thread { stage.thread < length program.now.threads }
-    requires enabled { IsTrue (is_enabled program.now state.old stage.thread) }
-    requires code { (p : Program) × IsValidCode p stage.code.now }
+    requires thread { step.thread < length program.now.threads }
+    requires enabled { IsTrue (is_enabled program.now state.old step.thread) }
+    requires code { (p : Program) × IsValidCode p step.code.now }
     ensures { IfOk result (λ u. TakesBack program.now u state.old state.new) }
 {
-    let thread = stage.thread;
+    let thread = step.thread;
     let at = state.pc(thread);
     let action = state.next(program, thread).unwrap();
     let locals = locals_after(*state.locals(thread), state.variables(), action);
-    if signals_several(program, state, thread) {
-        seen.see_crowd(stage, at)?;
+    if signals_one_of_many(program, state, thread) {
+        seen.see_signal_to_many(step, at)?;
     }
     let undo = state.step(program, thread);
-    if goes_on(state.status(thread)) {
-        seen.see_step(stage, at, locals)?;
+    if has_run_locally(state.status(thread)) {
+        seen.see_step(step, at, locals)?;
     }
     Ok(undo)
 }
 
-/// Sees what each thread carries out before its first step.
+// Sees what each thread carries out before its first step.
 fn see_start(program: &Program, seen: &mut Seen, spins: &[Spin]) -> Result<(), AllocError> {
     for thread in 0..program.threads() {
-        let stage = Stage {
+        let step = SeenStep {
             spins,
             path: &[],
             thread,
             code: program.code(thread),
         };
-        seen.see_run(stage, 0, [0; LOCALS])?;
+        seen.see_run(step, 0, [0; LOCALS])?;
     }
     Ok(())
 }
 
 impl Tour {
-    /// At the first state.
+    // A walk that is at the first state of a program.
     fn new(alloc: Global, program: &Program) -> Result<Tour, AllocError>
         ensures { IfOk result (IsTour program.now) }
     {
@@ -152,7 +152,7 @@ impl Tour {
         })
     }
 
-    /// Takes a step, after which those sleep that sleep sets say.
+    // Goes on by a step of a thread, after which those sleep that sleep sets say, and sees the step.
     fn enter(
         &mut self,
         program: &Program,
@@ -168,13 +168,13 @@ impl Tour {
         let enabled = self.state.enabled(program);
         let asleep = sleepers_after(program, &self.state, enabled, self.asleep, thread);
         self.path.push(thread)?;
-        let stage = Stage {
+        let step = SeenStep {
             spins,
             path: self.path.as_slice(),
             thread,
             code: program.code(thread),
         };
-        let undo = step_seen(program, &mut self.state, seen, stage)?;
+        let undo = step_and_see(program, &mut self.state, seen, step)?;
         self.frames.push(Frame {
             asleep: self.asleep,
             next: thread + 1,
@@ -185,7 +185,7 @@ impl Tour {
         Ok(())
     }
 
-    /// Takes the last step back; false where there is none.
+    // Goes back by taking the last step back; false where no step is left.
     fn leave(&mut self, program: &Program) -> bool
         requires { IsTour program.now self.old }
         ensures { IsTour program.now self.new }
@@ -201,13 +201,13 @@ impl Tour {
     }
 }
 
-/// Goes through the schedules that sleep sets leave, up to a number of ends.
+/// Goes through the schedules that sleep sets leave, up to a limit of ends, and sees what they show.
 pub fn explore(
     alloc: Global,
     program: &Program,
     spins: &[Spin],
     limit: u64,
-) -> Result<Depths, AllocError> {
+) -> Result<Explored, AllocError> {
     let mut seen = Seen::new(alloc, program, spins.len())?;
     see_start(program, &mut seen, spins)?;
     let mut tour = Tour::new(alloc, program)?;
@@ -229,5 +229,5 @@ pub fn explore(
             break;
         }
     }
-    Ok(Depths { seen, is_whole })
+    Ok(Explored { seen, is_whole })
 }

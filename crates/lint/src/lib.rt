@@ -1,4 +1,4 @@
-//! What is odd about a program.
+//! What is odd about a program: its warnings, and what its schedules show.
 //!
 //! [`warnings::all_warnings`] answers the warnings that are so by `IsSo` of `specs/Warnings.antt`,
 //! which is defined over the flat code, and no others. What a path through the code of a thread is,

@@ -5,18 +5,18 @@ use guest_syntax::place::Pos;
 /// A copy of a `repeat` that has a `leave`.
 #[derive(Drop)]
 pub struct Spin {
-    /// The thread that has it.
+    /// The thread that has the loop.
     pub thread: u8,
     /// Where the `repeat` is.
     pub at: Pos,
-    /// The instruction after its last turn.
+    /// The number of the instruction after the last turn.
     pub exit: usize,
-    /// Which instructions are inside it, and none of its own `leave`s.
+    /// For each instruction of the thread, whether it is in the loop and none of its own `leave`s.
     pub inside: Vec<bool>,
 }
 
 impl Spin {
-    /// Whether it runs out of turns where a thread goes from one instruction to another one.
+    /// Whether the loop runs out of turns where a thread goes from one instruction to another one.
     pub fn runs_out(&self, thread: u8, from: usize, to: usize) -> bool {
         self.thread == thread && self.exit == to && self.inside.get(from).copied().unwrap_or(false)
     }

@@ -2,7 +2,7 @@
 
 ghost use Rattle.std.specs.Prelude.{◌≡◌};
 ghost use Rattle.std.specs.List.{list_any};
-ghost use Rattle.lint.specs.Uses.{value_reads, expression_reads, reads, sets, fills, loads, stores, names_mutex, names_condition, names_semaphore, waits, waits_without, signals, acquires, releases, does, is_constant, forbids};
+ghost use Rattle.lint.specs.Uses.{value_reads, expression_reads, reads, is, local_set, variable_read, variable_written, variable_used, sets, fills, names_mutex, names_condition, names_semaphore, waits, waits_without, signals, acquires, releases, does, is_constant, forbids};
 
 use guest_code::program::{Expression, Instruction, Value};
 
@@ -37,6 +37,7 @@ pub enum Use {
     Releases,
 }
 
+// Whether a value reads a local.
 fn value_reads(local: usize, value: Value) -> bool
     ensures { result ≡ value_reads local value }
 {
@@ -46,6 +47,7 @@ fn value_reads(local: usize, value: Value) -> bool
     }
 }
 
+/// Whether an expression reads a local.
 pub fn expression_reads(local: usize, expression: &Expression) -> bool
     ensures { result ≡ expression_reads local expression.now }
 {
@@ -56,7 +58,7 @@ pub fn expression_reads(local: usize, expression: &Expression) -> bool
 }
 
 /// Whether an instruction reads a local.
-fn reads(local: usize, instruction: &Instruction) -> bool
+pub fn reads(local: usize, instruction: &Instruction) -> bool
     ensures { result ≡ reads local instruction.now }
 {
     match instruction {
@@ -74,20 +76,68 @@ fn reads(local: usize, instruction: &Instruction) -> bool
     }
 }
 
-/// Whether it gives a local a value.
-pub fn sets(wanted: usize, instruction: &Instruction) -> bool
-    ensures { result ≡ sets wanted instruction.now }
+/// The local that an instruction gives a value.
+pub fn local_set(instruction: &Instruction) -> Option<usize>
+    ensures { result ≡ local_set instruction.now }
 {
     match instruction {
         Instruction::Load { local, .. }
         | Instruction::Add { local, .. }
         | Instruction::Cas { local, .. }
-        | Instruction::Set { local, .. } => *local == wanted,
-        _ => false,
+        | Instruction::Set { local, .. } => Some(*local),
+        _ => None,
     }
 }
 
-/// Whether it does so for that alone.
+/// The variable that an instruction reads.
+pub fn variable_read(instruction: &Instruction) -> Option<usize>
+    ensures { result ≡ variable_read instruction.now }
+{
+    match instruction {
+        Instruction::Load { variable, .. }
+        | Instruction::Add { variable, .. }
+        | Instruction::Cas { variable, .. } => Some(*variable),
+        _ => None,
+    }
+}
+
+/// The variable that an instruction writes; a `cas` does so only where it hits.
+pub fn variable_written(instruction: &Instruction) -> Option<usize>
+    ensures { result ≡ variable_written instruction.now }
+{
+    match instruction {
+        Instruction::Store { variable, .. }
+        | Instruction::Add { variable, .. }
+        | Instruction::Cas { variable, .. } => Some(*variable),
+        _ => None,
+    }
+}
+
+/// The variable that an instruction reads or writes.
+pub fn variable_used(instruction: &Instruction) -> Option<usize>
+    ensures { result ≡ variable_used instruction.now }
+{
+    variable_read(instruction).or(variable_written(instruction))
+}
+
+/// Whether a number that may be missing is there, and is this number.
+pub fn is_in_option(number: usize, there: Option<usize>) -> bool
+    ensures { result ≡ is number there }
+{
+    match there {
+        Some(other) => other == number,
+        None => false,
+    }
+}
+
+/// Whether an instruction gives a local a value.
+pub fn sets(local: usize, instruction: &Instruction) -> bool
+    ensures { result ≡ sets local instruction.now }
+{
+    is_in_option(local, local_set(instruction))
+}
+
+// Whether an instruction gives a local a value and does nothing else.
 fn fills(wanted: usize, instruction: &Instruction) -> bool
     ensures { result ≡ fills wanted instruction.now }
 {
@@ -97,31 +147,7 @@ fn fills(wanted: usize, instruction: &Instruction) -> bool
     }
 }
 
-/// Whether it reads a variable.
-fn loads(wanted: usize, instruction: &Instruction) -> bool
-    ensures { result ≡ loads wanted instruction.now }
-{
-    match instruction {
-        Instruction::Load { variable, .. }
-        | Instruction::Add { variable, .. }
-        | Instruction::Cas { variable, .. } => *variable == wanted,
-        _ => false,
-    }
-}
-
-/// Whether it writes a variable.
-fn stores(wanted: usize, instruction: &Instruction) -> bool
-    ensures { result ≡ stores wanted instruction.now }
-{
-    match instruction {
-        Instruction::Store { variable, .. }
-        | Instruction::Add { variable, .. }
-        | Instruction::Cas { variable, .. } => *variable == wanted,
-        _ => false,
-    }
-}
-
-/// Whether it names a mutex.
+// Whether an instruction names a mutex.
 fn names_mutex(wanted: usize, instruction: &Instruction) -> bool
     ensures { result ≡ names_mutex wanted instruction.now }
 {
@@ -132,7 +158,7 @@ fn names_mutex(wanted: usize, instruction: &Instruction) -> bool
     }
 }
 
-/// Whether it names a condition.
+// Whether an instruction names a condition.
 fn names_condition(wanted: usize, instruction: &Instruction) -> bool
     ensures { result ≡ names_condition wanted instruction.now }
 {
@@ -143,7 +169,7 @@ fn names_condition(wanted: usize, instruction: &Instruction) -> bool
     }
 }
 
-/// Whether it names a semaphore.
+// Whether an instruction names a semaphore.
 fn names_semaphore(wanted: usize, instruction: &Instruction) -> bool
     ensures { result ≡ names_semaphore wanted instruction.now }
 {
@@ -153,7 +179,7 @@ fn names_semaphore(wanted: usize, instruction: &Instruction) -> bool
     }
 }
 
-/// Whether it waits for a condition.
+// Whether an instruction waits for a condition.
 fn waits(wanted: usize, instruction: &Instruction) -> bool
     ensures { result ≡ waits wanted instruction.now }
 {
@@ -163,7 +189,7 @@ fn waits(wanted: usize, instruction: &Instruction) -> bool
     }
 }
 
-/// Whether it waits for a condition with another mutex than this one.
+// Whether an instruction waits for a condition with another mutex than `other`.
 fn waits_without(other: usize, wanted: usize, instruction: &Instruction) -> bool
     ensures { result ≡ waits_without other wanted instruction.now }
 {
@@ -173,7 +199,7 @@ fn waits_without(other: usize, wanted: usize, instruction: &Instruction) -> bool
     }
 }
 
-/// Whether it wakes who waits for a condition.
+// Whether an instruction wakes who waits for a condition.
 fn signals(wanted: usize, instruction: &Instruction) -> bool
     ensures { result ≡ signals wanted instruction.now }
 {
@@ -183,7 +209,7 @@ fn signals(wanted: usize, instruction: &Instruction) -> bool
     }
 }
 
-/// Whether it lowers a semaphore.
+// Whether an instruction lowers a semaphore.
 fn acquires(wanted: usize, instruction: &Instruction) -> bool
     ensures { result ≡ acquires wanted instruction.now }
 {
@@ -193,7 +219,7 @@ fn acquires(wanted: usize, instruction: &Instruction) -> bool
     }
 }
 
-/// Whether it raises a semaphore.
+// Whether an instruction raises a semaphore.
 fn releases(wanted: usize, instruction: &Instruction) -> bool
     ensures { result ≡ releases wanted instruction.now }
 {
@@ -212,8 +238,8 @@ impl Use {
             Use::Reads => reads(number, instruction),
             Use::Sets => sets(number, instruction),
             Use::Fills => fills(number, instruction),
-            Use::Loads => loads(number, instruction),
-            Use::Stores => stores(number, instruction),
+            Use::Loads => is_in_option(number, variable_read(instruction)),
+            Use::Stores => is_in_option(number, variable_written(instruction)),
             Use::OfMutex => names_mutex(number, instruction),
             Use::OfCondition => names_condition(number, instruction),
             Use::OfSemaphore => names_semaphore(number, instruction),
@@ -225,7 +251,7 @@ impl Use {
         }
     }
 
-    /// Whether some instruction does.
+    /// Whether some instruction of a code makes this use of the local or the object of this number.
     pub fn is_made_in(self, number: usize, code: &[Instruction]) -> bool
         ensures { result ≡ list_any (does self number) code.now }
     {
@@ -245,7 +271,7 @@ pub fn is_constant(instruction: &Instruction) -> bool
     }
 }
 
-/// Whether it is `assert 0;`, which says that no run is to come here.
+/// Whether an instruction is `assert 0;`, which says that no run is to come there.
 pub fn forbids(instruction: &Instruction) -> bool
     ensures { result ≡ forbids instruction.now }
 {

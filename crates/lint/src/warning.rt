@@ -1,4 +1,4 @@
-//! Warnings, and when they are so.
+//! Warnings, and when what they warn of is so.
 
 ghost use Rattle.std.specs.Prelude.{◌≡◌, ◌<◌, ◌↔◌, IsTrue, IfOk, length, ◌^◌, ◌≤◌};
 ghost use Rattle.guest_code.specs.Program.{code_of, JumpsWithin};
@@ -40,15 +40,15 @@ pub enum WarningKind {
     Constant(u8),
     /// No path through the thread leads to an instruction.
     Unreached(u8),
-    /// On some path a mutex that is locked here is still owned at the end.
+    /// An instruction locks a mutex that on some path is then still owned at the end.
     MayKeep(u8),
-    /// On some path a mutex that is given back here isn't owned.
+    /// An instruction gives a mutex back that on some path isn't owned there.
     MayLack(u8),
-    /// On each path a mutex that is locked here is owned already.
+    /// An instruction locks a mutex that on each path to there is owned already.
     LocksAgain(u8),
     /// On some path no value is loaded and looked at between a `wait` and what is done next.
     WaitNotLookedAtAgain(u8),
-    /// A condition that is waited for here is waited for with another mutex too.
+    /// An instruction waits for a condition that another one waits for with another mutex.
     WaitsElsewhere(u8),
 }
 
@@ -59,7 +59,7 @@ pub struct Warning {
     pub number: usize,
 }
 
-/// Whether some instruction of a thread makes this use.
+// Whether some instruction of a thread makes a use of the local or the object of this number.
 fn is_used_in(program: &Program, thread: u8, use_: Use, number: usize) -> bool
     requires { thread < length program.now.threads }
     ensures { IsTrue result ↔ UsesIn program.now thread use_ number }
@@ -67,7 +67,7 @@ fn is_used_in(program: &Program, thread: u8, use_: Use, number: usize) -> bool
     use_.is_made_in(number, program.code(thread))
 }
 
-/// Whether some instruction of the program does.
+// Whether some instruction of the program makes a use of the object of this number.
 fn is_used(program: &Program, use_: Use, number: usize) -> bool
     ensures { IsTrue result ↔ UsesAnywhere program.now use_ number }
 {
@@ -79,7 +79,7 @@ fn is_used(program: &Program, use_: Use, number: usize) -> bool
     false
 }
 
-/// The code of a thread.
+// The code of a thread, of which the clauses tell what the limits of a program promise.
 fn code_of(program: &Program, thread: u8) -> &[Instruction]
     requires { thread < length program.now.threads }
     ensures code { result.now ≡ code_of program.now thread }
@@ -90,7 +90,7 @@ fn code_of(program: &Program, thread: u8) -> &[Instruction]
     program.code(thread)
 }
 
-/// Whether some path leads to an instruction.
+// Whether some path from the start of a code leads to an instruction.
 fn is_reached(alloc: Global, code: &[Instruction], at: usize) -> Result<bool, AllocError>
     requires jumps { JumpsWithin code.now }
     requires short { length code.now < 2 ^ 32 }
@@ -98,10 +98,10 @@ fn is_reached(alloc: Global, code: &[Instruction], at: usize) -> Result<bool, Al
     ensures { IfOk result (λ b. IsTrue b ↔ IsReached code.now at) }
 {
     let marks = paths(alloc, code, Watch::Nothing, 0, false)?;
-    Ok(marks[at].so || marks[at].not_so)
+    Ok(marks[at].may_hold || marks[at].may_not_hold)
 }
 
-/// Whether a mutex that is locked here may still be owned at the end.
+// Whether an instruction locks a mutex that on some path is then still owned at the end.
 fn may_keep(alloc: Global, code: &[Instruction], at: usize) -> Result<bool, AllocError>
     requires jumps { JumpsWithin code.now }
     requires short { length code.now < 2 ^ 32 }
@@ -113,10 +113,10 @@ fn may_keep(alloc: Global, code: &[Instruction], at: usize) -> Result<bool, Allo
     };
     let before = paths(alloc, code, Watch::Owns(mutex), 0, false)?;
     let marks = paths(alloc, code, Watch::Owns(mutex), at + 1, true)?;
-    Ok(before[at].not_so && marks[code.len()].so)
+    Ok(before[at].may_not_hold && marks[code.len()].may_hold)
 }
 
-/// Whether a mutex that is given back here may not be owned.
+// Whether an instruction gives a mutex back that on some path isn't owned there.
 fn may_lack(alloc: Global, code: &[Instruction], at: usize) -> Result<bool, AllocError>
     requires jumps { JumpsWithin code.now }
     requires short { length code.now < 2 ^ 32 }
@@ -129,10 +129,10 @@ fn may_lack(alloc: Global, code: &[Instruction], at: usize) -> Result<bool, Allo
         _ => return Ok(false),
     };
     let marks = paths(alloc, code, Watch::Owns(mutex), 0, false)?;
-    Ok(marks[at].not_so)
+    Ok(marks[at].may_not_hold)
 }
 
-/// Whether a mutex that is locked here is owned already on each path.
+// Whether an instruction locks a mutex that on each path to there is owned already.
 fn locks_again(alloc: Global, code: &[Instruction], at: usize) -> Result<bool, AllocError>
     requires jumps { JumpsWithin code.now }
     requires short { length code.now < 2 ^ 32 }
@@ -143,10 +143,10 @@ fn locks_again(alloc: Global, code: &[Instruction], at: usize) -> Result<bool, A
         return Ok(false);
     };
     let marks = paths(alloc, code, Watch::Owns(mutex), 0, false)?;
-    Ok(marks[at].so && !marks[at].not_so)
+    Ok(marks[at].may_hold && !marks[at].may_not_hold)
 }
 
-/// Whether a local may not be looked at again between an instruction and what is done next.
+// Whether after an instruction some path acts or ends with no test of a new value of a local before.
 fn is_unseen(
     alloc: Global,
     code: &[Instruction],
@@ -162,7 +162,7 @@ fn is_unseen(
     Ok(comes_to_act(&marks, code))
 }
 
-/// Whether no local is looked at again after a `wait`, whatever comes.
+// Whether an instruction waits, and no local is sure to be looked at again before what is done next.
 fn is_not_looked_at_again(
     alloc: Global,
     code: &[Instruction],
@@ -184,7 +184,7 @@ fn is_not_looked_at_again(
     Ok(true)
 }
 
-/// Whether an instruction waits for a condition that is waited for with another mutex too.
+// Whether an instruction waits for a condition that is waited for with another mutex too.
 fn waits_elsewhere(program: &Program, instruction: &Instruction) -> bool
     ensures { IsTrue result ↔ WaitsElsewhere program.now instruction.now }
 {
@@ -196,7 +196,7 @@ fn waits_elsewhere(program: &Program, instruction: &Instruction) -> bool
     }
 }
 
-/// Whether an instruction asserts numbers alone, and isn't an `assert 0;` that may be passed over.
+// Whether an instruction asserts numbers alone, and isn't an `assert 0;` that may be passed over.
 fn is_constant_at(code: &[Instruction], at: usize) -> bool
     requires jumps { JumpsWithin code.now }
     requires short { length code.now < 2 ^ 32 }
@@ -207,7 +207,7 @@ fn is_constant_at(code: &[Instruction], at: usize) -> bool
 }
 
 impl WarningKind {
-    /// How many numbers it may be so of.
+    /// How many locals, objects or instructions, by the kind, there are to ask about.
     pub fn count(self, program: &Program) -> usize
         requires { IsOfThread program.now self }
         ensures { result ≡ count_of program.now self }
@@ -235,7 +235,7 @@ impl WarningKind {
         }
     }
 
-    /// Whether it is so of a number.
+    /// Whether what the kind warns of is so of the local, object or instruction of a number.
     pub fn is_so(self, alloc: Global, program: &Program, number: usize) -> Result<bool, AllocError>
         requires thread { IsOfThread program.now self }
         requires number { number < count_of program.now self }

@@ -7,7 +7,7 @@ use crate::warning::{Warning, WarningKind};
 use guest_code::program::Program;
 use std::alloc::{AllocError, Global};
 
-/// The kinds that are of no thread.
+// The kinds of warnings that are of objects, and so of no thread.
 const OF_OBJECTS: [WarningKind; 9] = [
     WarningKind::UnusedVariable,
     WarningKind::NeverStored,
@@ -20,7 +20,7 @@ const OF_OBJECTS: [WarningKind; 9] = [
     WarningKind::NeverReleased,
 ];
 
-/// All kinds of warnings that a program may have.
+// All kinds of warnings that a program may have: those of objects, and those of each thread.
 fn kinds(alloc: Global, program: &Program) -> Result<Vec<WarningKind>, AllocError>
     ensures { IfOk result (λ v. v.items ≡ kinds_of program.now) }
 {
@@ -42,7 +42,7 @@ fn kinds(alloc: Global, program: &Program) -> Result<Vec<WarningKind>, AllocErro
     Ok(all)
 }
 
-/// The warnings of a kind.
+// The warnings of a kind, of each number of which what the kind warns of is so.
 fn warnings_of(
     alloc: Global,
     program: &Program,

@@ -1,10 +1,10 @@
--- The lines of an advice.
+-- The lines of a diagnostic.
 use Rattle.std.specs.Prelude.{ℕ, ◌-◌, ◌/◌, min, max, List, [], ◌∷◌, ◌++◌, length, map, take, drop, replicate, codes, Bool, ◌==◌, ◌&&◌, ◌||◌, not, nat_le, if◌then◌else◌, Option, Some, None, string_bytes}
 use Rattle.std.specs.List.{prefix_len, before_first, after_first}
 use Rattle.std.specs.Fmt.{decimal}
 use Rattle.messages.specs.declared.message.Span.{Span}
 use Rattle.messages.specs.declared.message.Note.{Note}
-use Rattle.messages.specs.declared.message.Advice.{Advice}
+use Rattle.messages.specs.declared.message.Diagnostic.{Diagnostic}
 use Rattle.messages.specs.declared.message.TheConstants.{SHOWN}
 
 -- ---- the source line
@@ -16,12 +16,12 @@ from_line (b ∷ bs) n =
     if nat_le n 1 then b ∷ bs else from_line bs (if b == 10 then n - 1 else n)
 
 -- a byte that doesn't end a line
-abbrev pub goes_on : ℕ → Bool
-goes_on b = not (b == 10)
+abbrev pub is_in_line : ℕ → Bool
+is_in_line b = not (b == 10)
 
 -- a line up to its line feed
 abbrev pub first_line : List ℕ → List ℕ
-first_line bs = take (prefix_len goes_on bs) bs
+first_line bs = take (prefix_len is_in_line bs) bs
 
 abbrev pub line_of : List ℕ → ℕ → List ℕ
 line_of text n = first_line (from_line text n)
@@ -85,7 +85,7 @@ code_number form = before_first is_blank (after_first is_blank form)
 abbrev pub code_name : List ℕ → List ℕ
 code_name form = before_first is_blank (after_first is_blank (after_first is_blank form))
 
--- an advice: its short form, its place marked with carets, and its notes
-abbrev pub advice_lines : List ℕ → Advice → List ℕ
-advice_lines text a = codes "ctxbound: " ++ string_bytes a.headline ++ 10 ∷ []
+-- a diagnostic: its short form, its place marked with carets, and its notes
+abbrev pub diagnostic_lines : List ℕ → Diagnostic → List ℕ
+diagnostic_lines text a = codes "ctxbound: " ++ string_bytes a.headline ++ 10 ∷ []
     ++ remark_lines text a.span 94 a.message.items ++ note_lines text a.notes.items

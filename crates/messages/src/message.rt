@@ -1,8 +1,8 @@
-//! Advice as a value, and its lines.
+//! A diagnostic as a value, and the parts of its lines.
 
 ghost use Rattle.std.specs.Prelude.{◌≡◌, ◌-◌, ◌≤◌, [], length, map, take, replicate, string_bytes};
 ghost use Rattle.std.specs.List.{prefix_len, before_first, after_first};
-ghost use Rattle.messages.specs.Lines.{is_blank, code_number, code_name, from_line, goes_on, line_of, first_line, shown, left_out, margin, said_line, source_line, marks_line};
+ghost use Rattle.messages.specs.Lines.{is_blank, code_number, code_name, from_line, is_in_line, line_of, first_line, shown, left_out, margin, said_line, source_line, marks_line};
 ghost use Rattle.messages.specs.Puts.{Puts};
 
 use crate::words::decimal;
@@ -18,59 +18,59 @@ pub const SHOWN: usize = 92;
 /// Where some bytes of a text are.
 #[derive(Clone, Copy, Debug, PartialEq, Eq)]
 pub struct Span {
-    /// The place of the first.
+    /// The place of the first byte.
     pub at: Pos,
-    /// How many they are.
+    /// How many bytes there are.
     pub length: usize,
 }
 
-/// A remark: what is odd about another place of the text, or what to write instead.
+/// A note on a diagnostic: what is odd about another place of the text, or what to write instead.
 #[derive(Debug, Drop)]
 pub struct Note {
-    /// Where, if it is of a place.
+    /// The bytes that the note is of, if it is of a place.
     pub span: Option<Span>,
-    /// What is told.
+    /// What the note says.
     pub text: Vec<u8>,
 }
 
-/// How grave an advice is.
+/// How grave a diagnostic is, the gravest first.
 #[derive(Clone, Copy, Debug, PartialEq, Eq)]
-pub enum Grade {
+pub enum Severity {
     /// The text is refused.
     Refusal,
     /// Something is likely to be wrong.
     Warning,
-    /// It may be of interest.
+    /// Nothing needs to be wrong, but something may be of interest.
     Remark,
 }
 
-impl fmt::Display for Grade {
+impl fmt::Display for Severity {
     fn fmt<W: fmt::Write>(&self, f: &mut fmt::Formatter<W>) -> fmt::Result {
         f.write_str(match self {
-            Grade::Refusal => "error",
-            Grade::Warning => "warning",
-            Grade::Remark => "remark",
+            Severity::Refusal => "error",
+            Severity::Warning => "warning",
+            Severity::Remark => "remark",
         })
     }
 }
 
-/// What a person is told of a refusal or a warning.
+/// What a person is told of a refusal, a warning or a remark on a text.
 #[derive(Debug, Drop)]
-pub struct Advice {
-    /// How grave it is.
-    pub grade: Grade,
+pub struct Diagnostic {
+    /// How grave the diagnostic is.
+    pub severity: Severity,
     /// The short form: of a refusal, the line that other commands print after `ctxbound: `.
     pub headline: String,
-    /// Where it is, if it has a place.
+    /// The bytes of the text that are marked, if the diagnostic has a place.
     pub span: Option<Span>,
-    /// What was found there, or wanted.
+    /// What was found at the place, or wanted there.
     pub message: Vec<u8>,
-    /// What is to be said beside.
+    /// What is said after the message.
     pub notes: Vec<Note>,
 }
 
-impl Advice {
-    /// The number and the name of what is told: the second and the third word of the short form.
+impl Diagnostic {
+    /// The number and the name of the diagnostic: the second and the third word of the short form.
     pub fn code(&self) -> (&str, &str)
         ensures number { result.0.now ≡ code_number (string_bytes self.now.headline) }
         ensures name { result.1.now ≡ code_name (string_bytes self.now.headline) }
@@ -81,15 +81,15 @@ impl Advice {
         (number, name)
     }
 
-    /// The line and the column; past all others where it has no place.
+    /// The line and the column of the diagnostic; past all others where there is no place.
     pub fn place(&self) -> (u32, u32) {
         self.span
             .map_or((u32::MAX, u32::MAX), |span| (span.at.line, span.at.col))
     }
 }
 
-/// What is before the first blank of a text, and what is after it; all of it and nothing where there
-/// is none.
+// What is before the first blank of a text, and what is after that blank; all of the text and nothing
+// where there is no blank.
 fn cut_at_blank(text: &str) -> (&str, &str)
     ensures before { result.0.now ≡ before_first is_blank text.now }
     ensures after { result.1.now ≡ after_first is_blank text.now }
@@ -97,7 +97,7 @@ fn cut_at_blank(text: &str) -> (&str, &str)
     text.split_once(' ').unwrap_or((text, ""))
 }
 
-/// What is left of a text from a line on; lines count from 1.
+// What is left of a text from a line on; lines count from 1.
 fn from_line(text: &[u8], line: u32) -> &[u8]
     ensures { result.now ≡ from_line text.now line }
 {
@@ -113,21 +113,21 @@ fn from_line(text: &[u8], line: u32) -> &[u8]
     &[]
 }
 
-/// Whether a byte doesn't end a line.
-fn goes_on(byte: u8) -> bool
-    ensures { result ≡ goes_on byte }
+// Whether a byte doesn't end a line.
+fn is_in_line(byte: u8) -> bool
+    ensures { result ≡ is_in_line byte }
 {
     byte != b'\n'
 }
 
-/// How many bytes come before the first line feed.
+// How many bytes come before the first line feed.
 fn line_length(text: &[u8]) -> usize
-    ensures { result ≡ prefix_len goes_on text.now }
+    ensures { result ≡ prefix_len is_in_line text.now }
 {
-    text.iter().take_while(|byte| goes_on(**byte)).count()
+    text.iter().take_while(|byte| is_in_line(**byte)).count()
 }
 
-/// A line up to its line feed.
+// The first line of a text, without its line feed.
 fn first_line(text: &[u8]) -> &[u8]
     ensures { result.now ≡ first_line text.now }
 {
@@ -154,7 +154,7 @@ pub fn shown(byte: u8) -> u8
     }
 }
 
-/// How many bytes at the start of a line are not shown, so that the byte at a column is.
+// How many bytes at the start of a line of a length are not shown, so that the byte at a column is.
 fn left_out(length: usize, column: usize) -> usize
     ensures value { result ≡ left_out length column }
     ensures few { result ≤ length }
@@ -165,7 +165,7 @@ fn left_out(length: usize, column: usize) -> usize
     (column - SHOWN / 2).min(length - SHOWN)
 }
 
-/// Adds some copies of a byte.
+// Adds as many copies of a byte as `count` says.
 fn put_many(out: &mut Vec<u8>, byte: u8, count: usize) -> Result<(), AllocError>
     ensures { Puts result out.old out.new (replicate count byte) }
 {
@@ -175,7 +175,7 @@ fn put_many(out: &mut Vec<u8>, byte: u8, count: usize) -> Result<(), AllocError>
     Ok(())
 }
 
-/// Adds the margin of a source line, with its number to the right.
+// Adds the margin of a source line, with its number to the right.
 fn put_margin(out: &mut Vec<u8>, line: u32) -> Result<(), AllocError>
     ensures { Puts result out.old out.new (margin line) }
 {
@@ -185,7 +185,7 @@ fn put_margin(out: &mut Vec<u8>, line: u32) -> Result<(), AllocError>
     out.extend_from_slice(b" | ")
 }
 
-/// Adds bytes, each as it is shown.
+/// Adds bytes, each in the form in which `shown` shows a byte.
 pub fn put_shown(out: &mut Vec<u8>, bytes: &[u8]) -> Result<(), AllocError>
     ensures { Puts result out.old out.new (map shown bytes.now) }
 {
@@ -195,7 +195,7 @@ pub fn put_shown(out: &mut Vec<u8>, bytes: &[u8]) -> Result<(), AllocError>
     Ok(())
 }
 
-/// The first bytes, as many as are shown.
+// The first bytes, as many as a source line shows.
 #[tactic(auto, using(std::proofs::lemmas::List::take_min))]
 fn first_bytes(rest: &[u8]) -> &[u8]
     ensures { result.now ≡ take SHOWN rest.now }
@@ -204,7 +204,7 @@ fn first_bytes(rest: &[u8]) -> &[u8]
     &rest[..end]
 }
 
-/// Adds the part of a source line that is shown, from a byte on.
+// Adds the part of a source line that is shown, from a byte on.
 fn put_source(out: &mut Vec<u8>, line: &[u8], from: usize) -> Result<(), AllocError>
     requires { from ≤ length line.now }
     ensures { Puts result out.old out.new (source_line line.now from) }
@@ -215,7 +215,7 @@ fn put_source(out: &mut Vec<u8>, line: &[u8], from: usize) -> Result<(), AllocEr
     Ok(())
 }
 
-/// Adds blanks under the bytes that come before those that are meant, and marks under these.
+// Adds blanks under the first bytes of a shown line, up to a column, and marks under the next ones.
 fn put_marks(out: &mut Vec<u8>, column: usize, length: usize, mark: u8) -> Result<(), AllocError>
     ensures { Puts result out.old out.new (marks_line column length mark) }
 {
@@ -224,7 +224,7 @@ fn put_marks(out: &mut Vec<u8>, column: usize, length: usize, mark: u8) -> Resul
     put_many(out, mark, length.min(SHOWN.saturating_sub(column)).max(1))
 }
 
-/// Adds what is said, with these bytes before it, unless it is nothing.
+// Adds what is said, after the bytes `first`, and a line feed; the line feed alone if nothing is said.
 fn put_said(out: &mut Vec<u8>, first: &[u8], said: &[u8]) -> Result<(), AllocError>
     ensures { Puts result out.old out.new (said_line first.now said.now) }
 {

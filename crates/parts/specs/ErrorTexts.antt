@@ -3,15 +3,15 @@ use Rattle.std.specs.Prelude.{ℕ, List, ◌++◌, codes}
 use Rattle.std.specs.Fmt.{decimal}
 use Rattle.parts.specs.declared.error.LineError.{LineError}
 use Rattle.parts.specs.declared.error.PartError.{PartError}
-use Rattle.parts.specs.declared.error.PartError.TheVariants.{NotJson, Missing, Wrong, Unfit, Unlike, OutOfMemory}
+use Rattle.parts.specs.declared.error.PartError.TheVariants.{NotJson, Missing, Wrong, Inconsistent, NotPrinted, OutOfMemory}
 
 -- the key, and what is wrong with it
 abbrev pub part_error_text : PartError → List ℕ
 part_error_text NotJson = codes "no JSON"
 part_error_text (Missing key) = codes "no key " ++ key.now
 part_error_text (Wrong key wanted) = key.now ++ (codes " is not " ++ wanted.now)
-part_error_text Unfit = codes "ends, failed, stuck and schedule do not fit one another"
-part_error_text Unlike = codes "a key or a spelling that no part has"
+part_error_text Inconsistent = codes "ends, failed, stuck and schedule do not fit one another"
+part_error_text NotPrinted = codes "a key or a spelling that no part has"
 part_error_text OutOfMemory = codes "memory"
 
 -- the line's number, and what is wrong with it

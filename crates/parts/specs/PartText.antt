@@ -12,18 +12,18 @@ use Rattle.serde_json.specs.Read.{read}
 use Rattle.serde_json.specs.Written.{compact_text}
 use Rattle.hex.specs.Hex.{encode_lower, IsBytes}
 use Rattle.sha2.specs.Sha256.{sha256}
-use Rattle.parts.specs.declared.guest.Guest.{Guest}
+use Rattle.parts.specs.declared.guest.GuestDigest.{GuestDigest}
 use Rattle.parts.specs.declared.part.Part.{Part}
 
 -- the guest of a text
-abbrev pub guest_of : List ℕ → Guest
+abbrev pub guest_of : List ℕ → GuestDigest
 guest_of text = record { bytes = length text; sha256 = sha256 text }
 
 -- what contracts see of a part, memory aside
 pub record PartView : Type 0 where
   pub under : List ℕ
   pub level : Level
-  pub guest : Guest
+  pub guest : GuestDigest
 
 abbrev pub part_view : Part → PartView
 part_view x = record { under = x.under.items; level = x.level; guest = x.guest }
@@ -31,7 +31,7 @@ part_view x = record { under = x.under.items; level = x.level; guest = x.guest }
 -- ---- the text
 
 -- the length of a guest's text, and its digest in hex
-abbrev pub guest_data : Guest → Data
+abbrev pub guest_data : GuestDigest → Data
 guest_data g = object
     (member (codes "bytes") (count_data g.bytes)
     (member (codes "sha256") (string (encode_lower g.sha256)) no_members))
@@ -72,7 +72,7 @@ pub record IsSchedule (w : List ℕ) : Type 0 where
   pub short : length w ≤ PLACES
 
 -- a guest with a digest of 32 bytes
-pub record IsGuest (g : Guest) : Type 0 where
+pub record IsGuest (g : GuestDigest) : Type 0 where
   pub bytes : g.bytes < 2 ^ 64
   pub long : length g.sha256 ≡ 32
   pub digest : IsBytes g.sha256

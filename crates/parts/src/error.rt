@@ -10,9 +10,9 @@ use thiserror::Error;
 /// Why a line is no part's.
 #[derive(Clone, Copy, Debug, PartialEq, Eq, Error)]
 pub enum PartError {
-    /// It is no JSON.
+    /// The line is no JSON.
     NotJson,
-    /// It is no object, or one without this key.
+    /// The JSON is no object, or one without this key.
     Missing(&'static str),
     /// The value of this key isn't what it has to be.
     Wrong {
@@ -23,14 +23,14 @@ pub enum PartError {
     },
     /// The ends are not sorted, or there is a bad schedule where none failed or got stuck, or none
     /// where some did.
-    Unfit,
-    /// It has a key that no part has, or spells a schedule, a digest or an end as it isn't printed.
-    Unlike,
+    Inconsistent,
+    /// The JSON isn't what is printed of a part: it has a key more, or spells something otherwise.
+    NotPrinted,
     /// Memory ran out.
     OutOfMemory,
 }
 
-/// What the user is told: the key, and what is wrong with it.
+/// What the user is told: what is wrong with the line, with the key where it is of one.
 impl fmt::Display for PartError {
     ghost use Rattle.std.specs.Prelude.{Some};
     ghost use Rattle.parts.specs.ErrorTexts.{part_error_text};
@@ -42,11 +42,11 @@ impl fmt::Display for PartError {
             PartError::NotJson => write!(f, "no JSON"),
             PartError::Missing(key) => write!(f, "no key {key}"),
             PartError::Wrong { key, wanted } => write!(f, "{key} is not {wanted}"),
-            PartError::Unfit => write!(
+            PartError::Inconsistent => write!(
                 f,
                 "ends, failed, stuck and schedule do not fit one another"
             ),
-            PartError::Unlike => write!(f, "a key or a spelling that no part has"),
+            PartError::NotPrinted => write!(f, "a key or a spelling that no part has"),
             PartError::OutOfMemory => write!(f, "memory"),
         }
     }
@@ -68,16 +68,16 @@ impl<T: Drop> From<AllocFailed<T>> for PartError {
     }
 }
 
-/// Why a text is not one of parts.
+/// Which line of a text is no part's, and why.
 #[derive(Clone, Copy, Debug, PartialEq, Eq, Error)]
 pub struct LineError {
-    /// The first line that is no part's, counted from 1.
+    /// The number of the first line that is no part's, counted from 1.
     pub number: u64,
-    /// Why it is none.
+    /// Why that line is no part's.
     pub error: PartError,
 }
 
-/// What the user is told after the name of a file: the line, and what is wrong with it.
+/// What the user is told after the name of a file: the line's number, and what is wrong with it.
 impl fmt::Display for LineError {
     ghost use Rattle.std.specs.Prelude.{Some};
     ghost use Rattle.parts.specs.ErrorTexts.{line_error_text};

@@ -1,25 +1,25 @@
-//! Which text a guest is.
+//! What tells which text a guest is.
 
 ghost use Rattle.std.specs.Prelude.{◌≡◌};
 ghost use Rattle.parts.specs.PartText.{guest_of};
 
 use sha2::{Digest, Sha256};
 
-/// A guest's text, by its length and its digest: two texts that have both alike are taken for one.
+/// What stands for a guest's text: two texts of equal length and digest are taken for one.
 #[derive(Clone, Copy, Debug, PartialEq, Eq)]
-pub struct Guest {
+pub struct GuestDigest {
     /// How many bytes the text has.
     pub bytes: u64,
     /// The SHA-256 digest of the text.
     pub sha256: [u8; 32],
 }
 
-impl Guest {
-    /// That of a text.
-    pub fn of_text(text: &[u8]) -> Guest
+impl GuestDigest {
+    /// The length and the digest of a guest's text.
+    pub fn of_text(text: &[u8]) -> GuestDigest
         ensures { result ≡ guest_of text.now }
     {
-        Guest {
+        GuestDigest {
             bytes: text.len() as u64,
             sha256: Sha256::digest(text),
         }

@@ -10,11 +10,11 @@ use crate::part::Part;
 use crate::reading::part_from;
 use std::alloc::Global;
 
-/// The parts of a text, one a line. Blank lines are passed over.
+/// The parts of a text that has one a line, in their order. Blank lines are passed over.
 ///
 /// # Errors
 ///
-/// The first line that is no part's, and why it is none; `OutOfMemory` where memory runs out.
+/// The first line that is no part's, and why; `OutOfMemory` where memory runs out.
 pub fn parts_from(alloc: Global, text: &[u8]) -> Result<Vec<Part>, LineError>
     ensures are_lines { IfOk result (λ parts.
         AreLinesOf (lines_of text.now) (map part_view parts.items)) }
@@ -34,7 +34,7 @@ pub fn parts_from(alloc: Global, text: &[u8]) -> Result<Vec<Part>, LineError>
     Ok(parts)
 }
 
-// Puts the part of a line after others, unless the line is blank.
+// Reads the part of a line and puts it at the end of `parts`, unless the line is blank.
 fn push_part(parts: &mut Vec<Part>, alloc: Global, line: &[u8]) -> Result<(), PartError>
     ensures is_line { OnOk result ((xs : List PartView) × AreLinesOf (line.now ∷ []) xs
         × (map part_view parts.new.items ≡ map part_view parts.old.items ++ xs)) }

@@ -1,6 +1,6 @@
 //! What was found under one prefix at one bound.
 
-use crate::guest::Guest;
+use crate::guest::GuestDigest;
 use report::Level;
 
 /// What a search under a prefix found at one bound.
@@ -8,8 +8,8 @@ use report::Level;
 pub struct Part {
     /// The prefix: the threads that take its steps, by their numbers.
     pub under: Vec<u8>,
-    /// What was found of the schedules that begin with it.
+    /// What was found of the schedules that begin with the prefix.
     pub level: Level,
-    /// The guest that was searched.
-    pub guest: Guest,
+    /// Which guest was searched.
+    pub guest: GuestDigest,
 }

@@ -4,7 +4,7 @@ ghost use Rattle.std.specs.Prelude.{◌≡◌, IfOk};
 ghost use Rattle.serde_json.specs.View.{view};
 ghost use Rattle.parts.specs.PartText.{IsLineOf, guest_data, part_data, part_text, part_view};
 
-use crate::guest::Guest;
+use crate::guest::GuestDigest;
 use crate::part::Part;
 use report::{bound_value, cause_value, ends_value, first_bad_value, schedule_value};
 use serde_json::{Map, Value, put};
@@ -23,7 +23,7 @@ pub fn part_line(alloc: Global, part: &Part) -> Result<Vec<u8>, AllocError>
     part_value(alloc, part)?.to_vec(alloc)
 }
 
-// The object of a part.
+// The JSON of a part: an object, its keys in the order of their bytes.
 fn part_value(alloc: Global, part: &Part) -> Result<Value, AllocError>
     ensures { IfOk result (λ v. view v ≡ part_data (part_view part.now)) }
 {
@@ -60,8 +60,8 @@ fn part_value(alloc: Global, part: &Part) -> Result<Value, AllocError>
     Ok(Value::Object(members))
 }
 
-// The length of a guest's text, and its digest.
-fn guest_value(alloc: Global, guest: Guest) -> Result<Value, AllocError>
+// The JSON of which guest it is: the length of its text, and the digest in hex.
+fn guest_value(alloc: Global, guest: GuestDigest) -> Result<Value, AllocError>
     ensures { IfOk result (λ v. view v ≡ guest_data guest) }
 {
     let mut members = Map::new(alloc);

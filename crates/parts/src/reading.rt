@@ -14,11 +14,11 @@ ghost use Rattle.serde_json.specs.Read.{read, max_depth};
 ghost use Rattle.serde_json.specs.View.{view};
 ghost use Rattle.parts.specs.PartText.{PartView, IsPart, IsLevel, IsGuest, IsSchedule, IsLineOf, guest_data, part_data, part_view};
 ghost use Rattle.parts.specs.declared.error.PartError.TheVariants.{OutOfMemory};
-ghost use Rattle.parts.specs.declared.guest.Guest.{Guest};
+ghost use Rattle.parts.specs.declared.guest.GuestDigest.{GuestDigest};
 ghost use Rattle.parts.specs.inner.Keys.{HasLevel};
 
 use crate::error::PartError;
-use crate::guest::Guest;
+use crate::guest::GuestDigest;
 use crate::part::Part;
 use crate::printing::part_line;
 use hex::FromHex;
@@ -35,7 +35,7 @@ use summary::{Counts, Summary};
 ///
 /// # Errors
 ///
-/// Why it is no part's; `OutOfMemory` where memory runs out.
+/// Why the line is no part's; `OutOfMemory` where memory runs out.
 pub fn part_from(alloc: Global, line: &[u8]) -> Result<Part, PartError>
     ensures is_line { IfOk result (λ x. IsLineOf line.now (part_view x)) }
     ensures reads { (x : PartView) → IsPart x → IsLineOf line.now x →
@@ -51,7 +51,7 @@ pub fn part_from(alloc: Global, line: &[u8]) -> Result<Part, PartError>
     Ok(part)
 }
 
-// The value of a line of JSON.
+// The value that a line spells in JSON; `NotJson` where it spells none.
 fn value_of(alloc: Global, line: &[u8]) -> Result<Value, PartError>
     ensures value { IfOk result (λ v. IsUtf8 line.now × (read line.now ≡ Some (view v))) }
     ensures nests { IfOk result (λ v. depth (view v) ≤ max_depth) }
@@ -68,7 +68,7 @@ fn value_of(alloc: Global, line: &[u8]) -> Result<Value, PartError>
     }
 }
 
-// The value of a key.
+// The value of a key of an object; `Missing` where there is none.
 fn field<'v>(object: &'v Value, key: &'static str) -> Result<&'v Value, PartError>
     ensures { (d : Data) → get key.now (view object.now) ≡ Some d →
         MatchResult result (λ v. view v.now ≡ d) (λ _. ⊥) }
@@ -79,7 +79,7 @@ fn field<'v>(object: &'v Value, key: &'static str) -> Result<&'v Value, PartErro
     }
 }
 
-// What was found at a bound.
+// The level that the object of a part tells: what was found at its bound.
 fn level_of(alloc: Global, object: &Value) -> Result<Level, PartError>
     ensures { (l : Level) → IsLevel l → HasLevel l (view object.now) →
         MatchResult result (λ found. found ≡ l) (λ e. e ≡ OutOfMemory) }
@@ -91,7 +91,7 @@ fn level_of(alloc: Global, object: &Value) -> Result<Level, PartError>
     })
 }
 
-// The sum of what was tried.
+// The summary that the object of a part tells; `Inconsistent` where its values make none.
 fn summary_of(alloc: Global, object: &Value) -> Result<Summary, PartError>
     ensures { (l : Level) → IsLevel l → HasLevel l (view object.now) →
         MatchResult result (λ s. s ≡ l.summary) (λ e. e ≡ OutOfMemory) }
@@ -106,11 +106,11 @@ fn summary_of(alloc: Global, object: &Value) -> Result<Summary, PartError>
     let ends = ends_of(alloc, field(object, "ends")?)?;
     match Summary::from_parts(counts, beyond, first_bad, ends) {
         Some(summary) => Ok(summary),
-        None => Err(PartError::Unfit),
+        None => Err(PartError::Inconsistent),
     }
 }
 
-// A count.
+// The count that the value of this key is; `Wrong` where it is none.
 fn count_of(value: &Value, key: &'static str) -> Result<u64, PartError>
     ensures { (n : ℕ) → view value.now ≡ count_data n →
         MatchResult result (λ m. m ≡ n) (λ _. ⊥) }
@@ -124,7 +124,7 @@ fn count_of(value: &Value, key: &'static str) -> Result<u64, PartError>
     }
 }
 
-// A truth value.
+// The truth value that the value of this key is; `Wrong` where it is none.
 fn bool_of(value: &Value, key: &'static str) -> Result<bool, PartError>
     ensures { (b : Bool) → view value.now ≡ boolean b →
         MatchResult result (λ c. c ≡ b) (λ _. ⊥) }
@@ -138,7 +138,7 @@ fn bool_of(value: &Value, key: &'static str) -> Result<bool, PartError>
     }
 }
 
-// A bound, where there is one.
+// The bound that the value of the key `bound` is, or none where it is null.
 fn bound_of(value: &Value) -> Result<Option<u32>, PartError>
     ensures { (b : Option ℕ) → IfSome b (λ n. n < 2 ^ 32) → view value.now ≡ bound_data b →
         MatchResult result (λ c. c ≡ b) (λ _. ⊥) }
@@ -155,7 +155,7 @@ fn bound_of(value: &Value) -> Result<Option<u32>, PartError>
     }
 }
 
-// A cause, where there is one.
+// The cause that the value of the key `cause` is, or none where the key is missing.
 fn cause_of(value: Option<&Value>) -> Result<Option<Cause>, PartError>
     ensures { (cause : Option Cause) →
         option_map (λ v. view v.now) value.entry ≡ option_map cause_data cause →
@@ -174,7 +174,7 @@ fn cause_of(value: Option<&Value>) -> Result<Option<Cause>, PartError>
     }
 }
 
-// The first bad schedule, where there is one.
+// The first bad schedule, which the value of the key `schedule` is, or none where it is null.
 fn first_bad_of(alloc: Global, value: &Value) -> Result<Option<Vec<u8>>, PartError>
     ensures { (w : Option (List ℕ)) → IfSome w IsSchedule → view value.now ≡ first_bad_data w →
         MatchResult result (λ v. schedule_view v ≡ w) (λ e. e ≡ OutOfMemory) }
@@ -185,7 +185,7 @@ fn first_bad_of(alloc: Global, value: &Value) -> Result<Option<Vec<u8>>, PartErr
     Ok(Some(schedule_of(alloc, value, "schedule")?))
 }
 
-// A schedule, in any spelling.
+// The schedule that the value of this key spells, in any spelling; `Wrong` where it spells none.
 fn schedule_of(alloc: Global, value: &Value, key: &'static str) -> Result<Vec<u8>, PartError>
     ensures { (w : List ℕ) → IsSchedule w → view value.now ≡ schedule_data w →
         MatchResult result (λ v. v.items ≡ w) (λ e. e ≡ OutOfMemory) }
@@ -208,7 +208,7 @@ fn schedule_of(alloc: Global, value: &Value, key: &'static str) -> Result<Vec<u8
     }
 }
 
-// The end views.
+// The end views that the value of the key `ends` lists.
 fn ends_of(alloc: Global, value: &Value) -> Result<Vec<EndView>, PartError>
     ensures { (views : List View) → All (λ v. All (FitsSigned w64) v.vars) views →
         view value.now ≡ ends_data views →
@@ -227,7 +227,7 @@ fn ends_of(alloc: Global, value: &Value) -> Result<Vec<EndView>, PartError>
     Ok(ends)
 }
 
-// An end view.
+// The end view that an element of the list of ends is.
 fn end_of(alloc: Global, value: &Value) -> Result<EndView, PartError>
     ensures { (v : View) → All (FitsSigned w64) v.vars → view value.now ≡ end_data v →
         MatchResult result (λ end. end ≡ v) (λ e. e ≡ OutOfMemory) }
@@ -237,7 +237,7 @@ fn end_of(alloc: Global, value: &Value) -> Result<EndView, PartError>
     Ok(EndView::new(kind, vars))
 }
 
-// How a schedule ends.
+// How a schedule ends, which the value of the key `kind` of an end view says.
 fn kind_of(value: &Value) -> Result<Kind, PartError>
     ensures { (kind : Kind) → view value.now ≡ kind_data kind →
         MatchResult result (λ found. found ≡ kind) (λ _. ⊥) }
@@ -253,7 +253,7 @@ fn kind_of(value: &Value) -> Result<Kind, PartError>
     }
 }
 
-// The values of the variables.
+// The values of the variables, which the value of the key `vars` of an end view lists.
 fn values_of(alloc: Global, value: &Value) -> Result<Vec<i64>, PartError>
     ensures { (zs : List ℤ) → All (FitsSigned w64) zs → view value.now ≡ values_data zs →
         MatchResult result (λ values. values.items ≡ zs) (λ e. e ≡ OutOfMemory) }
@@ -275,15 +275,15 @@ fn values_of(alloc: Global, value: &Value) -> Result<Vec<i64>, PartError>
     Ok(values)
 }
 
-// The guest, by its length and its digest.
-fn guest_of(value: &Value) -> Result<Guest, PartError>
-    ensures { (g : Guest) → IsGuest g → view value.now ≡ guest_data g →
+// The length and the digest of a guest's text, which the value of the key `guest` has.
+fn guest_of(value: &Value) -> Result<GuestDigest, PartError>
+    ensures { (g : GuestDigest) → IsGuest g → view value.now ≡ guest_data g →
         MatchResult result (λ found. found ≡ g) (λ _. ⊥) }
 {
     let bytes = count_of(field(value, "bytes")?, "bytes")?;
     let digits = field(value, "sha256")?.as_str().unwrap_or("");
     match <[u8; 32] as FromHex>::from_hex(digits) {
-        Ok(sha256) => Ok(Guest { bytes, sha256 }),
+        Ok(sha256) => Ok(GuestDigest { bytes, sha256 }),
         Err(_) => Err(PartError::Wrong {
             key: "sha256",
             wanted: "64 hex digits",
@@ -291,7 +291,7 @@ fn guest_of(value: &Value) -> Result<Guest, PartError>
     }
 }
 
-// Checks that the JSON is that of the part which was read from it.
+// Checks that JSON is what is printed of the part that was read from it, but for the blanks.
 fn check_printed(alloc: Global, value: &Value, part: &Part) -> Result<(), PartError>
     requires { depth (view value.now) ≤ max_depth }
     ensures same { OnOk result (view value.now ≡ part_data (part_view part.now)) }
@@ -303,6 +303,6 @@ fn check_printed(alloc: Global, value: &Value, part: &Part) -> Result<(), PartEr
     if found.as_slice() == printed.as_slice() {
         Ok(())
     } else {
-        Err(PartError::Unlike)
+        Err(PartError::NotPrinted)
     }
 }

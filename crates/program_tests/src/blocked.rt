@@ -9,7 +9,7 @@ use std::alloc::Global;
 use std::test::*;
 use waits::{Wait, Waits};
 
-// The threads of a set.
+// Puts the threads of a set at the end of a text.
 fn put_set(text: &mut String, set: Mask) -> Result<(), Fail> {
     for thread in 0..16 {
         if set.contains(thread) {
@@ -19,7 +19,7 @@ fn put_set(text: &mut String, set: Mask) -> Result<(), Fail> {
     Ok(())
 }
 
-// A thread that waits.
+// Puts the line of a thread that waits at the end of a text.
 fn put_wait(text: &mut String, wait: &Wait) -> Result<(), Fail> {
     write!(text, "{} {:?} after", wait.thread, wait.reason)?;
     match wait.since {
@@ -38,7 +38,7 @@ fn put_wait(text: &mut String, wait: &Wait) -> Result<(), Fail> {
     Ok(())
 }
 
-// All that wait after a schedule of a guest.
+// The lines of all threads that wait after a schedule of a guest, and the line of the circles.
 fn waits_of(alloc: Global, guest: &[u8], schedule: &[u8]) -> Result<String, Fail> {
     let Ok(tree) = parse(alloc, guest) else {
         return Err(Fail::new("the text spells no tree"));

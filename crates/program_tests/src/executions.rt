@@ -39,42 +39,42 @@ fn execution_of(
 }
 
 /// A schedule of `COUNTERS`, its last thread, and how many preemptions it has.
-struct Turns {
+struct ScheduleRow {
     schedule: &'static [u8],
     last: Option<u8>,
     preemptions: usize,
 }
 
-const TURNS: [Turns; 5] = [
-    Turns {
+const SCHEDULES: [ScheduleRow; 5] = [
+    ScheduleRow {
         schedule: &[],
         last: None,
         preemptions: 0,
     },
-    Turns {
+    ScheduleRow {
         schedule: &[0, 0, 1, 1],
         last: Some(1),
         preemptions: 0,
     },
-    Turns {
+    ScheduleRow {
         schedule: &[0, 1, 1],
         last: Some(1),
         preemptions: 1,
     },
-    Turns {
+    ScheduleRow {
         schedule: &[0, 1, 1, 0],
         last: Some(0),
         preemptions: 1,
     },
-    Turns {
+    ScheduleRow {
         schedule: &[0, 1, 0, 1],
         last: Some(1),
         preemptions: 2,
     },
 ];
 
-// An execution has the last thread and the preemptions of a row.
-fn check_execution(rt: &impl Abort, execution: &Execution, row: &Turns) {
+// Compares the last thread and the preemptions of an execution with those of a row.
+fn check_execution(rt: &impl Abort, execution: &Execution, row: &ScheduleRow) {
     assert_eq!(rt; execution.last(), row.last, "{:?}", row.schedule);
     assert_eq!(rt;
         execution.preemptions(),
@@ -84,9 +84,8 @@ fn check_execution(rt: &impl Abort, execution: &Execution, row: &Turns) {
     );
 }
 
-// The execution of a row's schedule, and its copy, have the last thread and the preemptions of the row;
-// its variables are those of the state.
-fn check_turns(rt: &impl Abort, alloc: Global, p: &Program, row: &Turns) -> Result<(), Fail> {
+// Compares the execution of a row's schedule, and a copy of that, with the row and with the state.
+fn check_row(rt: &impl Abort, alloc: Global, p: &Program, row: &ScheduleRow) -> Result<(), Fail> {
     let execution = execution_of(rt, alloc, p, row.schedule)?;
     check_execution(rt, &execution, row);
     check_variables(rt, alloc, p, row.schedule, &execution)?;
@@ -95,7 +94,7 @@ fn check_turns(rt: &impl Abort, alloc: Global, p: &Program, row: &Turns) -> Resu
     Ok(())
 }
 
-// The variables of a schedule's execution are those of the state that it leads to.
+// Compares the variables of a schedule's execution with those of the state after the schedule.
 fn check_variables(
     rt: &impl Abort,
     alloc: Global,
@@ -115,8 +114,8 @@ fn check_variables(
 #[test]
 fn preemptions_of_executions(rt: HostRuntime) -> Result<(), Fail> {
     let p = program_of(rt.alloc(), COUNTERS)?;
-    for row in &TURNS {
-        check_turns(&rt, rt.alloc(), &p, row)?;
+    for row in &SCHEDULES {
+        check_row(&rt, rt.alloc(), &p, row)?;
     }
     Ok(())
 }
@@ -187,9 +186,9 @@ const PAIRS: [(&[u8], bool); 14] = [
     ),
 ];
 
-// Whether the opening steps of two threads are independent, in both orders; none where the two
-// orders differ, or who sleeps after the second one's step isn't that.
-fn is_pair_apart(alloc: Global, p: &Program) -> Result<Option<bool>, AllocError>
+// Whether the opening steps of two threads are independent; none where the answer is another for the
+// other order of the two, or for whether the first sleeps after the second's step.
+fn pair_independence(alloc: Global, p: &Program) -> Result<Option<bool>, AllocError>
     requires { 2 ≤ length p.now.threads }
 {
     let state = State::start(alloc, p)?;
@@ -201,11 +200,11 @@ fn is_pair_apart(alloc: Global, p: &Program) -> Result<Option<bool>, AllocError>
     Ok(Some(apart))
 }
 
-// The opening steps of a text's two threads are independent, or not.
+// Compares whether the opening steps of a text's two threads are independent.
 fn check_pair(rt: &impl Abort, alloc: Global, text: &[u8], apart: bool) -> Result<(), Fail> {
     let p = program_of(alloc, text)?;
     assert!(rt; p.threads() == 2);
-    assert_eq!(rt; is_pair_apart(alloc, &p)?, Some(apart));
+    assert_eq!(rt; pair_independence(alloc, &p)?, Some(apart));
     Ok(())
 }
 

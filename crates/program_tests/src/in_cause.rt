@@ -8,15 +8,15 @@ use guest_syntax::parse;
 use std::alloc::Global;
 use std::test::*;
 
-/// A guest, a schedule, and the steps in the cause of how it ends.
-struct Worked<'a> {
+/// A guest, a schedule of that, and the steps in the cause of how the schedule ends.
+struct CauseExample<'a> {
     text: &'a [u8],
     schedule: &'a [u8],
     steps: &'a [usize],
 }
 
-// A write between two uses of the variable by another thread, which overwrites it.
-const LOST: Worked<'static> = Worked {
+// A write between two uses of the variable by another thread, which overwrites what was written.
+const LOST: CauseExample<'static> = CauseExample {
     text: b"var x; var y; thread A { load r x; store x r; load q x; assert q == 1; } thread B {
 store y 1; store x 1; }",
     schedule: &[0, 1, 1, 0, 0],
@@ -24,7 +24,7 @@ store y 1; store x 1; }",
 };
 
 // The owner of a mutex ends, having passed the unlock by.
-const KEPT: Worked<'static> = Worked {
+const KEPT: CauseExample<'static> = CauseExample {
     text: b"var x; var y; mutex m; thread A { store y 1; lock m; load c x; if c { unlock m; } }
 thread B { lock m; }",
     schedule: &[0, 0, 0],
@@ -32,7 +32,7 @@ thread B { lock m; }",
 };
 
 // A semaphore whose release is passed by.
-const TAKEN: Worked<'static> = Worked {
+const TAKEN: CauseExample<'static> = CauseExample {
     text: b"var x; var y; sem s = 1; thread A { acquire s; load c x; if c { release s; } } thread
 B { store y 1; acquire s; }",
     schedule: &[0, 0, 1],
@@ -40,14 +40,14 @@ B { store y 1; acquire s; }",
 };
 
 // An unlock of a mutex that another thread owns; what comes after it doesn't count.
-const NOT_HELD: Worked<'static> = Worked {
+const NOT_HELD: CauseExample<'static> = CauseExample {
     text: b"var x; mutex m; thread A { unlock m; } thread B { lock m; store x 1; unlock m; }",
     schedule: &[1, 1, 0, 1],
     steps: &[0, 2],
 };
 
 // The edit of the mode after it was read.
-const THERAC: Worked<'static> = Worked {
+const THERAC: CauseExample<'static> = CauseExample {
     text: b"var mode = 1; var turntable; var edited; var current; thread Keyboard { store
 turntable 1; store mode 1; store mode 2; store turntable 2; store edited 1; } thread
 Treat { load m mode; if m == 1 { store current 100; } else { store current 1; } load e
@@ -58,7 +58,7 @@ edited; if e { load m mode; if m == 1 { store current 100; } else { store curren
 };
 
 // A reader that waits for a writer, which waits for that reader.
-const RWLOCK: Worked<'static> = Worked {
+const RWLOCK: CauseExample<'static> = CauseExample {
     text: b"mutex g; cond changed; var readers; var pending; var writing; thread Reader { lock g;
 repeat 3 { load p pending; if p == 0 { leave; } wait changed g; } assert p == 0; add
 old readers 1; unlock g; lock g; repeat 3 { load p pending; if p == 0 { leave; } wait
@@ -72,7 +72,7 @@ changed; unlock g; }",
 };
 
 // A reader that is overlooked by one grace period and taken for a new one by the next.
-const RCU: Worked<'static> = Worked {
+const RCU: CauseExample<'static> = CauseExample {
     text: b"var gp = 1; var reader; var current = 1; var freed; thread Reader { load g gp; store
 reader g; load p current; load f freed; assert f < p; store reader 0; } thread Updater
 { store current 2; store gp 3; repeat 2 { load r reader; set quiet r == 0; if r == 3 {
@@ -84,7 +84,7 @@ gp 1; repeat 2 { load r reader; set quiet r == 0; if r == 1 { set quiet 1; } if 
 };
 
 // A page that is thrown away between a write fault and the next one.
-const COW: Worked<'static> = Worked {
+const COW: CauseExample<'static> = CauseExample {
     text: b"var pte; var written; thread Write { set want_write 1; repeat 5 { load p pte; set
 found 0; if p != 0 { if want_write == 0 { set found 1; } } if found { leave; } if
 want_write { cas copied pte 0 2; if copied == 0 { cas reused pte 2 2; if reused { set
@@ -94,15 +94,15 @@ p == 2; } } thread Madvise { store pte 0; }",
     steps: &[0, 1, 2, 3, 4, 5, 6, 7, 8, 9],
 };
 
-// The steps in the cause.
-fn steps_in_cause(alloc: Global, worked: &Worked) -> Result<Vec<usize>, Fail> {
-    let Ok(tree) = parse(alloc, worked.text) else {
+// The steps in the cause of how the schedule of an example ends.
+fn steps_in_cause(alloc: Global, example: &CauseExample) -> Result<Vec<usize>, Fail> {
+    let Ok(tree) = parse(alloc, example.text) else {
         return Err(Fail::new("the text spells no tree"));
     };
     let Ok(program) = lower(alloc, &tree) else {
         return Err(Fail::new("the tree has a fault"));
     };
-    let told = Explanation::new(alloc, &program, worked.schedule)?;
+    let told = Explanation::new(alloc, &program, example.schedule)?;
     let causes = Causes::of(alloc, &program, &told)?;
     let mut steps = Vec::new(alloc);
     for (at, mark) in causes.steps().iter().enumerate() {

@@ -31,7 +31,7 @@ static READ: [(&[u8], &[u8]); 4] = [
     (b"1x1,1x2,0", &[1, 1, 1, 0]),
 ];
 
-/// A text, and the offset of the first piece that is none.
+/// A text, and the offset of the first piece of the text that is no piece of a schedule.
 static BAD: [(&[u8], usize); 23] = [
     (b"", 0),
     (b"0,", 2),
@@ -70,8 +70,8 @@ static LONG: [(&[u8], usize); 8] = [
     (b"1x40000,2x0", 0),
 ];
 
-/// A thread that fails where its step comes between two of another, and one that fails at the
-/// start.
+/// A thread that fails where its step comes between the two of another thread, and one that fails
+/// at the start.
 const RACE: &[u8] =
     b"var x; thread A { store x 1; store x 0; } thread B { load r x; assert r == 0; } thread C { assert 0; }";
 
@@ -148,7 +148,7 @@ fn reads_schedules_that_are_not_written(rt: HostRuntime) -> Result<(), Fail> {
     Ok(())
 }
 
-/// Where a text has the first piece that is none, if that is what is wrong with it.
+/// Where the first piece of a text is that is no piece of a schedule, if that is wrong with the text.
 fn bad_at(alloc: Global, text: &[u8]) -> Option<usize> {
     match schedule_from(alloc, text) {
         Err(ScheduleError::BadSchedule(at)) => Some(at),
@@ -163,7 +163,7 @@ fn names_the_first_piece_that_is_none(rt: HostRuntime) {
     }
 }
 
-/// Where a text has the piece with which its schedule is too long, if that is what is wrong.
+/// Where the piece of a text is with which its schedule is too long, if that is wrong with the text.
 fn too_long_at(alloc: Global, text: &[u8]) -> Option<usize> {
     match schedule_from(alloc, text) {
         Err(ScheduleError::TooLong(at)) => Some(at),
@@ -195,7 +195,7 @@ fn trace_of(alloc: Global, text: &[u8], schedule: &[u8]) -> Result<Vec<u8>, Fail
     Ok(trace_text(alloc, &program, &run)?)
 }
 
-/// What the steps `0,1,0` of `RACE` do, and how they end.
+/// Compares what the steps `0,1,0` of `RACE` do, and how they end.
 fn check_race(rt: &impl Abort, run: &Run) {
     assert_eq!(rt; run.stopped(), &[2][..]);
     assert_eq!(rt; run.lines(), &LINES[..]);

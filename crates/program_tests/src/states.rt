@@ -26,178 +26,178 @@ const SIXTEEN: &[u8] =
     b"sem s = 0; thread A { acquire s; release s; } thread B { acquire s; release s; } thread C { acquire s; release s; } thread D { acquire s; release s; } thread E { acquire s; release s; } thread F { acquire s; release s; } thread G { acquire s; release s; } thread H { acquire s; release s; } thread I { acquire s; release s; } thread J { acquire s; release s; } thread K { acquire s; release s; } thread L { acquire s; release s; } thread M { acquire s; release s; } thread N { acquire s; release s; } thread O { acquire s; release s; } thread P { release s; acquire s; }";
 
 /// A schedule of a program, how it ends, and the values of the variables then.
-struct End {
+struct EndRow {
     text: &'static [u8],
     schedule: &'static [u8],
     kind: Kind,
     values: &'static [i64],
 }
 
-const ENDS: [End; 28] = [
+const ENDS: [EndRow; 28] = [
     // An `add` and a `cas` read their operands before they write their local; sums wrap.
-    End {
+    EndRow {
         text: b"var x = 5; thread A { set r 3; add r x r; assert r == 5; }",
         schedule: &[0],
         kind: Kind::Done,
         values: &[8],
     },
-    End {
+    EndRow {
         text: b"var x = 9223372036854775807; thread A { add r x 1; assert r == 9223372036854775807; }",
         schedule: &[0],
         kind: Kind::Done,
         values: &[i64::MIN],
     },
-    End {
+    EndRow {
         text: b"var x = -9223372036854775807; thread A { add r x -2; assert r == -9223372036854775807; }",
         schedule: &[0],
         kind: Kind::Done,
         values: &[i64::MAX],
     },
-    End {
+    EndRow {
         text: b"var x = 7; thread A { set r 7; cas r x r 9; assert r == 1; }",
         schedule: &[0],
         kind: Kind::Done,
         values: &[9],
     },
-    End {
+    EndRow {
         text: b"var x = 7; thread A { set r 6; cas r x r 9; assert r == 0; }",
         schedule: &[0],
         kind: Kind::Done,
         values: &[7],
     },
-    End {
+    EndRow {
         text: b"var x = 7; thread A { set r 6; cas r x 7 r; assert r == 1; }",
         schedule: &[0],
         kind: Kind::Done,
         values: &[6],
     },
-    End {
+    EndRow {
         text: b"var x; thread A { set r 6; cas r x 1 r; assert r == 0; }",
         schedule: &[0],
         kind: Kind::Done,
         values: &[0],
     },
-    End {
+    EndRow {
         text: b"thread A { assert 0; }",
         schedule: &[],
         kind: Kind::Failed,
         values: &[],
     },
-    End {
+    EndRow {
         text: b"thread A { }",
         schedule: &[],
         kind: Kind::Done,
         values: &[],
     },
-    End {
+    EndRow {
         text: b"var x; thread A { store x 1; } thread B { load r x; assert r == 0; }",
         schedule: &[0, 1],
         kind: Kind::Failed,
         values: &[1],
     },
-    End {
+    EndRow {
         text: b"var x; thread A { store x 1; } thread B { load r x; assert r == 0; }",
         schedule: &[1, 0],
         kind: Kind::Done,
         values: &[1],
     },
-    End {
+    EndRow {
         text: COUNTERS,
         schedule: &[0, 0, 1, 1],
         kind: Kind::Done,
         values: &[2],
     },
-    End {
+    EndRow {
         text: COUNTERS,
         schedule: &[0, 1, 1, 0],
         kind: Kind::Done,
         values: &[1],
     },
-    End {
+    EndRow {
         text: b"var x; thread A { store x 1; store x 0; } thread B { load r x; assert r == 0; }",
         schedule: &[0, 1, 0],
         kind: Kind::Failed,
         values: &[0],
     },
-    End {
+    EndRow {
         text: b"mutex m; mutex n; thread A { lock m; lock n; unlock n; unlock m; } thread B { lock n; lock m; unlock m; unlock n; }",
         schedule: &[0, 1],
         kind: Kind::Stuck,
         values: &[],
     },
-    End {
+    EndRow {
         text: b"mutex m; cond c; thread A { lock m; wait c m; unlock m; } thread B { lock m; signal c; unlock m; }",
         schedule: &[0, 0, 1, 1, 1, 0, 0],
         kind: Kind::Done,
         values: &[],
     },
-    End {
+    EndRow {
         text: b"mutex m; cond c; thread A { lock m; wait c m; unlock m; } thread B { lock m; signal c; unlock m; }",
         schedule: &[1, 1, 1, 0, 0],
         kind: Kind::Stuck,
         values: &[],
     },
-    End {
+    EndRow {
         text: b"mutex m; thread A { lock m; lock m; }",
         schedule: &[0],
         kind: Kind::Stuck,
         values: &[],
     },
-    End {
+    EndRow {
         text: b"sem s = 0; thread A { acquire s; }",
         schedule: &[],
         kind: Kind::Stuck,
         values: &[],
     },
-    End {
+    EndRow {
         text: b"var x; thread A { set r 9223372036854775807; set r r + 1; store x r; }",
         schedule: &[0],
         kind: Kind::Done,
         values: &[-9_223_372_036_854_775_808],
     },
-    End {
+    EndRow {
         text: b"var x; thread A { repeat 5 { set r r + 1; if r == 3 { leave; } } store x r; }",
         schedule: &[0],
         kind: Kind::Done,
         values: &[3],
     },
-    End {
+    EndRow {
         text: b"mutex m; cond c; thread A { lock m; wait c m; unlock m; } thread B { lock m; wait c m; unlock m; } thread C { lock m; broadcast c; unlock m; }",
         schedule: &[0, 0, 1, 1, 2, 2, 2, 1, 1, 0, 0],
         kind: Kind::Done,
         values: &[],
     },
-    End {
+    EndRow {
         text: b"mutex m; cond c; thread A { lock m; wait c m; unlock m; } thread B { lock m; wait c m; unlock m; } thread C { lock m; signal c; unlock m; }",
         schedule: &[0, 0, 1, 1, 2, 2, 2, 0, 0],
         kind: Kind::Stuck,
         values: &[],
     },
-    End {
+    EndRow {
         text: b"var x; thread A { cas r x 0 1; assert r == 1; } thread B { cas r x 0 2; assert r == 1; }",
         schedule: &[0, 1],
         kind: Kind::Failed,
         values: &[1],
     },
-    End {
+    EndRow {
         text: b"var x = 9223372036854775807; thread A { add r x 1; assert r == 9223372036854775807; }",
         schedule: &[0],
         kind: Kind::Done,
         values: &[-9_223_372_036_854_775_808],
     },
-    End {
+    EndRow {
         text: b"var x = 5; var y; thread A { set r 3; add r x r; store y r; }",
         schedule: &[0, 0],
         kind: Kind::Done,
         values: &[8, 5],
     },
-    End {
+    EndRow {
         text: b"var x = 7; var y; thread A { set r 7; cas r x r 9; store y r; }",
         schedule: &[0, 0],
         kind: Kind::Done,
         values: &[9, 1],
     },
-    End {
+    EndRow {
         text: b"var x = 7; var y; thread A { set r 6; cas r x 7 r; store y r; }",
         schedule: &[0, 0],
         kind: Kind::Done,
@@ -205,8 +205,8 @@ const ENDS: [End; 28] = [
     },
 ];
 
-// The schedule to the state ends as the row says.
-fn check_end(rt: &impl Abort, p: &Program, state: &State, row: &End)
+// Compares how the schedule to a state ends with what the row says.
+fn check_end(rt: &impl Abort, p: &Program, state: &State, row: &EndRow)
     requires { IsOf p.now state.now }
 {
     assert_eq!(rt; state.kind(p), Some(row.kind), "{:?}", row.schedule);
@@ -214,15 +214,15 @@ fn check_end(rt: &impl Abort, p: &Program, state: &State, row: &End)
     assert_eq!(rt; state.variables(), row.values, "{:?}", row.schedule);
 }
 
-// The end view is what the row says.
-fn check_view(rt: &impl Abort, view: Option<&EndView>, row: &End) {
+// Compares an end view with what the row says.
+fn check_view(rt: &impl Abort, view: Option<&EndView>, row: &EndRow) {
     let view = view.expect(rt, "an end view");
     assert_eq!(rt; view.kind(), row.kind, "{:?}", row.schedule);
     assert_eq!(rt; view.vars(), row.values, "{:?}", row.schedule);
 }
 
-// The schedule of a row ends as the row says.
-fn check_row(rt: &impl Abort, alloc: Global, row: &End) -> Result<(), Fail> {
+// Compares how the schedule of a row ends, and its end view, with what the row says.
+fn check_row(rt: &impl Abort, alloc: Global, row: &EndRow) -> Result<(), Fail> {
     let p = program_of(alloc, row.text)?;
     let state = state_after(rt, alloc, &p, row.schedule)?;
     check_end(rt, &p, &state, row);
@@ -239,7 +239,7 @@ fn schedules_end_as_they_should(rt: HostRuntime) -> Result<(), Fail> {
     Ok(())
 }
 
-// The first thread has stopped so, and the schedule ends with that.
+// Checks that the first thread has stopped for this cause, and that the schedule ends with that.
 fn check_stop(rt: &impl Abort, p: &Program, state: &State, stop: Stop)
     requires { IsOf p.now state.now }
 {
@@ -249,7 +249,7 @@ fn check_stop(rt: &impl Abort, p: &Program, state: &State, stop: Stop)
     assert_eq!(rt; state.kind(p), Some(Kind::Failed), "{stop:?}");
 }
 
-// The first thread of a text's program stops so with its first step, or before.
+// Checks that the first thread of a text's program stops for this cause after one step.
 fn check_stop_after_one_step(
     rt: &impl Abort,
     alloc: Global,
@@ -284,13 +284,13 @@ fn what_stops_a_thread(rt: HostRuntime) -> Result<(), Fail> {
     )
 }
 
-/// A schedule of `SIXTEEN`: the last thread gives the unit, which comes back to it at the end.
+/// A schedule of `SIXTEEN`: the last thread gives the unit, and has the unit back at the end.
 const HANDED_ON: &[u8] = &[
     15, 0, 0, 1, 1, 2, 2, 3, 3, 4, 4, 5, 5, 6, 6, 7, 7, 8, 8, 9, 9, 10, 10, 11, 11, 12, 12, 13, 13,
     14, 14, 15,
 ];
 
-// Of sixteen threads the last one alone is enabled.
+// Checks that of sixteen threads the last one alone is enabled.
 fn check_only_last(rt: &impl Abort, enabled: Mask) {
     for t in 0..16 {
         assert_eq!(rt; enabled.contains(t), t == 15, "{t}");
@@ -310,7 +310,7 @@ fn sixteen_threads_run(rt: HostRuntime) -> Result<(), Fail> {
 }
 
 // What a thread is about to do, whether it goes on, and whether it is enabled, asked twice.
-fn asked(p: &Program, state: &State, t: u8) -> (Option<Action>, Status, bool, bool)
+fn thread_facts(p: &Program, state: &State, t: u8) -> (Option<Action>, Status, bool, bool)
     requires of { IsOf p.now state.now }
     requires thread { t < length p.now.threads }
 {
@@ -323,17 +323,20 @@ fn asked(p: &Program, state: &State, t: u8) -> (Option<Action>, Status, bool, bo
     )
 }
 
-// The first thread is about to store its first local, and the second one has ended.
+// Checks that the first thread is about to store its first local, and the second one has ended.
 fn check_threads(rt: &impl Abort, p: &Program, state: &State)
     requires { IsOf p.now state.now }
 {
     assert_eq!(rt; p.threads(), 2);
     let store = Action::OnVariable(0, VariableAction::Store(Value::Local(0)));
     assert_eq!(rt;
-        asked(p, state, 0),
+        thread_facts(p, state, 0),
         (Some(store), Status::Running, true, true)
     );
-    assert_eq!(rt; asked(p, state, 1), (None, Status::Ended, false, false));
+    assert_eq!(rt;
+        thread_facts(p, state, 1),
+        (None, Status::Ended, false, false)
+    );
     assert_eq!(rt; state.value_of(0, Value::Local(0)), 5);
     assert_eq!(rt; state.status(1).stop(), None);
 }
@@ -354,7 +357,7 @@ fn what_a_thread_is_about_to_do(rt: HostRuntime) -> Result<(), Fail> {
 const HOLDING: &[u8] =
     b"mutex l; mutex m; cond b; cond c; sem s = 7; sem s2 = 2; thread A { lock m; wait c m; } thread B { lock m; wait c m; } thread C { lock l; acquire s2; set q 4; set r 5; release s2; }";
 
-// The third thread owns the first mutex, and has one unit of the second semaphore.
+// Checks that the third thread owns the first mutex, and has one unit of the second semaphore.
 fn check_owners_and_counts(rt: &impl Abort, p: &Program, state: &State)
     requires { IsOf p.now state.now }
 {
@@ -363,7 +366,7 @@ fn check_owners_and_counts(rt: &impl Abort, p: &Program, state: &State)
     assert_eq!(rt; (state.count(0), state.count(1)), (7, 1));
 }
 
-// The first two threads wait for the second condition.
+// Checks that the first two threads wait for the second condition.
 fn check_queues(rt: &impl Abort, p: &Program, state: &State)
     requires { IsOf p.now state.now }
 {
@@ -377,7 +380,7 @@ fn check_queues(rt: &impl Abort, p: &Program, state: &State)
     assert_eq!(rt; state.queued(1, 2), None);
 }
 
-// Where two of the threads are, and what the third one has set.
+// Compares where the first and the third thread are, and what the third one has set.
 fn check_places_and_locals(rt: &impl Abort, p: &Program, state: &State)
     requires { IsOf p.now state.now }
 {
@@ -397,9 +400,9 @@ fn what_objects_and_threads_hold(rt: HostRuntime) -> Result<(), Fail> {
     Ok(())
 }
 
-/// Ends in their order: by kind first, done before failed before stuck, then by the first value
+/// Ends in rising order: by kind first, done before failed before stuck, then by the first value
 /// that differs, signed.
-const RISING: [(Kind, [i64; 2]); 5] = [
+const RISING_ENDS: [(Kind, [i64; 2]); 5] = [
     (Kind::Done, [-1, 7]),
     (Kind::Done, [0, -2]),
     (Kind::Done, [0, 3]),
@@ -407,15 +410,15 @@ const RISING: [(Kind, [i64; 2]); 5] = [
     (Kind::Stuck, [-9, 0]),
 ];
 
-// The end view of a place in that order.
+// The end view at a place of `RISING_ENDS`.
 fn view_at(alloc: Global, place: usize) -> Result<EndView, AllocError>
     requires { place < 5 }
 {
-    let (kind, values) = &RISING[place];
+    let (kind, values) = &RISING_ENDS[place];
     Ok(EndView::new(*kind, values.as_slice().to_vec(alloc)?))
 }
 
-// One view compares so with another, and its parts do.
+// Compares the order of two views with the wanted one, and so with the parts of the first.
 fn check_order(rt: &impl Abort, view: &EndView, other: &EndView, want: Ordering) {
     assert_eq!(rt;
         view.compare(other),
@@ -428,7 +431,7 @@ fn check_order(rt: &impl Abort, view: &EndView, other: &EndView, want: Ordering)
     assert_eq!(rt; parts, want, "{:?} with {:?}", view.vars(), other.vars());
 }
 
-// The view of a place compares with all of them as the places do.
+// Checks that the view of a place of `RISING_ENDS` compares with all views there as the places do.
 fn check_order_with_all(
     rt: &impl Abort,
     alloc: Global,
@@ -445,7 +448,7 @@ fn check_order_with_all(
 fn views_come_in_order(rt: HostRuntime) -> Result<(), Fail> {
     for i in 0..5 {
         let view = view_at(rt.alloc(), i)?;
-        let (kind, values) = &RISING[i];
+        let (kind, values) = &RISING_ENDS[i];
         assert_eq!(rt; view.kind(), *kind);
         assert_eq!(rt; view.vars(), values.as_slice());
         check_order_with_all(&rt, rt.alloc(), &view, i)?;
@@ -466,7 +469,7 @@ fn copies_of_views_are_equal(rt: HostRuntime) -> Result<(), Fail> {
 #[test]
 fn views_are_written_over(rt: HostRuntime) -> Result<(), Fail> {
     for i in 0..5 {
-        let (kind, values) = &RISING[i];
+        let (kind, values) = &RISING_ENDS[i];
         let other = view_at(rt.alloc(), 4 - i)?;
         let view = other.rewritten(*kind, values.as_slice())?;
         assert_eq!(rt; view.kind(), *kind);

@@ -7,7 +7,7 @@ ghost use Rattle.std.specs.Prelude.{◌≤◌};
 ghost use Rattle.report.specs.Promises.{IsSearch};
 
 use crate::answers::devices::{FailingReader, FailingWriter};
-use answering::{Exploration, Fault, GuestRequest, ended, serve};
+use answering::{Exploration, Fault, GuestRequest, exit_status, serve};
 use runner::{Options, Search};
 use std::alloc::{Alloc, Global};
 use std::io::Eprint;
@@ -21,15 +21,15 @@ const RACE: &str =
 
 const FILE_FAULT: &[u8] = b"ctxbound: file\n";
 
-/// A replay of this schedule.
-fn replay(alloc: Global, schedule: &str) -> Result<GuestRequest, Fail> {
+/// A request for a replay of this schedule.
+fn replay_request(alloc: Global, schedule: &str) -> Result<GuestRequest, Fail> {
     Ok(GuestRequest::Replay {
         schedule: String::from_str(alloc, schedule)?,
     })
 }
 
-/// A search by one worker.
-fn search(options: Options) -> GuestRequest
+/// A request for a search by one worker.
+fn search_request(options: Options) -> GuestRequest
     requires search { IsSearch options.search }
     requires quota { 1 ≤ options.quota }
 {
@@ -42,7 +42,7 @@ fn search(options: Options) -> GuestRequest
 
 /// Serves a request over a reader that fails at this call, and compares what is written as the line
 /// of a fault: answers the status, how much output there is, and the calls of the reader.
-fn reader_fails(
+fn serve_failing_reader(
     rt: &(impl Abort + Threads + Wait + Sync + Eprint + Alloc<A = Global>),
     request: &GuestRequest,
     text: &[u8],
@@ -57,14 +57,14 @@ fn reader_fails(
     };
     let mut out = Vec::new(alloc);
     let mut err = Vec::new(alloc);
-    let status = ended(serve(rt, request, &mut input, &mut out, &mut err), &mut err);
+    let status = exit_status(serve(rt, request, &mut input, &mut out, &mut err), &mut err);
     assert_eq!(rt; err.as_slice(), line);
     (status, out.len(), input.calls)
 }
 
 /// Serves a request over a writer that fails at this call, and compares what is written as the line
 /// of a fault: answers the status and the calls of the writer.
-fn writer_fails(
+fn serve_failing_writer(
     rt: &(impl Abort + Threads + Wait + Sync + Eprint + Alloc<A = Global>),
     request: &GuestRequest,
     fails_at: usize,
@@ -74,13 +74,13 @@ fn writer_fails(
     let mut input = RACE.as_bytes();
     let mut out = FailingWriter::at(fails_at);
     let mut err = Vec::new(alloc);
-    let status = ended(serve(rt, request, &mut input, &mut out, &mut err), &mut err);
+    let status = exit_status(serve(rt, request, &mut input, &mut out, &mut err), &mut err);
     assert_eq!(rt; err.as_slice(), line);
     (status, out.calls)
 }
 
-/// The output where no device fails.
-fn output(
+/// The output of a request where no device fails.
+fn output_of(
     rt: &(impl Abort + Threads + Wait + Sync + Eprint + Alloc<A = Global>),
     request: &GuestRequest,
 ) -> Vec<u8> {
@@ -93,46 +93,46 @@ fn output(
     out
 }
 
-/// Each call of a reader fails in turn: the program says so, and doesn't try it again.
-fn readers_fail(
+/// Lets each call of a reader fail in turn: the program says so, and doesn't try the call again.
+fn check_failing_readers(
     rt: &(impl Abort + Threads + Wait + Sync + Eprint + Alloc<A = Global>),
     request: &GuestRequest,
 ) {
     let text = RACE.as_bytes();
     for fails_at in 0..=text.len() {
-        let counts = reader_fails(rt, request, text, fails_at, FILE_FAULT);
+        let counts = serve_failing_reader(rt, request, text, fails_at, FILE_FAULT);
         assert_eq!(rt; counts, (4, 0, fails_at + 1));
     }
 }
 
-/// Each call of a writer fails in turn.
-fn writers_fail(
+/// Lets each call of a writer fail in turn: the program says so, and doesn't try the call again.
+fn check_failing_writers(
     rt: &(impl Abort + Threads + Wait + Sync + Eprint + Alloc<A = Global>),
     request: &GuestRequest,
 ) {
-    let length = output(rt, request).len();
+    let length = output_of(rt, request).len();
     for fails_at in 0..=length {
-        let counts = writer_fails(rt, request, fails_at, FILE_FAULT);
+        let counts = serve_failing_writer(rt, request, fails_at, FILE_FAULT);
         assert_eq!(rt; counts, (4, fails_at + 1));
     }
 }
 
 #[test]
 fn says_that_a_device_failed(rt: HostRuntime) -> Result<(), Fail> {
-    let request = replay(rt.alloc(), "0,1,0")?;
-    readers_fail(&rt, &request);
-    writers_fail(&rt, &request);
+    let request = replay_request(rt.alloc(), "0,1,0")?;
+    check_failing_readers(&rt, &request);
+    check_failing_writers(&rt, &request);
     Ok(())
 }
 
 #[test]
 fn says_that_a_device_failed_in_a_search(rt: HostRuntime) {
     for request in &[
-        search(Options::new(Search::UpTo(2))),
-        search(Options::new(Search::Unbounded)),
+        search_request(Options::new(Search::UpTo(2))),
+        search_request(Options::new(Search::Unbounded)),
     ] {
-        readers_fail(&rt, request);
-        writers_fail(&rt, request);
+        check_failing_readers(&rt, request);
+        check_failing_writers(&rt, request);
     }
 }
 
@@ -140,14 +140,14 @@ fn says_that_a_device_failed_in_a_search(rt: HostRuntime) {
 fn reads_no_further_than_it_must(rt: HostRuntime) -> Result<(), Fail> {
     let mut text = Vec::new(rt.alloc());
     text.resize(65_537, b' ')?;
-    let request = replay(rt.alloc(), "0")?;
+    let request = replay_request(rt.alloc(), "0")?;
     let line = b"ctxbound: syntax S5 TooLong at 1:1\n";
-    let counts = reader_fails(&rt, &request, text.as_slice(), 65_537, line);
+    let counts = serve_failing_reader(&rt, &request, text.as_slice(), 65_537, line);
     assert_eq!(rt; counts, (2, 0, 65_537));
     Ok(())
 }
 
-/// The status where neither stream takes anything.
+/// The status of a request where neither output nor errors can be written.
 fn status_alone(
     rt: &(impl Threads + Wait + Sync + Eprint + Alloc<A = Global>),
     request: &GuestRequest,
@@ -155,14 +155,14 @@ fn status_alone(
     let mut input = RACE.as_bytes();
     let mut out = FailingWriter::at(0);
     let mut err = FailingWriter::at(0);
-    ended(serve(rt, request, &mut input, &mut out, &mut err), &mut err)
+    exit_status(serve(rt, request, &mut input, &mut out, &mut err), &mut err)
 }
 
 #[test]
 fn keeps_its_status_where_a_stream_fails(rt: HostRuntime) -> Result<(), Fail> {
-    let request = replay(rt.alloc(), "0,")?;
+    let request = replay_request(rt.alloc(), "0,")?;
     let line = b"ctxbound: schedule Q1 BadSchedule at 2\n";
-    assert_eq!(rt; writer_fails(&rt, &request, 0, line), (2, 0));
+    assert_eq!(rt; serve_failing_writer(&rt, &request, 0, line), (2, 0));
     assert_eq!(rt; status_alone(&rt, &request), 2);
     let mut err = FailingWriter::at(0);
     assert_eq!(rt; Fault::Memory.report(&mut err), 4);

@@ -29,8 +29,8 @@ fn program_of(alloc: Global, text: &str) -> Result<Arc<Program>, Fail> {
     Ok(Arc::new(alloc, lower(alloc, &tree)?)?)
 }
 
-/// The text of the report of a search of a text.
-fn searched(alloc: Global, text: &str, options: Options) -> Result<Vec<u8>, Fail>
+/// The text of the report of a search of a text, by one worker.
+fn search_report(alloc: Global, text: &str, options: Options) -> Result<Vec<u8>, Fail>
     requires search { IsSearch options.search }
     requires quota { 1 ≤ options.quota }
 {
@@ -42,7 +42,7 @@ fn searched(alloc: Global, text: &str, options: Options) -> Result<Vec<u8>, Fail
 
 #[test]
 fn searches_up_to_a_bound(rt: HostRuntime) -> Result<(), Fail> {
-    let found = searched(rt.alloc(), COUNTERS, Options::new(Search::UpTo(0)))?;
+    let found = search_report(rt.alloc(), COUNTERS, Options::new(Search::UpTo(0)))?;
     let want =
         r#"{"all":false,"bound":0,"ends":[{"kind":"done","vars":[2]}],"failed":0,"stuck":0,"tried":2,"verdict":"clean"}"#;
     assert_eq!(rt; found.as_slice(), want.as_bytes());
@@ -51,7 +51,7 @@ fn searches_up_to_a_bound(rt: HostRuntime) -> Result<(), Fail> {
 
 #[test]
 fn searches_without_a_bound(rt: HostRuntime) -> Result<(), Fail> {
-    let found = searched(rt.alloc(), COUNTERS, Options::new(Search::Unbounded))?;
+    let found = search_report(rt.alloc(), COUNTERS, Options::new(Search::Unbounded))?;
     let want =
         r#"{"all":true,"bound":null,"ends":[{"kind":"done","vars":[1]},{"kind":"done","vars":[2]}],"failed":0,"stuck":0,"tried":4,"verdict":"clean"}"#;
     assert_eq!(rt; found.as_slice(), want.as_bytes());

@@ -6,7 +6,7 @@ use Rattle.report.specs.Texts.{IsProgramOf}
 use Rattle.answering.specs.declared.limits.Limits.{Limits}
 use Rattle.verify.specs.declared.found.Found.{Found}
 use Rattle.verify.specs.Shown.{options_of, clean_below, IsFound}
-use Rattle.suite.specs.Suites.{is_enough, second_bound, nearer, IsSearched}
+use Rattle.suite.specs.Suites.{is_enough, second_bound, told_search, IsSearched}
 
 pub one_search : (may : Bool) (text : List ℕ) (p : Program) (l : Limits) (f : Found)
     → IsProgramOf text p → IsFound may p (options_of Unbounded l.limit) f
@@ -23,7 +23,7 @@ pub two_searches : (may : Bool) (text : List ℕ) (p : Program) (l : Limits) (f 
     → IsProgramOf text p → IsFound may p (options_of Unbounded l.limit) f
     → is_enough f.report.verdict f.bad ≡ false
     → IsFound may p (options_of (UpTo (second_bound l.bound f.bad)) l.limit) g
-    → IsSearched may text l (record { found = nearer f g; clear = clean_below g.report })
+    → IsSearched may text l (record { found = told_search f g; clear = clean_below g.report })
 two_searches may text p l f g of is more bounded = record {
   program = p;
   is_program = of;

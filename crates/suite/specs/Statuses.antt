@@ -11,8 +11,8 @@ use Rattle.verify.specs.declared.found.BadSchedule.{BadSchedule}
 use Rattle.suite.specs.declared.entry.Entry.{Entry}
 use Rattle.suite.specs.declared.entry.Outcome.{Outcome}
 use Rattle.suite.specs.declared.entry.Outcome.TheVariants.{Searched, Refused, Unclear, Unread}
-use Rattle.suite.specs.declared.expectation.Expected.{Expected}
-use Rattle.suite.specs.declared.expectation.Expected.TheVariants.{Bad, BadAt, Failed, Stuck, Clean}
+use Rattle.suite.specs.declared.expectation.ExpectedVerdict.{ExpectedVerdict}
+use Rattle.suite.specs.declared.expectation.ExpectedVerdict.TheVariants.{Bad, BadAt, Failed, Stuck, Clean}
 
 -- 0 where it is so, else 1
 abbrev pub one_unless : Bool → ℕ
@@ -27,7 +27,7 @@ fewest_status n preemptions clear =
     else (if nat_eq n preemptions && nat_eq n clear then 0 else 3)
 
 -- the status of a file where a bad schedule was found, by what was expected
-abbrev pub bad_status : Option Expected → BadSchedule → ℕ → ℕ
+abbrev pub bad_status : Option ExpectedVerdict → BadSchedule → ℕ → ℕ
 bad_status None b clear = 1
 bad_status (Some Bad) b clear = 0
 bad_status (Some (BadAt n)) b clear = fewest_status n b.preemptions clear
@@ -36,13 +36,13 @@ bad_status (Some Stuck) b clear = one_unless (is_stuck b.kind)
 bad_status (Some Clean) b clear = 1
 
 -- and where none was: 3 if the search was cut short, 0 if that is what was expected, or if nothing was
-abbrev pub unfound_status : Option Expected → Verdict → ℕ
+abbrev pub unfound_status : Option ExpectedVerdict → Verdict → ℕ
 unfound_status e (verdict.Incomplete cause finished) = 3
 unfound_status (Some Clean) v = 0
 unfound_status None v = 0
 unfound_status (Some other) v = 1
 
-abbrev pub searched_status : Option Expected → Verdict → Option BadSchedule → ℕ → ℕ
+abbrev pub searched_status : Option ExpectedVerdict → Verdict → Option BadSchedule → ℕ → ℕ
 searched_status e v None clear = unfound_status e v
 searched_status e v (Some b) clear = bad_status e b clear
 
@@ -53,7 +53,7 @@ refusal_status (Check e) = 2
 refusal_status OutOfMemory = 4
 
 -- the status of a file
-abbrev pub entry_status : Option Expected → Outcome → ℕ
+abbrev pub entry_status : Option ExpectedVerdict → Outcome → ℕ
 entry_status e (Searched s) = searched_status e s.found.report.verdict s.found.bad s.clear
 entry_status e (Refused error) = refusal_status error
 entry_status e (Unclear line) = 2

@@ -12,7 +12,7 @@ use Rattle.answering.specs.declared.limits.Limits.{Limits}
 use Rattle.verify.specs.declared.found.BadSchedule.{BadSchedule}
 use Rattle.verify.specs.declared.found.Found.{Found}
 use Rattle.verify.specs.Shown.{options_of, is_cut_short, clean_below, IsFound}
-use Rattle.suite.specs.declared.searches.Searched.{Searched}
+use Rattle.suite.specs.declared.searches.SearchResult.{SearchResult}
 use Rattle.suite.specs.declared.entry.Outcome.{Outcome}
 use Rattle.suite.specs.declared.entry.Outcome.TheVariants.{Searched as Ended, Refused, Unclear, Unread}
 
@@ -34,37 +34,37 @@ second_bound bound (Some b) = min b.preemptions BOUND
 -- of two searches the one that is told: the second, unless the first alone found a bad schedule
 abbrev pub told_of : Found → Option BadSchedule → Found → Option BadSchedule → Found
 told_of first (Some b) second None = first
-told_of first known second nearer = second
+told_of first known second found = second
 
-abbrev pub nearer : Found → Found → Found
-nearer first second = told_of first first.bad second second.bad
+abbrev pub told_search : Found → Found → Found
+told_search first second = told_of first first.bad second second.bad
 
 -- the search without a bound is told
-pub record IsOfOne (may : Bool) (p : Program) (l : Limits) (s : Searched) : Type 0 where
+pub record IsOfOne (may : Bool) (p : Program) (l : Limits) (s : SearchResult) : Type 0 where
   pub first : IsFound may p (options_of Unbounded l.limit) s.found
   pub enough : is_enough s.found.report.verdict s.found.bad ≡ true
   pub clear : s.clear ≡ 0
 
 -- a second search was made, and one of both is told
-pub record IsOfTwo (may : Bool) (p : Program) (l : Limits) (s : Searched) : Type 0 where
+pub record IsOfTwo (may : Bool) (p : Program) (l : Limits) (s : SearchResult) : Type 0 where
   pub first : Found
   pub unbounded : IsFound may p (options_of Unbounded l.limit) first
   pub more : is_enough first.report.verdict first.bad ≡ false
   pub second : Found
   pub bounded : IsFound may p (options_of (UpTo (second_bound l.bound first.bad)) l.limit) second
-  pub told : s.found ≡ nearer first second
+  pub told : s.found ≡ told_search first second
   pub clear : s.clear ≡ clean_below second.report
 
 -- the text spells a program; this is told of its searches, and no bad schedule has fewer preemptions
 -- than it says
-pub record IsSearched (may : Bool) (text : List ℕ) (l : Limits) (s : Searched) : Type 0 where
+pub record IsSearched (may : Bool) (text : List ℕ) (l : Limits) (s : SearchResult) : Type 0 where
   pub program : Program
   pub is_program : IsProgramOf text program
   pub searches : IsOfOne may program l s ⊎ IsOfTwo may program l s
   pub none_below : NoBadBelow program s.clear
 
 -- what the searches of a text answer
-abbrev pub SearchMeans : Bool → List ℕ → Limits → Result Searched ExploreError → Type 0
+abbrev pub SearchMeans : Bool → List ℕ → Limits → Result SearchResult ExploreError → Type 0
 SearchMeans may text l result =
     MatchResult result (IsSearched may text l) (ExploreErrorMeans text)
 

@@ -1,11 +1,11 @@
-//! What became of one file of a suite, and its status.
+//! What became of one file of a suite, and the status of the file.
 
 ghost use Rattle.std.specs.Prelude.{◌≡◌, None};
 ghost use Rattle.suite.specs.Suites.{OutcomeMeans};
 ghost use Rattle.suite.specs.Statuses.{bad_status, fewest_status, one_unless, status_of, unfound_status};
 
-use crate::expectation::{Expectation, Expected, near_expectation};
-use crate::searches::{Searched, search};
+use crate::expectation::{Expectation, ExpectedVerdict, expectation_lookalike};
+use crate::searches::{SearchResult, search};
 use answering::Limits;
 use runner::{ExploreError, Gate, Verdict};
 use semantics::view::Kind;
@@ -17,31 +17,31 @@ use verify::BadSchedule;
 /// What became of a file.
 #[derive(Drop)]
 pub enum Outcome {
-    /// Its text was searched.
-    Searched(Searched),
-    /// Its text is refused, or memory ran out.
+    /// The text of the file was searched.
+    Searched(SearchResult),
+    /// The text of the file is refused, or memory ran out.
     Refused(ExploreError),
     /// The line of this number, counted from 1, says unclearly what is expected.
     Unclear(u64),
-    /// It couldn't be read, for this cause.
+    /// The file couldn't be read, for this cause.
     Unread(String),
 }
 
-/// A file of a suite.
+/// A file of a suite, and what became of it.
 #[derive(Drop)]
 pub struct Entry {
-    /// Its name.
+    /// The name of the file.
     pub file: String,
-    /// What its text expects.
-    pub expected: Option<Expected>,
-    /// The number of a line that looks like an expectation and is none, if there is one.
-    pub near: Option<u64>,
-    /// What became of it.
+    /// What the text of the file expects.
+    pub expected: Option<ExpectedVerdict>,
+    /// The number of a line that looks like an expectation and isn't read as one, if there is one.
+    pub lookalike: Option<u64>,
+    /// What became of the file.
     pub outcome: Outcome,
 }
 
 impl Entry {
-    /// What became of a file with this text.
+    /// The entry of a file with this text, after its searches within these limits.
     pub fn new<G: Gate, R>(rt: &R, file: String, text: &[u8], limits: Limits, gate: &G) -> Entry
     where
         R: Threads + Wait + Sync + Alloc<A = Global>,
@@ -49,8 +49,8 @@ impl Entry {
         ensures outcome { OutcomeMeans (G.stops gate.now) text.now limits result.outcome }
     {
         let expected = match Expectation::of(text) {
-            Expectation::Silent => None,
-            Expectation::Says(expected) => Some(expected),
+            Expectation::Absent => None,
+            Expectation::Stated(expected) => Some(expected),
             Expectation::Unclear(line) => return Entry::unsearched(file, Outcome::Unclear(line)),
         };
         let outcome = match search(rt, text, limits, gate) {
@@ -60,24 +60,25 @@ impl Entry {
         Entry {
             file,
             expected,
-            near: near_expectation(text),
+            lookalike: expectation_lookalike(text),
             outcome,
         }
     }
 
-    /// What became of a file that isn't searched.
+    /// The entry of a file that isn't searched.
     pub fn unsearched(file: String, outcome: Outcome) -> Entry
-        ensures { result ≡ record { file = file; expected = None; near = None; outcome = outcome } }
+        ensures { result ≡
+            record { file = file; expected = None; lookalike = None; outcome = outcome } }
     {
         Entry {
             file,
             expected: None,
-            near: None,
+            lookalike: None,
             outcome,
         }
     }
 
-    /// The status of its own: 0 where it is as expected, 1 where it isn't, or is bad and nothing is
+    /// The file's status: 0 where it is as expected, 1 where it isn't, or is bad and nothing is
     /// expected, 2 where it is refused, 3 where its search was cut short before that was known, 4
     /// for memory and devices.
     pub fn status(&self) -> u8
@@ -96,28 +97,29 @@ impl Entry {
 
 // The status of a file where a bad schedule was found, and none with fewer preemptions than `clear`
 // is bad.
-fn bad_status(expected: Option<Expected>, bad: &BadSchedule, clear: u64) -> u8
+fn bad_status(expected: Option<ExpectedVerdict>, bad: &BadSchedule, clear: u64) -> u8
     ensures { result ≡ bad_status expected bad.now clear }
 {
     match expected {
-        Some(Expected::Bad) => 0,
-        Some(Expected::BadAt(preemptions)) => {
+        Some(ExpectedVerdict::Bad) => 0,
+        Some(ExpectedVerdict::BadAt(preemptions)) => {
             fewest_status(u64::from(preemptions), u64::from(bad.preemptions), clear)
         }
-        Some(Expected::Failed) => one_unless(bad.kind == Kind::Failed),
-        Some(Expected::Stuck) => one_unless(bad.kind == Kind::Stuck),
-        Some(Expected::Clean) | None => 1,
+        Some(ExpectedVerdict::Failed) => one_unless(bad.kind == Kind::Failed),
+        Some(ExpectedVerdict::Stuck) => one_unless(bad.kind == Kind::Stuck),
+        Some(ExpectedVerdict::Clean) | None => 1,
     }
 }
 
-// 0 where it is so, else 1.
-fn one_unless(so: bool) -> u8
-    ensures { result ≡ one_unless so }
+// The status where all depends on a condition: 0 where it holds, else 1.
+fn one_unless(condition: bool) -> u8
+    ensures { result ≡ one_unless condition }
 {
-    if so { 0 } else { 1 }
+    if condition { 0 } else { 1 }
 }
 
-// The status where the bad schedules of fewest preemptions were expected to have this many.
+// The status where the fewest preemptions of a bad schedule were expected to be `expected`, a bad
+// schedule with `preemptions` was found, and none with fewer than `clear` is bad.
 fn fewest_status(expected: u64, preemptions: u64, clear: u64) -> u8
     ensures { result ≡ fewest_status expected preemptions clear }
 {
@@ -131,12 +133,12 @@ fn fewest_status(expected: u64, preemptions: u64, clear: u64) -> u8
 }
 
 // The status of a file where no bad schedule was found.
-fn unfound_status(expected: Option<Expected>, verdict: &Verdict) -> u8
+fn unfound_status(expected: Option<ExpectedVerdict>, verdict: &Verdict) -> u8
     ensures { result ≡ unfound_status expected verdict.now }
 {
     match (expected, verdict) {
         (_, Verdict::Incomplete { .. }) => 3,
-        (Some(Expected::Clean) | None, _) => 0,
+        (Some(ExpectedVerdict::Clean) | None, _) => 0,
         (Some(_), _) => 1,
     }
 }

@@ -4,7 +4,7 @@ use std::fmt;
 
 /// What is expected of a guest.
 #[derive(Clone, Copy, Debug, PartialEq, Eq)]
-pub enum Expected {
+pub enum ExpectedVerdict {
     /// That some schedule is bad.
     Bad,
     /// That some schedule is bad, and that those of fewest preemptions have this many.
@@ -17,15 +17,15 @@ pub enum Expected {
     Clean,
 }
 
-/// Its words.
-impl fmt::Display for Expected {
+/// The words after `# expect:` that state a verdict.
+impl fmt::Display for ExpectedVerdict {
     fn fmt<W: fmt::Write>(&self, f: &mut fmt::Formatter<W>) -> fmt::Result {
         match self {
-            Expected::Bad => write!(f, "bad"),
-            Expected::BadAt(preemptions) => write!(f, "bad {preemptions}"),
-            Expected::Failed => write!(f, "failed"),
-            Expected::Stuck => write!(f, "stuck"),
-            Expected::Clean => write!(f, "clean"),
+            ExpectedVerdict::Bad => write!(f, "bad"),
+            ExpectedVerdict::BadAt(preemptions) => write!(f, "bad {preemptions}"),
+            ExpectedVerdict::Failed => write!(f, "failed"),
+            ExpectedVerdict::Stuck => write!(f, "stuck"),
+            ExpectedVerdict::Clean => write!(f, "clean"),
         }
     }
 }
@@ -33,12 +33,12 @@ impl fmt::Display for Expected {
 /// What the comments of a text expect.
 #[derive(Clone, Copy, Debug, PartialEq, Eq)]
 pub enum Expectation {
-    /// Nothing.
-    Silent,
-    /// This, in a line `# expect: WORDS`.
-    Says(Expected),
-    /// The line of this number, counted from 1, begins with `# expect:` and has other words, or it
-    /// is a second one.
+    /// No line states a verdict.
+    Absent,
+    /// One line, `# expect: WORDS`, states this verdict.
+    Stated(ExpectedVerdict),
+    /// The line of this number, counted from 1, begins with `# expect:` and states no verdict, or
+    /// an earlier line states one.
     Unclear(u64),
 }
 
@@ -46,14 +46,14 @@ impl Expectation {
     /// What the comments of a text expect. Blanks round the sign, the words and the line count for
     /// nothing.
     pub fn of(text: &[u8]) -> Expectation {
-        let mut found = Expectation::Silent;
+        let mut found = Expectation::Absent;
         for (line, number) in text.split(|b| *b == b'\n').zip(1u64..) {
-            match (found, words_of(line)) {
+            match (found, expect_words(line)) {
                 (_, None) => {}
-                (Expectation::Silent, Some(words)) => {
-                    found = expected_by(words).map_or(
+                (Expectation::Absent, Some(words)) => {
+                    found = expected_verdict(words).map_or(
                         Expectation::Unclear(number),
-                        Expectation::Says,
+                        Expectation::Stated,
                     );
                 }
                 (_, Some(_)) => return Expectation::Unclear(number),
@@ -63,22 +63,22 @@ impl Expectation {
     }
 }
 
-// What these words expect.
-fn expected_by(words: &[u8]) -> Option<Expected> {
+// The verdict that the words of an expectation state, if they state one.
+fn expected_verdict(words: &[u8]) -> Option<ExpectedVerdict> {
     match words {
-        b"bad" => Some(Expected::Bad),
-        b"failed" => Some(Expected::Failed),
-        b"stuck" => Some(Expected::Stuck),
-        b"clean" => Some(Expected::Clean),
+        b"bad" => Some(ExpectedVerdict::Bad),
+        b"failed" => Some(ExpectedVerdict::Failed),
+        b"stuck" => Some(ExpectedVerdict::Stuck),
+        b"clean" => Some(ExpectedVerdict::Clean),
         _ => {
             let number = words.strip_prefix(b"bad ")?.trim_ascii();
-            Some(Expected::BadAt(decimal(number)?))
+            Some(ExpectedVerdict::BadAt(parse_decimal(number)?))
         }
     }
 }
 
-// A number of decimal digits.
-fn decimal(digits: &[u8]) -> Option<u32> {
+// The number that these bytes spell, if they are decimal digits alone and there is room for it.
+fn parse_decimal(digits: &[u8]) -> Option<u32> {
     let text = str::from_utf8(digits).ok()?;
     if digits.iter().all(u8::is_ascii_digit) {
         text.parse().ok()
@@ -87,28 +87,28 @@ fn decimal(digits: &[u8]) -> Option<u32> {
     }
 }
 
-// What stands after the colon, if the line is an expectation.
-fn words_of(line: &[u8]) -> Option<&[u8]> {
+// The words after `# expect:` in a line, if the line is an expectation.
+fn expect_words(line: &[u8]) -> Option<&[u8]> {
     let comment = line.trim_ascii().strip_prefix(b"#")?;
     let words = comment.trim_ascii().strip_prefix(b"expect:")?;
     Some(words.trim_ascii())
 }
 
 /// The number of the first line, counted from 1, with a comment that looks like an expectation and
-/// is none: it is misspelt, or there is code before it.
-pub fn near_expectation(text: &[u8]) -> Option<u64> {
+/// isn't read as one: the comment is misspelt, or there is code before it.
+pub fn expectation_lookalike(text: &[u8]) -> Option<u64> {
     let mut lines = text.split(|b| *b == b'\n').zip(1u64..);
-    let (_, number) = lines.find(|(line, _)| words_of(line).is_none() && is_near(line))?;
+    let (_, number) = lines.find(|(line, _)| expect_words(line).is_none() && is_lookalike(line))?;
     Some(number)
 }
 
 // Whether the comment of a line begins with a word like `expect`, of any case and with any ending,
 // and then comes a colon or an equals sign, or what an expectation has after its colon.
-fn is_near(line: &[u8]) -> bool {
+fn is_lookalike(line: &[u8]) -> bool {
     let Some(sign) = line.iter().position(|b| *b == b'#') else {
         return false;
     };
-    let comment = trimmed(
+    let comment = trim_start_matches(
         line.split_at(sign).1,
         |b| b == b'#' || b.is_ascii_whitespace(),
     );
@@ -116,18 +116,18 @@ fn is_near(line: &[u8]) -> bool {
         return false;
     }
     let (word, ending) = comment.split_at(EXPECT.len());
-    let rest = trimmed(ending, |b| b.is_ascii_alphabetic()).trim_ascii();
+    let rest = trim_start_matches(ending, |b| b.is_ascii_alphabetic()).trim_ascii();
     let is_marked = rest.starts_with(b":") || rest.starts_with(b"=");
-    word.eq_ignore_ascii_case(EXPECT) && (is_marked || expected_by(rest).is_some())
+    word.eq_ignore_ascii_case(EXPECT) && (is_marked || expected_verdict(rest).is_some())
 }
 
-// How a comment begins that expects something.
+// How the word of an expectation begins, in lower case.
 const EXPECT: &[u8] = b"expect";
 
-// A text without the bytes at its start that are so.
-fn trimmed<F: Fn(u8) -> bool>(text: &[u8], is_so: F) -> &[u8]
+// A text without the bytes at its start that `trims` holds for.
+fn trim_start_matches<F: Fn(u8) -> bool>(text: &[u8], trims: F) -> &[u8]
     requires { (f : _) (x : _) → F.pre f x }
 {
-    let start = text.iter().position(|b| !is_so(*b)).unwrap_or(text.len());
+    let start = text.iter().position(|b| !trims(*b)).unwrap_or(text.len());
     text.split_at(start).1
 }

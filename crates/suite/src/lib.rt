@@ -3,10 +3,10 @@
 //! - [`search`] makes the searches of a text: one without a bound, and where that doesn't say
 //!   enough one up to a bound. What it answers is told of the text, with a bad schedule of fewest
 //!   preemptions where one could be found within the limit.
-//! - [`Expectation::of`] reads what a text's comments expect, [`near_expectation`] which comment
-//!   may have been meant so.
+//! - [`Expectation::of`] reads what a text's comments expect, [`expectation_lookalike`] which
+//!   comment may have been meant as an expectation.
 //! - An [`Entry`] is what became of one file, with its status. A [`Tally`] has the statuses of all,
-//!   and that of the suite.
+//!   and the status of the suite.
 //! - [`Table`] and [`json_line`] print a file.
 #![tactic(auto)]
 
@@ -17,7 +17,7 @@ mod searches;
 mod tally;
 
 pub use entry::{Entry, Outcome};
-pub use expectation::{Expectation, Expected, near_expectation};
+pub use expectation::{Expectation, ExpectedVerdict, expectation_lookalike};
 pub use printing::{Table, json_line};
-pub use searches::{Searched, search};
+pub use searches::{SearchResult, search};
 pub use tally::Tally;

@@ -1,8 +1,8 @@
 //! The texts of a suite: a table for people, and JSON for programs, line by line.
 
 use crate::entry::{Entry, Outcome};
-use crate::expectation::Expected;
-use crate::searches::Searched;
+use crate::expectation::ExpectedVerdict;
+use crate::searches::SearchResult;
 use guest_code::error::CheckError;
 use guest_syntax::{Pos, SyntaxError};
 use replay::schedule_text;
@@ -14,7 +14,7 @@ use std::fmt::Write;
 use text_lines::Marks;
 use verify::Found;
 
-// What is told where there is nothing to say.
+// The cell of a table where there is nothing to say.
 const NOTHING: &str = "-";
 
 /// The columns of a table whose rows are printed one by one. A cell that is wider than its column
@@ -23,15 +23,15 @@ const NOTHING: &str = "-";
 pub struct Table {
     alloc: Global,
     /// The width of the first column, which is as wide as the longest name.
-    names: usize,
+    file_width: usize,
 }
 
 impl Table {
-    /// The columns for no file.
+    /// The columns of a table of no file.
     pub fn new(alloc: Global) -> Table {
         Table {
             alloc,
-            names: "file".len(),
+            file_width: "file".len(),
         }
     }
 
@@ -41,12 +41,12 @@ impl Table {
     ///
     /// `AllocError` where memory runs out.
     pub fn make_room(&mut self, file: &str) -> Result<(), AllocError> {
-        let width = printable(self.alloc, file)?.len();
-        self.names = self.names.max(width);
+        let width = escaped(self.alloc, file)?.len();
+        self.file_width = self.file_width.max(width);
         Ok(())
     }
 
-    /// The line of heads.
+    /// The first line, which has the heads of the columns.
     ///
     /// # Errors
     ///
@@ -64,7 +64,7 @@ impl Table {
     ///
     /// `AllocError` where memory runs out.
     pub fn row(&self, entry: &Entry, marks: &Marks) -> Result<Vec<u8>, AllocError> {
-        let file = printable(self.alloc, entry.file.as_str())?;
+        let file = escaped(self.alloc, entry.file.as_str())?;
         let note = note_of(self.alloc, entry, marks)?;
         let (file, note) = (file.as_str(), note.as_str());
         let verdict = match &entry.outcome {
@@ -79,7 +79,7 @@ impl Table {
     fn searched_row(
         &self,
         file: &str,
-        searched: &Searched,
+        searched: &SearchResult,
         note: &str,
     ) -> Result<Vec<u8>, AllocError> {
         let alloc = self.alloc;
@@ -105,16 +105,16 @@ impl Table {
     // A line: its cells, each at the start of its column or two blanks after the one before, with
     // no blank after the last, which may be empty, and a line feed.
     fn line(&self, file: &str, found: [&str; 5], note: &str) -> Result<Vec<u8>, AllocError> {
-        let names = self.names;
+        let file_width = self.file_width;
         let [verdict, bound, preemptions, schedule, tried] = found;
         let line = format!(in self.alloc;
-            "{file:<names$}  {verdict:<10}  {bound:<5}  {preemptions:<11}  {schedule:<12}  {tried:<9}  {note}"
+            "{file:<file_width$}  {verdict:<10}  {bound:<5}  {preemptions:<11}  {schedule:<12}  {tried:<9}  {note}"
         )?;
         Ok(format!(in self.alloc; "{}\n", line.as_str().trim_ascii_end())?.into_bytes())
     }
 }
 
-// The verdict of a search, in a word.
+// The verdict of a search in a word: `bad`, `incomplete` or `clean`.
 fn verdict_word(found: &Found) -> &'static str {
     match found.report.verdict {
         _ if found.bad.is_some() => "bad",
@@ -123,7 +123,7 @@ fn verdict_word(found: &Found) -> &'static str {
     }
 }
 
-// A number, if there is one.
+// The cell of a number, or of none.
 fn number_cell(alloc: Global, number: Option<u32>) -> Result<String, AllocError> {
     match number {
         Some(number) => number.to_string(alloc),
@@ -131,32 +131,32 @@ fn number_cell(alloc: Global, number: Option<u32>) -> Result<String, AllocError>
     }
 }
 
-// A name with each byte that isn't printable ASCII, or is a backslash, as `\x` and two digits.
-fn printable(alloc: Global, name: &str) -> Result<String, AllocError> {
-    let mut text = String::new(alloc);
-    for byte in name.as_bytes() {
+// A text with each byte that isn't printable ASCII, or is a backslash, as `\x` and two digits.
+fn escaped(alloc: Global, text: &str) -> Result<String, AllocError> {
+    let mut printed = String::new(alloc);
+    for byte in text.as_bytes() {
         if (b' '..=b'~').contains(byte) && *byte != b'\\' {
-            text.push(*byte as char)?;
+            printed.push(*byte as char)?;
         } else {
-            write!(text, "\\x{byte:02x}")?;
+            write!(printed, "\\x{byte:02x}")?;
         }
     }
-    Ok(text)
+    Ok(printed)
 }
 
-// A line as it is told: `line 12`, or `worker.inc:12` where a mark says so.
+// The place of a line: `line 12`, or `worker.inc:12` where a mark says that it came from there.
 fn line_text(alloc: Global, marks: &Marks, line: u64) -> Result<String, AllocError> {
     let line = u32::try_from(line).unwrap_or(u32::MAX);
     match marks.origin(line) {
         Some(_) => {
-            let told = format!(in alloc; "{}", marks.told("", line).named())?;
-            printable(alloc, told.as_str())
+            let told = format!(in alloc; "{}", marks.file_line("", line).with_name())?;
+            escaped(alloc, told.as_str())
         }
         None => format!(in alloc; "line {line}"),
     }
 }
 
-// A refusal, and after it its place by the marks, where they have one.
+// The text of a refusal, and after it the place that the marks give, where they give one.
 fn refusal_text(alloc: Global, marks: &Marks, error: ExploreError) -> Result<String, AllocError> {
     let mut told = format!(in alloc; "{error}")?;
     if let Some(at) = place_of(error)
@@ -168,7 +168,7 @@ fn refusal_text(alloc: Global, marks: &Marks, error: ExploreError) -> Result<Str
     Ok(told)
 }
 
-// The place that a refusal tells.
+// The place in the text that a refusal tells, if it tells one.
 fn place_of(error: ExploreError) -> Option<Pos> {
     match error {
         ExploreError::Syntax(
@@ -190,22 +190,22 @@ fn place_of(error: ExploreError) -> Option<Pos> {
     }
 }
 
-// What there is to say of a file beside its verdict.
+// What there is to say of a file beside its verdict; lines of the file are told by its marks.
 fn note_of(alloc: Global, entry: &Entry, marks: &Marks) -> Result<String, AllocError> {
     let mut note = String::new(alloc);
     match &entry.outcome {
         Outcome::Searched(searched) => put_search_notes(&mut note, entry, searched)?,
-        Outcome::Refused(error) => put_part(&mut note, refusal_text(alloc, marks, *error)?)?,
+        Outcome::Refused(error) => put_remark(&mut note, refusal_text(alloc, marks, *error)?)?,
         Outcome::Unclear(line) => {
             let line = line_text(alloc, marks, *line)?;
             let wanted = "one `# expect:` is wanted, with bad, bad N, failed, stuck or clean";
-            put_part(&mut note, format_args!("{line}: {wanted}"))?;
+            put_remark(&mut note, format_args!("{line}: {wanted}"))?;
         }
-        Outcome::Unread(cause) => put_part(&mut note, printable(alloc, cause.as_str())?)?,
+        Outcome::Unread(cause) => put_remark(&mut note, escaped(alloc, cause.as_str())?)?,
     }
-    if let Some(line) = entry.near {
+    if let Some(line) = entry.lookalike {
         let line = line_text(alloc, marks, line)?;
-        put_part(
+        put_remark(
             &mut note,
             format_args!("{line} looks like `# expect:` and isn't"),
         )?;
@@ -213,24 +213,24 @@ fn note_of(alloc: Global, entry: &Entry, marks: &Marks) -> Result<String, AllocE
     Ok(note)
 }
 
-// Puts a part after those of a note.
-fn put_part<D: fmt::Display + Drop>(note: &mut String, part: D) -> Result<(), AllocError> {
+// Puts a remark at the end of a note, after a semicolon where the note has others.
+fn put_remark<D: fmt::Display + Drop>(note: &mut String, remark: D) -> Result<(), AllocError> {
     let sign = if note.is_empty() { "" } else { "; " };
-    write!(note, "{sign}{part}")
+    write!(note, "{sign}{remark}")
 }
 
-// Puts the parts of a file that was searched: what is to be said of its expectation, and of how far
-// the search went.
+// Puts the remarks on a file that was searched at the end of a note: what is to be said of its
+// expectation, and of how far the search went.
 fn put_search_notes(
     note: &mut String,
     entry: &Entry,
-    searched: &Searched,
+    searched: &SearchResult,
 ) -> Result<(), AllocError> {
     let Found { report, bad } = &searched.found;
     match (entry.expected, entry.status(), bad) {
-        (None | Some(Expected::Clean), 0, _) | (None, _, _) | (_, 3, None) => {}
-        (Some(_), 0, _) => put_part(note, "expected")?,
-        (Some(expected), _, _) => put_part(note, format_args!("{expected} was expected"))?,
+        (None | Some(ExpectedVerdict::Clean), 0, _) | (None, _, _) | (_, 3, None) => {}
+        (Some(_), 0, _) => put_remark(note, "expected")?,
+        (Some(expected), _, _) => put_remark(note, format_args!("{expected} was expected"))?,
     }
     let rest = match (bad, &report.verdict) {
         (Some(bad), _) if u64::from(bad.preemptions) > searched.clear => "fewer preemptions may do",
@@ -239,7 +239,7 @@ fn put_search_notes(
         (None, Verdict::Incomplete { .. }) => "cut short at the limit",
         _ => return Ok(()),
     };
-    put_part(note, rest)
+    put_remark(note, rest)
 }
 
 /// The JSON of a file, an object and a line feed: `file`, `expect` (the words, or null), `status`

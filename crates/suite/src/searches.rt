@@ -1,7 +1,7 @@
 //! The searches of one text, and what is told of them.
 
 ghost use Rattle.std.specs.Prelude.{◌≡◌};
-ghost use Rattle.suite.specs.Suites.{SearchMeans, is_enough, second_bound, nearer};
+ghost use Rattle.suite.specs.Suites.{SearchMeans, is_enough, second_bound, told_search};
 
 use answering::Limits;
 use runner::{BOUND, ExploreError, Gate, Search, Verdict};
@@ -12,8 +12,8 @@ use verify::{BadSchedule, Found, program_of, run_search};
 
 /// What the searches of a text show.
 #[derive(Drop)]
-pub struct Searched {
-    /// The one that is told.
+pub struct SearchResult {
+    /// The search that is told of the text.
     pub found: Found,
     /// No bad schedule has fewer preemptions than this.
     pub clear: u64,
@@ -34,7 +34,7 @@ pub fn search<G: Gate, R>(
     text: &[u8],
     limits: Limits,
     gate: &G,
-) -> Result<Searched, ExploreError>
+) -> Result<SearchResult, ExploreError>
 where
     R: Threads + Wait + Sync + Alloc<A = Global>,
     ensures { SearchMeans (G.stops gate.now) text.now limits result }
@@ -42,7 +42,7 @@ where
     let program = program_of(rt.alloc(), text)?;
     let first = run_search(rt, &program, Search::Unbounded, limits, gate)?;
     if is_enough(&first) {
-        return Ok(Searched {
+        return Ok(SearchResult {
             found: first,
             clear: 0,
         });
@@ -50,11 +50,11 @@ where
     let bound = second_bound(limits.bound, &first.bad);
     let second = run_search(rt, &program, Search::UpTo(bound), limits, gate)?;
     let clear = second.clean_below();
-    let found = nearer(first, second);
-    Ok(Searched { found, clear })
+    let found = told_search(first, second);
+    Ok(SearchResult { found, clear })
 }
 
-// Whether the search without a bound says all that is to be told.
+// Whether the first search, which is without a bound, says all that is to be told of a text.
 fn is_enough(first: &Found) -> bool
     ensures { result ≡ is_enough first.now.report.verdict first.now.bad }
 {
@@ -65,7 +65,7 @@ fn is_enough(first: &Found) -> bool
     !matches!(&first.report.verdict, Verdict::Incomplete { .. }) && needs_none
 }
 
-// How far the second search goes.
+// The bound of the second search: the preemptions of the first's bad schedule, or else `bound`.
 fn second_bound(bound: u32, bad: &Option<BadSchedule>) -> u32
     ensures { result ≡ second_bound bound bad.now }
 {
@@ -75,9 +75,9 @@ fn second_bound(bound: u32, bad: &Option<BadSchedule>) -> u32
     }
 }
 
-// Of two searches the one that is told.
-fn nearer(first: Found, second: Found) -> Found
-    ensures { result ≡ nearer first second }
+// The search that is told of a text: the second, unless the first alone found a bad schedule.
+fn told_search(first: Found, second: Found) -> Found
+    ensures { result ≡ told_search first second }
 {
     if second.bad.is_none() && first.bad.is_some() {
         first

@@ -13,7 +13,7 @@ pub struct Tally {
 }
 
 impl Tally {
-    /// That of no file.
+    /// The tally of no file.
     pub fn new(alloc: Global) -> Tally
         ensures { result.statuses.items ≡ [] }
     {
@@ -22,7 +22,7 @@ impl Tally {
         }
     }
 
-    /// One file more is done, with this status.
+    /// Adds the status of one more file that is done.
     ///
     /// # Errors
     ///
@@ -49,13 +49,13 @@ impl Tally {
         worst
     }
 
-    // How many files have a status.
+    // How many of the files have this status.
     fn count(&self, status: u8) -> usize {
         self.statuses.iter().filter(|each| **each == status).count()
     }
 }
 
-/// How many files there are, and how many of them are how.
+/// How many files there are, and how many of them have which status, in words.
 impl fmt::Display for Tally {
     fn fmt<W: fmt::Write>(&self, f: &mut fmt::Formatter<W>) -> fmt::Result {
         let files = self.statuses.len();
@@ -72,7 +72,7 @@ impl fmt::Display for Tally {
     }
 }
 
-// What a status says of a file.
+// Each status and what it says of a file, in the order in which a tally prints them.
 const WORDS: [(u8, &str); 5] = [
     (0, "as expected"),
     (1, "not as expected"),

@@ -1,54 +1,54 @@
 //! The columns of a table.
 
+use crate::file_line::FileLine;
 use crate::put_cut;
-use crate::told::FileLine;
 use std::alloc::{AllocError, Global};
 
-/// Columns of the narrowest text, and of the widest one.
-const NARROWEST: usize = 40;
-
-const WIDEST: usize = 1_000;
-/// Where the lines begin, after the steps.
+// Columns of a table's lines, at least.
+const LEAST_WIDTH: usize = 40;
+// Columns of a table's lines, at most.
+const GREATEST_WIDTH: usize = 1_000;
+/// Columns of the numbers of steps, after which the lines of the text begin.
 pub const STEP: usize = 5;
-/// Columns of the lines, at least and at most.
-const LINE: usize = 4;
-
-const WIDEST_LINE: usize = 24;
-/// Columns of a thread.
+// Columns of the line of the text that a step is in, at least.
+const LEAST_LINE_WIDTH: usize = 4;
+// Columns of the line of the text that a step is in, at most.
+const GREATEST_LINE_WIDTH: usize = 24;
+/// Columns of a thread that has a column of its own.
 pub const COLUMN: usize = 13;
-/// Columns of the threads that share one, at most.
-const SHARED: usize = 28;
-/// Columns between two columns.
+// Columns of the column that threads share, at most.
+const SHARED_WIDTH: usize = 28;
+/// Blanks between two columns.
 pub const GAP: usize = 2;
-/// Columns of what changed, at least, where threads have columns of their own.
-const CHANGES: usize = 29;
+// Columns of what a step changed, at least, where threads have columns of their own.
+const CHANGES_WIDTH: usize = 29;
 
 /// Where each column of a table begins.
 #[derive(Clone, Copy, Debug)]
 pub struct Columns {
-    /// Columns of a line.
+    /// How wide the lines of the table are, at most.
     pub width: usize,
     /// Where the first thread's column begins, after the step and the line.
     pub margin: usize,
     /// How many threads have a column of their own, the first ones.
     pub own: usize,
-    /// Whether the others share one.
+    /// Whether all other threads share one column.
     pub is_shared: bool,
-    /// Where what changed begins.
+    /// Where the column of what a step changed begins.
     pub changes: usize,
 }
 
 impl Columns {
-    /// The columns of a table, one for each thread, where no line that is told is wider than this.
+    /// The columns of a table of this width, for so many threads, whose widest line cell is `line` wide.
     pub fn new(width: usize, threads: usize, line: usize) -> Columns {
-        let width = width.max(NARROWEST).min(WIDEST);
-        let margin = STEP + line.max(LINE).min(WIDEST_LINE) + GAP;
+        let width = width.max(LEAST_WIDTH).min(GREATEST_WIDTH);
+        let margin = STEP + line.max(LEAST_LINE_WIDTH).min(GREATEST_LINE_WIDTH) + GAP;
         let room = width - margin;
-        let fit = room.saturating_sub(CHANGES) / (COLUMN + GAP);
+        let fit = room.saturating_sub(CHANGES_WIDTH) / (COLUMN + GAP);
         let is_shared = threads > fit;
-        let shared = SHARED.min((room - GAP) / 2);
+        let shared = SHARED_WIDTH.min((room - GAP) / 2);
         let own = if is_shared {
-            room.saturating_sub(shared + GAP + CHANGES) / (COLUMN + GAP)
+            room.saturating_sub(shared + GAP + CHANGES_WIDTH) / (COLUMN + GAP)
         } else {
             threads
         };
@@ -64,7 +64,7 @@ impl Columns {
         columns
     }
 
-    /// Where the column of a thread begins.
+    /// Where the column of a thread begins, its own or the one that it shares.
     pub fn start(&self, thread: usize) -> usize {
         let column = thread.min(self.own);
         column
@@ -78,8 +78,8 @@ impl Columns {
     }
 }
 
-/// A line as the table has it: of the file's name what comes after the folders, cut off where that
-/// is wide.
+/// A line of a file as a table has it: the file's name without folders, cut off where that is wide,
+/// and the number.
 pub fn line_cell(alloc: Global, line: FileLine<'_>) -> Result<String, AllocError> {
     let number = format!(in alloc; "{}", line.line)?;
     if !line.is_named {
@@ -90,7 +90,9 @@ pub fn line_cell(alloc: Global, line: FileLine<'_>) -> Result<String, AllocError
     put_cut(
         &mut cell,
         name,
-        WIDEST_LINE.saturating_sub(number.len()).saturating_sub(1),
+        GREATEST_LINE_WIDTH
+            .saturating_sub(number.len())
+            .saturating_sub(1),
     )?;
     write!(cell, ":{number}")?;
     Ok(cell)

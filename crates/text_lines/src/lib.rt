@@ -1,15 +1,15 @@
 //! Text in lines of a width: rows of columns, and words that go on in further lines where they don't
-//! fit; where the lines of a text come from that a preprocessor wrote.
+//! fit. And where the lines of a text come from that a preprocessor wrote.
 #![tactic(auto)]
 
 mod columns;
+mod file_line;
 pub mod laws;
 mod marks;
-mod told;
 
 pub use crate::columns::{COLUMN, Columns, GAP, STEP, line_cell};
+pub use crate::file_line::{FileLine, InLine};
 pub use crate::marks::{Marks, Origin};
-pub use crate::told::{FileLine, InLine};
 use std::alloc::{AllocError, Global};
 use std::fmt;
 
@@ -21,7 +21,7 @@ pub struct Page {
 }
 
 impl Page {
-    /// A text without a line.
+    /// A page without a line, for lines of at most this many columns.
     pub fn new(alloc: Global, width: usize) -> Page {
         Page {
             text: String::new(alloc),
@@ -45,12 +45,12 @@ impl Page {
         self.text.push('\n')
     }
 
-    /// Adds a line. What doesn't fit goes into further lines, from the indent on.
+    /// Adds words as a line. What doesn't fit goes into further lines, from the column `indent` on.
     pub fn put_line(&mut self, words: &str, indent: usize) -> Result<(), AllocError> {
         self.put_columns("", words, 0, indent)
     }
 
-    /// Adds a line from a column on. What doesn't fit goes into further lines, from another one on.
+    /// Adds words from column `start` on. What doesn't fit goes into further lines, from `indent` on.
     pub fn put_indented(
         &mut self,
         words: &str,
@@ -60,8 +60,8 @@ impl Page {
         self.put_columns("", words, start, indent)
     }
 
-    /// Adds a line of two columns: the second begins at a place, or one space after the first where
-    /// that is longer. What doesn't fit goes into further lines, from the indent on.
+    /// Adds a line of two columns: the second begins at the column `start`, or one space after the first
+    /// where that is longer. What doesn't fit goes into further lines, from the column `indent` on.
     pub fn put_columns(
         &mut self,
         first: &str,
@@ -80,7 +80,7 @@ impl Page {
         self.text.push('\n')
     }
 
-    // Adds words after this many columns.
+    // Adds words to a line that has `from` columns, and to further lines from the column `indent` on.
     fn put_words(&mut self, words: &str, from: usize, indent: usize) -> Result<(), AllocError> {
         let mut column = from;
         let mut gap = 0;
@@ -104,7 +104,7 @@ impl Page {
         Ok(())
     }
 
-    // Adds a word, in further lines where it is longer than one. The answer is the column after it.
+    // Adds a word from column `from` on, broken where it is too long. The answer is the column after it.
     fn put_word(&mut self, word: &str, from: usize, indent: usize) -> Result<usize, AllocError> {
         let mut column = from;
         for letter in word.chars() {
@@ -118,13 +118,13 @@ impl Page {
         Ok(column)
     }
 
-    // Begins a line at the indent.
+    // Begins a new line, with this many spaces.
     fn put_break(&mut self, indent: usize) -> Result<(), AllocError> {
         self.text.push('\n')?;
         self.put_spaces(indent)
     }
 
-    // Adds spaces.
+    // Adds as many spaces as `spaces` says.
     fn put_spaces(&mut self, spaces: usize) -> Result<(), AllocError> {
         put_times(&mut self.text, ' ', spaces)
     }
@@ -135,7 +135,7 @@ pub fn width_of(text: &str) -> usize {
     text.chars().count()
 }
 
-/// Adds a letter, this often.
+/// Adds a letter to a text as often as `times` says.
 pub fn put_times(text: &mut String, letter: char, times: usize) -> Result<(), AllocError> {
     for _ in 0..times {
         text.push(letter)?;
@@ -143,14 +143,14 @@ pub fn put_times(text: &mut String, letter: char, times: usize) -> Result<(), Al
     Ok(())
 }
 
-/// Adds spaces up to a column, one at least where the row isn't empty.
+/// Adds spaces to a row up to a column, but one at least where the row isn't empty.
 pub fn pad_to(row: &mut String, column: usize) -> Result<(), AllocError> {
     let least = usize::from(!row.is_empty());
     let spaces = column.saturating_sub(width_of(row.as_str())).max(least);
     put_times(row, ' ', spaces)
 }
 
-/// Adds a word, cut off with two dots where it needs more columns than these.
+/// Adds a word to a row, cut off with two dots where the word has more than so many columns.
 pub fn put_cut(row: &mut String, word: &str, columns: usize) -> Result<(), AllocError> {
     if width_of(word) <= columns {
         return row.push_str(word);
@@ -161,7 +161,7 @@ pub fn put_cut(row: &mut String, word: &str, columns: usize) -> Result<(), Alloc
     row.push_str("..")
 }
 
-/// A number of things: `1 step`, `2 steps`.
+/// A number and the word for one of what is counted, printed as `1 step` or `2 steps`.
 #[derive(Clone, Copy)]
 pub struct Count<'a>(pub usize, pub &'a str);
 

@@ -6,7 +6,7 @@ ghost use Rattle.std.specs.Char.{is_ascii_digit};
 ghost use Rattle.text_lines.specs.Marks.{Line, after, number_after, is_inside, is_flag, name_in, name_of, name_or_none, name_by, line_of, mark_of, next, origins, origin_at, origins_in, line_in, line_by};
 ghost use Rattle.std.specs.Rc.{rc_value};
 
-use crate::told::FileLine;
+use crate::file_line::FileLine;
 use std::alloc::{AllocError, Global};
 use std::rc::Rc;
 use std::str::from_utf8;
@@ -14,14 +14,14 @@ use std::str::from_utf8;
 /// A line of a file.
 #[derive(Drop)]
 pub struct Origin {
-    // The name of the file, as the mark has it.
+    // The name of the file, as a mark has it.
     file: Rc<Vec<u8>>,
     // The line, counted from 1.
     line: u32,
 }
 
 impl Origin {
-    /// The name of the file, as the mark has it.
+    /// The name of the file, as a mark has it.
     pub fn file(&self) -> &[u8]
         ensures { result.now ≡ (line_in self.now).file }
     {
@@ -42,18 +42,18 @@ impl Origin {
 pub struct Marks {
     // Where each line comes from.
     origins: Vec<Option<Origin>>,
-    // Whether those that have more than blanks and a comment come from several files.
-    is_several: bool,
+    // Whether the lines that have more than blanks and a comment come from several files.
+    has_several_files: bool,
 }
 
-// A mark: the line and the name that it has, which may be none.
+// A mark: the line and the file that a comment names; no file is that of the mark before.
 #[derive(Clone, Copy)]
 struct Mark<'a> {
     file: &'a [u8],
     line: u32,
 }
 
-// What comes after these bytes, where a text begins with them.
+// What comes after the bytes `first` in a text that begins with them; none where it doesn't.
 fn after<'a>(first: &[u8], text: &'a [u8]) -> Option<&'a [u8]>
     ensures { MatchOption result (after first.now text.now ≡ None)
         (λ rest. after first.now text.now ≡ Some rest.now) }
@@ -61,7 +61,7 @@ fn after<'a>(first: &[u8], text: &'a [u8]) -> Option<&'a [u8]>
     text.strip_prefix(first)
 }
 
-// The number that digits write; one that is too large is the largest of 32 bits.
+// The number that digits write; for one that is too large, the largest of 32 bits.
 fn number_of(digits: &[u8]) -> u32
     ensures { result ≡ number_after 0 digits.now }
 {
@@ -73,21 +73,21 @@ fn number_of(digits: &[u8]) -> u32
     number
 }
 
-// Whether a byte is no quote.
+// Whether a byte may be inside the name of a file: it is no quote.
 fn is_inside(byte: u8) -> bool
     ensures { result ≡ is_inside byte }
 {
     byte != b'"'
 }
 
-// Whether a byte is a digit or a blank.
+// Whether a byte may come after the name in a mark, where flags are: it is a digit or a blank.
 fn is_flag(byte: u8) -> bool
     ensures { result ≡ is_flag byte }
 {
     byte.is_ascii_digit() || byte == b' ' || byte == b'\r'
 }
 
-// Whether all bytes are digits or blanks.
+// Whether all bytes are digits or blanks, as the flags of a mark.
 fn are_flags(bytes: &[u8]) -> bool
     ensures { result ≡ list_all is_flag bytes.now }
 {
@@ -102,7 +102,7 @@ fn digits_in(text: &[u8]) -> usize
     text.iter().take_while(|byte| byte.is_ascii_digit()).count()
 }
 
-// How many bytes come before the first quote.
+// How many bytes of a text come before its first quote.
 fn name_length(text: &[u8]) -> usize
     ensures value { result ≡ prefix_len is_inside text.now }
     ensures within { result ≤ length text.now }
@@ -110,7 +110,7 @@ fn name_length(text: &[u8]) -> usize
     text.iter().take_while(|byte| is_inside(**byte)).count()
 }
 
-// The name that ends at the first quote, where digits and blanks alone come after that.
+// The name at the start of a text, up to a quote, after which only digits and blanks may come.
 fn name_in(text: &[u8]) -> Option<&[u8]>
     ensures { MatchOption result (name_in text.now ≡ None)
         (λ name. name_in text.now ≡ Some name.now) }
@@ -123,7 +123,7 @@ fn name_in(text: &[u8]) -> Option<&[u8]>
     }
 }
 
-// The name of a mark, which begins with a blank and a quote.
+// The name that a mark has after its number, which begins with a blank and a quote.
 fn name_of(text: &[u8]) -> Option<&[u8]>
     ensures { MatchOption result (name_of text.now ≡ None)
         (λ name. name_of text.now ≡ Some name.now) }
@@ -131,7 +131,7 @@ fn name_of(text: &[u8]) -> Option<&[u8]>
     name_in(after(b" \"", text)?)
 }
 
-// A mark's name, or no text at all, which is the name of the mark before.
+// The name that a mark has after its number, or no byte where nothing comes after the number.
 fn name_or_none(text: &[u8]) -> Option<&[u8]>
     ensures { MatchOption result (name_or_none text.now ≡ None)
         (λ name. name_or_none text.now ≡ Some name.now) }
@@ -142,7 +142,7 @@ fn name_or_none(text: &[u8]) -> Option<&[u8]>
     name_of(text)
 }
 
-// The name of a mark, which may have none unless it is owed.
+// The name that a mark has after its number; where it isn't owed, no byte where nothing comes there.
 fn name_by(text: &[u8], is_owed: bool) -> Option<&[u8]>
     ensures { MatchOption result (name_by is_owed text.now ≡ None)
         (λ name. name_by is_owed text.now ≡ Some name.now) }
@@ -154,7 +154,7 @@ fn name_by(text: &[u8], is_owed: bool) -> Option<&[u8]>
     }
 }
 
-// A number and the name after it.
+// The line and the file of a mark: a number, and the name after that, which may be owed.
 fn line_of(text: &[u8], is_owed: bool) -> Option<Mark<'_>>
     ensures { MatchOption result (line_of is_owed text.now ≡ None)
         (λ mark. line_of is_owed text.now ≡ Some (line_by mark)) }
@@ -171,8 +171,8 @@ fn line_of(text: &[u8], is_owed: bool) -> Option<Mark<'_>>
     })
 }
 
-// What a line says where it is a mark: where the line after it comes from. No name is that of the
-// mark before it.
+// What a line says that is a mark: where the line after it comes from. No name stands for that of the
+// mark before. None where the line is no mark.
 fn mark_of(text: &[u8]) -> Option<Mark<'_>>
     ensures { MatchOption result (mark_of text.now ≡ None)
         (λ mark. mark_of text.now ≡ Some (line_by mark)) }
@@ -183,13 +183,13 @@ fn mark_of(text: &[u8]) -> Option<Mark<'_>>
     }
 }
 
-// Where the line after a line comes from that comes from here.
+// Where the line after a line with this text comes from, where the line itself comes from `here`.
 fn next(alloc: Global, here: &Option<Origin>, text: &[u8]) -> Result<Option<Origin>, AllocError>
     ensures { IfOk result (λ it.
         option_map line_in it ≡ next (option_map line_in here.now) text.now) }
 {
     let (file, line) = match (mark_of(text), here) {
-        (Some(mark), _) if !mark.file.is_empty() => (named(alloc, mark.file)?, mark.line),
+        (Some(mark), _) if !mark.file.is_empty() => (shared_name(alloc, mark.file)?, mark.line),
         (Some(mark), Some(here)) => (here.file.clone()?, mark.line),
         (None, Some(here)) => (here.file.clone()?, here.line.saturating_add(1)),
         (_, None) => return Ok(None),
@@ -197,15 +197,15 @@ fn next(alloc: Global, here: &Option<Origin>, text: &[u8]) -> Result<Option<Orig
     Ok(Some(Origin { file, line }))
 }
 
-// A name that lines share.
-fn named(alloc: Global, name: &[u8]) -> Result<Rc<Vec<u8>>, AllocError>
+// The name of a file, to be shared by the lines that come from there.
+fn shared_name(alloc: Global, name: &[u8]) -> Result<Rc<Vec<u8>>, AllocError>
     ensures { IfOk result (λ file. (rc_value file).items ≡ name.now) }
 {
     Ok(Rc::new(alloc, Vec::from_slice(alloc, name)?)?)
 }
 
 // Whether the lines of a text that have more than blanks and a comment come from several files.
-fn is_several(origins: &[Option<Origin>], text: &[u8]) -> bool {
+fn has_several_files(origins: &[Option<Origin>], text: &[u8]) -> bool {
     let mut first = None;
     for (line, origin) in text.split(|byte| *byte == b'\n').zip(origins) {
         let code = line.trim_ascii();
@@ -237,14 +237,14 @@ impl Marks {
             origins.push(here)?;
             here = after;
         }
-        let is_several = is_several(origins.as_slice(), text);
+        let has_several_files = has_several_files(origins.as_slice(), text);
         Ok(Marks {
             origins,
-            is_several,
+            has_several_files,
         })
     }
 
-    /// Where a line comes from, counted from 1, if a mark comes before it.
+    /// Where a line of the text comes from, if a mark comes before the line. Lines count from 1.
     pub fn origin(&self, line: u32) -> Option<&Origin>
         ensures { option_map (λ o. line_in o.now) result ≡ origin_at (origins_in self.now) line }
     {
@@ -259,23 +259,23 @@ impl Marks {
         }
     }
 
-    /// A line of the text that was read from this file, as it is told: that of the mark where one
-    /// comes before it.
-    pub fn told<'a>(&'a self, read: &'a str, line: u32) -> FileLine<'a> {
+    /// Where a line of the text comes from, to be printed: by a mark if one comes before the line, else
+    /// the line itself, of the file that was read.
+    pub fn file_line<'a>(&'a self, read: &'a str, line: u32) -> FileLine<'a> {
         let (file, line) = match self.origin(line) {
-            Some(origin) => (shown(origin.file()), origin.line),
+            Some(origin) => (printable_name(origin.file()), origin.line),
             None => (read, line),
         };
         FileLine {
             file,
             line,
-            is_named: self.is_several,
+            is_named: self.has_several_files,
         }
     }
 }
 
-// A name as it is told: of one that isn't to be printed, a question mark.
-fn shown(name: &[u8]) -> &str {
+// The name of a file as it is printed; a question mark where it can't be printed.
+fn printable_name(name: &[u8]) -> &str {
     match from_utf8(name) {
         Ok(name) if !name.chars().any(char::is_control) => name,
         _ => "?",

@@ -1,6 +1,6 @@
 //! Lines of parts, and lines that are none.
 
-use parts::{Guest, Part, part_from, part_line, parts_from};
+use parts::{GuestDigest, Part, part_from, part_line, parts_from};
 use report::{Cause, Level};
 use semantics::view::{EndView, Kind};
 use std::alloc::{Alloc, Global};
@@ -17,7 +17,7 @@ const STUCK: &str =
 const STOPPED: &str =
     r#"{"beyond":false,"bound":null,"cause":"stopped","ends":[],"failed":0,"guest":{"bytes":3,"sha256":"ba7816bf8f01cfea414140de5dae2223b00361a396177a9cb410ff61f20015ad"},"schedule":null,"stuck":0,"tried":0,"under":"-"}"#;
 
-/// What is put in place of what in the line of a part, and why it is none then.
+/// What in `STUCK` is replaced by what, and why the line is no part's then.
 const REFUSED: [(&str, &str, &str); 27] = [
     ("{", "", "no JSON"),
     ("\"tried\":6", "\"tried\":6,", "no JSON"),
@@ -92,7 +92,7 @@ const REFUSED: [(&str, &str, &str); 27] = [
     ),
 ];
 
-/// Texts of several lines, with `S` for the line of a part: the parts, or why it is refused.
+/// Texts of lines, with `S` for the line `STUCK`; and how many parts each has, or why it is refused.
 const TEXTS: [(&str, &str); 6] = [
     ("", "0 parts"),
     ("\n \n\t\r\n", "0 parts"),
@@ -102,7 +102,7 @@ const TEXTS: [(&str, &str); 6] = [
     ("S S", "1: no JSON"),
 ];
 
-/// The part that the first line is of.
+/// The part whose line is `STUCK`.
 fn stuck_part(alloc: Global) -> Result<Part, Fail> {
     let mut ends = Vec::new(alloc);
     ends.push(EndView::new(Kind::Done, vec![in alloc; 50, -7]?))?;
@@ -123,11 +123,11 @@ fn stuck_part(alloc: Global) -> Result<Part, Fail> {
             summary,
             cause: None,
         },
-        guest: Guest::of_text(b"abc"),
+        guest: GuestDigest::of_text(b"abc"),
     })
 }
 
-/// The part that the second line is of.
+/// The part whose line is `STOPPED`.
 fn stopped_part(alloc: Global) -> Part {
     Part {
         under: Vec::new(alloc),
@@ -136,11 +136,11 @@ fn stopped_part(alloc: Global) -> Part {
             summary: Summary::empty(alloc),
             cause: Some(Cause::Stopped),
         },
-        guest: Guest::of_text(b"abc"),
+        guest: GuestDigest::of_text(b"abc"),
     }
 }
 
-/// Compares the line of a part.
+/// Compares the line of a part with the wanted one.
 fn check_line(rt: &impl Abort, alloc: Global, part: &Part, want: &str) -> Result<(), Fail> {
     let line = part_line(alloc, part)?;
     assert_eq!(rt; line.as_slice(), want.as_bytes());
@@ -181,8 +181,8 @@ fn other_lines_are_refused(rt: HostRuntime) -> Result<(), Fail> {
     Ok(())
 }
 
-/// How many parts a text has, or why it is refused.
-fn parts_told(alloc: Global, text: &str) -> Result<String, Fail> {
+/// How many parts a text has, or why the text is refused.
+fn parts_or_error(alloc: Global, text: &str) -> Result<String, Fail> {
     Ok(match parts_from(alloc, text.as_bytes()) {
         Ok(parts) => format!(in alloc; "{} parts", parts.len())?,
         Err(error) => format!(in alloc; "{error}")?,
@@ -194,7 +194,7 @@ fn texts_have_parts(rt: HostRuntime) -> Result<(), Fail> {
     let alloc = rt.alloc();
     for (text, want) in &TEXTS {
         let lines = text.replace(alloc, "S", STUCK)?;
-        let told = parts_told(alloc, lines.as_str())?;
+        let told = parts_or_error(alloc, lines.as_str())?;
         assert_eq!(rt; told.as_str(), *want, "{text}");
     }
     Ok(())

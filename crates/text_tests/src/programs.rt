@@ -106,7 +106,7 @@ const CUT: &[u8] =
     b"mutex m; cond c; thread A { lock m; wait c m; unlock m; } thread B { lock m; wait c m; unlock m; } thread C { lock m; broadcast c; unlock m; }";
 
 /// A text with as many objects of each kind, threads, locals and instructions as the limits allow.
-fn fullest(alloc: Global) -> Result<String, Fail> {
+fn fullest_text(alloc: Global) -> Result<String, Fail> {
     let mut text = String::new(alloc);
     for i in 0..16 {
         write!(text, "var v{i} = {i}; ")?;
@@ -125,7 +125,7 @@ fn fullest(alloc: Global) -> Result<String, Fail> {
 }
 
 /// A thread with 32 blocks of a hundred copies each inside one another, and this in the innermost.
-fn nested(alloc: Global, innermost: &str) -> Result<String, Fail> {
+fn nested_copies(alloc: Global, innermost: &str) -> Result<String, Fail> {
     let mut text = String::from_str(alloc, "thread A { ")?;
     for _ in 0..32 {
         text.push_str("repeat 100 { ")?;
@@ -143,7 +143,7 @@ fn program_of(alloc: Global, text: &[u8]) -> Result<Program, Fail> {
     Ok(lower(alloc, &tree)?)
 }
 
-/// The line of the first fault of a text that spells a tree.
+/// The line of the first fault of a text that spells a tree, or `no fault`.
 fn fault_of(alloc: Global, text: &str) -> Result<String, Fail> {
     let tree = parse(alloc, text.as_bytes())?;
     match lower(alloc, &tree) {
@@ -162,9 +162,9 @@ fn first_faults(rt: HostRuntime) -> Result<(), Fail> {
     Ok(())
 }
 
-/// One for a text that is accepted, and one for a text whose fault is that it has no threads; none
-/// where it has another fault.
-fn counted(alloc: Global, text: &[u8]) -> Option<(u32, u32)> {
+/// 1 and 0 for a text that is accepted, 0 and 1 for one whose fault is that it has no threads, two
+/// zeros for one that spells no tree; none where the text has another fault.
+fn accepted_or_empty(alloc: Global, text: &[u8]) -> Option<(u32, u32)> {
     let Ok(tree) = parse(alloc, text) else {
         return Some((0, 0));
     };
@@ -180,7 +180,7 @@ fn cuts_are_accepted_or_have_no_threads(rt: HostRuntime) -> Result<(), Fail> {
     let mut accepted = 0_u32;
     let mut without_threads = 0_u32;
     for end in 0..=CUT.len() {
-        let Some((whole, empty)) = counted(rt.alloc(), &CUT[..end]) else {
+        let Some((whole, empty)) = accepted_or_empty(rt.alloc(), &CUT[..end]) else {
             return Err(Fail::new("a cut text has another fault"));
         };
         accepted = accepted.saturating_add(whole);
@@ -198,14 +198,14 @@ fn is_too_long(alloc: Global, text: &str) -> Result<bool, Fail> {
 
 #[test]
 fn nested_copies_are_too_long(rt: HostRuntime) -> Result<(), Fail> {
-    let text = nested(rt.alloc(), "assert 1;")?;
+    let text = nested_copies(rt.alloc(), "assert 1;")?;
     assert!(rt; is_too_long(rt.alloc(), text.as_str())?);
     Ok(())
 }
 
 #[test]
 fn nested_copies_of_nothing(rt: HostRuntime) -> Result<(), Fail> {
-    let text = nested(rt.alloc(), "")?;
+    let text = nested_copies(rt.alloc(), "")?;
     let program = program_of(rt.alloc(), text.as_bytes())?;
     assert_eq!(rt; program.code(0).len(), 0);
     Ok(())
@@ -220,7 +220,7 @@ fn nine_threads(rt: HostRuntime) -> Result<(), Fail> {
     Ok(())
 }
 
-/// The fullest text has as many objects as the limits allow.
+/// Compares how many objects the program of the fullest text has: as many as the limits allow.
 fn check_fullest_objects(rt: &impl Abort, program: &Program) {
     assert_eq!(rt; program.variables(), 16);
     assert_eq!(rt;
@@ -234,7 +234,7 @@ fn check_fullest_objects(rt: &impl Abort, program: &Program) {
     assert_eq!(rt; (program.opening(15), program.count(7)), (15, 7));
 }
 
-/// It has as many threads, each of as many locals and instructions.
+/// Compares how many threads, locals and instructions the program of the fullest text has.
 fn check_fullest_threads(rt: &impl Abort, program: &Program) {
     assert_eq!(rt; program.threads(), 16);
     for t in 0..16 {
@@ -254,7 +254,7 @@ fn check_fullest_threads(rt: &impl Abort, program: &Program) {
 
 #[test]
 fn largest_programs(rt: HostRuntime) -> Result<(), Fail> {
-    let text = fullest(rt.alloc())?;
+    let text = fullest_text(rt.alloc())?;
     let program = program_of(rt.alloc(), text.as_bytes())?;
     limits_are();
     programs_are_well_formed(&program);
@@ -325,7 +325,7 @@ fn atomic_updates(rt: HostRuntime) -> Result<(), Fail> {
 const PARTS: &str =
     "sem t = 1; var x; mutex m; cond c; var y = -3; mutex n; sem s = 5; cond d; thread A { } thread B { wait d n; acquire s; set r y1 + 2; }";
 
-/// The variables and semaphores of `PARTS`.
+/// Compares the variables and semaphores of the program of `PARTS`.
 fn check_variables_and_semaphores(rt: &impl Abort, program: &Program) {
     assert_eq!(rt; (program.variables(), program.semaphores()), (2, 2));
     assert_eq!(rt; (program.opening(0), program.opening(1)), (0, -3));
@@ -334,7 +334,7 @@ fn check_variables_and_semaphores(rt: &impl Abort, program: &Program) {
     assert_eq!(rt; program.semaphore_name(1), b"s".as_slice());
 }
 
-/// The rest of its objects, and its threads.
+/// Compares the mutexes, conditions and threads of the program of `PARTS`.
 fn check_mutexes_conditions_and_threads(rt: &impl Abort, program: &Program) {
     assert_eq!(rt;
         (program.mutexes(), program.conditions(), program.threads()),
@@ -369,8 +369,8 @@ fn code_is_shown(rt: HostRuntime) -> Result<(), Fail> {
 const PLACED: &str =
     "var x;\nthread A {\n  if r == 0 {\n    store x 1;\n  } else {\n    repeat 2 { add old x 1; leave; }\n  }\n  assert r;\n}";
 
-/// The places of the first thread's instructions and the names of its locals, as they are printed.
-fn source(alloc: Global, text: &str) -> Result<String, Fail> {
+/// The places of the instructions of a text's first thread and the names of its locals, printed.
+fn places_and_locals(alloc: Global, text: &str) -> Result<String, Fail> {
     let tree = parse(alloc, text.as_bytes())?;
     let program = lower(alloc, &tree)?;
     let map = SourceMap::new(alloc, &tree)?;
@@ -388,13 +388,13 @@ fn source(alloc: Global, text: &str) -> Result<String, Fail> {
 #[test]
 fn instructions_have_places(rt: HostRuntime) -> Result<(), Fail> {
     places_are_in_their_threads();
-    let shown = source(rt.alloc(), PLACED)?;
+    let shown = places_and_locals(rt.alloc(), PLACED)?;
     assert_eq!(rt;
         shown.as_str(),
         "3:3 4:5 3:3 6:16 6:29 6:16 6:29 8:3 [114][111, 108, 100]"
     );
-    let empty = nested(rt.alloc(), "")?;
-    let shown = source(rt.alloc(), empty.as_str())?;
+    let empty = nested_copies(rt.alloc(), "")?;
+    let shown = places_and_locals(rt.alloc(), empty.as_str())?;
     assert_eq!(rt; shown.as_str(), "");
     Ok(())
 }

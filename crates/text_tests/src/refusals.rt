@@ -4,7 +4,7 @@ use advice::{Depth, advice_text, check};
 use std::alloc::Global;
 use std::test::*;
 
-/// Texts, and what is told of them.
+/// Texts, and the lines of the advice on each.
 const TOLD: [(&str, &str); 4] = [
     ("var x; thread A { load r x; store x r; }", ""),
     (
@@ -21,8 +21,8 @@ const TOLD: [(&str, &str); 4] = [
     ),
 ];
 
-/// What is told of a text.
-fn told(alloc: Global, text: &str) -> Result<Vec<u8>, Fail> {
+/// The lines of the advice on a text.
+fn advice_of(alloc: Global, text: &str) -> Result<Vec<u8>, Fail> {
     let found = check(alloc, text.as_bytes(), None)?;
     Ok(advice_text(alloc, text.as_bytes(), &found)?)
 }
@@ -30,7 +30,7 @@ fn told(alloc: Global, text: &str) -> Result<Vec<u8>, Fail> {
 #[test]
 fn texts_are_told_of(rt: HostRuntime) -> Result<(), Fail> {
     for (text, want) in &TOLD {
-        let lines = told(rt.alloc(), text)?;
+        let lines = advice_of(rt.alloc(), text)?;
         assert_eq!(rt; lines.as_slice(), want.as_bytes(), "{text}");
     }
     Ok(())

@@ -208,15 +208,15 @@ const CUT: &[u8] =
     b"mutex m; cond c; thread A { lock m; wait c m; unlock m; } thread B { lock m; wait c m; unlock m; } thread C { lock m; broadcast c; unlock m; }";
 
 /// The line of a text's first fault, or `tree`.
-fn answer(alloc: Global, text: &[u8]) -> Result<String, Fail> {
+fn answer_of(alloc: Global, text: &[u8]) -> Result<String, Fail> {
     match parse(alloc, text) {
         Ok(_) => Ok(String::from_str(alloc, "tree")?),
         Err(error) => Ok(format!(in alloc; "{error}")?),
     }
 }
 
-/// The bodies of a text's threads, as they are shown.
-fn bodies(alloc: Global, text: &str) -> Result<String, Fail> {
+/// The bodies of a text's threads, as `{:?}` shows them.
+fn bodies_of(alloc: Global, text: &str) -> Result<String, Fail> {
     let tree = parse(alloc, text.as_bytes())?;
     let mut shown = String::new(alloc);
     for thread in tree.threads() {
@@ -226,8 +226,8 @@ fn bodies(alloc: Global, text: &str) -> Result<String, Fail> {
     Ok(shown)
 }
 
-/// A thread that opens this many blocks inside one another.
-fn opened(alloc: Global, depth: usize) -> Result<String, Fail> {
+/// A text of a thread that opens this many blocks inside one another, and closes none.
+fn open_blocks(alloc: Global, depth: usize) -> Result<String, Fail> {
     let mut text = String::from_str(alloc, "thread A { ")?;
     for _ in 0..depth {
         text.push_str("if 1 { ")?;
@@ -235,9 +235,9 @@ fn opened(alloc: Global, depth: usize) -> Result<String, Fail> {
     Ok(text)
 }
 
-/// A thread with this many blocks inside one another.
-fn nested(alloc: Global, depth: usize) -> Result<String, Fail> {
-    let mut text = opened(alloc, depth)?;
+/// A text of a thread with this many blocks inside one another.
+fn nested_blocks(alloc: Global, depth: usize) -> Result<String, Fail> {
+    let mut text = open_blocks(alloc, depth)?;
     for _ in 0..depth {
         text.push_str("} ")?;
     }
@@ -263,15 +263,15 @@ fn long_text(alloc: Global, statements: usize, bytes: usize) -> Result<String, F
 #[test]
 fn first_faults(rt: HostRuntime) -> Result<(), Fail> {
     for (text, want) in &FAULTS {
-        let line = answer(rt.alloc(), text.as_bytes())?;
+        let line = answer_of(rt.alloc(), text.as_bytes())?;
         assert_eq!(rt; line.as_str(), *want, "{text}");
     }
     Ok(())
 }
 
-/// A text has this line.
+/// Compares the line of a text's first fault, or `tree`.
 fn check_answer(rt: &impl Abort, alloc: Global, text: &[u8], want: &str) -> Result<(), Fail> {
-    let line = answer(alloc, text)?;
+    let line = answer_of(alloc, text)?;
     assert_eq!(rt; line.as_str(), want);
     Ok(())
 }
@@ -285,9 +285,9 @@ fn longest_texts(rt: HostRuntime) -> Result<(), Fail> {
 
 #[test]
 fn deepest_blocks(rt: HostRuntime) -> Result<(), Fail> {
-    let text = nested(rt.alloc(), 32)?;
+    let text = nested_blocks(rt.alloc(), 32)?;
     check_answer(&rt, rt.alloc(), text.as_bytes(), "tree")?;
-    let text = nested(rt.alloc(), 33)?;
+    let text = nested_blocks(rt.alloc(), 33)?;
     check_answer(
         &rt,
         rt.alloc(),
@@ -298,14 +298,14 @@ fn deepest_blocks(rt: HostRuntime) -> Result<(), Fail> {
 
 #[test]
 fn blocks_that_stay_open(rt: HostRuntime) -> Result<(), Fail> {
-    let text = opened(rt.alloc(), 33)?;
+    let text = open_blocks(rt.alloc(), 33)?;
     check_answer(
         &rt,
         rt.alloc(),
         text.as_bytes(),
         "syntax S6 TooDeep at 1:241",
     )?;
-    let mut no_brace = opened(rt.alloc(), 32)?;
+    let mut no_brace = open_blocks(rt.alloc(), 32)?;
     no_brace.push_str("if 1 x")?;
     check_answer(
         &rt,
@@ -321,10 +321,10 @@ fn largest_literals(rt: HostRuntime) -> Result<(), Fail> {
     check_answer(&rt, rt.alloc(), largest, "tree")
 }
 
-/// The body of a thread with this statement, as it is shown.
+/// How `{:?}` shows the body of a thread with this statement.
 fn body_of(alloc: Global, statement: &str) -> Result<String, Fail> {
     let text = format!(in alloc; "thread A {{ {statement} }}")?;
-    bodies(alloc, &text)
+    bodies_of(alloc, &text)
 }
 
 #[test]
@@ -336,7 +336,7 @@ fn statements(rt: HostRuntime) -> Result<(), Fail> {
     Ok(())
 }
 
-/// An operator between two literals has this name.
+/// Compares the name of an operator, in an assertion on two literals.
 fn check_operator(rt: &impl Abort, alloc: Global, operator: &str, name: &str) -> Result<(), Fail> {
     let statement = format!(in alloc; "assert 2{operator}1;")?;
     let shown = body_of(alloc, &statement)?;
@@ -377,7 +377,7 @@ fn is_cut_short(last: usize) -> bool {
     }
 }
 
-/// A text has its first fault at this column, where a token must be, or is whole.
+/// Compares the column of a cut text's first fault, a token that is missing; none where it is whole.
 fn check_cut(
     rt: &impl Abort,
     alloc: Global,
@@ -388,7 +388,7 @@ fn check_cut(
         None => String::from_str(alloc, "tree")?,
         Some(column) => format!(in alloc; "syntax S3 Expected at 1:{column}")?,
     };
-    let line = answer(alloc, text)?;
+    let line = answer_of(alloc, text)?;
     assert_eq!(rt;
         line.as_str(),
         want.as_str(),
@@ -433,9 +433,9 @@ fn cuts(rt: HostRuntime) -> Result<(), Fail> {
 }
 
 /// Texts of 1, 8 and 64 KiB, with the number of statements that fit.
-const LONG: [(usize, usize); 3] = [(70, 1_024), (580, 8_192), (4_650, 65_536)];
+const LONG_TEXTS: [(usize, usize); 3] = [(70, 1_024), (580, 8_192), (4_650, 65_536)];
 
-/// The statement with this number in a long text is shown so.
+/// Compares how the statement with this number in a long text is shown.
 fn check_statement(
     rt: &impl Abort,
     alloc: Global,
@@ -452,7 +452,7 @@ fn check_statement(
     Ok(())
 }
 
-/// The tree of a long text has one variable, and one thread of this many statements.
+/// Compares the tree of a long text: one variable, and one thread of this many statements.
 fn check_long_tree(
     rt: &impl Abort,
     alloc: Global,
@@ -469,7 +469,7 @@ fn check_long_tree(
     Ok(())
 }
 
-/// A long text of this many statements and bytes has its tree.
+/// Compares the length of a long text of this many statements, and its tree.
 fn check_long_text(
     rt: &impl Abort,
     alloc: Global,
@@ -484,7 +484,7 @@ fn check_long_text(
 
 #[test]
 fn long_texts(rt: HostRuntime) -> Result<(), Fail> {
-    for (statements, bytes) in &LONG {
+    for (statements, bytes) in &LONG_TEXTS {
         check_long_text(&rt, rt.alloc(), *statements, *bytes)?;
     }
     Ok(())

@@ -7,8 +7,8 @@
 //! twice, or where a refused one changed something; with 2 where memory for the words, the file or
 //! the program is refused.
 
-use crate::books::{BookFacts, searched};
-use crate::runs::{RunFacts, carried_out};
+use crate::books::{BookFacts, book_facts};
+use crate::runs::{RunFacts, run_facts};
 use guest_code::lowering::lower;
 use guest_code::program::Program;
 use guest_syntax::parse;
@@ -20,7 +20,7 @@ use std::process::ExitCode;
 use std::sync::Arc;
 use std::{fs, io};
 
-/// The program that a text spells.
+/// The program that a text spells; a call that is refused memory is made once more.
 fn program_of(alloc: Global, text: &[u8]) -> Option<Program> {
     let tree = match parse(alloc, text) {
         Ok(tree) => tree,
@@ -32,7 +32,7 @@ fn program_of(alloc: Global, text: &[u8]) -> Option<Program> {
     }
 }
 
-/// The schedule that a text spells.
+/// The schedule that a text spells; a call that is refused memory is made once more.
 fn schedule_of(alloc: Global, text: &[u8]) -> Option<Vec<u8>> {
     match schedule_from(alloc, text) {
         Ok(schedule) => Some(schedule),
@@ -41,7 +41,7 @@ fn schedule_of(alloc: Global, text: &[u8]) -> Option<Vec<u8>> {
 }
 
 /// Prints what all the calls answered.
-fn print<H: Print>(rt: &H, run: RunFacts, book: BookFacts) -> io::Result<()> {
+fn print_facts<H: Print>(rt: &H, run: RunFacts, book: BookFacts) -> io::Result<()> {
     let RunFacts {
         variables,
         viewed,
@@ -66,30 +66,30 @@ fn print<H: Print>(rt: &H, run: RunFacts, book: BookFacts) -> io::Result<()> {
 }
 
 /// What all the calls answer on a program and a schedule of it, if none fails twice.
-fn answered(
+fn facts_of(
     alloc: Global,
     program: &Arc<Program>,
     schedule: &str,
 ) -> Option<(RunFacts, BookFacts)> {
     let schedule = schedule_of(alloc, schedule.as_bytes())?;
-    let run = carried_out(alloc, program, schedule.as_slice())?;
-    let book = searched(alloc, program, schedule.as_slice())?;
+    let run = run_facts(alloc, program, schedule.as_slice())?;
+    let book = book_facts(alloc, program, schedule.as_slice())?;
     Some((run, book))
 }
 
-/// Does what the words ask for, if they ask for anything and there is memory for the file and the
-/// program.
-pub fn done<H: Files + Print + Alloc<A = Global>>(rt: &H, words: &[String]) -> Option<ExitCode> {
+/// Makes the calls on the file and the schedule that the words name, and answers the status; none
+/// where the words name none, or memory for the file or the program is refused.
+pub fn run<H: Files + Print + Alloc<A = Global>>(rt: &H, words: &[String]) -> Option<ExitCode> {
     let text = fs::read(rt, words.get(1)?.as_str()).ok()?;
     let schedule = words.get(2)?.as_str();
     let Some(program) = program_of(rt.alloc(), text.as_slice()) else {
         return Some(ExitCode::FAILURE);
     };
     let program = Arc::new(rt.alloc(), program).ok()?;
-    let Some((run, book)) = answered(rt.alloc(), &program, schedule) else {
+    let Some((run, book)) = facts_of(rt.alloc(), &program, schedule) else {
         return Some(ExitCode::FAILURE);
     };
-    match print(rt, run, book) {
+    match print_facts(rt, run, book) {
         Ok(()) => Some(ExitCode::SUCCESS),
         Err(_) => Some(ExitCode::FAILURE),
     }

@@ -1,4 +1,4 @@
-//! A search by hand: items, walks, a book and a board.
+//! A search by hand, with items, walks, a book and a board, made again where memory is refused.
 
 use board::Board;
 use book::books::Book;
@@ -13,7 +13,7 @@ use walk::walked::Walked;
 use walk::walker::walk;
 
 /// More walks than a search by hand makes.
-const MOST: usize = 10_000;
+const MOST_WALKS: usize = 10_000;
 
 /// What the calls answered, counted. `copied` is the steps of the schedule's item, and `next` those
 /// of the items that the next bound opens with.
@@ -28,10 +28,10 @@ pub struct BookFacts {
     pub seats: usize,
 }
 
-/// What is seen of a book: what it finished, and copies of its open items and of those that wait
-/// for the next bound.
+/// What is seen of a book: what it finished, and copies of its open items and of the items that
+/// wait for the next bound.
 #[derive(Drop)]
-struct Seen {
+struct BookSnapshot {
     tried: u64,
     ends: usize,
     is_beyond: bool,
@@ -40,15 +40,15 @@ struct Seen {
     deferred: Vec<Item>,
 }
 
-// Whether two lists have the same items in the same order.
-fn are_same(first: &[Item], second: &[Item]) -> bool {
+// Whether two lists have equal items in the same order.
+fn are_equal_items(first: &[Item], second: &[Item]) -> bool {
     first.len() == second.len() && first.iter().zip(second).all(|(a, b)| a.is_same(b))
 }
 
-impl Seen {
-    // What is seen of a book.
-    fn of(alloc: Global, book: &Book, program: &Program) -> Result<Seen, AllocError> {
-        Ok(Seen {
+impl BookSnapshot {
+    // What is seen of a book of this program.
+    fn of(alloc: Global, book: &Book, program: &Program) -> Result<BookSnapshot, AllocError> {
+        Ok(BookSnapshot {
             tried: book.finished().tried(),
             ends: book.finished().ends().len(),
             is_beyond: book.finished().beyond(),
@@ -58,19 +58,19 @@ impl Seen {
         })
     }
 
-    // Whether the same is seen of two books.
-    fn is_same(&self, other: &Seen) -> bool {
+    // Whether what is seen is equal, of one book at two times.
+    fn is_equal(&self, other: &BookSnapshot) -> bool {
         self.tried == other.tried
             && self.ends == other.ends
             && self.is_beyond == other.is_beyond
             && self.is_closed == other.is_closed
-            && are_same(self.open.as_slice(), other.open.as_slice())
-            && are_same(self.deferred.as_slice(), other.deferred.as_slice())
+            && are_equal_items(self.open.as_slice(), other.open.as_slice())
+            && are_equal_items(self.deferred.as_slice(), other.deferred.as_slice())
     }
 }
 
 // The items of a book's next round.
-fn round(alloc: Global, book: &Book) -> Option<Vec<Item>> {
+fn next_round(alloc: Global, book: &Book) -> Option<Vec<Item>> {
     match book.round(alloc) {
         Ok(items) => Some(items),
         Err(_) => book.round(alloc).ok(),
@@ -78,7 +78,7 @@ fn round(alloc: Global, book: &Book) -> Option<Vec<Item>> {
 }
 
 // How many steps items have together.
-fn steps(items: &[Item]) -> usize {
+fn count_steps(items: &[Item]) -> usize {
     let mut sum = 0usize;
     for item in items {
         sum = sum.saturating_add(item.prefix().len());
@@ -104,39 +104,39 @@ fn deferred_items(alloc: Global, book: &Book) -> Result<Vec<Item>, AllocError> {
     Ok(items)
 }
 
-// What is seen of a book, looked at again where that was refused.
-fn look_at(alloc: Global, book: &Book, program: &Program) -> Option<Seen> {
-    match Seen::of(alloc, book, program) {
+// What is seen of a book, asked for once more where memory is refused.
+fn snapshot_of(alloc: Global, book: &Book, program: &Program) -> Option<BookSnapshot> {
+    match BookSnapshot::of(alloc, book, program) {
         Ok(seen) => Some(seen),
-        Err(_) => Seen::of(alloc, book, program).ok(),
+        Err(_) => BookSnapshot::of(alloc, book, program).ok(),
     }
 }
 
 // A walk of an item that tries one schedule.
-fn walked(alloc: Global, item: &Item, mode: Mode) -> Option<Walked> {
+fn walk_one(alloc: Global, item: &Item, mode: Mode) -> Option<Walked> {
     match walk(alloc, item, mode, 1) {
         Ok(walked) => Some(walked),
         Err(_) => walk(alloc, item, mode, 1).ok(),
     }
 }
 
-// Walks an item and settles it. Where that is refused nothing has changed, and it is taken then.
-fn settle(alloc: Global, book: &mut Book, program: &Program, item: &Item) -> Option<()> {
-    let before = look_at(alloc, book, program)?;
-    match book.settle(alloc, walked(alloc, item, book.mode())?) {
+// Walks an item and settles the walk; once more where memory is refused, if the book is unchanged.
+fn walk_and_settle(alloc: Global, book: &mut Book, program: &Program, item: &Item) -> Option<()> {
+    let before = snapshot_of(alloc, book, program)?;
+    match book.settle(alloc, walk_one(alloc, item, book.mode())?) {
         Ok(()) => Some(()),
         Err(SettleError::OutOfMemory) => {
-            if !look_at(alloc, book, program)?.is_same(&before) {
+            if !snapshot_of(alloc, book, program)?.is_equal(&before) {
                 return None;
             }
-            book.settle(alloc, walked(alloc, item, book.mode())?).ok()
+            book.settle(alloc, walk_one(alloc, item, book.mode())?).ok()
         }
         Err(_) => None,
     }
 }
 
 // How many schedules a summary joined with itself counts, and how many end views a copy of it has.
-fn joined(alloc: Global, summary: &Summary) -> Option<(u64, usize)> {
+fn doubled_counts(alloc: Global, summary: &Summary) -> Option<(u64, usize)> {
     let twice = match summary.join(alloc, summary) {
         Ok(twice) => twice,
         Err(_) => summary.join(alloc, summary).ok()?,
@@ -160,8 +160,8 @@ fn item_after(alloc: Global, program: &Arc<Program>, steps: &[u8]) -> Option<Ite
     }
 }
 
-// How many seats a board has.
-fn seats(alloc: Global) -> Option<usize> {
+// How many seats a board has that is made for three.
+fn count_seats(alloc: Global) -> Option<usize> {
     let (_board, seats) = match Board::new(alloc, 5, 3) {
         Ok(made) => made,
         Err(_) => Board::new(alloc, 5, 3).ok()?,
@@ -170,35 +170,35 @@ fn seats(alloc: Global) -> Option<usize> {
 }
 
 // A book of a program, at no preemption.
-fn opened(alloc: Global, program: &Arc<Program>) -> Option<Book> {
+fn open_book(alloc: Global, program: &Arc<Program>) -> Option<Book> {
     match Book::open(alloc, Arc::try_clone(program).ok()?, Mode::Bounded(0)) {
         Ok(book) => Some(book),
         Err(_) => Book::open(alloc, Arc::try_clone(program).ok()?, Mode::Bounded(0)).ok(),
     }
 }
 
-// Walks all items of a book's bound and settles them: how many.
+// Walks all items of a book's bound and settles the walks; answers how many beside the root's.
 fn settle_bound(alloc: Global, book: &mut Book, program: &Arc<Program>) -> Option<u64> {
     let mut settled = 0u64;
-    settle(alloc, book, program, &item_after(alloc, program, &[])?)?;
-    for _ in 0..MOST {
-        let items = round(alloc, book)?;
+    walk_and_settle(alloc, book, program, &item_after(alloc, program, &[])?)?;
+    for _ in 0..MOST_WALKS {
+        let items = next_round(alloc, book)?;
         let Some(item) = items.as_slice().last() else {
             break;
         };
-        settle(alloc, book, program, item)?;
+        walk_and_settle(alloc, book, program, item)?;
         settled = settled.saturating_add(1);
     }
     Some(settled)
 }
 
 /// What the calls of a search answer that tries all schedules without a preemption, one a walk, and
-/// goes to the next bound then; and those on the item of a schedule.
-pub fn searched(alloc: Global, program: &Arc<Program>, schedule: &[u8]) -> Option<BookFacts> {
-    let mut book = opened(alloc, program)?;
+/// goes to the next bound then; and what the calls on the item of a schedule answer.
+pub fn book_facts(alloc: Global, program: &Arc<Program>, schedule: &[u8]) -> Option<BookFacts> {
+    let mut book = open_book(alloc, program)?;
     let settled = settle_bound(alloc, &mut book, program)?;
     let tried = book.finished().tried();
-    let (joined, ends) = joined(alloc, book.finished())?;
+    let (joined, ends) = doubled_counts(alloc, book.finished())?;
     book.raise().ok()?;
     Some(BookFacts {
         settled,
@@ -206,7 +206,7 @@ pub fn searched(alloc: Global, program: &Arc<Program>, schedule: &[u8]) -> Optio
         joined,
         ends,
         copied: item_after(alloc, program, schedule)?.prefix().len(),
-        next: steps(round(alloc, &book)?.as_slice()),
-        seats: seats(alloc)?,
+        next: count_steps(next_round(alloc, &book)?.as_slice()),
+        seats: count_seats(alloc)?,
     })
 }

@@ -1,47 +1,46 @@
-//! A gate that writes down what it hears.
+//! A gate that logs what a search tells it.
 
 use runner::{Decision, Gate, Progress};
 use std::alloc::Global;
 use std::sync::atomic::{AtomicU64, Ordering};
 use std::{fmt, thread};
 
-/// How much is written down at most.
-const ROOM: usize = 1 << 17;
+/// How many events are logged at most.
+const LOG_CAPACITY: usize = 1 << 17;
 
 /// How many items a full round has.
-const FULL: u64 = 64;
+const FULL_ROUND: u64 = 64;
 
-/// More turns than a held worker waits.
-const TURNS: u64 = 2_000_000;
+/// How many turns a held worker waits at most; far fewer are enough.
+const MOST_TURNS: u64 = 2_000_000;
 
-/// How many turns more a worker is held where another one has to be through with an item. Where
+/// How many turns more a worker is held where another worker has to be through with an item. Where
 /// other programs have the processors a turn takes as long as one of theirs.
-const MORE: u64 = 500;
+const EXTRA_TURNS: u64 = 500;
 
-/// What the gate does.
+/// What a gate does with the workers that ask it.
 #[derive(Clone, Copy, Debug)]
-pub enum Does {
-    /// It stops nobody and holds nobody.
+pub enum Policy {
+    /// The gate stops nobody and holds nobody.
     Open,
-    /// It stops nobody and holds nobody, and that it never stops anybody is known.
+    /// The gate stops nobody and holds nobody, and says that it never stops anybody.
     Never,
-    /// It lets this many calls pass, and stops each later one.
-    Pass(u64),
-    /// It stops this worker alone.
+    /// The gate lets this many calls pass, and stops each later one.
+    PassFirst(u64),
+    /// The gate stops this worker alone.
     StopWorker(u64),
-    /// It stops at the items of a round from this one on.
+    /// The gate stops at the items of a round from the item of this number on.
     StopFrom(u64),
-    /// In a round of 64 items it holds the first calls, as many as this, until the last one of them
-    /// has begun, then likewise the next ones, and so on as long as there are as many items.
-    Together(u64),
-    /// It holds who comes to a later item of the round before this item was walked, until it was,
-    /// and a little more.
-    After(u64),
+    /// In a round of 64 items the gate holds the first calls, as many as this, until the last one
+    /// of them has begun, then as many next ones, and so on as long as there are as many items.
+    HoldTogether(u64),
+    /// The gate holds who comes to a later item of a round until this item was walked, and a bit more.
+    HoldAfter(u64),
 }
 
-/// What is heard.
+/// What is logged: an answer to a worker, the end of a walk or of a round, or a wait that is too long.
 #[derive(Clone, Copy, Debug, PartialEq, Eq)]
-enum Heard {
+enum Event {
     Go,
     Stop,
     Walked,
@@ -49,11 +48,11 @@ enum Heard {
     Late,
 }
 
-/// A line of what was heard.
+/// An event with its worker and its number, packed into one word.
 #[derive(Clone, Copy, Debug)]
-pub struct Line(u64);
+pub struct LogEntry(u64);
 
-impl fmt::Display for Line {
+impl fmt::Display for LogEntry {
     fn fmt<W: fmt::Write>(&self, f: &mut fmt::Formatter<W>) -> fmt::Result {
         let number = self.0 % (1 << 32);
         let worker = self.0 / (1 << 32) % (1 << 16);
@@ -67,31 +66,31 @@ impl fmt::Display for Line {
     }
 }
 
-/// The gate.
+/// A gate that follows a policy, and logs the events of a search.
 #[derive(Drop)]
-pub struct Listening {
-    does: Does,
-    lines: Vec<AtomicU64>,
+pub struct LoggingGate {
+    policy: Policy,
+    entries: Vec<AtomicU64>,
     count: AtomicU64,
-    /// How many calls of `before` have begun, in all and in this round.
+    /// How many calls of `before` have begun in all, and then those in this round.
     asked: AtomicU64,
     begun: AtomicU64,
     /// How many items were open when the round began.
     open: AtomicU64,
-    /// Whether the item that others are held for was walked in this round.
+    /// 1 where the item that `HoldAfter` tells was walked in this round.
     walked: AtomicU64,
 }
 
-impl Listening {
-    /// A gate that has heard nothing, if there is memory for what it is to hear.
-    pub fn new(alloc: Global, does: Does) -> Option<Listening> {
-        let mut lines = Vec::new(alloc);
-        for _ in 0..ROOM {
-            lines.push(AtomicU64::new(0)).ok()?;
+impl LoggingGate {
+    /// A gate that has logged nothing, if there is memory for the log.
+    pub fn new(alloc: Global, policy: Policy) -> Option<LoggingGate> {
+        let mut entries = Vec::new(alloc);
+        for _ in 0..LOG_CAPACITY {
+            entries.push(AtomicU64::new(0)).ok()?;
         }
-        Some(Listening {
-            does,
-            lines,
+        Some(LoggingGate {
+            policy,
+            entries,
             count: AtomicU64::new(0),
             asked: AtomicU64::new(0),
             begun: AtomicU64::new(0),
@@ -100,89 +99,89 @@ impl Listening {
         })
     }
 
-    /// How much it has heard.
-    pub fn heard(&self) -> usize {
-        (self.count.load(Ordering::SeqCst) as usize).min(self.lines.len())
+    /// How many events are in the log.
+    pub fn log_len(&self) -> usize {
+        (self.count.load(Ordering::SeqCst) as usize).min(self.entries.len())
     }
 
-    /// What it heard, by its place.
-    pub fn line(&self, place: usize) -> Line {
-        match self.lines.get(place) {
-            Some(line) => Line(line.load(Ordering::SeqCst)),
-            None => Line(0),
+    /// The event at a place of the log.
+    pub fn entry(&self, place: usize) -> LogEntry {
+        match self.entries.get(place) {
+            Some(line) => LogEntry(line.load(Ordering::SeqCst)),
+            None => LogEntry(0),
         }
     }
 
-    // Writes down what it hears.
-    fn hear(&self, what: Heard, worker: u32, number: u64) {
-        let kind = match what {
-            Heard::Go => 0u64,
-            Heard::Stop => 1,
-            Heard::Walked => 2,
-            Heard::Round => 3,
-            Heard::Late => 4,
+    // Puts an event at the end of the log, if there is room.
+    fn log(&self, event: Event, worker: u32, number: u64) {
+        let kind = match event {
+            Event::Go => 0u64,
+            Event::Stop => 1,
+            Event::Walked => 2,
+            Event::Round => 3,
+            Event::Late => 4,
         };
         let worker = u64::from(worker) % (1 << 16);
         let line = kind * (1 << 48) + worker * (1 << 32) + number % (1 << 32);
         let place = self.count.fetch_add(1, Ordering::SeqCst) as usize;
-        if let Some(slot) = self.lines.get(place) {
+        if let Some(slot) = self.entries.get(place) {
             slot.store(line, Ordering::SeqCst);
         }
     }
 
-    // Whether a call is stopped, where `before` calls have begun before it.
-    fn stops_at(&self, worker: u32, item: u64, before: u64) -> bool {
-        match self.does {
-            Does::Pass(most) => before >= most,
-            Does::StopWorker(number) => u64::from(worker) == number,
-            Does::StopFrom(first) => item >= first,
-            Does::Open | Does::Never | Does::Together(_) | Does::After(_) => false,
+    // Whether a call of this worker for this item is stopped, after `before` other calls.
+    fn is_stopped(&self, worker: u32, item: u64, before: u64) -> bool {
+        match self.policy {
+            Policy::PassFirst(most) => before >= most,
+            Policy::StopWorker(number) => u64::from(worker) == number,
+            Policy::StopFrom(first) => item >= first,
+            Policy::Open | Policy::Never | Policy::HoldTogether(_) | Policy::HoldAfter(_) => false,
         }
     }
 
-    // Holds a worker until a word is at least this, or for too long.
+    // Holds a worker until a word is `least` or more, or logs it as late after too many turns.
     fn hold(&self, word: &AtomicU64, least: u64, worker: u32, item: u64) {
-        for _ in 0..TURNS {
+        for _ in 0..MOST_TURNS {
             if word.load(Ordering::SeqCst) >= least {
                 return;
             }
             thread::yield_now();
         }
-        self.hear(Heard::Late, worker, item);
+        self.log(Event::Late, worker, item);
     }
 
-    // Holds a worker in a full round until as many calls have begun as its group has.
+    // Holds a worker in a full round until all calls of its group, of `number` calls, have begun.
     fn hold_together(&self, number: u64, worker: u32, item: u64) {
         let begun = self.begun.fetch_add(1, Ordering::SeqCst);
         let groups = (begun / number.max(1)).saturating_add(1);
         let least = groups.saturating_mul(number);
-        if self.open.load(Ordering::SeqCst) >= FULL && least <= FULL {
+        if self.open.load(Ordering::SeqCst) >= FULL_ROUND && least <= FULL_ROUND {
             self.hold(&self.begun, least, worker, item);
         }
     }
 
-    // Holds a worker who comes before an item was walked, until it was, and a little more.
+    // Holds a worker until the item that `HoldAfter` tells was walked, and a little more.
     fn hold_after(&self, worker: u32, item: u64) {
         if self.walked.load(Ordering::SeqCst) > 0 {
             return;
         }
         self.hold(&self.walked, 1, worker, item);
-        for _ in 0..MORE {
+        for _ in 0..EXTRA_TURNS {
             thread::yield_now();
         }
     }
 
-    // Holds a worker where the gate does so.
+    // Holds a worker who comes to an item, where the policy says so.
     fn hold_at(&self, worker: u32, item: u64) {
-        match self.does {
-            Does::Together(number) => self.hold_together(number, worker, item),
-            Does::After(first) if item > first => self.hold_after(worker, item),
+        match self.policy {
+            Policy::HoldTogether(number) => self.hold_together(number, worker, item),
+            Policy::HoldAfter(first) if item > first => self.hold_after(worker, item),
             _ => {}
         }
     }
 }
 
-impl Gate for Listening {
+impl Gate for LoggingGate {
     ghost use Rattle.std.specs.Prelude.{true};
 
     ghost stops = { λ _. true };
@@ -193,18 +192,18 @@ impl Gate for Listening {
 
     fn before(&self, worker: u32, item: u64) -> Decision {
         let before = self.asked.fetch_add(1, Ordering::SeqCst);
-        if self.stops_at(worker, item, before) {
-            self.hear(Heard::Stop, worker, item);
+        if self.is_stopped(worker, item, before) {
+            self.log(Event::Stop, worker, item);
             return Decision::Stop;
         }
-        self.hear(Heard::Go, worker, item);
+        self.log(Event::Go, worker, item);
         self.hold_at(worker, item);
         Decision::Go
     }
 
     fn walked(&self, worker: u32, item: u64) {
-        self.hear(Heard::Walked, worker, item);
-        if let Does::After(first) = self.does {
+        self.log(Event::Walked, worker, item);
+        if let Policy::HoldAfter(first) = self.policy {
             if item == first {
                 self.walked.store(1, Ordering::SeqCst);
             }
@@ -213,7 +212,7 @@ impl Gate for Listening {
 
     fn round_ended(&self, progress: Progress) {
         let open = progress.open_items.min(u16::MAX as usize) as u32;
-        self.hear(Heard::Round, open, progress.tried);
+        self.log(Event::Round, open, progress.tried);
         self.begun.store(0, Ordering::SeqCst);
         self.open
             .store(progress.open_items as u64, Ordering::SeqCst);
@@ -221,11 +220,11 @@ impl Gate for Listening {
     }
 }
 
-/// The gate where it never stops anybody.
+/// A logging gate that says that it never stops anybody.
 #[derive(Clone, Copy)]
-pub struct Never<'a>(pub &'a Listening);
+pub struct NeverStopping<'a>(pub &'a LoggingGate);
 
-impl Gate for Never<'_> {
+impl Gate for NeverStopping<'_> {
     ghost use Rattle.std.specs.Prelude.{false};
 
     ghost stops = { λ _. false };
@@ -235,7 +234,7 @@ impl Gate for Never<'_> {
     }
 
     fn before(&self, worker: u32, item: u64) -> Decision {
-        self.0.hear(Heard::Go, worker, item);
+        self.0.log(Event::Go, worker, item);
         Decision::Go
     }
 

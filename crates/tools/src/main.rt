@@ -20,31 +20,31 @@ use std::process::ExitCode;
 use std::sync::Wait;
 use std::thread::Threads;
 
-/// The status where the words ask for nothing, or memory for them is refused.
+/// The status where the words ask for nothing, or memory for the words is refused.
 const REFUSED: u8 = 2;
 
-/// The words after the program's own name.
+/// The words after the program's own name; none where memory runs out.
 fn words_of(rt: &HostRuntime) -> Option<Vec<String>> {
     std::env::args(rt).ok()?.skip(1).collect(rt.alloc()).ok()
 }
 
-/// Does what the words ask for, if they ask for anything.
-fn done<H>(rt: &H, words: &[String]) -> Option<ExitCode>
+/// Runs the tool that the first word names, and answers its status; none where it names none.
+fn run<H>(rt: &H, words: &[String]) -> Option<ExitCode>
 where
     H: Threads + Wait + Sync + Files + Print + Alloc<A = Global>,
 {
     match words.first()?.as_str() {
-        "rounds" => rounds::done(rt, words),
-        "again" => again::done(rt, words),
-        "walk" => walks::done(rt, words),
+        "rounds" => rounds::run(rt, words),
+        "again" => again::run(rt, words),
+        "walk" => walks::run(rt, words),
         _ => None,
     }
 }
 
 fn main(rt: HostRuntime) -> ExitCode {
-    let done = match words_of(&rt) {
-        Some(words) => done(&rt, words.as_slice()),
+    let status = match words_of(&rt) {
+        Some(words) => run(&rt, words.as_slice()),
         None => None,
     };
-    done.unwrap_or(ExitCode::from(REFUSED))
+    status.unwrap_or(ExitCode::from(REFUSED))
 }

@@ -7,7 +7,7 @@
 //! the schedules tried so far and the items that are open then, at most 65,535, `late` where a
 //! worker was held too long. The report is last.
 
-use crate::gate::{Does, Listening, Never};
+use crate::gate::{LoggingGate, NeverStopping, Policy};
 use crate::words::{Request, request_of};
 use runner::{Gate, explore_text, report_text};
 use std::alloc::{Alloc, Global};
@@ -18,8 +18,8 @@ use std::sync::Wait;
 use std::thread::Threads;
 use std::{fs, io};
 
-/// The text of the report of a search that this gate listens to, if there is one.
-fn searched<G: Gate>(
+/// The text of the report of the search that is requested, with this gate; none where it fails.
+fn search_report<G: Gate>(
     rt: &(impl Threads + Wait + Sync + Files + Alloc<A = Global>),
     request: &Request,
     gate: &G,
@@ -38,10 +38,10 @@ fn searched<G: Gate>(
     report_text(alloc, &report.ok()?).ok()
 }
 
-/// Prints what a gate heard, and a report.
-fn print<H: Print>(rt: &H, gate: &Listening, report: &[u8]) -> io::Result<()> {
-    for place in 0..gate.heard() {
-        println!(rt; "{}", gate.line(place))?;
+/// Prints the log of a gate, and a report.
+fn print_log<H: Print>(rt: &H, gate: &LoggingGate, report: &[u8]) -> io::Result<()> {
+    for place in 0..gate.log_len() {
+        println!(rt; "{}", gate.entry(place))?;
     }
     let Ok(report) = std::str::from_utf8(report) else {
         return Ok(());
@@ -49,23 +49,23 @@ fn print<H: Print>(rt: &H, gate: &Listening, report: &[u8]) -> io::Result<()> {
     println!(rt; "{report}")
 }
 
-/// Does what the words ask for, if they ask for anything.
-pub fn done<H>(rt: &H, words: &[String]) -> Option<ExitCode>
+/// Makes the search that the words ask for, and answers the status; none where they ask for none.
+pub fn run<H>(rt: &H, words: &[String]) -> Option<ExitCode>
 where
     H: Threads + Wait + Sync + Files + Print + Alloc<A = Global>,
 {
     let request = request_of(rt.alloc(), words)?;
-    let Some(gate) = Listening::new(rt.alloc(), request.does) else {
+    let Some(gate) = LoggingGate::new(rt.alloc(), request.policy) else {
         return Some(ExitCode::FAILURE);
     };
-    let report = match request.does {
-        Does::Never => searched(rt, &request, &Never(&gate)),
-        _ => searched(rt, &request, &gate),
+    let report = match request.policy {
+        Policy::Never => search_report(rt, &request, &NeverStopping(&gate)),
+        _ => search_report(rt, &request, &gate),
     };
     let Some(report) = report else {
         return Some(ExitCode::FAILURE);
     };
-    match print(rt, &gate, report.as_slice()) {
+    match print_log(rt, &gate, report.as_slice()) {
         Ok(()) => Some(ExitCode::SUCCESS),
         Err(_) => Some(ExitCode::FAILURE),
     }

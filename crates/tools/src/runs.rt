@@ -1,4 +1,4 @@
-//! A schedule that is carried out.
+//! Runs a schedule, with each call made once more where it is refused memory.
 
 ghost use Rattle.std.specs.Prelude.{◌≡◌, IfSome};
 ghost use Rattle.semantics.specs.Reachable.{IsOf};
@@ -19,8 +19,8 @@ pub struct RunFacts {
     pub traced: usize,
 }
 
-// The opening state.
-fn started(alloc: Global, program: &Program) -> Option<State>
+// The opening state of a program.
+fn opening_state(alloc: Global, program: &Program) -> Option<State>
     ensures { IfSome result (λ s. IsOf program.now s) }
 {
     match State::start(alloc, program) {
@@ -30,7 +30,7 @@ fn started(alloc: Global, program: &Program) -> Option<State>
 }
 
 // A copy of a state.
-fn copied(alloc: Global, state: &State) -> Option<State>
+fn copy_of(alloc: Global, state: &State) -> Option<State>
     ensures { IfSome result (λ s. s ≡ state.now) }
 {
     match state.try_clone(alloc) {
@@ -39,11 +39,11 @@ fn copied(alloc: Global, state: &State) -> Option<State>
     }
 }
 
-// The state after a schedule, if it runs.
+// The state after a schedule, if each of its threads is enabled in its turn.
 fn state_after(alloc: Global, program: &Program, schedule: &[u8]) -> Option<State>
     ensures { IfSome result (λ s. IsOf program.now s) }
 {
-    let mut state = started(alloc, program)?;
+    let mut state = opening_state(alloc, program)?;
     for thread in schedule {
         if !state.enabled(program).contains(*thread) {
             return None;
@@ -54,7 +54,7 @@ fn state_after(alloc: Global, program: &Program, schedule: &[u8]) -> Option<Stat
 }
 
 // How many values the end view after a complete schedule has.
-fn viewed(alloc: Global, program: &Program, schedule: &[u8]) -> Option<usize> {
+fn viewed_len(alloc: Global, program: &Program, schedule: &[u8]) -> Option<usize> {
     let state = state_after(alloc, program, schedule)?;
     let view = match state.view(alloc, program) {
         Ok(view) => view,
@@ -63,9 +63,9 @@ fn viewed(alloc: Global, program: &Program, schedule: &[u8]) -> Option<usize> {
     Some(view?.vars().len())
 }
 
-/// What the calls of a complete schedule answer.
-pub fn carried_out(alloc: Global, program: &Program, schedule: &[u8]) -> Option<RunFacts> {
-    let opening = copied(alloc, &started(alloc, program)?)?;
+/// What the calls on a complete schedule answer, if none fails twice.
+pub fn run_facts(alloc: Global, program: &Program, schedule: &[u8]) -> Option<RunFacts> {
+    let opening = copy_of(alloc, &opening_state(alloc, program)?)?;
     let run = match replay(alloc, program, schedule) {
         Ok(run) => run,
         Err(_) => replay(alloc, program, schedule).ok()?,
@@ -80,7 +80,7 @@ pub fn carried_out(alloc: Global, program: &Program, schedule: &[u8]) -> Option<
     };
     Some(RunFacts {
         variables: opening.variables().len(),
-        viewed: viewed(alloc, program, schedule)?,
+        viewed: viewed_len(alloc, program, schedule)?,
         steps: run.lines().len(),
         spelled: spelled.len(),
         traced: traced.len(),

@@ -29,7 +29,7 @@ struct Counts {
     deferred: usize,
 }
 
-/// How many schedules were tried, failed and got stuck, and how many prefixes were put off.
+/// How many schedules a walk tried, how many failed and got stuck, and how many prefixes it put off.
 fn counts_of(found: &Found) -> Counts
     ensures tried { result.tried ≡ found.now.part.tried }
     ensures failed { result.failed ≡ found.now.part.failed }
@@ -44,8 +44,8 @@ fn counts_of(found: &Found) -> Counts
     }
 }
 
-/// The counts of one walk of all schedules in a mode, which lists what it puts off or not: none
-/// where the text spells no program, or memory ran out.
+/// The counts of one walk of all schedules in a mode, which lists what it puts off where `lists`;
+/// none where the text spells no program, or memory ran out.
 fn walk_all(alloc: Global, text: &[u8], mode: Mode, lists: bool) -> Option<Counts> {
     let tree = parse(alloc, text).ok()?;
     let program = Arc::new(alloc, lower(alloc, &tree).ok()?).ok()?;
@@ -59,7 +59,7 @@ fn walk_all(alloc: Global, text: &[u8], mode: Mode, lists: bool) -> Option<Count
     Some(counts_of(&found))
 }
 
-/// A bound, or `reduced`.
+/// The mode that a word names: a bound, or `reduced`.
 fn mode_of(word: &str) -> Option<Mode> {
     if word == "reduced" {
         return Some(Mode::Reduced);
@@ -68,7 +68,10 @@ fn mode_of(word: &str) -> Option<Mode> {
 }
 
 /// What the words ask for: the text of the file, the mode, and whether what is put off is listed.
-fn asked<H: Files + Alloc<A = Global>>(rt: &H, words: &[String]) -> Option<(Vec<u8>, Mode, bool)> {
+fn walk_request<H: Files + Alloc<A = Global>>(
+    rt: &H,
+    words: &[String],
+) -> Option<(Vec<u8>, Mode, bool)> {
     let text = fs::read(rt, words.get(1)?.as_str()).ok()?;
     let mode = mode_of(words.get(2)?.as_str())?;
     let Some(word) = words.get(3) else {
@@ -80,9 +83,9 @@ fn asked<H: Files + Alloc<A = Global>>(rt: &H, words: &[String]) -> Option<(Vec<
     Some((text, mode, false))
 }
 
-/// Does what the words ask for, if they ask for anything.
-pub fn done<H: Files + Print + Alloc<A = Global>>(rt: &H, words: &[String]) -> Option<ExitCode> {
-    let (text, mode, lists) = asked(rt, words)?;
+/// Makes the walk that the words ask for, and answers the status; none where they ask for none.
+pub fn run<H: Files + Print + Alloc<A = Global>>(rt: &H, words: &[String]) -> Option<ExitCode> {
+    let (text, mode, lists) = walk_request(rt, words)?;
     let Some(
         Counts {
             tried,

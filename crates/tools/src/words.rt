@@ -1,22 +1,22 @@
-//! The search that `rounds` is asked for.
+//! Reads the words that ask `rounds` for a search.
 
 ghost use Rattle.std.specs.Prelude.{◌≤◌, IfSome};
 ghost use Rattle.report.specs.Promises.{IsSearch};
 
-use crate::gate::Does;
+use crate::gate::Policy;
 use answering::Exploration;
 use runner::{BOUND, Options, Search, WORKERS};
 use std::alloc::Global;
 
-/// What the words ask for.
+/// What the words ask for: a file to search, how, and what the gate does.
 #[derive(Debug, Drop)]
 pub struct Request {
     pub file: String,
     pub search: Exploration,
-    pub does: Does,
+    pub policy: Policy,
 }
 
-// A bound, or `unbounded`.
+// The search that a word names: a bound, or `unbounded`.
 fn search_of(word: &str) -> Option<Search>
     ensures { IfSome result IsSearch }
 {
@@ -31,7 +31,7 @@ fn search_of(word: &str) -> Option<Search>
     }
 }
 
-// A number from 1 on, up to a greatest one.
+// The number that a word spells, if it is from 1 to `most`.
 fn number_of(word: &str, most: u32) -> Option<u32>
     ensures some { IfSome result (λ n. 1 ≤ n) }
     ensures few { IfSome result (λ n. n ≤ most) }
@@ -44,7 +44,7 @@ fn number_of(word: &str, most: u32) -> Option<u32>
     }
 }
 
-// The search that these words ask for.
+// The search that the words ask for, by the third word to the seventh.
 fn exploration_of(words: &[String]) -> Option<Exploration> {
     let search = search_of(words.get(2)?.as_str())?;
     let limit: u64 = words.get(6)?.as_str().parse().ok()?;
@@ -63,26 +63,26 @@ fn exploration_of(words: &[String]) -> Option<Exploration> {
     })
 }
 
-// What the gate does.
-fn does(words: &[String]) -> Option<Does> {
+// The policy of the gate that the words ask for, by the last two words.
+fn policy_of(words: &[String]) -> Option<Policy> {
     let number: u64 = words.get(8)?.as_str().parse().ok()?;
     match words.get(7)?.as_str() {
-        "open" => Some(Does::Open),
-        "never" => Some(Does::Never),
-        "pass" => Some(Does::Pass(number)),
-        "worker" => Some(Does::StopWorker(number)),
-        "item" => Some(Does::StopFrom(number)),
-        "together" => Some(Does::Together(number)),
-        "after" => Some(Does::After(number)),
+        "open" => Some(Policy::Open),
+        "never" => Some(Policy::Never),
+        "pass" => Some(Policy::PassFirst(number)),
+        "worker" => Some(Policy::StopWorker(number)),
+        "item" => Some(Policy::StopFrom(number)),
+        "together" => Some(Policy::HoldTogether(number)),
+        "after" => Some(Policy::HoldAfter(number)),
         _ => None,
     }
 }
 
-/// What the words ask for, if they ask for anything.
+/// What the words ask for; none where they are no request.
 pub fn request_of(alloc: Global, words: &[String]) -> Option<Request> {
     Some(Request {
         file: words.get(1)?.as_str().to_string(alloc).ok()?,
         search: exploration_of(words)?,
-        does: does(words)?,
+        policy: policy_of(words)?,
     })
 }

@@ -21,22 +21,22 @@ use std::thread::Threads;
 /// Whether a program is right.
 #[derive(Drop)]
 pub enum Correctness {
-    /// No complete schedule fails or gets stuck.
+    /// No complete schedule of the program fails or gets stuck.
     Right,
-    /// This one does.
+    /// Some complete schedule fails or gets stuck, as `bad` does.
     Bad {
         bad: BadSchedule,
         /// Whether it is known that no bad schedule has fewer preemptions.
         is_fewest: bool,
     },
-    /// None with fewer preemptions than this does. Whether another one does isn't known: the
-    /// searches were cut short, or went as far as they were to go.
+    /// No schedule with fewer preemptions than `below` fails or gets stuck. Whether one with more does
+    /// isn't known: the searches were cut short, or went as far as they were to go.
     Undecided {
         below: u32,
     },
 }
 
-/// A number of preemptions, in words.
+/// A number of preemptions, shown in words.
 #[derive(Clone, Copy, Debug)]
 pub struct Preemptions(pub u32);
 
@@ -52,12 +52,12 @@ impl fmt::Display for Preemptions {
 
 // The line of a search: how far it was to go, and what it found.
 #[derive(Clone, Copy)]
-struct Line<'a> {
+struct SearchLine<'a> {
     search: Search,
     found: &'a Found,
 }
 
-impl fmt::Display for Line<'_> {
+impl fmt::Display for SearchLine<'_> {
     fn fmt<W: fmt::Write>(&self, f: &mut fmt::Formatter<W>) -> fmt::Result {
         let Found { report, bad } = self.found;
         let tried = report.summary.tried();
@@ -82,8 +82,8 @@ impl fmt::Display for Line<'_> {
     }
 }
 
-// How many bounds are gone through, from 0 on: where a bad schedule is known, those below its
-// preemptions.
+// The number before which searches up to 0, 1, 2 .. preemptions stop: one more than `bound`, or how many
+// preemptions the bad schedule `known` has, where that is less.
 fn stop_of(known: &Option<BadSchedule>, bound: u32) -> u32
     requires { bound ≤ BOUND }
     ensures { result ≡ stop_of known.now bound }
@@ -94,8 +94,8 @@ fn stop_of(known: &Option<BadSchedule>, bound: u32) -> u32
     }
 }
 
-// The answer where no bad schedule has fewer preemptions than `clear`: the nearer bad one, or the
-// one that was known before.
+// The answer where no bad schedule has fewer preemptions than `clear`: `nearer`, the bad schedule of the
+// last search with a bound, or else `known`, that of the search without one, or that none is known.
 fn answer_of(nearer: Option<BadSchedule>, known: Option<BadSchedule>, clear: u32) -> Correctness
     ensures { result ≡ answer_of nearer known clear }
 {
@@ -108,15 +108,15 @@ fn answer_of(nearer: Option<BadSchedule>, known: Option<BadSchedule>, clear: u32
     }
 }
 
-// A line on a search that ended. What can't be written here can't be written at the end, which is
-// told then.
-fn tell<W: Write>(out: &mut W, search: Search, found: &Found) {
-    let _ = writeln!(out, "{}", Line { search, found });
+// Writes a line on a search that ended to `out`. Where that fails, writing the answer at the end fails,
+// too, and the failure is told then.
+fn write_search_line<W: Write>(out: &mut W, search: Search, found: &Found) {
+    let _ = writeln!(out, "{}", SearchLine { search, found });
     let _ = out.flush();
 }
 
-// The answer of searches up to 0, 1, 2 .. preemptions, where the search without a bound left open
-// whether the program is right, and named this bad schedule or none.
+// Whether a program is right, by searches up to 0, 1, 2 .. preemptions, where the search without a bound
+// didn't show that it is, and named the bad schedule `known` or none.
 #[tactic(auto, using(crate::proofs::Answers::stop_low, crate::proofs::Answers::stopped_at, crate::proofs::Answers::gone_through))]
 fn answer_by_bounds<R, W: Write>(
     rt: &R,
@@ -135,7 +135,7 @@ where
     for bound in 0..stop {
         let search = Search::UpTo(bound);
         let found = run_search(rt, program, search, limits, &Open)?;
-        tell(out, search, &found);
+        write_search_line(out, search, &found);
         if found.is_right() {
             return Ok(Correctness::Right);
         }
@@ -148,8 +148,8 @@ where
 
 /// Whether a program is right: by a search without a bound, and where that was cut short or found a
 /// bad schedule, which may not be one of fewest preemptions, by searches up to 0, 1, 2 .. and at
-/// last the limits' bound. Each search is cut short at the limit. On `out` there is a line on each
-/// as it ends.
+/// last the limits' bound. Each search is cut short at the limits' number of schedules, and as it ends
+/// a line on it is written to `out`.
 ///
 /// # Errors
 ///
@@ -167,7 +167,7 @@ where
     ensures error { IfErr result (λ e. e ≡ OutOfMemory) }
 {
     let found = run_search(rt, program, Search::Unbounded, limits, &Open)?;
-    tell(out, Search::Unbounded, &found);
+    write_search_line(out, Search::Unbounded, &found);
     if found.is_clean() {
         return Ok(Correctness::Right);
     }

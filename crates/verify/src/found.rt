@@ -19,30 +19,30 @@ use std::thread::Threads;
 /// A complete schedule that fails or gets stuck.
 #[derive(Debug, Drop)]
 pub struct BadSchedule {
-    /// The threads that take its steps, by their numbers.
+    /// The numbers of the threads that take the schedule's steps, in order.
     pub steps: Vec<u8>,
-    /// Its preempting switches.
+    /// How many preemptions the schedule has.
     pub preemptions: u32,
-    /// How it ends: failed or stuck.
+    /// How the schedule ends: failed or stuck.
     pub kind: Kind,
 }
 
-/// What a search shows.
+/// What a search found of a program.
 #[derive(Drop)]
 pub struct Found {
-    /// Its report.
+    /// The report of the search.
     pub report: Report,
     /// The bad schedule that the report names, if it names one.
     pub bad: Option<BadSchedule>,
 }
 
 impl Found {
-    /// No bad schedule has fewer preemptions than this; 0 where the search had no bound.
+    /// How many preemptions each bad schedule has at least; 0 where the search had no bound.
     pub fn clean_below(&self) -> u64
         ensures { result ≡ clean_below self.now.report }
     {
         match (self.report.bound, &self.report.verdict) {
-            (Some(bound), Verdict::Clean { .. }) => past(bound),
+            (Some(bound), Verdict::Clean { .. }) => next_bound(bound),
             (Some(_), Verdict::Bad { preemptions, .. }) => u64::from(*preemptions),
             (
                 Some(_),
@@ -50,12 +50,12 @@ impl Found {
                     finished: Some(finished),
                     ..
                 },
-            ) => past(*finished),
+            ) => next_bound(*finished),
             (_, _) => 0,
         }
     }
 
-    /// Whether it shows of all schedules that none is bad.
+    /// Whether the search shows that no schedule at all is bad.
     pub fn is_right(&self) -> bool
         ensures { result ≡ is_right self.now.report.verdict }
     {
@@ -65,7 +65,7 @@ impl Found {
         }
     }
 
-    /// Whether no schedule is bad as far as the search was to go.
+    /// Whether the search shows that no schedule is bad, as far as it was to go.
     pub fn is_clean(&self) -> bool
         ensures { result ≡ is_clean self.now.report.verdict }
     {
@@ -73,14 +73,14 @@ impl Found {
     }
 }
 
-// One more than a bound.
-fn past(bound: u32) -> u64
+// The bound after this one, which is one more.
+fn next_bound(bound: u32) -> u64
     ensures { result ≡ bound + 1 }
 {
     u64::from(bound) + 1
 }
 
-// What a search as far as this is asked for.
+// The options of a search as far as `search` says that is cut short at `limit` schedules.
 fn options_of(search: Search, limit: u64) -> Options
     ensures { result ≡ options_of search limit }
 {
@@ -92,8 +92,8 @@ fn options_of(search: Search, limit: u64) -> Options
     }
 }
 
-// A bad schedule with what its replay shows.
-fn bad_of(alloc: Global, program: &Program, steps: &[u8]) -> Result<BadSchedule, ExploreError>
+// The bad schedule of these steps, with what a replay of them shows.
+fn bad_schedule(alloc: Global, program: &Program, steps: &[u8]) -> Result<BadSchedule, ExploreError>
     requires { IsBadSchedule program.now steps.now }
     ensures bad { IfOk result (λ b. (b.steps.items ≡ steps.now) × IsBadOf program.now b) }
     ensures error { IfErr result (λ e. e ≡ OutOfMemory) }
@@ -117,13 +117,13 @@ fn named_bad(
     ensures error { IfErr result (λ e. e ≡ OutOfMemory) }
 {
     match report.schedule() {
-        Some(steps) => Ok(Some(bad_of(alloc, program, steps)?)),
+        Some(steps) => Ok(Some(bad_schedule(alloc, program, steps)?)),
         None => Ok(None),
     }
 }
 
-/// Searches a program as far as this, by as many workers as the limits say, until as many schedules
-/// were tried as they say.
+/// Searches a program as far as `search` says, by as many workers as `limits` say, until as many
+/// schedules were tried as `limits` say.
 ///
 /// # Errors
 ///

@@ -12,7 +12,7 @@ use std::io::Write;
 use std::sync::Wait;
 use std::thread::Threads;
 
-/// Whether the program that a text spells is right, as [`verify`] answers it.
+/// Whether the program that a text spells is right: what [`verify`] answers, and writes to `out`.
 ///
 /// # Errors
 ///

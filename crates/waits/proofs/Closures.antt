@@ -5,7 +5,7 @@ use Rattle.std.proofs.lemmas.Bool.{cases_lt, or_cases, or_left, or_right, and_pa
 use Rattle.semantics.specs.declared.mask.Mask.{Mask}
 use Rattle.semantics.specs.Mask.{has}
 use Rattle.waits.specs.Graph.{Leads, edge, on, AreInCircle, row, IsIn}
-use Rattle.waits.specs.inner.Rows.{Passes}
+use Rattle.waits.specs.inner.Rows.{IsExtendedThrough}
 
 -- one edge after the other leads from t to u, and all threads between are below k
 pub data Through (E : ℕ → ℕ → Type 0) (k : ℕ) : ℕ → ℕ → Type 0 where
@@ -67,7 +67,8 @@ only_direct rows t u (via v h p q) = absurd (omega (arith, h))
 pub through_none : (rows : List Mask) → AreThrough (IsIn rows) 0 rows
 through_none rows t u = (λ e. direct e, λ p. only_direct rows t u p)
 
-pub through_more : (E : ℕ → ℕ → Type 0) (old new : List Mask) (k : ℕ) → Passes old new k
+pub through_more : (E : ℕ → ℕ → Type 0) (old new : List Mask) (k : ℕ) →
+    IsExtendedThrough old new k
     → AreThrough E k old → AreThrough E (k + 1) new
 through_more E old new k passes before t u = (
   λ h. elim (or_cases (has (row old t) u) (has (row old t) k && has (row old k) u)

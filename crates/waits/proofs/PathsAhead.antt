@@ -42,10 +42,10 @@ same_ways code from i l = elim (cases_lt from (length code)) [
 none_yet : (steps : List Step) (t i : ℕ) → IsLeft steps t i 0
 none_yet steps t i k h = absurd (omega (arith, h))
 
-not_marked : (mark : Mark) (b : Bool) → mark.so ≡ false → mark.not_so ≡ false
+not_marked : (mark : Mark) (b : Bool) → mark.may_hold ≡ false → mark.may_not_hold ≡ false
     → ¬ IsTrue (mark_of mark b)
-not_marked mark true so not_so h = both_ways mark.so so h
-not_marked mark false so not_so h = both_ways mark.not_so not_so h
+not_marked mark true so not_so h = both_ways mark.may_hold so h
+not_marked mark false so not_so h = both_ways mark.may_not_hold not_so h
 
 by_mark : (code : List Instruction) (from : ℕ) (steps : List Step) (t i : ℕ) (mark : Mark)
     → ((b : Bool) → IsTrue (mark_of mark b) → LeadsTo code from i)
@@ -53,10 +53,10 @@ by_mark : (code : List Instruction) (from : ℕ) (steps : List Step) (t i : ℕ)
     → IsFate code from steps t i 0 (fate_by mark)
 by_mark code from steps t i mark there back =
     let P : Bool → Type 0 = λ b. IsFate code from steps t i 0 (cond b Ahead PassedBy) in
-    elim (cases_Bool (mark.so || mark.not_so)) [
+    elim (cases_Bool (mark.may_hold || mark.may_not_hold)) [
       | inl some ↦ subst P (sym some) (
         none_yet steps t i,
-        elim (or_cases mark.so mark.not_so some) [
+        elim (or_cases mark.may_hold mark.may_not_hold some) [
           | inl so ↦ there true so
           | inr not_so ↦ there false not_so
         ],
@@ -64,7 +64,7 @@ by_mark code from steps t i mark there back =
       | inr none ↦ subst P (sym none) (
         none_yet steps t i,
         λ leads.
-            let parts = or_parts mark.so mark.not_so none in
+            let parts = or_parts mark.may_hold mark.may_not_hold none in
             let found = back leads in
             not_marked mark found.0 parts.0 parts.1 found.1,
       )

@@ -15,29 +15,29 @@ use std::alloc::{AllocError, Global};
 /// A statement that could end a wait, and what came of it.
 #[derive(Clone, Copy, Debug, PartialEq, Eq)]
 pub struct Statement {
-    /// The thread whose code it is in.
+    /// The thread in whose code the statement is.
     pub thread: u8,
-    /// The number of its instruction.
+    /// The number of the instruction.
     pub instruction: usize,
-    /// What came of it.
+    /// What came of the statement.
     pub fate: Fate,
 }
 
 /// A thread that is blocked at the end.
 #[derive(Clone, Copy, Debug)]
 pub struct Blocked {
-    /// The thread.
+    /// The number of the thread.
     pub thread: u8,
-    /// What it waits for.
+    /// What the thread waits for.
     pub reason: Reason,
-    /// The number of the instruction at which it waits.
+    /// The number of the instruction at which the thread waits.
     pub instruction: usize,
-    /// The owner of the mutex that it waits for, if it waits for one.
+    /// The owner of the mutex that the thread waits for, if it waits for one.
     pub owner: Option<u8>,
 }
 
 impl Blocked {
-    /// The thread of this number, where it is blocked.
+    /// The thread of this number, where it is blocked at the end of an explained schedule.
     pub fn of(told: &Explanation, thread: u8) -> Option<Blocked>
         ensures { result ≡ blocked_of told.now thread }
     {
@@ -50,9 +50,9 @@ impl Blocked {
         })
     }
 
-    /// Whether an instruction of a thread could end the wait: it gives back, signals or releases
-    /// what is waited for. A mutex is given back by its owner alone; of the waiting thread's own
-    /// code only what lies before the wait tells something of a condition or a semaphore.
+    /// Whether instruction `at` of thread `other` could end the wait: it gives back, signals or
+    /// releases what is waited for. A mutex is given back by its owner alone; of the waiting thread's
+    /// own code only what lies before the wait tells something of a condition or a semaphore.
     pub fn could_end(self, other: u8, at: usize, instruction: &Instruction) -> bool
         ensures { result ≡ could_end self other at instruction.now }
     {
@@ -69,7 +69,7 @@ impl Blocked {
         }
     }
 
-    // Whether instruction `at` of a thread is another thread's, or lies before the wait.
+    // Whether `other` is another thread than the waiting one, or `at` lies before where that waits.
     fn is_before(self, other: u8, at: usize) -> bool
         ensures { result ≡ is_before self other at }
     {
@@ -77,7 +77,7 @@ impl Blocked {
     }
 }
 
-// Who owns the mutex that a thread waits for by this reason.
+// Who owns the mutex that a thread waits for by this reason, if it waits for one.
 fn owner_of(told: &Explanation, reason: Reason) -> Option<u8>
     ensures { result ≡ owner_told told.now (mutex_of reason) }
 {
@@ -96,7 +96,7 @@ fn gives_back(wanted: usize, instruction: &Instruction) -> bool
     }
 }
 
-// Puts down the statements of a thread that could end the wait.
+// Adds the statements of thread `other` that could end the wait of a blocked thread.
 fn put_statements(
     list: &mut Vec<Statement>,
     code: &[Instruction],
@@ -139,8 +139,8 @@ pub fn statements_of(
     Ok(list)
 }
 
-// Whether a thread has a statement ahead that could end the wait.
-fn has_ahead(code: &[Instruction], fates: &[Fate], blocked: Blocked, other: u8) -> bool
+// Whether thread `other` has a statement ahead that could end the wait of a blocked thread.
+fn has_ender_ahead(code: &[Instruction], fates: &[Fate], blocked: Blocked, other: u8) -> bool
     requires { length fates.now ≡ length code.now }
     ensures { IsTrue result ↔ FindsAhead code.now fates.now blocked other }
 {
@@ -152,11 +152,11 @@ fn has_ahead(code: &[Instruction], fates: &[Fate], blocked: Blocked, other: u8) 
     false
 }
 
-/// Whether a blocked thread waits for another one: the owner of its mutex, or one that has a
-/// statement ahead which could end the wait.
+/// Whether a blocked thread waits for thread `other`: that owns its mutex, or has a statement ahead
+/// which could end the wait.
 pub fn waits_for(code: &[Instruction], fates: &[Fate], blocked: Blocked, other: u8) -> bool
     requires { length fates.now ≡ length code.now }
     ensures { IsTrue result ↔ FindsEdge code.now fates.now blocked other }
 {
-    owns(other, blocked.owner) || has_ahead(code, fates, blocked, other)
+    owns(other, blocked.owner) || has_ender_ahead(code, fates, blocked, other)
 }

@@ -17,35 +17,35 @@ use std::alloc::{AllocError, Global};
 /// What came of an instruction of a thread.
 #[derive(Clone, Copy, Debug, PartialEq, Eq)]
 pub enum Fate {
-    /// It was carried out, in the step at this place.
+    /// The instruction was carried out, in the step at this place.
     Taken(usize),
-    /// It wasn't carried out, and some path leads from where its thread stands to it.
+    /// The instruction wasn't carried out, and some path leads to it from where its thread stands.
     Ahead,
-    /// It wasn't carried out, and no path leads to it any more.
+    /// The instruction wasn't carried out, and no path leads to it any more.
     PassedBy,
 }
 
 impl Fate {
-    /// Whether it is ahead.
+    /// Whether the instruction is still ahead of its thread.
     pub fn is_ahead(self) -> bool
         ensures { IsTrue result ↔ (self ≡ Fate.Ahead) }
     {
         matches!(self, Fate::Ahead)
     }
 
-    // Whether a way leads to an instruction, by its mark.
+    // What came of an instruction before any step: by its mark a path leads to it, or none does.
     fn of(mark: Mark) -> Fate
         ensures { result ≡ fate_by mark }
     {
-        if mark.so || mark.not_so {
+        if mark.may_hold || mark.may_not_hold {
             Fate::Ahead
         } else {
             Fate::PassedBy
         }
     }
 
-    // What came of an instruction that is carried out in the step at a place.
-    fn taken(self, place: usize) -> Fate
+    // What came of an instruction that is carried out in the step at a place, or was before that.
+    fn or_taken(self, place: usize) -> Fate
         ensures { result ≡ taken_by self place }
     {
         match self {
@@ -65,8 +65,8 @@ pub fn place_of(told: &Explanation, thread: u8) -> usize
     }
 }
 
-// Which instructions of a code are ahead of a thread that stands at one of them, or at the end.
-fn ahead_from(alloc: Global, code: &[Instruction], place: usize) -> Result<Vec<Fate>, AllocError>
+// For each instruction of a code whether it is ahead of a thread at a place, or was passed by.
+fn fates_by_path(alloc: Global, code: &[Instruction], place: usize) -> Result<Vec<Fate>, AllocError>
     requires jumps { JumpsWithin code.now }
     requires short { length code.now < 2 ^ 32 }
     ensures { IfOk result (λ v. (steps : List Step) (t : ℕ) → AreFates code.now place steps t 0 v.items) }
@@ -84,7 +84,7 @@ fn put_taken(fates: &mut [Fate], instruction: usize, place: usize)
     ensures { fates.new ≡ with_taken fates.old instruction place }
 {
     if instruction < fates.len() {
-        fates[instruction] = fates[instruction].taken(place);
+        fates[instruction] = fates[instruction].or_taken(place);
     }
 }
 
@@ -112,7 +112,7 @@ fn fates_of(
     ensures { IfOk result (λ v. Fates program.now told.now thread v.items) }
 {
     program.keeps_limits();
-    let mut fates = ahead_from(alloc, program.code(thread), place_of(told, thread))?;
+    let mut fates = fates_by_path(alloc, program.code(thread), place_of(told, thread))?;
     put_steps(&mut fates, told.steps(), thread);
     Ok(fates)
 }

@@ -3,18 +3,18 @@
 ghost use Rattle.std.specs.Prelude.{◌<◌, ◌↔◌, ℕ, IsTrue};
 ghost use Rattle.semantics.specs.Mask.{has};
 ghost use Rattle.waits.specs.Graph.{Leads, IsIn};
-ghost use Rattle.waits.specs.inner.Rows.{Passes};
+ghost use Rattle.waits.specs.inner.Rows.{IsExtendedThrough};
 
 use guest_code::limits::THREADS;
 use semantics::mask::Mask;
 
-/// For each thread a set of threads.
+/// For each thread a set of threads, to which it leads.
 pub type Rows = [Mask; THREADS];
 
-// What leads to thread `k` leads on to where `k` leads.
-fn pass(rows: &mut Rows, k: u8)
+// Lets each thread that leads to thread `k` lead on to where `k` leads.
+fn extend_through(rows: &mut Rows, k: u8)
     requires { k < THREADS }
-    ensures { Passes rows.old rows.new k }
+    ensures { IsExtendedThrough rows.old rows.new k }
 {
     let through = rows[k as usize];
     for t in 0..THREADS {
@@ -25,17 +25,17 @@ fn pass(rows: &mut Rows, k: u8)
 }
 
 /// The threads to which each thread leads, through one of these edges or several.
-pub fn closed(edges: Rows) -> Rows
+pub fn transitive_closure(edges: Rows) -> Rows
     ensures { (t u : ℕ) → IsIn result t u ↔ Leads (IsIn edges) t u }
 {
     let mut rows = edges;
     for k in 0..THREADS as u8 {
-        pass(&mut rows, k);
+        extend_through(&mut rows, k);
     }
     rows
 }
 
-/// The threads to which a thread leads and that lead to it.
+/// The circle of a thread: the threads to which it leads and that lead to it.
 pub fn circle_of(rows: &Rows, thread: u8) -> Mask
     requires { thread < THREADS }
     ensures { (u : ℕ) → IsTrue (has result u) ↔ (IsIn rows.now thread u × IsIn rows.now u thread) }

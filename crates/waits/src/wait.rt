@@ -9,7 +9,7 @@ ghost use Rattle.waits.specs.inner.Rows.{lists, Fits, FindsEdge};
 
 use crate::ending::{Blocked, Statement, statements_of, waits_for};
 use crate::fate::{Fate, all_fates};
-use crate::graph::{Rows, circle_of, closed};
+use crate::graph::{Rows, circle_of, transitive_closure};
 use explain::{Explanation, Reason, Step};
 use guest_code::limits::THREADS;
 use guest_code::program::Program;
@@ -19,28 +19,28 @@ use std::alloc::{AllocError, Global};
 /// A thread that is blocked at the end, and who could end its wait.
 #[derive(Debug, Drop)]
 pub struct Wait {
-    /// The thread.
+    /// The number of the thread.
     pub thread: u8,
-    /// What it waits for.
+    /// What the thread waits for.
     pub reason: Reason,
-    /// The place of its last step, after which it came to this wait: of a `wait` its first step.
-    /// `None` where it took none.
+    /// The place of the thread's last step, after which it came to this wait: of a `wait` its first
+    /// step. `None` where the thread took none.
     pub since: Option<usize>,
     /// Each statement that could end the wait, by thread and instruction: of a mutex those of its
     /// owner that give it back; of a condition or a semaphore each `signal`, `broadcast` or
     /// `release` of it, of the thread's own code those before the wait.
     pub statements: Vec<Statement>,
-    /// The threads that it waits for: the owner of its mutex, or each thread that has such a
-    /// statement ahead.
+    /// The threads that are waited for: the owner of the mutex, or each thread that has a statement
+    /// ahead that could end the wait.
     pub on: Mask,
-    /// The threads of its circle: those for which it waits through one thread after the other, and
-    /// that wait so for it. Empty where it is in none.
+    /// The threads of the thread's circle: those for which it waits through one thread after the
+    /// other, and that wait so for it. Empty where it is in none.
     pub circle: Mask,
 }
 
 impl Wait {
-    /// Whether it is in no circle: it waits, and nobody waits for it in turn.
-    pub fn is_innocent(&self) -> bool
+    /// Whether the thread is in no circle: nobody that it waits for, if through others, waits for it.
+    pub fn is_circle_free(&self) -> bool
         ensures { IsTrue result ↔ (self.now.circle ≡ no_threads) }
     {
         self.circle == Mask::empty()
@@ -65,7 +65,7 @@ impl Waits {
     {
         let fates = all_fates(alloc, program, told)?;
         let edges = edges_of(program, told, fates.as_slice());
-        let leads = closed(edges);
+        let leads = transitive_closure(edges);
         let mut waits = Vec::new(alloc);
         for t in 0..program.threads() {
             if let Some(blocked) = Blocked::of(told, t) {
@@ -104,7 +104,7 @@ impl Waits {
         None
     }
 
-    /// The circles, by their first threads. No thread is in two.
+    /// The circles of threads that wait for each other, by first thread. No thread is in two.
     pub fn circles(&self) -> &[Mask]
         ensures { result.now ≡ self.now.circles.items }
     {
@@ -154,7 +154,7 @@ fn edges_of(program: &Program, told: &Explanation, fates: &[Vec<Fate>]) -> Rows
     edges
 }
 
-// Whether a thread is the first of a set.
+// Whether a thread is in a set, and the one with the least number.
 fn is_first_of(set: Mask, thread: u8) -> bool
     ensures { result ≡ is_first_of set thread }
 {
@@ -166,7 +166,7 @@ fn is_first_of(set: Mask, thread: u8) -> bool
     set.contains(thread)
 }
 
-// The circles of those that are the first of theirs.
+// Each circle once, as that of its first thread.
 fn circles_of(alloc: Global, waits: &[Wait]) -> Result<Vec<Mask>, AllocError>
     ensures { IfOk result (λ v. v.items ≡ circles_in waits.now) }
 {

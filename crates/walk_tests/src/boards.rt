@@ -10,7 +10,7 @@ use std::test::Fail;
 use std::thread;
 use std::thread::Threads;
 
-/// What one thread draws.
+/// A seat of a thread, what the thread drew, and whether memory for a number was refused.
 #[derive(Drop)]
 struct Drawer {
     seat: Seat,
@@ -18,7 +18,7 @@ struct Drawer {
     refused: bool,
 }
 
-/// Draws until all are drawn, or memory ran out.
+/// Draws numbers from a board until all are drawn, or memory ran out.
 fn draw(board: &Board, worker: &mut Drawer)
     requires { worker.old.seat.board ≡ board.now.id }
     ensures { worker.new.seat.board ≡ worker.old.seat.board }
@@ -34,7 +34,7 @@ fn draw(board: &Board, worker: &mut Drawer)
     }
 }
 
-/// A drawer for each seat.
+/// A drawer that has drawn nothing for each of the seats.
 fn workers(alloc: Global, board: &Board, seats: Vec<Seat>) -> Result<Vec<Drawer>, AllocError>
     requires { All (λ s. s.board ≡ board.now.id) seats.items }
     ensures all { IfOk result (λ v. All (λ w. w.seat.board ≡ board.now.id) v.items) }
@@ -51,7 +51,7 @@ fn workers(alloc: Global, board: &Board, seats: Vec<Seat>) -> Result<Vec<Drawer>
     Ok(workers)
 }
 
-/// Lets all draw, each in a thread.
+/// Lets all workers draw from a board, each in a thread of its own.
 fn draw_all<R: Threads + Sync>(rt: &R, board: &Board, workers: &mut Vec<Drawer>)
     requires { All (λ w. w.seat.board ≡ board.now.id) workers.old.items }
     ensures all { All (λ w. w.seat.board ≡ board.now.id) workers.new.items }
@@ -60,8 +60,8 @@ fn draw_all<R: Threads + Sync>(rt: &R, board: &Board, workers: &mut Vec<Drawer>)
     thread::for_each_mut(rt, workers.as_mut_slice(), 16, &|_, w| draw(board, w));
 }
 
-/// The seats, and what all workers drew, in rising order.
-fn ended(
+/// The seats of the workers, and all numbers that the workers drew, in rising order.
+fn seats_and_drawn(
     alloc: Global,
     board: &Board,
     workers: Vec<Drawer>,
@@ -91,7 +91,7 @@ fn four_threads_draw_each_number_once(rt: HostRuntime) -> Result<(), Fail> {
     let (board, seats) = Board::new(alloc, 1000, 4)?;
     let mut workers = workers(alloc, &board, seats)?;
     draw_all(&rt, &board, &mut workers);
-    let (seats, drawn) = ended(alloc, &board, workers)?;
+    let (seats, drawn) = seats_and_drawn(alloc, &board, workers)?;
     assert!(rt; drawn.len() == 1000);
     assert!(rt; drawn.iter().zip(0..1000).all(|(k, wanted)| *k == wanted));
     let claims = board.gather(seats);
@@ -118,8 +118,8 @@ fn a_seat_draws_twice(rt: HostRuntime) -> Result<(), Fail> {
     Ok(())
 }
 
-/// A seat tells a number.
-fn told(board: &Board, seats: &mut Vec<Seat>, seat: usize, k: u64)
+/// Tells a board a number by the seat at this place.
+fn tell_number(board: &Board, seats: &mut Vec<Seat>, seat: usize, k: u64)
     requires some_seat { seat < vec_len seats.old }
     requires board { All (λ s. s.board ≡ board.now.id) seats.old.items }
     ensures all { All (λ s. s.board ≡ board.now.id) seats.new.items }
@@ -128,8 +128,8 @@ fn told(board: &Board, seats: &mut Vec<Seat>, seat: usize, k: u64)
     board.tell(&mut seats[seat], k);
 }
 
-/// What a seat is answered as the least number told.
-fn least(board: &Board, seats: &mut Vec<Seat>, seat: usize) -> u64
+/// What a board answers the seat at this place as the least number that it was told.
+fn least_told(board: &Board, seats: &mut Vec<Seat>, seat: usize) -> u64
     requires some_seat { seat < vec_len seats.old }
     requires board { All (λ s. s.board ≡ board.now.id) seats.old.items }
     ensures all { All (λ s. s.board ≡ board.now.id) seats.new.items }
@@ -141,11 +141,11 @@ fn least(board: &Board, seats: &mut Vec<Seat>, seat: usize) -> u64
 #[test]
 fn the_least_number_told_is_answered(rt: HostRuntime) -> Result<(), Fail> {
     let (board, mut seats) = Board::new(rt.alloc(), 5, 2)?;
-    assert_eq!(rt; least(&board, &mut seats, 1), NONE_TOLD);
-    told(&board, &mut seats, 0, 3);
-    assert_eq!(rt; least(&board, &mut seats, 1), 3);
-    told(&board, &mut seats, 1, 7);
-    assert_eq!(rt; least(&board, &mut seats, 0), 3);
+    assert_eq!(rt; least_told(&board, &mut seats, 1), NONE_TOLD);
+    tell_number(&board, &mut seats, 0, 3);
+    assert_eq!(rt; least_told(&board, &mut seats, 1), 3);
+    tell_number(&board, &mut seats, 1, 7);
+    assert_eq!(rt; least_told(&board, &mut seats, 0), 3);
     assert_eq!(rt; board.gather(seats).least(), 3);
     Ok(())
 }

@@ -27,7 +27,7 @@ const WRITERS: &str =
 const FAILING: &str =
     "var x; var y; var z; thread A { store x 1; assert 0; } thread B { store y 1; } thread C { store z 1; }";
 
-/// No preemption.
+/// The mode of a first bound, of no preemption.
 const FIRST: Mode = Mode::Bounded(0);
 
 /// The book of a text's program at a bound, where all is open.
@@ -37,7 +37,7 @@ fn book_of(alloc: Global, text: &str, mode: Mode) -> Result<Book, Fail> {
 }
 
 /// More rounds than a program of these tests takes.
-const ROUNDS: u32 = 100;
+const MOST_ROUNDS: u32 = 100;
 
 /// Walks an open item of a book, and settles the walk.
 fn walk_item(alloc: Global, book: &mut Book, item: &Item, quota: u32) -> Result<(), Fail>
@@ -59,10 +59,10 @@ fn walk_round(alloc: Global, book: &mut Book, quota: u32) -> Result<(), Fail>
 }
 
 /// Walks the open items of a book until there are none.
-fn finish(alloc: Global, book: &mut Book, quota: u32) -> Result<(), Fail>
+fn walk_all(alloc: Global, book: &mut Book, quota: u32) -> Result<(), Fail>
     requires { 1 ≤ quota }
 {
-    for _ in 0..ROUNDS {
+    for _ in 0..MOST_ROUNDS {
         walk_round(alloc, book, quota)?;
     }
     Ok(())
@@ -75,7 +75,7 @@ fn add_prefix(alloc: Global, line: &mut String, word: &str, item: &Item) -> Resu
 }
 
 /// Adds the prefixes of the open items to a line.
-fn add_open(alloc: Global, line: &mut String, book: &Book) -> Result<(), AllocError> {
+fn add_open_items(alloc: Global, line: &mut String, book: &Book) -> Result<(), AllocError> {
     for place in 0..book.open_len() {
         let item = book.open_item(alloc, place)?;
         add_prefix(alloc, line, "open", &item)?;
@@ -84,7 +84,7 @@ fn add_open(alloc: Global, line: &mut String, book: &Book) -> Result<(), AllocEr
 }
 
 /// Adds the prefixes of the items that wait for the next bound to a line.
-fn add_deferred(alloc: Global, line: &mut String, book: &Book) -> Result<(), AllocError> {
+fn add_deferred_items(alloc: Global, line: &mut String, book: &Book) -> Result<(), AllocError> {
     for place in 0..book.deferred_len() {
         let item = book.deferred_item(alloc, place)?;
         add_prefix(alloc, line, "deferred", &item)?;
@@ -92,30 +92,30 @@ fn add_deferred(alloc: Global, line: &mut String, book: &Book) -> Result<(), All
     Ok(())
 }
 
-/// What a book has finished, and its prefixes, in one line.
-fn shown(alloc: Global, book: &Book) -> Result<String, AllocError> {
+/// What a book has finished, and the prefixes of its items, in one line.
+fn book_line(alloc: Global, book: &Book) -> Result<String, AllocError> {
     let mut line = format!(in alloc; "{} {}", book.finished().tried(), book.finished().beyond())?;
-    add_open(alloc, &mut line, book)?;
-    add_deferred(alloc, &mut line, book)?;
+    add_open_items(alloc, &mut line, book)?;
+    add_deferred_items(alloc, &mut line, book)?;
     Ok(line)
 }
 
-/// Stops the test where a book doesn't show this line.
-fn shows(rt: &(impl Abort + Alloc<A = Global>), book: &Book, want: &str) -> Result<(), AllocError> {
-    let line = shown(rt.alloc(), book)?;
+/// Compares the line that a book shows.
+fn check_book(rt: &(impl Abort + Alloc<A = Global>), book: &Book, want: &str) -> Result<(), Fail> {
+    let line = book_line(rt.alloc(), book)?;
     assert_eq!(rt; line.as_str(), want);
     Ok(())
 }
 
-/// Settles a walk, and answers what the book tells then.
-fn settled(alloc: Global, book: &mut Book, walked: Walked) -> Result<String, AllocError> {
+/// Settles a walk, and answers the line that the book shows then, or why it is refused.
+fn settle_and_show(alloc: Global, book: &mut Book, walked: Walked) -> Result<String, AllocError> {
     match book.settle(alloc, walked) {
-        Ok(()) => shown(alloc, book),
+        Ok(()) => book_line(alloc, book),
         Err(error) => format!(in alloc; "{error}"),
     }
 }
 
-/// A walk, and what a book tells where it is settled.
+/// A walk of an item of a text's program, and what a book tells where the walk is settled.
 struct Settlement {
     text: &'static str,
     prefix: &'static [u8],
@@ -125,7 +125,7 @@ struct Settlement {
     told: &'static str,
 }
 
-/// A walk of an item of a program of its own.
+/// The walk of a settlement, on a program of its own.
 fn walk_of(alloc: Global, step: &Settlement) -> Result<Walked, Fail> {
     let program = program_of(alloc, step.text)?;
     let item = Item::at(alloc, program, step.prefix)?;
@@ -133,14 +133,14 @@ fn walk_of(alloc: Global, step: &Settlement) -> Result<Walked, Fail> {
     Ok(walk(alloc, &item, step.mode, quota)?)
 }
 
-/// Settles a walk, and compares what the book tells.
-fn settle(
+/// Settles the walk of a settlement, and compares what the book tells.
+fn check_settlement(
     rt: &(impl Abort + Alloc<A = Global>),
     book: &mut Book,
     step: &Settlement,
 ) -> Result<(), Fail> {
     let walked = walk_of(rt.alloc(), step)?;
-    let line = settled(rt.alloc(), book, walked)?;
+    let line = settle_and_show(rt.alloc(), book, walked)?;
     assert_eq!(rt;
         line.as_str(),
         step.told,
@@ -151,26 +151,26 @@ fn settle(
     Ok(())
 }
 
-/// The book of a text at bound 0 after these settlements.
-fn played(
+/// The book of a text at bound 0 after these settlements, each of which is compared.
+fn book_after(
     rt: &(impl Abort + Alloc<A = Global>),
     text: &str,
     script: &[Settlement],
 ) -> Result<Book, Fail> {
     let mut book = book_of(rt.alloc(), text, FIRST)?;
     for step in script {
-        settle(rt, &mut book, step)?;
+        check_settlement(rt, &mut book, step)?;
     }
     Ok(book)
 }
 
-/// Stops the test where a book tells something else in one of these settlements.
-fn plays(
+/// Makes these settlements with the book of a text at bound 0, and compares what it tells.
+fn check_settlements(
     rt: &(impl Abort + Alloc<A = Global>),
     text: &str,
     script: &[Settlement],
 ) -> Result<(), Fail> {
-    let _book = played(rt, text, script)?;
+    let _book = book_after(rt, text, script)?;
     Ok(())
 }
 
@@ -201,7 +201,7 @@ const ONE_BY_ONE: [Settlement; 3] = [
 
 #[test]
 fn items_are_settled_one_by_one(rt: HostRuntime) -> Result<(), Fail> {
-    plays(&rt, COUNTERS, &ONE_BY_ONE)
+    check_settlements(&rt, COUNTERS, &ONE_BY_ONE)
 }
 
 /// Walks of another program, of another mode, and of an item that isn't open.
@@ -231,8 +231,8 @@ const STRANGERS: [Settlement; 3] = [
 
 #[test]
 fn strangers_are_refused(rt: HostRuntime) -> Result<(), Fail> {
-    let book = played(&rt, WRITERS, &STRANGERS)?;
-    shows(&rt, &book, "0 false open []")?;
+    let book = book_after(&rt, WRITERS, &STRANGERS)?;
+    check_book(&rt, &book, "0 false open []")?;
     Ok(())
 }
 
@@ -265,13 +265,13 @@ const RENAMED: [Settlement; 1] = [Settlement {
 
 #[test]
 fn programs_are_compared_by_value(rt: HostRuntime) -> Result<(), Fail> {
-    plays(&rt, WRITERS, &EQUALS)?;
-    plays(&rt, "mutex m; thread A { lock m; }", &RENAMED)
+    check_settlements(&rt, WRITERS, &EQUALS)?;
+    check_settlements(&rt, "mutex m; thread A { lock m; }", &RENAMED)
 }
 
-/// Whether a book answers what it finished to who asks for this program at bound 0, for the other
-/// one, for this one at bound 1, and for this one's quick search.
-fn answers(book: &Book, program: &Program, other: &Program) -> (bool, bool, bool, bool) {
+/// Whether a book is closed for who asks for a program at bound 0, for the other program, for the
+/// first one at bound 1, and for the first one's quick search.
+fn closed_for(book: &Book, program: &Program, other: &Program) -> (bool, bool, bool, bool) {
     (
         book.closed(program, FIRST).is_some(),
         book.closed(other, FIRST).is_some(),
@@ -280,25 +280,25 @@ fn answers(book: &Book, program: &Program, other: &Program) -> (bool, bool, bool
     )
 }
 
-/// What a book answers where the writers' program is asked for, and the counters' is the other.
-fn asked(alloc: Global, book: &Book) -> Result<(bool, bool, bool, bool), Fail> {
+/// What a book answers who asks for the program of `WRITERS`; `COUNTERS` has the other one.
+fn answers(alloc: Global, book: &Book) -> Result<(bool, bool, bool, bool), Fail> {
     let writers = program_of(alloc, WRITERS)?;
     let counters = program_of(alloc, COUNTERS)?;
-    Ok(answers(book, &writers, &counters))
+    Ok(closed_for(book, &writers, &counters))
 }
 
-/// Asks a book before and after its items are walked.
-fn ask_twice(rt: &(impl Abort + Alloc<A = Global>), book: &mut Book) -> Result<(), Fail> {
-    assert_eq!(rt; asked(rt.alloc(), book)?, (false, false, false, false));
-    finish(rt.alloc(), book, 256)?;
-    assert_eq!(rt; asked(rt.alloc(), book)?, (true, false, false, false));
+/// Compares what a book answers before and after its items are walked.
+fn check_closing(rt: &(impl Abort + Alloc<A = Global>), book: &mut Book) -> Result<(), Fail> {
+    assert_eq!(rt; answers(rt.alloc(), book)?, (false, false, false, false));
+    walk_all(rt.alloc(), book, 256)?;
+    assert_eq!(rt; answers(rt.alloc(), book)?, (true, false, false, false));
     Ok(())
 }
 
 #[test]
 fn a_closed_book_asks_who_wants_to_know(rt: HostRuntime) -> Result<(), Fail> {
     let mut book = book_of(rt.alloc(), WRITERS, FIRST)?;
-    ask_twice(&rt, &mut book)
+    check_closing(&rt, &mut book)
 }
 
 /// What a book of the counters has when the items of each bound are walked, bound after bound.
@@ -314,8 +314,8 @@ fn finish_bound(
     book: &mut Book,
     want: &str,
 ) -> Result<(), Fail> {
-    finish(rt.alloc(), book, 256)?;
-    shows(rt, book, want)?;
+    walk_all(rt.alloc(), book, 256)?;
+    check_book(rt, book, want)?;
     book.raise()?;
     Ok(())
 }
@@ -329,33 +329,33 @@ fn nothing_is_walked_twice_over_the_bounds(rt: HostRuntime) -> Result<(), Fail> 
     Ok(())
 }
 
-/// Why a book isn't raised, if it isn't.
-fn raised(alloc: Global, book: &mut Book) -> Result<String, AllocError> {
+/// Raises a book, and answers `raised`, or why it isn't raised.
+fn raise_line(alloc: Global, book: &mut Book) -> Result<String, AllocError> {
     match book.raise() {
         Ok(()) => format!(in alloc; "raised"),
         Err(error) => format!(in alloc; "{error}"),
     }
 }
 
-/// Stops the test where a book is raised, isn't for another reason than this one, or is another
-/// then.
-fn is_not_raised(
+/// Tries to raise a book, and stops the test where it is raised, is refused for another reason, or
+/// has changed.
+fn check_not_raised(
     rt: &(impl Abort + Alloc<A = Global>),
     book: &mut Book,
     why: &str,
-) -> Result<(), AllocError> {
-    let (before, mode) = (shown(rt.alloc(), book)?, book.mode());
-    let line = raised(rt.alloc(), book)?;
+) -> Result<(), Fail> {
+    let (before, mode) = (book_line(rt.alloc(), book)?, book.mode());
+    let line = raise_line(rt.alloc(), book)?;
     assert_eq!(rt; line.as_str(), why);
     assert_eq!(rt; book.mode(), mode);
-    shows(rt, book, before.as_str())
+    check_book(rt, book, before.as_str())
 }
 
 /// Tries to raise a book of the greatest bound before and after its items are walked.
 fn raise_twice(rt: &(impl Abort + Alloc<A = Global>), book: &mut Book) -> Result<(), Fail> {
-    is_not_raised(rt, book, "book B4 StillOpen")?;
-    finish(rt.alloc(), book, 1)?;
-    is_not_raised(rt, book, "book B5 LastBound")?;
+    check_not_raised(rt, book, "book B4 StillOpen")?;
+    walk_all(rt.alloc(), book, 1)?;
+    check_not_raised(rt, book, "book B5 LastBound")?;
     Ok(())
 }
 
@@ -369,9 +369,9 @@ fn books_are_raised_where_nothing_is_open(rt: HostRuntime) -> Result<(), Fail> {
 /// of others, lists none of them, and isn't raised.
 fn finish_last(rt: &(impl Abort + Alloc<A = Global>), book: &mut Book) -> Result<(), Fail> {
     book.make_last();
-    finish(rt.alloc(), book, 256)?;
-    shows(rt, book, "2 true")?;
-    is_not_raised(rt, book, "book B5 LastBound")?;
+    walk_all(rt.alloc(), book, 256)?;
+    check_book(rt, book, "2 true")?;
+    check_not_raised(rt, book, "book B5 LastBound")?;
     Ok(())
 }
 
@@ -382,7 +382,7 @@ fn the_last_bound_lists_nothing(rt: HostRuntime) -> Result<(), Fail> {
 }
 
 /// Walks one schedule of a book's root, and settles the walk.
-fn start(alloc: Global, book: &mut Book) -> Result<(), Fail> {
+fn walk_root_once(alloc: Global, book: &mut Book) -> Result<(), Fail> {
     let program = Arc::try_clone(book.program())?;
     let root = Item::root(alloc, program)?;
     walk_item(alloc, book, &root, 1)
@@ -411,10 +411,10 @@ fn quick_book(alloc: Global) -> Result<Book, Fail> {
 /// Stops the test where a quick book drops too much or too little.
 fn check_drops(rt: &(impl Abort + Alloc<A = Global>), book: &mut Book) -> Result<(), Fail> {
     assert!(rt; book.drop_later() == 0 && !book.has_dropped() && book.is_quick());
-    start(rt.alloc(), book)?;
+    walk_root_once(rt.alloc(), book)?;
     assert!(rt; drops_all(book));
     assert!(rt; is_closed_as_quick(rt.alloc(), book)?);
-    is_not_raised(rt, book, "book B6 Dropped")?;
+    check_not_raised(rt, book, "book B6 Dropped")?;
     Ok(())
 }
 
@@ -424,8 +424,8 @@ fn a_quick_book_drops_what_comes_later(rt: HostRuntime) -> Result<(), Fail> {
     check_drops(&rt, &mut book)
 }
 
-/// The items that a worker is lent, at most two, and whether it is lent more then, in one line.
-fn lent(
+/// Lends a worker at most two items, and answers in a line whether more are lent then, and the items.
+fn lend_and_show(
     alloc: Global,
     book: &mut LendingBook,
     program: &Arc<Program>,
@@ -444,24 +444,24 @@ fn lent(
     Ok(line)
 }
 
-/// Lends two of three open items to the second of two workers, and takes them back.
+/// Lends two of three open items to the second of two workers, and takes the two back.
 fn check_lending(rt: &(impl Abort + Alloc<A = Global>), book: Book) -> Result<(), Fail>
     requires { book.dropped ≡ false }
 {
     let program = Arc::try_clone(book.program())?;
     let mut lending = LendingBook::new(rt.alloc(), book, 2)?;
-    let line = lent(rt.alloc(), &mut lending, &program, 1)?;
+    let line = lend_and_show(rt.alloc(), &mut lending, &program, 1)?;
     assert_eq!(rt; line.as_str(), "false lent [1] lent [2]");
     assert_eq!(rt; (lending.free_len(), lending.progress().open_items), (1, 3));
     let book = lending.into_book(rt.alloc())?;
-    shows(rt, &book, "1 false open [0, 2] open [1] open [2]")?;
+    check_book(rt, &book, "1 false open [0, 2] open [1] open [2]")?;
     Ok(())
 }
 
 #[test]
 fn a_worker_is_lent_what_is_open(rt: HostRuntime) -> Result<(), Fail> {
     let mut book = book_of(rt.alloc(), WRITERS, FIRST)?;
-    start(rt.alloc(), &mut book)?;
+    walk_root_once(rt.alloc(), &mut book)?;
     let whole = !book.has_dropped();
     assert!(rt; whole);
     check_lending(&rt, book)

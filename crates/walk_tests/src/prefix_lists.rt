@@ -6,8 +6,8 @@ use std::io;
 use std::process::Abort;
 use std::test::*;
 
-/// The prefixes `0,0,1` and `0,2`.
-fn two(alloc: Global) -> Result<Prefixes, AllocError>
+/// A list of the prefixes `0,0,1` and `0,2`.
+fn two_prefixes(alloc: Global) -> Result<Prefixes, AllocError>
     ensures { IfOk result (λ list. 0 < length list) }
 {
     let mut list = Prefixes::new(alloc);
@@ -16,29 +16,29 @@ fn two(alloc: Global) -> Result<Prefixes, AllocError>
     Ok(list)
 }
 
-/// Compares how many prefixes there are, and the last one.
-fn ends_in(rt: &impl Abort, list: &Prefixes, length: usize, last: &[u8]) {
+/// Compares how many prefixes a list has, and the last one.
+fn check_last(rt: &impl Abort, list: &Prefixes, length: usize, last: &[u8]) {
     assert_eq!(rt; list.len(), length);
     assert!(rt; list.last() == Some(last));
 }
 
 #[test]
 fn prefixes_go_on(rt: HostRuntime) -> io::Result<()> {
-    let list = two(rt.alloc())?;
-    ends_in(&rt, &list, 2, &[0, 2]);
+    let list = two_prefixes(rt.alloc())?;
+    check_last(&rt, &list, 2, &[0, 2]);
     Ok(())
 }
 
 #[test]
 fn prefixes_come_off(rt: HostRuntime) -> io::Result<()> {
-    let mut list = two(rt.alloc())?;
+    let mut list = two_prefixes(rt.alloc())?;
     list.pop();
-    ends_in(&rt, &list, 1, &[0, 0, 1]);
+    check_last(&rt, &list, 1, &[0, 0, 1]);
     Ok(())
 }
 
-/// A list that has the prefix `0,3` from another.
-fn copied(alloc: Global) -> Result<Prefixes, AllocError> {
+/// A list to which the prefix `0,3` was copied from another list.
+fn copied_prefix(alloc: Global) -> Result<Prefixes, AllocError> {
     let mut list = Prefixes::new(alloc);
     let mut other = Prefixes::new(alloc);
     other.push(&[0, 3])?;
@@ -48,29 +48,29 @@ fn copied(alloc: Global) -> Result<Prefixes, AllocError> {
 
 #[test]
 fn prefixes_are_copied(rt: HostRuntime) -> io::Result<()> {
-    ends_in(&rt, &copied(rt.alloc())?, 1, &[0, 3]);
+    check_last(&rt, &copied_prefix(rt.alloc())?, 1, &[0, 3]);
     Ok(())
 }
 
-/// Moves the last of two prefixes to a list that has another.
+/// Moves the last of two prefixes to a list that has another prefix, and compares that list.
 fn split(rt: &(impl Abort + Alloc<A = Global>), list: &mut Prefixes) -> Result<(), AllocError> {
-    let mut other = copied(rt.alloc())?;
+    let mut other = copied_prefix(rt.alloc())?;
     list.split_last(1, &mut other)?;
-    ends_in(rt, &other, 1, &[0, 2]);
+    check_last(rt, &other, 1, &[0, 2]);
     Ok(())
 }
 
 #[test]
 fn prefixes_are_split_off(rt: HostRuntime) -> io::Result<()> {
-    let mut list = two(rt.alloc())?;
+    let mut list = two_prefixes(rt.alloc())?;
     split(&rt, &mut list)?;
-    ends_in(&rt, &list, 1, &[0, 0, 1]);
+    check_last(&rt, &list, 1, &[0, 0, 1]);
     Ok(())
 }
 
 /// Whether a list has the same bytes as a copy of it, and others than a list that it was not copied to.
 fn is_like_its_copy(alloc: Global, list: &Prefixes) -> Result<bool, AllocError> {
-    let mut copy = copied(alloc)?;
+    let mut copy = copied_prefix(alloc)?;
     let other = !list.has_same_bytes(&copy);
     copy.copy_from(list)?;
     Ok(other && list.has_same_bytes(&copy))
@@ -78,26 +78,26 @@ fn is_like_its_copy(alloc: Global, list: &Prefixes) -> Result<bool, AllocError> 
 
 #[test]
 fn a_copy_has_the_same_bytes(rt: HostRuntime) -> io::Result<()> {
-    let list = two(rt.alloc())?;
+    let list = two_prefixes(rt.alloc())?;
     assert!(rt; is_like_its_copy(rt.alloc(), &list)?);
     Ok(())
 }
 
-/// Whether a list ends in no prefix, and says so.
-fn has_none(list: &Prefixes) -> bool {
+/// Whether a list says that it is empty, and has no last prefix.
+fn has_no_prefix(list: &Prefixes) -> bool {
     list.is_empty() && list.last().is_none()
 }
 
 #[test]
 fn prefixes_are_cleared(rt: HostRuntime) -> io::Result<()> {
-    let mut list = two(rt.alloc())?;
+    let mut list = two_prefixes(rt.alloc())?;
     list.clear();
-    assert!(&rt; has_none(&list));
+    assert!(&rt; has_no_prefix(&list));
     Ok(())
 }
 
-/// The last prefix and the one before it, as a reader comes to them.
-fn read(list: &Prefixes, alloc: Global) -> Result<String, AllocError>
+/// The last prefix of a list and the one before that, as a reader comes to them.
+fn read_last_two(list: &Prefixes, alloc: Global) -> Result<String, AllocError>
     requires { 0 < length list.now }
 {
     let mut reading = list.last_first(alloc)?;
@@ -109,15 +109,15 @@ fn read(list: &Prefixes, alloc: Global) -> Result<String, AllocError>
 
 #[test]
 fn prefixes_are_read_from_the_last_on(rt: HostRuntime) -> io::Result<()> {
-    let list = two(rt.alloc())?;
-    let line = read(&list, rt.alloc())?;
+    let list = two_prefixes(rt.alloc())?;
+    let line = read_last_two(&list, rt.alloc())?;
     assert_eq!(rt; line.as_str(), "Some([0, 2]) Some([0, 0, 1])");
     Ok(())
 }
 
 #[test]
 fn prefixes_are_found(rt: HostRuntime) -> io::Result<()> {
-    let list = two(rt.alloc())?.try_clone(rt.alloc())?;
+    let list = two_prefixes(rt.alloc())?.try_clone(rt.alloc())?;
     let places = (list.position(&[0, 0, 1]), list.position(&[0, 0]));
     assert!(rt; places == (Some(0), None));
     Ok(())

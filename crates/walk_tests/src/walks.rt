@@ -5,7 +5,7 @@ mod roots;
 
 ghost use Rattle.std.specs.Prelude.{◌≤◌};
 
-use crate::summaries::shown;
+use crate::summaries::summary_line;
 use guest_code::lowering::lower;
 use guest_code::program::Program;
 use guest_syntax::parse;
@@ -24,7 +24,7 @@ const COUNTERS: &str =
 const CROSSED: &str =
     "mutex m; mutex n; thread A { lock m; lock n; unlock n; unlock m; } thread B { lock n; lock m; unlock m; unlock n; }";
 
-/// A thread that waits for a signal, which is lost where it is given first.
+/// A thread that waits for a signal, which is lost where the other thread gives it first.
 const CALLED: &str =
     "mutex m; cond c; thread A { lock m; wait c m; unlock m; } thread B { lock m; signal c; unlock m; }";
 
@@ -32,7 +32,7 @@ const CALLED: &str =
 const LATE: &str =
     "var x; var y; thread A { store y 1; load r x; assert r == 0; } thread B { store x 1; }";
 
-/// Every kind of statement, in three threads. It has 30 complete schedules; a program that goes
+/// Every kind of statement, in three threads. There are 30 complete schedules; a program that goes
 /// through all interleavings of the table of steps counts, by their preemptions: 4 with none, of
 /// which the lost call `1,1,1,1,1,2,2,0,0` is stuck; 7 with one, of which `1,1,1,1,1,0,2,2,0` is
 /// stuck; 12 with two, of which two are stuck.
@@ -50,19 +50,19 @@ pub fn root_of(alloc: Global, text: &str) -> Result<Item, Fail> {
     Ok(Item::root(alloc, program_of(alloc, text)?)?)
 }
 
-/// What the walk of an item finds.
-fn found(alloc: Global, item: &Item, mode: Mode) -> Result<String, Fail> {
-    shown(alloc, walk(alloc, item, mode, u32::MAX)?.part())
+/// What the walk of an item finds, in one line.
+fn walk_line(alloc: Global, item: &Item, mode: Mode) -> Result<String, Fail> {
+    summary_line(alloc, walk(alloc, item, mode, u32::MAX)?.part())
 }
 
-/// What the walk of all schedules of a text's program finds.
-fn found_at(alloc: Global, text: &str, mode: Mode) -> Result<String, Fail> {
-    found(alloc, &root_of(alloc, text)?, mode)
+/// What the walk of all schedules of a text's program finds, in one line.
+fn text_walk_line(alloc: Global, text: &str, mode: Mode) -> Result<String, Fail> {
+    walk_line(alloc, &root_of(alloc, text)?, mode)
 }
 
 /// What a walk of a text's program counts up to a quota: the schedules that it tried, those of them
 /// that are stuck, the items that it leaves and the prefixes that it puts off.
-fn counted(
+fn walk_counts(
     alloc: Global,
     text: &str,
     mode: Mode,
@@ -82,13 +82,13 @@ fn counted(
 }
 
 /// Compares what the walk of all schedules of a text's program finds.
-fn finds(
+fn check_walk(
     rt: &(impl Abort + Alloc<A = Global>),
     text: &str,
     mode: Mode,
     want: &str,
 ) -> Result<(), Fail> {
-    let line = found_at(rt.alloc(), text, mode)?;
+    let line = text_walk_line(rt.alloc(), text, mode)?;
     assert_eq!(rt; line.as_str(), want, "{mode:?}, {text}");
     Ok(())
 }

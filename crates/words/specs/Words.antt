@@ -6,12 +6,12 @@ use Rattle.clap.specs.declared.error.Error.{Error}
 use Rattle.clap.specs.declared.error.kind.ErrorKind.{ErrorKind}
 use Rattle.clap.specs.declared.error.kind.ErrorKind.TheVariants as clap
 use Rattle.words.specs.declared.fault.WordsFault.{WordsFault}
-use Rattle.words.specs.declared.fault.WordsFault.TheVariants.{NotUtf8, OutOfMemory, Said}
+use Rattle.words.specs.declared.fault.WordsFault.TheVariants.{NotUtf8, OutOfMemory, Clap}
 
--- the fault of an error of `clap`, of this kind
+-- the fault of an error of `clap` that has this kind
 abbrev pub of_clap : ErrorKind → Error → WordsFault
 of_clap clap.OutOfMemory e = OutOfMemory
-of_clap kind e = Said e
+of_clap kind e = Clap e
 
 -- the fault of words that can't be read, by the kind of the error
 abbrev pub of_words_error : IoKind → WordsFault
@@ -21,5 +21,5 @@ of_words_error kind = NotUtf8
 -- the status after refused words: 2 for what the user gave, 4 where memory ran out
 abbrev pub words_status : WordsFault → ℕ
 words_status NotUtf8 = 2
-words_status (Said e) = 2
+words_status (Clap e) = 2
 words_status OutOfMemory = 4

@@ -10,7 +10,7 @@ pub const VERSION: &str = "0.2.0";
 
 /// The greatest number of prefixes that can be asked for. What is held in memory is as long as what
 /// is printed; more than this is no better balance on any number of machines.
-const PREFIXES: u32 = 1 << 20;
+const MAX_PREFIXES: u32 = 1 << 20;
 
 /// What the help of each command ends with.
 const HELP_END: &str = "Examples:
@@ -33,18 +33,18 @@ Statuses:
   3  the search was cut short, or parts of one are missing
   4  out of memory, or the file can't be read or the output written";
 
-// The guest program of a command that has one.
+// The argument that names the file of a command on one guest program.
 fn file_arg<'a>(alloc: Global) -> Arg<'a> {
     arg!(in alloc; <FILE> "The guest program; `-` is standard input")
 }
 
-// The guest programs of a command that has several.
+// The arguments that name the files of a command on several guest programs.
 fn files_arg<'a>(alloc: Global) -> Arg<'a> {
     arg!(in alloc; <FILE>...
         "The guest programs; a folder stands for the files in it, and in its folders, that end in `.guest`")
 }
 
-// A command on these guest programs.
+// The command `name` on guest programs, which the argument `file` names; `about` says what it does.
 fn guest_command<'a>(
     alloc: Global,
     name: &'a str,
@@ -57,37 +57,37 @@ fn guest_command<'a>(
         .arg(file)
 }
 
-// How many threads work.
+// The argument `--workers`: how many threads work.
 fn workers_arg<'a>(alloc: Global) -> Arg<'a> {
     let workers = arg!(in alloc; --workers <W> "How many threads work [default: 1]");
     workers.value_parser(value_parser!(u32).range(1..=i64::from(WORKERS)))
 }
 
-// Where a search is cut short.
+// The argument `--limit`: after how many schedules a search is cut short.
 fn limit_arg<'a>(alloc: Global) -> Arg<'a> {
     let limit = arg!(in alloc; --limit <L> "Cut the search short after this number of schedules");
     limit.value_parser(value_parser!(i64).range(1..))
 }
 
-// Where each of several searches is cut short.
+// The argument `--limit` of a command that makes several searches: where each of them is cut short.
 fn each_limit_arg<'a>(alloc: Global) -> Arg<'a> {
     limit_arg(alloc).help(
         "Cut a search short once this number of schedules was tried [default: 1000000]",
     )
 }
 
-// How far a search goes.
+// The argument `--bound`: the most preemptions of a schedule of the search.
 fn bound_arg<'a>(alloc: Global) -> Arg<'a> {
     let bound = arg!(in alloc; --bound <N> "The most preemptions of a schedule [default: 2]");
     bound.value_parser(value_parser!(u32).range(0..=i64::from(BOUND)))
 }
 
-// Whether it is told meanwhile how far it is.
+// The argument `--progress`: whether it is told how far a search is, while it goes on.
 fn progress_arg<'a>(alloc: Global) -> Arg<'a> {
     arg!(in alloc; --progress "Tell on standard error how far the search is")
 }
 
-// A command with what each kind of search can be asked for.
+// The command `name`, which does what `about` says, with the arguments that each kind of search has.
 fn search_command<'a>(
     alloc: Global,
     name: &'a str,
@@ -100,9 +100,9 @@ fn search_command<'a>(
         .arg(arg!(in alloc; --quick "Once a bad schedule is found, leave out what comes after it"))
 }
 
-// The command with what a search can be asked for whose report is printed. What is found under a
-// prefix is a part of a report, which names no trace, and of which nothing may be left out.
-fn report_command<'a>(alloc: Global, search: Command<'a>) -> Result<Command<'a>, AllocError> {
+// The command `search` with `--trace` and `--under`, too. What `--under` prints is a part of a report:
+// it names no schedule to trace, and nothing may be left out of it, as `--quick` does.
+fn with_report_args<'a>(alloc: Global, search: Command<'a>) -> Result<Command<'a>, AllocError> {
     let under = arg!(in alloc; --under <PREFIX>
         "Run the schedules that begin with this one, and print a line a bound for `join`");
     search
@@ -111,20 +111,20 @@ fn report_command<'a>(alloc: Global, search: Command<'a>) -> Result<Command<'a>,
         .arg(under.conflicts_with("quick")?.conflicts_with("trace")?)
 }
 
-// The search up to a bound.
+// The command `explore`: a search up to a bound.
 fn explore_command<'a>(alloc: Global) -> Result<Command<'a>, AllocError> {
     let about = "Runs a guest program under all schedules, those with fewest preemptions first";
     let search = search_command(alloc, "explore", about)?;
-    report_command(alloc, search.arg(bound_arg(alloc))?)
+    with_report_args(alloc, search.arg(bound_arg(alloc))?)
 }
 
-// The search without a bound.
+// The command `unbounded`: a search without a bound.
 fn unbounded_command<'a>(alloc: Global) -> Result<Command<'a>, AllocError> {
     let about = "Runs a guest program under all schedules that sleep sets leave";
-    report_command(alloc, search_command(alloc, "unbounded", about)?)
+    with_report_args(alloc, search_command(alloc, "unbounded", about)?)
 }
 
-// The replay of a schedule.
+// The command `replay`: the trace of one schedule.
 fn replay_command<'a>(alloc: Global) -> Result<Command<'a>, AllocError> {
     let about = "Runs one schedule of a guest program and prints its trace";
     let schedule = arg!(in alloc; [SCHEDULE]
@@ -132,9 +132,9 @@ fn replay_command<'a>(alloc: Global) -> Result<Command<'a>, AllocError> {
     guest_command(alloc, "replay", about, file_arg(alloc))?.arg(schedule.default_value("-"))
 }
 
-// What an explanation can be asked for. Where its schedule is given nothing is searched, so the
-// words of a search would do nothing.
-fn searched_explain_command<'a>(alloc: Global) -> Result<Command<'a>, AllocError> {
+// The command `explain` with what says which schedule is explained: one that is given, or what a search
+// finds. Where one is given nothing is searched, so the arguments of a search conflict with it.
+fn explain_schedule_command<'a>(alloc: Global) -> Result<Command<'a>, AllocError> {
     let about = "Says why a schedule of a guest program ends as it does";
     let schedule = arg!(in alloc; [SCHEDULE]
         "The schedule to explain; left out, a search finds one");
@@ -152,8 +152,8 @@ fn searched_explain_command<'a>(alloc: Global) -> Result<Command<'a>, AllocError
         .arg(arg!(in alloc; --unbounded "Search without a bound").conflicts_with("bound")?)
 }
 
-// The explanation, and what it is told as. What isn't a text in columns has no place for how many
-// steps it shows and how wide it is.
+// The command `explain` with all its arguments. Only text in columns has a width and folds steps, so the
+// arguments for those conflict with the other forms.
 fn explain_command<'a>(alloc: Global) -> Result<Command<'a>, AllocError> {
     let all = arg!(in alloc; --all "Show each step, however many");
     let steps = arg!(in alloc; --steps <N>
@@ -162,7 +162,7 @@ fn explain_command<'a>(alloc: Global) -> Result<Command<'a>, AllocError> {
     let steps = steps.value_parser(value_parser!(u32).range(0..=32_768));
     let width = width.value_parser(value_parser!(u32).range(40..=1000));
     let others = ["html", "json"];
-    searched_explain_command(alloc)?
+    explain_schedule_command(alloc)?
         .arg(all.conflicts_with_all(&others)?)?
         .arg(steps.conflicts_with("all")?.conflicts_with_all(&others)?)?
         .arg(width.conflicts_with_all(&others)?)?
@@ -170,7 +170,7 @@ fn explain_command<'a>(alloc: Global) -> Result<Command<'a>, AllocError> {
         .arg(arg!(in alloc; --json "Print JSON"))
 }
 
-// The check of guest programs.
+// The command `check`: what is wrong or odd about guest programs.
 fn check_command<'a>(alloc: Global) -> Result<Command<'a>, AllocError> {
     let about = "Says what is wrong or odd about guest programs, and searches nothing";
     let short = arg!(in alloc; --short "Print a line for each refusal and each warning");
@@ -189,7 +189,7 @@ fn check_command<'a>(alloc: Global) -> Result<Command<'a>, AllocError> {
         .arg(depth.requires_arg("deep")?)
 }
 
-// The suite of guest programs.
+// The command `suite`: searches of many guest programs.
 fn suite_command<'a>(alloc: Global) -> Result<Command<'a>, AllocError> {
     let about = "Searches many guest programs, and compares what each expects of itself";
     guest_command(alloc, "suite", about, files_arg(alloc))?
@@ -200,7 +200,7 @@ fn suite_command<'a>(alloc: Global) -> Result<Command<'a>, AllocError> {
         .arg(arg!(in alloc; --json "Print an object a line instead of a table"))
 }
 
-// The question whether a guest program is right.
+// The command `verify`: whether a guest program is right.
 fn verify_command<'a>(alloc: Global) -> Result<Command<'a>, AllocError> {
     let about =
         "Says whether a guest program is right, up to how many preemptions it is, or why not";
@@ -209,17 +209,17 @@ fn verify_command<'a>(alloc: Global) -> Result<Command<'a>, AllocError> {
         .arg(each_limit_arg(alloc))
 }
 
-// The list of prefixes of schedules.
+// The command `prefixes`: a list of prefixes of schedules.
 fn prefixes_command<'a>(alloc: Global) -> Result<Command<'a>, AllocError> {
     let about = "Lists beginnings of schedules: each schedule begins with exactly one of them";
     let at_least = arg!(in alloc; --"at-least" <N>
         "List at least so many, where there are ever so many [default: 64]");
     guest_command(alloc, "prefixes", about, file_arg(alloc))?
-        .arg(at_least.value_parser(value_parser!(u32).range(1..=i64::from(PREFIXES))))?
+        .arg(at_least.value_parser(value_parser!(u32).range(1..=i64::from(MAX_PREFIXES))))?
         .arg(arg!(in alloc; --unbounded "List those that a search without a bound enters"))
 }
 
-/// The report that parts of a search join to.
+/// The command `join`: the report that parts of a search join to.
 ///
 /// # Errors
 ///
@@ -239,12 +239,12 @@ pub fn join_command<'a>(alloc: Global) -> Result<Command<'a>, AllocError> {
         .arg(unbounded.conflicts_with("bound")?)
 }
 
-/// All commands.
+/// The command `ctxbound`, with a subcommand for each thing that it can be asked for.
 ///
 /// # Errors
 ///
 /// `AllocError` where memory runs out.
-pub fn command<'a>(alloc: Global) -> Result<Command<'a>, AllocError> {
+pub fn ctxbound_command<'a>(alloc: Global) -> Result<Command<'a>, AllocError> {
     Command::new(alloc, "ctxbound")
         .about("Looks for schedules under which a guest program fails or gets stuck")
         .version(VERSION)

@@ -20,7 +20,7 @@ pub enum WordsFault {
     /// Memory ran out.
     OutOfMemory,
     /// What `clap` says to the user: a refusal, or the help or the version that was asked for.
-    Said(Error),
+    Clap(Error),
 }
 
 impl WordsFault {
@@ -29,20 +29,20 @@ impl WordsFault {
         ensures { result ≡ words_status self.now }
     {
         match self {
-            WordsFault::NotUtf8 | WordsFault::Said(_) => 2,
+            WordsFault::NotUtf8 | WordsFault::Clap(_) => 2,
             WordsFault::OutOfMemory => 4,
         }
     }
 
-    /// Writes what the user is told, and answers the status to end with. A failing stream changes
-    /// no status.
+    /// Writes what the user is told, and answers the status that the program ends with, which a
+    /// failing `err` doesn't change.
     pub fn report<E: Write>(&self, err: &mut E) -> u8
         ensures { result ≡ words_status self.now }
     {
         let _ = match self {
             WordsFault::NotUtf8 => writeln!(err, "ctxbound: words NotUtf8"),
             WordsFault::OutOfMemory => writeln!(err, "ctxbound: memory"),
-            WordsFault::Said(error) => err.write_fmt(error),
+            WordsFault::Clap(error) => err.write_fmt(error),
         };
         self.status()
     }
@@ -51,11 +51,11 @@ impl WordsFault {
 impl From<Error> for WordsFault {
     ghost from_gives = { λ e fault. fault ≡ of_clap (kind_of e) e };
 
-    // Out of memory, or what `clap` says.
+    // The fault of an error of `clap`: out of memory, or what `clap` says.
     fn from(error: Error) -> WordsFault {
         match error.kind() {
             ErrorKind::OutOfMemory => WordsFault::OutOfMemory,
-            _ => WordsFault::Said(error),
+            _ => WordsFault::Clap(error),
         }
     }
 }
@@ -63,7 +63,7 @@ impl From<Error> for WordsFault {
 impl From<io::Error> for WordsFault {
     ghost from_gives = { λ e fault. fault ≡ of_words_error (error_kind e) };
 
-    // Out of memory, or a word that is no text.
+    // The fault of words that can't be read: out of memory, or a word that isn't UTF-8.
     fn from(error: io::Error) -> WordsFault {
         match error.kind() {
             io::ErrorKind::OutOfMemory => WordsFault::OutOfMemory,
@@ -75,7 +75,7 @@ impl From<io::Error> for WordsFault {
 impl From<AllocError> for WordsFault {
     ghost from_gives = { λ _ fault. fault ≡ OutOfMemory };
 
-    // Out of memory.
+    // The fault of memory that ran out.
     fn from(_error: AllocError) -> WordsFault {
         WordsFault::OutOfMemory
     }

@@ -5,12 +5,12 @@ ghost use Rattle.workers.specs.declared.limits.TheConstants.{WORKERS as MOST};
 ghost use Rattle.report.specs.declared.options.Search.TheVariants.{UpTo, Unbounded};
 ghost use Rattle.report.specs.Promises.{IsSearch};
 
-use crate::commands::{command, join_command};
+use crate::commands::{ctxbound_command, join_command};
 use crate::fault::WordsFault;
 use answering::{
-    CheckForm, CheckRequest, DEFAULT_BOUND, ExplainRequest, Exploration, Form, GuestRequest,
-    JoinRequest, LIMIT, Limits, PrefixesRequest, Request, STEPS, SuiteRequest, UnderRequest,
-    VerifyRequest, WIDTH, is_standard_input,
+    CheckForm, CheckRequest, DEFAULT_BOUND, DEFAULT_LIMIT, DEFAULT_STEPS, DEFAULT_WIDTH,
+    ExplainForm, ExplainRequest, Exploration, GuestRequest, JoinRequest, Limits, PrefixesRequest,
+    Request, SuiteRequest, UnderRequest, VerifyRequest, is_standard_input,
 };
 use clap::ArgMatches;
 use clap::error::ErrorKind;
@@ -28,7 +28,7 @@ const DEFAULT_DEPTH: u64 = 100_000;
 const DEFAULT_PREFIXES: u32 = 64;
 
 /// What is said where standard input would be both the guest program and its parts.
-const READ_TWICE: &str = "standard input can't be both the guest program and the parts";
+const STANDARD_INPUT_TWICE: &str = "standard input can't be both the guest program and the parts";
 
 /// The command words that the system gave. The first is the program's own name.
 ///
@@ -39,27 +39,27 @@ pub fn command_words<R: Env + Alloc<A = Global>>(rt: &R) -> Result<Vec<String>, 
     Ok(std::env::args(rt)?.collect(rt.alloc())?)
 }
 
-/// What the words of a command give. An argument that the command hasn't is one that isn't given.
+/// A command and the arguments that it is given. An argument that the command hasn't isn't given.
 #[derive(Clone, Copy)]
-struct Given<'a, 'w> {
+struct CommandArguments<'a, 'w> {
     alloc: Global,
-    /// The command.
+    /// The command's name.
     name: &'w str,
     words: &'a ArgMatches<'w>,
 }
 
-impl Given<'_, '_> {
+impl CommandArguments<'_, '_> {
     // Whether this argument is given.
-    fn has(&self, argument: &str) -> bool {
+    fn has_argument(&self, argument: &str) -> bool {
         self.words.get_str(argument).is_some()
     }
 
-    // The word that this argument is given.
+    // The word that this argument is given, or an empty one.
     fn word(&self, argument: &str) -> Result<String, AllocError> {
         String::from_str(self.alloc, self.words.get_str(argument).unwrap_or(""))
     }
 
-    // The words that this argument is given.
+    // The words that this argument is given, or none.
     fn all_words(&self, argument: &str) -> Result<Vec<String>, AllocError> {
         let mut words = Vec::new(self.alloc);
         for word in self.words.get_strs(argument).unwrap_or(&[]) {
@@ -68,7 +68,7 @@ impl Given<'_, '_> {
         Ok(words)
     }
 
-    // The bound of a search. `clap` has refused one that there isn't.
+    // The bound of a search. `clap` has refused one above `BOUND`.
     fn bound(&self) -> u32
         ensures { IsSearch (UpTo result) }
     {
@@ -76,7 +76,7 @@ impl Given<'_, '_> {
         bound.min(BOUND)
     }
 
-    // How many threads work. `clap` has refused other numbers.
+    // How many threads work, from 1 to `WORKERS`. `clap` has refused other numbers.
     fn workers(&self) -> u32
         ensures some { 1 ≤ result }
         ensures few { result ≤ MOST }
@@ -85,12 +85,12 @@ impl Given<'_, '_> {
         workers.clamp(1, WORKERS)
     }
 
-    // Whether a search has no bound.
+    // Whether the search that is asked for has no bound.
     fn is_unbounded(&self) -> bool {
         self.name == "unbounded" || self.words.get_flag("unbounded")
     }
 
-    // How far a search goes, with a bound or without.
+    // How far a search goes: without a bound where `is_unbounded`, else up to the bound that is given.
     fn search(&self, is_unbounded: bool) -> Search
         ensures search { IsSearch result }
         ensures unbounded { result ≡ Unbounded ↔ IsTrue is_unbounded }
@@ -102,7 +102,7 @@ impl Given<'_, '_> {
         }
     }
 
-    // A search.
+    // The search that is asked for, and by how many workers.
     fn exploration(&self) -> Exploration {
         Exploration {
             options: Options {
@@ -116,19 +116,19 @@ impl Given<'_, '_> {
         }
     }
 
-    // How far each search goes, where this is the bound.
+    // How far each of several searches goes, with this bound where one is needed.
     fn limits(&self, bound: u32) -> Limits
         requires { IsSearch (UpTo bound) }
     {
         Limits {
-            limit: self.words.get_one("limit").unwrap_or(LIMIT),
+            limit: self.words.get_one("limit").unwrap_or(DEFAULT_LIMIT),
             bound,
             workers: self.workers(),
         }
     }
 
-    // The replay or the search of a guest program.
-    fn guest(&self) -> Result<GuestRequest, AllocError> {
+    // The request for a replay or a search of a guest program.
+    fn guest_request(&self) -> Result<GuestRequest, AllocError> {
         Ok(if self.name == "replay" {
             GuestRequest::Replay {
                 schedule: self.word("SCHEDULE")?,
@@ -140,8 +140,8 @@ impl Given<'_, '_> {
         })
     }
 
-    // The search under a prefix.
-    fn under(&self) -> Result<UnderRequest, AllocError> {
+    // The request for a search under a prefix.
+    fn under_request(&self) -> Result<UnderRequest, AllocError> {
         Ok(UnderRequest {
             file: self.word("FILE")?,
             prefix: self.word("under")?,
@@ -149,9 +149,9 @@ impl Given<'_, '_> {
         })
     }
 
-    // The explanation.
-    fn explain(&self) -> Result<ExplainRequest, AllocError> {
-        let schedule = if self.has("SCHEDULE") {
+    // The request for an explanation.
+    fn explain_request(&self) -> Result<ExplainRequest, AllocError> {
+        let schedule = if self.has_argument("SCHEDULE") {
             Some(self.word("SCHEDULE")?)
         } else {
             None
@@ -163,17 +163,17 @@ impl Given<'_, '_> {
         })
     }
 
-    // What an explanation is told as.
-    fn form(&self) -> Form {
+    // The form in which an explanation is told.
+    fn explain_form(&self) -> ExplainForm {
         if self.words.get_flag("html") {
-            return Form::Html;
+            return ExplainForm::Html;
         }
         if self.words.get_flag("json") {
-            return Form::Json;
+            return ExplainForm::Json;
         }
-        let width: u32 = self.words.get_one("width").unwrap_or(WIDTH);
-        let steps: u32 = self.words.get_one("steps").unwrap_or(STEPS);
-        Form::Text {
+        let width: u32 = self.words.get_one("width").unwrap_or(DEFAULT_WIDTH);
+        let steps: u32 = self.words.get_one("steps").unwrap_or(DEFAULT_STEPS);
+        ExplainForm::Text {
             width: width as usize,
             steps: if self.words.get_flag("all") {
                 usize::MAX
@@ -183,8 +183,8 @@ impl Given<'_, '_> {
         }
     }
 
-    // The check.
-    fn check(&self) -> Result<CheckRequest, AllocError> {
+    // The request for a check of guest programs.
+    fn check_request(&self) -> Result<CheckRequest, AllocError> {
         let depth = self.words.get_one("limit").unwrap_or(DEFAULT_DEPTH);
         let form = if self.words.get_flag("json") {
             CheckForm::Json
@@ -202,8 +202,8 @@ impl Given<'_, '_> {
         })
     }
 
-    // The suite.
-    fn suite(&self) -> Result<SuiteRequest, AllocError> {
+    // The request for the searches of a suite.
+    fn suite_request(&self) -> Result<SuiteRequest, AllocError> {
         Ok(SuiteRequest {
             files: self.all_words("FILE")?,
             limits: self.limits(self.bound()),
@@ -212,16 +212,16 @@ impl Given<'_, '_> {
         })
     }
 
-    // What is to be verified.
-    fn verify(&self) -> Result<VerifyRequest, AllocError> {
+    // The request to say whether a guest program is right.
+    fn verify_request(&self) -> Result<VerifyRequest, AllocError> {
         Ok(VerifyRequest {
             file: self.word("FILE")?,
             limits: self.limits(BOUND),
         })
     }
 
-    // The list of prefixes.
-    fn prefixes(&self) -> Result<PrefixesRequest, AllocError> {
+    // The request for a list of prefixes.
+    fn prefixes_request(&self) -> Result<PrefixesRequest, AllocError> {
         Ok(PrefixesRequest {
             file: self.word("FILE")?,
             at_least: self.words.get_one("at-least").unwrap_or(DEFAULT_PREFIXES),
@@ -229,8 +229,8 @@ impl Given<'_, '_> {
         })
     }
 
-    // The parts to join, where standard input isn't both the guest program and parts.
-    fn join(&self) -> Result<JoinRequest, WordsFault> {
+    // The request to join parts, unless standard input would be both the guest program and parts.
+    fn join_request(&self) -> Result<JoinRequest, WordsFault> {
         let file = self.word("FILE")?;
         let parts = self.all_words("PART")?;
         let mut parts_read = parts.iter();
@@ -238,8 +238,8 @@ impl Given<'_, '_> {
             && parts_read.any(|part| is_standard_input(part.as_str()))
         {
             let mut command = join_command(self.alloc)?.bin_name("ctxbound join")?;
-            let error = command.error(ErrorKind::ArgumentConflict, READ_TWICE)?;
-            return Err(WordsFault::Said(error));
+            let error = command.error(ErrorKind::ArgumentConflict, STANDARD_INPUT_TWICE)?;
+            return Err(WordsFault::Clap(error));
         }
         Ok(JoinRequest {
             file,
@@ -256,23 +256,20 @@ impl Given<'_, '_> {
 /// What `clap` says of the words, a request for help or for the version included, or
 /// `OutOfMemory`.
 pub fn request(alloc: Global, words: &[String]) -> Result<Request, WordsFault> {
-    let matches = command(alloc)?.try_get_matches_from(words)?;
+    let matches = ctxbound_command(alloc)?.try_get_matches_from(words)?;
     let (name, words) = matches.subcommand().unwrap_or(("replay", &matches));
-    let given = Given { alloc, name, words };
+    let given = CommandArguments { alloc, name, words };
     let request = match name {
-        "check" => Request::Check(given.check()?),
-        "suite" => Request::Suite(given.suite()?),
-        "verify" => Request::Verify(given.verify()?),
-        "prefixes" => Request::Prefixes(given.prefixes()?),
-        "join" => Request::Join(given.join()?),
-        "explain" => Request::Explain {
-            request: given.explain()?,
-            form: given.form(),
-        },
-        _ if given.has("under") => Request::Under(given.under()?),
-        _ => Request::One {
+        "check" => Request::Check(given.check_request()?),
+        "suite" => Request::Suite(given.suite_request()?),
+        "verify" => Request::Verify(given.verify_request()?),
+        "prefixes" => Request::Prefixes(given.prefixes_request()?),
+        "join" => Request::Join(given.join_request()?),
+        "explain" => Request::Explain(given.explain_request()?, given.explain_form()),
+        _ if given.has_argument("under") => Request::Under(given.under_request()?),
+        _ => Request::Guest {
             file: given.word("FILE")?,
-            request: given.guest()?,
+            request: given.guest_request()?,
         },
     };
     Ok(request)

@@ -5,9 +5,11 @@ use Rattle.guest_code.specs.declared.limits.TheConstants.{LOCALS, THREADS, VARIA
 use Rattle.guest_code.specs.Program.{Program, code_of}
 use Rattle.causes.specs.declared.event.Event.{Event}
 use Rattle.causes.specs.declared.wanted.Wanted.{Wanted}
-use Rattle.causes.specs.Events.{local_set, written_by, is_end, reads, writes, is_use, sets_local, uses_local}
+use Rattle.lint.specs.Uses.{local_set}
+use Rattle.causes.specs.Events.{written_by, is_end, reads, writes, is_use, sets_local, uses_local}
 use Rattle.causes.specs.Asked.{asks_for}
-use Rattle.causes.specs.Tests.{is_test, reach_of}
+use Rattle.lint.specs.Paths.{is_test}
+use Rattle.causes.specs.Tests.{merge_point}
 use Rattle.causes.specs.Causes.{any_below, ends_with, is_up_to, least_with}
 
 -- the flag of a number, if it is there
@@ -28,7 +30,7 @@ entry entries t = slice_index_or entries t None
 -- an event is a test by which its thread came to one in the cause, where this is the least of those
 abbrev pub decides_by : Program → Event → Option ℕ → Bool
 decides_by p e least =
-    is_test e.statement && is_up_to (reach_of (code_of p e.thread) e.instruction) least
+    is_test e.statement && is_up_to (merge_point (code_of p e.thread) e.instruction) least
 
 -- a write of thread t is missed
 abbrev pub is_missed_by_in : Wanted → ℕ → ℕ → ℕ → Bool
@@ -46,8 +48,8 @@ needs p w e = is_end e || (found w.read (written_by e.statement e.deed)
     || (is_missed_in w e.thread (written_by e.statement e.deed)
     || list_any (λ end. asks_for p end e) w.ends.items))))
 
--- an event, marked or not, was taken over
-pub record IsTaken (e : Event) (mark : Bool) (old new : Wanted) : Type 0 where
+-- the place was moved before an event, marked or not
+pub record IsMovedBefore (e : Event) (mark : Bool) (old new : Wanted) : Type 0 where
   pub read : (x : ℕ) → x < VARIABLES → slice_index_or new.read x false
       ≡ ((mark && reads x e) || (not (writes x e) && slice_index_or old.read x false))
   pub used : (t r : ℕ) → t < THREADS → r < LOCALS → flag new.used t r

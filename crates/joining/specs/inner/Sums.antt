@@ -34,9 +34,9 @@ abbrev pub is_bad_end : Option Kind → Bool
 is_bad_end None = false
 is_bad_end (Some kind) = is_bad kind
 
-abbrev pub is_few : Option ℕ → ℕ → Bool
-is_few None preemptions = true
-is_few (Some bound) preemptions = nat_le preemptions bound
+abbrev pub is_within_bound : Option ℕ → ℕ → Bool
+is_within_bound None preemptions = true
+is_within_bound (Some bound) preemptions = nat_le preemptions bound
 
 abbrev pub is_bad_run : Run → Option ℕ → Bool
-is_bad_run r bound = is_bad_end r.kind && is_few bound r.preemptions
+is_bad_run r bound = is_bad_end r.kind && is_within_bound bound r.preemptions

@@ -6,11 +6,11 @@ use Rattle.lint.specs.declared.paths.Watch.{Watch}
 use Rattle.lint.specs.Paths.{Goes, Comes, after}
 
 abbrev pub no_mark : Mark
-no_mark = record { so = false; not_so = false }
+no_mark = record { may_hold = false; may_not_hold = false }
 
 abbrev pub mark_of : Mark → Bool → Bool
-mark_of x true = x.so
-mark_of x false = x.not_so
+mark_of x true = x.may_hold
+mark_of x false = x.may_not_hold
 
 -- the mark of instruction j for this way
 abbrev pub Marked : List Mark → ℕ → Bool → Type 0

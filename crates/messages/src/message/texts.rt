@@ -1,14 +1,14 @@
-//! The lines of spans, notes and advice.
+//! The lines of spans, notes and diagnostics.
 
-ghost use Rattle.messages.specs.Lines.{span_lines, remark_lines, note_lines, advice_lines};
+ghost use Rattle.messages.specs.Lines.{span_lines, remark_lines, note_lines, diagnostic_lines};
 ghost use Rattle.messages.specs.Puts.{Puts};
 
 use crate::message::{
-    Advice, Note, Span, left_out, line_of, put_margin, put_marks, put_said, put_source,
+    Diagnostic, Note, Span, left_out, line_of, put_margin, put_marks, put_said, put_source,
 };
 use std::alloc::AllocError;
 
-/// Adds the source line of a span, and below it marks under its bytes, and what is said of them.
+// Adds the source line of a span, below that marks under the bytes of the span, and what is said.
 fn put_span(
     out: &mut Vec<u8>,
     text: &[u8],
@@ -27,7 +27,7 @@ fn put_span(
     put_said(out, b" ", said)
 }
 
-/// Adds a source line with its marks, where there is a place; else what is said alone.
+// Adds a source line with marks and what is said, where there is a place; else what is said alone.
 fn put_remark(
     out: &mut Vec<u8>,
     text: &[u8],
@@ -43,7 +43,7 @@ fn put_remark(
     }
 }
 
-/// Adds the lines of notes.
+// Adds the lines of notes on a text, one note after the other.
 fn put_notes(out: &mut Vec<u8>, text: &[u8], notes: &[Note]) -> Result<(), AllocError>
     ensures { Puts result out.old out.new (note_lines text.now notes.now) }
 {
@@ -53,11 +53,11 @@ fn put_notes(out: &mut Vec<u8>, text: &[u8], notes: &[Note]) -> Result<(), Alloc
     Ok(())
 }
 
-impl Advice {
-    /// Adds the lines of an advice on a text: the short form, the source line with carets under what
+impl Diagnostic {
+    /// Adds the lines of a diagnostic on a text: the short form, the source line with carets under what
     /// is meant, and the notes.
     pub fn put(&self, out: &mut Vec<u8>, text: &[u8]) -> Result<(), AllocError>
-        ensures { Puts result out.old out.new (advice_lines text.now self.now) }
+        ensures { Puts result out.old out.new (diagnostic_lines text.now self.now) }
     {
         out.extend_from_slice(b"ctxbound: ")?;
         out.extend_from_slice(self.headline.as_bytes())?;

@@ -11,7 +11,7 @@ use std::alloc::{AllocError, Global};
 use std::process::Abort;
 use std::test::*;
 
-// Whether the first two places of the first queues of two states of a program are equal.
+// Whether two states of a program have the same threads at the first two places of the first queue.
 fn same_queues(first: &State, second: &State, p: &Program) -> bool
     requires first { IsOf p.now first.now }
     requires second { IsOf p.now second.now }
@@ -20,7 +20,7 @@ fn same_queues(first: &State, second: &State, p: &Program) -> bool
         || (first.queued(0, 0), first.queued(0, 1)) == (second.queued(0, 0), second.queued(0, 1))
 }
 
-// Whether the first mutexes and semaphores of two states of a program are equal.
+// Whether the owner of the first mutex and the first count are the same in two states of a program.
 fn same_owners_and_counts(first: &State, second: &State, p: &Program) -> bool
     requires first { IsOf p.now first.now }
     requires second { IsOf p.now second.now }
@@ -30,7 +30,7 @@ fn same_owners_and_counts(first: &State, second: &State, p: &Program) -> bool
     owners && counts
 }
 
-// Whether the threads of two states of a program are equal.
+// Whether all threads are the same in two states of a program.
 fn same_threads(first: &State, second: &State, p: &Program) -> bool
     requires first { IsOf p.now first.now }
     requires second { IsOf p.now second.now }
@@ -44,7 +44,7 @@ fn same_threads(first: &State, second: &State, p: &Program) -> bool
     true
 }
 
-// Whether a step and its way back lead to where it was.
+// Whether a step of a thread that is taken back leaves the state as before.
 fn is_taken_back(alloc: Global, p: &Program, before: &State, t: u8) -> Result<bool, AllocError>
     requires of { IsOf p.now before.now }
     requires enabled { IsTrue (is_enabled p.now before.now t) }
@@ -57,8 +57,8 @@ fn is_taken_back(alloc: Global, p: &Program, before: &State, t: u8) -> Result<bo
     Ok(objects && variables && same_threads(&state, before, p))
 }
 
-// Each step of a schedule is taken back.
-fn goes_back(
+// Checks that each step of a schedule can be taken back.
+fn check_undoing(
     rt: &impl Abort,
     alloc: Global,
     p: &Program,
@@ -76,19 +76,19 @@ fn goes_back(
     Ok(())
 }
 
-// Each step of a schedule of a text's program is taken back.
-fn check_going_back(
+// Checks that each step of a schedule of a text's program can be taken back.
+fn check_undoing_of(
     rt: &impl Abort,
     alloc: Global,
     text: &[u8],
     schedule: &[u8],
 ) -> Result<(), Fail> {
     let p = program_of(alloc, text)?;
-    goes_back(rt, alloc, &p, schedule)?;
+    check_undoing(rt, alloc, &p, schedule)?;
     Ok(())
 }
 
-/// Two threads wait, and all that wait are called.
+/// Two threads wait, and both are called.
 const BROADCAST: &[u8] =
     b"mutex m; cond c; thread A { lock m; wait c m; unlock m; } thread B { lock m; wait c m; unlock m; } thread C { lock m; broadcast c; unlock m; }";
 
@@ -96,19 +96,19 @@ const BROADCAST: &[u8] =
 const SIGNAL: &[u8] =
     b"mutex m; cond c; thread A { lock m; wait c m; unlock m; } thread B { lock m; wait c m; unlock m; } thread C { lock m; signal c; unlock m; }";
 
-/// A thread waits without its mutex.
+/// A thread waits without the mutex of the wait.
 const UNHELD: &[u8] = b"mutex m; cond c; thread A { wait c m; } thread B { signal c; }";
 
 #[test]
 fn steps_on_conditions_are_taken_back(rt: HostRuntime) -> Result<(), Fail> {
-    check_going_back(
+    check_undoing_of(
         &rt,
         rt.alloc(),
         BROADCAST,
         &[0, 0, 1, 1, 2, 2, 2, 1, 1, 0, 0],
     )?;
-    check_going_back(&rt, rt.alloc(), SIGNAL, &[0, 0, 1, 1, 2, 2, 2, 0, 0])?;
-    check_going_back(&rt, rt.alloc(), UNHELD, &[1, 0])
+    check_undoing_of(&rt, rt.alloc(), SIGNAL, &[0, 0, 1, 1, 2, 2, 2, 0, 0])?;
+    check_undoing_of(&rt, rt.alloc(), UNHELD, &[1, 0])
 }
 
 /// A full semaphore stops a thread.
@@ -124,7 +124,7 @@ const LOCALS_WRITTEN: &[u8] =
 
 #[test]
 fn other_steps_are_taken_back(rt: HostRuntime) -> Result<(), Fail> {
-    check_going_back(&rt, rt.alloc(), FULL, &[0, 1])?;
-    check_going_back(&rt, rt.alloc(), UNITS, &[0, 0, 1, 1])?;
-    check_going_back(&rt, rt.alloc(), LOCALS_WRITTEN, &[0, 0, 0, 0, 0, 1])
+    check_undoing_of(&rt, rt.alloc(), FULL, &[0, 1])?;
+    check_undoing_of(&rt, rt.alloc(), UNITS, &[0, 0, 1, 1])?;
+    check_undoing_of(&rt, rt.alloc(), LOCALS_WRITTEN, &[0, 0, 0, 0, 0, 1])
 }

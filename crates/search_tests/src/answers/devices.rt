@@ -3,7 +3,7 @@
 use std::io;
 use std::io::{ErrorKind, Read, Write};
 
-/// Gives its text a few bytes a call, and fails at the call of this number, counted from 0.
+/// A reader that gives its text a byte a call, and fails at the call `fails_at`, counted from 0.
 #[derive(Drop)]
 pub struct FailingReader<'a> {
     pub text: &'a [u8],
@@ -30,8 +30,8 @@ impl<'a> Read for FailingReader<'a> {
     }
 }
 
-/// Takes one byte a call, and fails at the call of this number, counted from 0, or where it is
-/// flushed after that many calls.
+/// A writer that takes a byte a call, and fails at the call `fails_at`, counted from 0, where a
+/// flush is a call, too.
 #[derive(Drop)]
 pub struct FailingWriter {
     pub fails_at: usize,
@@ -44,6 +44,7 @@ impl FailingWriter {
         FailingWriter { fails_at, calls: 0 }
     }
 
+    // Counts a call, and refuses the one that is to fail.
     fn call(&mut self) -> io::Result<()> {
         let call = self.calls;
         self.calls = self.calls.saturating_add(1);

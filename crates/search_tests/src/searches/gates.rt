@@ -4,27 +4,27 @@ use runner::{Decision, Gate};
 use std::sync::atomic::{AtomicU64, Ordering};
 use std::thread;
 
-/// More turns than a held worker waits.
-const TURNS: u64 = 1_000_000;
+/// How many turns a held worker waits at most; far fewer are enough.
+const MOST_TURNS: u64 = 1_000_000;
 
-/// Lets a number of items pass, and stops at each later one.
+/// A gate that lets a number of items pass, and stops at each later one.
 #[derive(Drop)]
-pub struct Passing {
+pub struct PassingGate {
     pub passes: u64,
     pub asked: AtomicU64,
 }
 
-impl Passing {
+impl PassingGate {
     /// A gate that lets `passes` items pass.
-    pub fn new(passes: u64) -> Passing {
-        Passing {
+    pub fn new(passes: u64) -> PassingGate {
+        PassingGate {
             passes,
             asked: AtomicU64::new(0),
         }
     }
 }
 
-impl Gate for Passing {
+impl Gate for PassingGate {
     ghost use Rattle.std.specs.Prelude.{true};
 
     ghost stops = { λ _. true };
@@ -42,11 +42,11 @@ impl Gate for Passing {
     }
 }
 
-/// Stops the second worker alone.
+/// A gate that stops the second worker alone.
 #[derive(Drop)]
-pub struct StopsOne;
+pub struct StoppingGate;
 
-impl Gate for StopsOne {
+impl Gate for StoppingGate {
     ghost use Rattle.std.specs.Prelude.{true};
 
     ghost stops = { λ _. true };
@@ -63,19 +63,19 @@ impl Gate for StopsOne {
     }
 }
 
-/// Counts the walks, and keeps the worker of the second one waiting until a number of them have
-/// ended, or it has waited too long.
+/// A gate that counts walks, and keeps the worker of the second one waiting until a number of walks
+/// have ended, or the worker has waited too long.
 #[derive(Drop)]
-pub struct Holding {
+pub struct HoldingGate {
     pub until: u64,
     pub walks: AtomicU64,
     pub late: AtomicU64,
 }
 
-impl Holding {
+impl HoldingGate {
     /// A gate that keeps the worker of the second walk waiting until `until` walks have ended.
-    pub fn new(until: u64) -> Holding {
-        Holding {
+    pub fn new(until: u64) -> HoldingGate {
+        HoldingGate {
             until,
             walks: AtomicU64::new(0),
             late: AtomicU64::new(0),
@@ -83,7 +83,7 @@ impl Holding {
     }
 }
 
-impl Gate for Holding {
+impl Gate for HoldingGate {
     ghost use Rattle.std.specs.Prelude.{false};
 
     ghost stops = { λ _. false };
@@ -96,7 +96,7 @@ impl Gate for Holding {
         if self.walks.fetch_add(1, Ordering::SeqCst) != 1 {
             return;
         }
-        for _ in 0..TURNS {
+        for _ in 0..MOST_TURNS {
             if self.walks.load(Ordering::SeqCst) >= self.until {
                 return;
             }

@@ -9,7 +9,7 @@ use cover::prefixes;
 use guest_code::program::Program;
 use items::mode::Mode;
 use joining::join;
-use parts::{Guest, Part, part_line, parts_from};
+use parts::{GuestDigest, Part, part_line, parts_from};
 use runner::{Open, Options, Search, explore_alone, explore_under, report_text};
 use std::alloc::{Alloc, Global};
 use std::process::Abort;
@@ -17,11 +17,11 @@ use std::sync::{Arc, Wait};
 use std::test::*;
 use std::thread::Threads;
 
-/// Fails within one preemption: three prefixes of two steps.
+/// Threads that fail within one preemption; the program has three prefixes of two steps.
 const RACE: &str =
     "var x; thread A { store x 1; store x 0; } thread B { load r x; assert r == 0; }";
 
-/// What searches find under the prefixes of the least length at which there are three or more.
+/// What searches find under the prefixes of the least length at which there are at least three.
 fn parts_of(
     rt: &(impl Threads + Wait + Sync + Alloc<A = Global>),
     program: &Arc<Program>,
@@ -44,7 +44,7 @@ fn parts_of(
             let part = Part {
                 under: under.as_slice().to_vec(alloc)?,
                 level,
-                guest: Guest::of_text(b""),
+                guest: GuestDigest::of_text(b""),
             };
             lines.extend_from_slice(part_line(alloc, &part)?.as_slice())?;
             lines.push(b'\n')?;
@@ -53,9 +53,9 @@ fn parts_of(
     Ok(parts_from(alloc, lines.as_slice())?)
 }
 
-/// Joins what one worker finds and what three do, which has to agree, and compares the report with
-/// that of a search of the whole.
-fn joins(
+/// Joins what one worker finds and what three workers find, which has to agree, and compares the
+/// report with that of a search of the whole program.
+fn check_join(
     rt: &(impl Abort + Threads + Wait + Sync + Alloc<A = Global>),
     text: &str,
     search: Search,
@@ -78,15 +78,15 @@ fn joins(
 #[test]
 fn parts_join_to_the_report_of_the_whole(rt: HostRuntime) -> Result<(), Fail> {
     for text in &[COUNTERS, RACE, THREE] {
-        joins(&rt, text, Search::UpTo(0))?;
-        joins(&rt, text, Search::UpTo(2))?;
-        joins(&rt, text, Search::Unbounded)?;
+        check_join(&rt, text, Search::UpTo(0))?;
+        check_join(&rt, text, Search::UpTo(2))?;
+        check_join(&rt, text, Search::Unbounded)?;
     }
     Ok(())
 }
 
-/// Why parts of a program don't join.
-fn refusal(
+/// The text of why parts of a program don't join.
+fn join_refusal(
     alloc: Global,
     program: &Arc<Program>,
     search: Search,
@@ -104,11 +104,11 @@ fn what_is_missing_is_told(rt: HostRuntime) -> Result<(), Fail> {
     let options = Options::new(Search::UpTo(0));
     let program = program_of(alloc, COUNTERS)?;
     let mut parts = parts_of(&rt, &program, options, 1)?;
-    let lacks = refusal(alloc, &program, Search::UpTo(1), parts.as_slice())?;
+    let lacks = join_refusal(alloc, &program, Search::UpTo(1), parts.as_slice())?;
     let want = "nothing at bound 1 under 1,0";
     assert_eq!(&rt; lacks.as_slice(), want.as_bytes());
     let _ = parts.pop();
-    let missing = refusal(alloc, &program, options.search, parts.as_slice())?;
+    let missing = join_refusal(alloc, &program, options.search, parts.as_slice())?;
     assert_eq!(&rt; missing.as_slice(), "nothing under 1x2".as_bytes());
     Ok(())
 }
@@ -122,7 +122,7 @@ fn a_level_that_was_cut_short_is_told(rt: HostRuntime) -> Result<(), Fail> {
         ..Options::new(Search::UpTo(0))
     };
     let parts = parts_of(&rt, &program, options, 1)?;
-    let cut = refusal(rt.alloc(), &program, options.search, parts.as_slice())?;
+    let cut = join_refusal(rt.alloc(), &program, options.search, parts.as_slice())?;
     assert_eq!(&rt; cut.as_slice(), "cut short at bound 0 under 2".as_bytes());
     Ok(())
 }

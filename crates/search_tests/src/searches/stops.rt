@@ -4,7 +4,7 @@ ghost use Rattle.std.specs.Prelude.{◌≤◌};
 ghost use Rattle.report.specs.Promises.{IsSearch};
 ghost use Rattle.workers.specs.declared.limits.TheConstants.{WORKERS};
 
-use crate::searches::gates::{Holding, Passing, StopsOne};
+use crate::searches::gates::{HoldingGate, PassingGate, StoppingGate};
 use crate::searches::{THREE, program_of};
 use items::item::Item;
 use items::mode::Mode;
@@ -21,7 +21,7 @@ use walk::walker::walk;
 const FOUR: &str =
     "var w; var x; var y; var z; thread A { store w 1; } thread B { store x 1; } thread C { store y 1; } thread D { store z 1; }";
 
-/// The report of the three threads where nothing stops its search.
+/// The report of a search of `THREE` where nothing stops the search.
 const CLEAN: &str =
     r#"{"all":true,"bound":0,"ends":[{"kind":"done","vars":[1,1,1]}],"failed":0,"stuck":0,"tried":6,"verdict":"clean"}"#;
 
@@ -37,8 +37,8 @@ const LIMITED_TO_ONE: &str =
 const STOPPED_AFTER_TWO: &str =
     r#"{"bound":0,"cause":"stopped","ends":[{"kind":"done","vars":[1,1,1]}],"failed":0,"finished":null,"schedule":null,"stuck":0,"tried":2,"verdict":"incomplete"}"#;
 
-/// The text of the report of a search.
-fn searched<G: Gate>(
+/// The text of the report of a search of a text with this gate.
+fn search_report<G: Gate>(
     rt: &(impl Threads + Wait + Sync + Alloc<A = Global>),
     text: &str,
     options: Options,
@@ -64,9 +64,9 @@ const ONE_BY_ONE: Options = Options {
     quick: false,
 };
 
-/// Compares the report of a search of the three threads by two workers, with this limit, where a
-/// gate lets `passes` items pass.
-fn passing_reports(
+/// Compares the report of a search of `THREE` by two workers, with this limit, where a gate lets
+/// `passes` items pass.
+fn check_passing(
     rt: &(impl Abort + Threads + Wait + Sync + Alloc<A = Global>),
     limit: Option<u64>,
     passes: u64,
@@ -76,7 +76,7 @@ fn passing_reports(
         limit,
         ..ONE_BY_ONE
     };
-    let found = searched(rt, THREE, options, 2, &Passing::new(passes))?;
+    let found = search_report(rt, THREE, options, 2, &PassingGate::new(passes))?;
     assert_eq!(rt;
         found.as_slice(),
         want.as_bytes(),
@@ -87,14 +87,14 @@ fn passing_reports(
 
 #[test]
 fn a_gate_stops_all(rt: HostRuntime) -> Result<(), Fail> {
-    passing_reports(&rt, None, 0, STOPPED_AT_ONCE)?;
-    passing_reports(&rt, Some(1), 0, STOPPED_AT_ONCE)
+    check_passing(&rt, None, 0, STOPPED_AT_ONCE)?;
+    check_passing(&rt, Some(1), 0, STOPPED_AT_ONCE)
 }
 
 #[test]
 fn one_worker_asks_no_gate(rt: HostRuntime) -> Result<(), Fail> {
-    let gate = Passing::new(0);
-    let found = searched(&rt, THREE, ONE_BY_ONE, 1, &gate)?;
+    let gate = PassingGate::new(0);
+    let found = search_report(&rt, THREE, ONE_BY_ONE, 1, &gate)?;
     assert_eq!(rt; found.as_slice(), CLEAN.as_bytes());
     assert_eq!(rt; gate.asked.load(Ordering::SeqCst), 0);
     Ok(())
@@ -102,25 +102,25 @@ fn one_worker_asks_no_gate(rt: HostRuntime) -> Result<(), Fail> {
 
 #[test]
 fn a_gate_stops_after_one(rt: HostRuntime) -> Result<(), Fail> {
-    passing_reports(&rt, None, 1, STOPPED_AFTER_ONE)?;
-    passing_reports(&rt, Some(1), 1, LIMITED_TO_ONE)
+    check_passing(&rt, None, 1, STOPPED_AFTER_ONE)?;
+    check_passing(&rt, Some(1), 1, LIMITED_TO_ONE)
 }
 
 #[test]
 fn a_stop_is_looked_at_before_the_limit(rt: HostRuntime) -> Result<(), Fail> {
-    passing_reports(&rt, Some(2), 2, STOPPED_AFTER_TWO)
+    check_passing(&rt, Some(2), 2, STOPPED_AFTER_TWO)
 }
 
 #[test]
 fn a_gate_that_never_stops(rt: HostRuntime) -> Result<(), Fail> {
-    passing_reports(&rt, None, u64::MAX, CLEAN)
+    check_passing(&rt, None, u64::MAX, CLEAN)
 }
 
 /// Stops the test where a search whose gate stops one worker is neither stopped nor clean.
-fn one_stop_reports(
+fn check_one_stop(
     rt: &(impl Abort + Threads + Wait + Sync + Alloc<A = Global>),
 ) -> Result<(), Fail> {
-    let found = searched(rt, THREE, ONE_BY_ONE, 2, &StopsOne)?;
+    let found = search_report(rt, THREE, ONE_BY_ONE, 2, &StoppingGate)?;
     let stopped = found.starts_with(br#"{"bound":0,"cause":"stopped","#);
     assert!(rt; stopped || found.as_slice() == CLEAN.as_bytes());
     Ok(())
@@ -129,20 +129,20 @@ fn one_stop_reports(
 #[test]
 fn a_gate_stops_one_worker(rt: HostRuntime) -> Result<(), Fail> {
     for _ in 0..200 {
-        one_stop_reports(&rt)?;
+        check_one_stop(&rt)?;
     }
     Ok(())
 }
 
 /// Compares the report of a search by two workers, of which a gate keeps one waiting, but not too
 /// long.
-fn holding_reports(
+fn check_holding(
     rt: &(impl Abort + Threads + Wait + Sync + Alloc<A = Global>),
     text: &str,
-    gate: &Holding,
+    gate: &HoldingGate,
     want: &str,
 ) -> Result<(), Fail> {
-    let found = searched(rt, text, ONE_BY_ONE, 2, gate)?;
+    let found = search_report(rt, text, ONE_BY_ONE, 2, gate)?;
     assert_eq!(rt; found.as_slice(), want.as_bytes());
     assert_eq!(rt; gate.late.load(Ordering::SeqCst), 0);
     Ok(())
@@ -150,21 +150,21 @@ fn holding_reports(
 
 #[test]
 fn two_walks_are_out_at_once(rt: HostRuntime) -> Result<(), Fail> {
-    let gate = Holding::new(3);
-    holding_reports(&rt, THREE, &gate, CLEAN)?;
+    let gate = HoldingGate::new(3);
+    check_holding(&rt, THREE, &gate, CLEAN)?;
     assert!(&rt; gate.walks.load(Ordering::SeqCst) >= 4);
     Ok(())
 }
 
-/// How many walks of the four threads are made in the first two rounds: one of all of them, which
-/// tries one schedule, and one of each item that it leaves.
+/// How many walks of `FOUR` are made in the first two rounds: one of the root, which tries one
+/// schedule, and one of each item that this walk leaves.
 fn first_walks(alloc: Global) -> Result<u64, Fail> {
     let program = program_of(alloc, FOUR)?;
     let walked = walk(alloc, &Item::root(alloc, program)?, Mode::Bounded(0), 1)?;
     Ok((walked.rest_len() as u64).saturating_add(1))
 }
 
-/// The report of the four threads where nothing stops its search.
+/// The report of a search of `FOUR` where nothing stops the search.
 const FOUR_CLEAN: &str =
     r#"{"all":true,"bound":0,"ends":[{"kind":"done","vars":[1,1,1,1]}],"failed":0,"stuck":0,"tried":24,"verdict":"clean"}"#;
 
@@ -172,8 +172,8 @@ const FOUR_CLEAN: &str =
 fn items_are_not_shared_out_beforehand(rt: HostRuntime) -> Result<(), Fail> {
     let walks = first_walks(rt.alloc())?;
     assert!(&rt; walks >= 7);
-    let gate = Holding::new(walks);
-    holding_reports(&rt, FOUR, &gate, FOUR_CLEAN)?;
+    let gate = HoldingGate::new(walks);
+    check_holding(&rt, FOUR, &gate, FOUR_CLEAN)?;
     assert!(&rt; gate.walks.load(Ordering::SeqCst) >= walks);
     Ok(())
 }

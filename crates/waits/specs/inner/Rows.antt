@@ -35,6 +35,6 @@ abbrev pub FindsEdge : List Instruction → List Fate → Blocked → ℕ → Ty
 FindsEdge code fates b u = (b.owner ≡ Some u) ⊎ FindsAhead code fates b u
 
 -- what leads to thread k leads on to where k leads
-abbrev pub Passes : List Mask → List Mask → ℕ → Type 0
-Passes old new k = (t u : ℕ) →
+abbrev pub IsExtendedThrough : List Mask → List Mask → ℕ → Type 0
+IsExtendedThrough old new k = (t u : ℕ) →
     has (row new t) u ≡ (has (row old t) u || (has (row old t) k && has (row old k) u))

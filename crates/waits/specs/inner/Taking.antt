@@ -9,7 +9,7 @@ use Rattle.waits.specs.Fates.{IsFate}
 
 -- what an instruction is by its mark, before any step
 abbrev pub fate_by : Mark → Fate
-fate_by mark = if mark.so || mark.not_so then Ahead else PassedBy
+fate_by mark = if mark.may_hold || mark.may_not_hold then Ahead else PassedBy
 
 -- what came of an instruction that is carried out in the step at place k
 abbrev pub taken_by : Fate → ℕ → Fate

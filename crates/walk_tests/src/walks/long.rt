@@ -1,6 +1,6 @@
 //! Walks of long schedules.
 
-use crate::walks::{counted, finds};
+use crate::walks::{check_walk, walk_counts};
 use guest_code::limits::THREADS;
 use std::alloc::{Alloc, Global};
 use std::process::Abort;
@@ -12,7 +12,7 @@ const LONG: &str =
     "var x; thread A { repeat 64 { store x 1; store x 2; store x 3; store x 4; } } thread B { repeat 64 { store x 1; store x 2; store x 3; store x 4; } }";
 
 /// As many threads as a program has, each of as many stores as a thread has instructions.
-fn longest(alloc: Global) -> Result<String, Fail> {
+fn longest_text(alloc: Global) -> Result<String, Fail> {
     let mut text = String::from_str(alloc, "var x;")?;
     for thread in 0..THREADS {
         let body = "{ repeat 64 { repeat 16 { store x 1; } } }";
@@ -23,23 +23,23 @@ fn longest(alloc: Global) -> Result<String, Fail> {
 
 #[test]
 fn schedules_of_512_steps(rt: HostRuntime) -> Result<(), Fail> {
-    finds(&rt, LONG, Mode::Bounded(0), "2 0 0 true None Done [4]")
+    check_walk(&rt, LONG, Mode::Bounded(0), "2 0 0 true None Done [4]")
 }
 
 /// Compares what a walk of one schedule without preemption counts.
-fn counts(
+fn check_counts(
     rt: &(impl Abort + Alloc<A = Global>),
     text: &str,
     want: (u64, u64, usize, usize),
 ) -> Result<(), Fail> {
-    assert_eq!(rt; counted(rt.alloc(), text, Mode::Bounded(0), 1)?, want);
+    assert_eq!(rt; walk_counts(rt.alloc(), text, Mode::Bounded(0), 1)?, want);
     Ok(())
 }
 
 #[test]
 fn a_schedule_of_16384_steps(rt: HostRuntime) -> Result<(), Fail> {
-    let text = longest(rt.alloc())?;
-    counts(&rt, text.as_str(), (1, 0, 120, 122760))
+    let text = longest_text(rt.alloc())?;
+    check_counts(&rt, text.as_str(), (1, 0, 120, 122760))
 }
 
 /// As many threads as a program has, each of as many instructions as a thread has. The first ones
@@ -64,5 +64,5 @@ fn waiting_in_turn(alloc: Global) -> Result<String, Fail> {
 #[test]
 fn a_schedule_of_24560_steps(rt: HostRuntime) -> Result<(), Fail> {
     let text = waiting_in_turn(rt.alloc())?;
-    counts(&rt, text.as_str(), (1, 0, 120, 0))
+    check_counts(&rt, text.as_str(), (1, 0, 120, 0))
 }

@@ -2,8 +2,8 @@
 
 ghost use Rattle.std.specs.Prelude.{◌≤◌};
 
-use crate::summaries::shown;
-use crate::walks::{ALL_KINDS, COUNTERS, counted, root_of};
+use crate::summaries::summary_line;
+use crate::walks::{ALL_KINDS, COUNTERS, root_of, walk_counts};
 use std::alloc::{Alloc, Global};
 use std::process::Abort;
 use std::test::*;
@@ -14,7 +14,7 @@ use walk::walker::walk;
 use walk::{Item, Mode};
 
 /// More walks than any of these tests needs.
-const WALKS: usize = 1000;
+const MOST_WALKS: usize = 1000;
 
 /// The schedules of `ALL_KINDS` with at most two preemptions.
 const WITHIN_TWO: &str = "23 0 4 true Some([1, 1, 1, 1, 0, 1, 2, 2, 0]) Done [1] Stuck [1]";
@@ -27,25 +27,25 @@ fn take_over(walked: Walked, whole: &mut Summary, open: &mut Vec<Item>) -> Resul
     Ok(())
 }
 
-/// What walks find in all, each cut at a quota: of an item, and of all that they leave.
+/// What walks find in all of a text's program, each cut at a quota, of the root and of all items left.
 fn found_in_parts(alloc: Global, text: &str, mode: Mode, quota: u32) -> Result<String, Fail>
     requires { 1 ≤ quota }
 {
     let mut open: Vec<Item> = Vec::new(alloc);
     open.push(root_of(alloc, text)?)?;
     let mut whole = Summary::empty(alloc);
-    for _ in 0..WALKS {
+    for _ in 0..MOST_WALKS {
         let Some(next) = open.pop() else {
             break;
         };
         let walked = walk(alloc, &next, mode, quota)?;
         take_over(walked, &mut whole, &mut open)?;
     }
-    shown(alloc, &whole)
+    summary_line(alloc, &whole)
 }
 
-/// Compares what walks in parts find in all.
-fn adds_up(
+/// Compares what walks of a text's program find in all, each cut at a quota.
+fn check_parts(
     rt: &(impl Abort + Alloc<A = Global>),
     text: &str,
     mode: Mode,
@@ -61,10 +61,10 @@ fn adds_up(
 
 #[test]
 fn quotas_cut_a_walk(rt: HostRuntime) -> Result<(), Fail> {
-    let (tried, _, left, _) = counted(rt.alloc(), COUNTERS, Mode::Bounded(1), 1)?;
+    let (tried, _, left, _) = walk_counts(rt.alloc(), COUNTERS, Mode::Bounded(1), 1)?;
     assert_eq!(rt; tried, 1);
     assert!(rt; left > 0);
-    let (tried, _, left, _) = counted(rt.alloc(), COUNTERS, Mode::Bounded(1), 5)?;
+    let (tried, _, left, _) = walk_counts(rt.alloc(), COUNTERS, Mode::Bounded(1), 5)?;
     assert_eq!(rt; (tried, left), (4, 0));
     Ok(())
 }
@@ -76,12 +76,12 @@ const PRUNED: &str = "4 0 0 false None Done [1] Done [2]";
 
 #[test]
 fn parts_make_the_whole(rt: HostRuntime) -> Result<(), Fail> {
-    adds_up(&rt, COUNTERS, Mode::Bounded(1), 1, WITHIN_ONE)?;
-    adds_up(&rt, ALL_KINDS, Mode::Bounded(2), 1, WITHIN_TWO)?;
-    adds_up(&rt, ALL_KINDS, Mode::Bounded(2), 3, WITHIN_TWO)?;
-    adds_up(&rt, ALL_KINDS, Mode::Bounded(2), 256, WITHIN_TWO)?;
-    adds_up(&rt, COUNTERS, Mode::Reduced, 1, PRUNED)?;
-    adds_up(&rt, COUNTERS, Mode::Reduced, 3, PRUNED)
+    check_parts(&rt, COUNTERS, Mode::Bounded(1), 1, WITHIN_ONE)?;
+    check_parts(&rt, ALL_KINDS, Mode::Bounded(2), 1, WITHIN_TWO)?;
+    check_parts(&rt, ALL_KINDS, Mode::Bounded(2), 3, WITHIN_TWO)?;
+    check_parts(&rt, ALL_KINDS, Mode::Bounded(2), 256, WITHIN_TWO)?;
+    check_parts(&rt, COUNTERS, Mode::Reduced, 1, PRUNED)?;
+    check_parts(&rt, COUNTERS, Mode::Reduced, 3, PRUNED)
 }
 
 /// How many items a walk leaves and how many prefixes it puts off.

@@ -1,6 +1,6 @@
 //! Walks of all schedules of a program, within a bound and pruned.
 
-use crate::walks::{ALL_KINDS, CALLED, COUNTERS, CROSSED, LATE, counted, finds};
+use crate::walks::{ALL_KINDS, CALLED, COUNTERS, CROSSED, LATE, check_walk, walk_counts};
 use items::limits::BOUND;
 use std::test::*;
 use walk::Mode;
@@ -164,14 +164,14 @@ const ROWS: [ProgramRow; 26] = [
 #[test]
 fn walks_of_all_schedules(rt: HostRuntime) -> Result<(), Fail> {
     for row in &ROWS {
-        finds(&rt, row.text, row.mode, row.found)?;
+        check_walk(&rt, row.text, row.mode, row.found)?;
     }
     Ok(())
 }
 
 #[test]
 fn pruned_walks_put_nothing_off(rt: HostRuntime) -> Result<(), Fail> {
-    let (_, _, _, put_off) = counted(rt.alloc(), COUNTERS, Mode::Reduced, 256)?;
+    let (_, _, _, put_off) = walk_counts(rt.alloc(), COUNTERS, Mode::Reduced, 256)?;
     assert_eq!(rt; put_off, 0);
     Ok(())
 }

@@ -9,8 +9,8 @@ use Rattle.causes.proofs.Places.{first_event, rest_marked}
 use Rattle.causes.proofs.Valid.{uses_few}
 use Rattle.causes.proofs.causes.marks_of.Goals as goal
 
-pub take-requires-clause-used : goal.take-requires-clause-used
-take-requires-clause-used c =
+pub move_before-requires-clause-used : goal.move_before-requires-clause-used
+move_before-requires-clause-used c =
     let p = c.args.program.now in
     let es = c.args.events.now in
     let k = c.events.at - 1 in
@@ -34,7 +34,8 @@ events-preserved c =
     record {
       inside = omega arith;
       wanted = wanted_back p es k first_event c.events.wanted c.keeps_limits.ensures l v w
-          c.needs-needed.result c.take.new.self c.needs-needed.ensures c.in_ok-take.ensures;
+          c.needs-needed.result c.move_before.new.self c.needs-needed.ensures
+          c.in_ok-move_before.ensures;
       marks = marks_back p es k first_event c.events.wanted c.keeps_limits.ensures l v w
           c.needs-needed.result c.events.marks.items c.needs-needed.ensures
           c.events.invariant.all

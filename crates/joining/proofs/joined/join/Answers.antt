@@ -21,13 +21,13 @@ returns-in_err-check_schedules-clause-error c =
 
 pub report_at-requires-clause-schedules : goal.report_at-requires-clause-schedules
 report_at-requires-clause-schedules c =
-    subst (All (IsTrue c.deref-2.result.now)) (sym c.in_ok-lines.ensures)
+    subst (All (IsTrue c.deref-2.result.now)) (sym c.in_ok-by_prefix.ensures)
     (subst (λ (q : Program). All (IsTrue q) c.args.parts.now)
     (c.deref.ensures ∙ sym c.deref-2.ensures) c.in_ok-check_schedules.ensures.all)
 
 pub report_at-requires-2-clause-schedules : goal.report_at-requires-2-clause-schedules
 report_at-requires-2-clause-schedules c =
-    subst (All (IsTrue c.deref-2.result.now)) (sym c.in_ok-lines.ensures)
+    subst (All (IsTrue c.deref-2.result.now)) (sym c.in_ok-by_prefix.ensures)
     (subst (λ (q : Program). All (IsTrue q) c.args.parts.now)
     (c.deref.ensures ∙ sym c.deref-2.ensures) c.in_ok-check_schedules.ensures.all)
 
@@ -36,23 +36,23 @@ returns-in_err-check_agreement-clause-error c =
     let p = err_from_is_err_and c.from_residual-in_err-check_agreement.result
     c.from_residual-in_err-check_agreement.ensures.1 in
     rw (p.1, p.2) (subst (λ (ps : List Part). JoinErrorMeans (arc_value c.args.program.now)
-    c.args.search ps c.in_err-check_agreement.field-0.0) c.in_ok-lines.ensures
+    c.args.search ps c.in_err-check_agreement.field-0.0) c.in_ok-by_prefix.ensures
     (c.in_err-check_agreement.ensures.error (arc_value c.args.program.now) c.args.search))
 
 pub returns-in-Some-2-clause-agree : goal.returns-in-Some-2-clause-agree
 returns-in-Some-2-clause-agree c = λ place a.
     c.in_ok-check_agreement.ensures.agree place
-    (subst (λ (ps : List Part). AreApart ps place) (sym c.in_ok-lines.ensures) a)
+    (subst (λ (ps : List Part). AreApart ps place) (sym c.in_ok-by_prefix.ensures) a)
 
 pub returns-clause-agree : goal.returns-clause-agree
 returns-clause-agree c = λ place a.
     c.in_ok-check_agreement.ensures.agree place
-    (subst (λ (ps : List Part). AreApart ps place) (sym c.in_ok-lines.ensures) a)
+    (subst (λ (ps : List Part). AreApart ps place) (sym c.in_ok-by_prefix.ensures) a)
 
 pub returns-clause-report : goal.returns-clause-report
 returns-clause-report c = λ honest.
     let p = arc_value c.args.program.now in
-    let parts = c.in_ok-lines.lines.parts.now in
+    let parts = c.in_ok-by_prefix.by_prefix.parts.now in
     let passed : HasPassed (root_of p) (mode_at c.match-last.last) = elim c.match-last.branch [
       | in-Some+else-loop-bound-test w ↦
           subst (λ (o : Option ℕ). HasPassed (root_of p) (mode_at o)) (sym w.last-is)
@@ -66,4 +66,5 @@ returns-clause-report c = λ honest.
     (subst (λ (o : Option Report). IfSome o (λ r. AreHonest c.deref-2.result.now parts →
     HasPassed (root_of c.deref-2.result.now) (mode_at c.match-last.last) →
     IsReport false c.deref-2.result.now (options_of c.args.search) r)) c.in-Some-3.is
-    c.in_ok-report-2.ensures.some) (subst (AreHonest p) (sym c.in_ok-lines.ensures) honest) passed
+    c.in_ok-report-2.ensures.some) (subst (AreHonest p) (sym c.in_ok-by_prefix.ensures) honest)
+    passed

@@ -5,7 +5,7 @@ pub returns-then-is_some : goal.returns-then-is_some
 returns-then-is_some c = λ on. (
   c.part-item.result,
   (c.loop-part.part-index, c.loop-part-test.true, sym c.part-item.is),
-  c.is_of.ensures c.if-is_of.true,
+  c.is_of_place.ensures c.if-is_of_place.true,
   λ e.
       let f : true ≡ false =
       sym c.if-is_some.true ∙ (c.is_some.ensures ∙ ap is_some e) in absurd (cc),

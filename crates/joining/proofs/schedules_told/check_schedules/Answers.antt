@@ -16,7 +16,7 @@ returns-then-not-branch-clause-error c = λ search. (
   },
   λ t.
       let f : true ≡ false =
-      sym (c.in_ok-is_true.ensures.value.1 t) ∙ c.if-not-branch.true in absurd (cc),
+      sym (c.in_ok-is_truthful.ensures.value.1 t) ∙ c.if-not-branch.true in absurd (cc),
 )
 
 pub loop-part-preserved : goal.loop-part-preserved
@@ -26,7 +26,8 @@ loop-part-preserved c =
     ∙ sym (take_more c.args.parts.now c.loop-part.part-index c.part-item.result
     c.loop-part-test.true))
     (All-push (IsTrue c.args.program.now) (take c.loop-part.part-index c.args.parts.now)
-    c.part-item.result c.loop-part.invariant (c.in_ok-is_true.ensures.value.0 c.if-not-branch.false))
+    c.part-item.result c.loop-part.invariant
+    (c.in_ok-is_truthful.ensures.value.0 c.if-not-branch.false))
 
 pub returns-clause-all : goal.returns-clause-all
 returns-clause-all c =

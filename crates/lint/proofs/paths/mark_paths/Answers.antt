@@ -5,21 +5,21 @@ use Rattle.lint.proofs.PathMarks.{passed_none, passed_step, passed_all, jump_fit
 use Rattle.lint.proofs.paths.mark_paths.Goals as goal
 
 pub loop-at-init : goal.loop-at-init
-loop-at-init c = passed_none c.args.marks.now c.add.new.marks c.args.code.now c.args.watch
-    c.args.start c.args.so c.requires.none c.add.ensures
+loop-at-init c = passed_none c.args.marks.now c.add_mark.new.marks c.args.code.now c.args.watch
+    c.args.start c.args.holds c.requires.none c.add_mark.ensures
 
-pub pass-requires : goal.pass-requires
-pass-requires c =
+pub add_all_next-requires : goal.add_all_next-requires
+add_all_next-requires c =
     let fits : c.loop-at.at + 1 + skip_of (get_or c.args.code.now c.loop-at.at (Load 0 0))
     ≤ length c.args.code.now = jump_fits c.args.code.now c.loop-at.at (Load 0 0)
     c.requires.jumps c.loop-at-test.true in
-    omega (arith, c.requires.length, c.add.auto.marks, c.loop-at.auto.marks)
+    omega (arith, c.requires.length, c.add_mark.auto.marks, c.loop-at.auto.marks)
 
 pub loop-at-preserved : goal.loop-at-preserved
-loop-at-preserved c = passed_step c.loop-at.marks c.pass.new.marks c.args.code.now c.args.watch
-    c.args.start c.args.so c.loop-at.at (Load 0 0) c.loop-at-test.true c.pass.ensures
-    c.loop-at.invariant
+loop-at-preserved c = passed_step c.loop-at.marks c.add_all_next.new.marks c.args.code.now
+    c.args.watch c.args.start c.args.holds c.loop-at.at (Load 0 0) c.loop-at-test.true
+    c.add_all_next.ensures c.loop-at.invariant
 
 pub returns : goal.returns
-returns c = passed_all c.loop-at.marks c.args.code.now c.args.watch c.args.start c.args.so
+returns c = passed_all c.loop-at.marks c.args.code.now c.args.watch c.args.start c.args.holds
     c.loop-at.at c.loop-at-test.false c.loop-at.auto.at-end c.loop-at.invariant

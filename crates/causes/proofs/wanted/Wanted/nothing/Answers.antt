@@ -3,7 +3,8 @@ use Rattle.std.specs.Prelude.{false, None, slice_index_or, if◌then◌else◌}
 use Rattle.std.specs.List.{count_by}
 use Rattle.std.proofs.lemmas.List.{get_or-replicate, take_all, length-set}
 use Rattle.guest_code.specs.declared.limits.TheConstants.{THREADS, LOCALS, VARIABLES}
-use Rattle.causes.specs.Events.{is, is_use, variable_of}
+use Rattle.lint.specs.Uses.{is, variable_used}
+use Rattle.causes.specs.Events.{is_use}
 use Rattle.causes.specs.declared.event.Event.{Event}
 use Rattle.causes.proofs.Places.{first_event}
 use Rattle.causes.specs.inner.Keeping.{count}
@@ -30,9 +31,9 @@ loop-event-preserved c =
     record {
       counted = λ t x l m. counted_on (is_use t x) es i first_event (count c.loop-event.uses t x) _
           (omega arith) (c.loop-event.invariant.counted t x l m)
-          (row_on c.loop-event.uses e.thread t x c.put_on.new.uses 0
-          (λ b n. if (b && is x (variable_of e.statement)) then n + 1 else n) few (λ a. refl)
-          (c.put_on.ensures x m ∙ ap (λ o. if is x o
+          (row_on c.loop-event.uses e.thread t x c.count_use.new.uses 0
+          (λ b n. if (b && is x (variable_used e.statement)) then n + 1 else n) few (λ a. refl)
+          (c.count_use.ensures x m ∙ ap (λ o. if is x o
           then slice_index_or (slice_index_or c.loop-event.uses e.thread []) x 0 + 1
           else slice_index_or (slice_index_or c.loop-event.uses e.thread []) x 0)
           c.variable_used.ensures));

@@ -6,16 +6,16 @@ use Rattle.explain.proofs.explanation.Explanation.new.Goals as goal
 pub returns : goal.returns
 returns c =
     let p = c.args.program.now in
-    let carried = c.in_ok-carried.ensures in
-    let here = c.state-state.ensures ∙ carried.reached.state in
+    let run = c.in_ok-run.ensures in
+    let here = c.state-state.ensures ∙ run.reached.state in
     record {
       schedule = c.in_ok-to_vec.ensures.items_if_clones_equal (λ x y e. e);
-      steps = carried.steps;
-      stops = carried.stops;
+      steps = run.steps;
+      stops = run.stops;
       opening = c.in_ok-opening.ensures;
       threads = subst (λ s. TellsThreads p s c.in_ok-standings.standings.items) here
           c.in_ok-standings.ensures;
-      holders = carried.holders;
-      preemptions = c.preemptions-preemptions.ensures ∙ carried.reached.preemptions;
+      holders = run.holders;
+      preemptions = c.preemptions-preemptions.ensures ∙ run.reached.preemptions;
       kind = c.kind-kind.ensures ∙ ap (kind_of p) here;
     }

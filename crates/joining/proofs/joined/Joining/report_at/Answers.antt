@@ -6,7 +6,7 @@ use Rattle.joining.proofs.joined.Joining.report_at.Goals as goal
 pub sum_at-requires-clause-listed : goal.sum_at-requires-clause-listed
 sum_at-requires-clause-listed c =
     items_listed (last_mode c.args.self.now.search) c.args.self.now.program.now
-    (prefixes_for c.args.self.now.search c.args.self.now.lines.now.parts.now)
+    (prefixes_for c.args.self.now.search c.args.self.now.parts.now.parts.now)
     c.args.self.now.items.now c.requires.items
 
 pub returns-in_err-sum-clause-error : goal.returns-in_err-sum-clause-error
@@ -16,14 +16,14 @@ returns-in_err-sum-clause-error c =
 
 pub report_of-requires-clause-bad : goal.report_of-requires-clause-bad
 report_of-requires-clause-bad c =
-    first_of_program c.args.self.now.program.now c.args.self.now.lines.now.parts.now c.in_ok-sum.sum
+    first_of_program c.args.self.now.program.now c.args.self.now.parts.now.parts.now c.in_ok-sum.sum
     c.requires.schedules c.in_ok-sum.ensures.first
 
 pub returns-in-Ok-clause-some : goal.returns-in-Ok-clause-some
 returns-in-Ok-clause-some c =
     report_means c.args.self.now.search c.args.bound c.args.self.now.program.now
-    (prefixes_for c.args.self.now.search c.args.self.now.lines.now.parts.now)
-    c.args.self.now.lines.now.parts.now c.args.self.now.items.now c.new-options.result
+    (prefixes_for c.args.self.now.search c.args.self.now.parts.now.parts.now)
+    c.args.self.now.parts.now.parts.now c.args.self.now.items.now c.new-options.result
     c.mode_of.result c.in_ok-sum.sum c.in-Ok.report
     c.requires.of c.requires.items c.new-options.ensures c.mode_of.ensures c.in_ok-sum.ensures.sum
     c.in-Ok.ensures.report
@@ -31,8 +31,8 @@ returns-in-Ok-clause-some c =
 pub returns-in-Ok-clause-none : goal.returns-in-Ok-clause-none
 returns-in-Ok-clause-none c =
     none_means c.args.self.now.search c.args.bound c.args.self.now.program.now
-    (prefixes_for c.args.self.now.search c.args.self.now.lines.now.parts.now)
-    c.args.self.now.lines.now.parts.now c.args.self.now.items.now c.new-options.result
+    (prefixes_for c.args.self.now.search c.args.self.now.parts.now.parts.now)
+    c.args.self.now.parts.now.parts.now c.args.self.now.items.now c.new-options.result
     c.mode_of.result c.in_ok-sum.sum c.in-Ok.report
     c.requires.of c.requires.items c.new-options.ensures c.mode_of.ensures c.in_ok-sum.ensures.sum
     c.in-Ok.ensures.none

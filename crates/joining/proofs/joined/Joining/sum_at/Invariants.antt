@@ -6,7 +6,7 @@ use Rattle.joining.proofs.joined.Joining.sum_at.Given as goal
 
 abbrev pub invariant-loop-item : goal.invariant-loop-item
 invariant-loop-item l = record {
-  sum : TellSums l.bound l.fn.self.lines.now.parts.now l.fn.self.items.now →
+  sum : TellSums l.bound l.fn.self.parts.now.parts.now l.fn.self.items.now →
       l.sum ≡ item_sums (mode_at l.bound) (take l.item-index l.fn.self.items.now);
-  first : IsFirstOfPart l.fn.self.lines.now.parts.now l.sum;
+  first : IsFirstOfPart l.fn.self.parts.now.parts.now l.sum;
 }

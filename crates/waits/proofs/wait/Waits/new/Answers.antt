@@ -39,9 +39,10 @@ loop-t-preserved c =
                 (ap is_some is) (ap (map thread) pushed ∙ map_push thread old _);
             each = subst (All P) (sym pushed) (All-push P old _ c.loop-t.invariant.each
                 (wait_told p told fates _ w.in-Some.blocked c.edges_of-edges.result
-                c.closed-leads.result is refl (subst Q w.steps.ensures w.last_step.ensures)
+                c.transitive_closure-leads.result is refl
+                (subst Q w.steps.ensures w.last_step.ensures)
                 (subst R w.as_slice-in-Some.ensures.value w.in_ok-statements_of.ensures) refl
-                w.circle_of.ensures c.edges_of-edges.ensures c.closed-leads.ensures));
+                w.circle_of.ensures c.edges_of-edges.ensures c.transitive_closure-leads.ensures));
           })
       | in_default w ↦ (let kept = ap (λ v. v.items) w.waits-is in record {
         threads = ap (map thread) kept

@@ -1,0 +1,78 @@
+//! A program, and where its parts are in its text.
+
+ghost use Rattle.std.specs.Prelude.{◌<◌};
+ghost use Rattle.guest_code.specs.SourceMap.{IsMapOf};
+
+use guest_code::program::{Instruction, Program};
+use guest_code::source_map::SourceMap;
+use guest_syntax::pieces::Piece;
+use guest_syntax::place::Pos;
+use guest_syntax::tree::Tree;
+use hints::message::Message;
+use hints::pieces::{START, span_at, text_of};
+use messages::message::{Diagnostic, Severity};
+use std::alloc::AllocError;
+
+/// A program, and where its parts are in its text.
+#[derive(Clone, Copy)]
+pub struct Compiled<'a> {
+    pub tree: &'a Tree,
+    pub program: &'a Program,
+    pub map: &'a SourceMap,
+    pub pieces: &'a [Piece<'a>],
+    ghost fits: { IsMapOf map.now program.now },
+}
+
+impl<'a> Compiled<'a> {
+    /// The code of a thread; none where there is no thread of the number.
+    pub fn code(&self, thread: u8) -> &'a [Instruction] {
+        if thread < self.program.threads() {
+            self.program.code(thread)
+        } else {
+            &[]
+        }
+    }
+
+    /// The place of an instruction of a thread; the start of the text where there is none.
+    pub fn place(&self, thread: u8, at: usize) -> Pos {
+        if thread < self.program.threads() && at < self.program.code(thread).len() {
+            return self.map.place(thread, at);
+        }
+        START
+    }
+
+    /// The name of a thread; nothing where there is no thread of the number.
+    pub fn thread_name(&self, thread: u8) -> &'a str {
+        if thread < self.program.threads() {
+            text_of(self.program.thread_name(thread))
+        } else {
+            ""
+        }
+    }
+
+    /// The name of a local of a thread; nothing where there is no local of the number.
+    pub fn local_name(&self, thread: u8, local: usize) -> &'a str {
+        if thread < self.program.threads() && local < self.program.locals(thread) {
+            text_of(self.map.local(thread, local))
+        } else {
+            ""
+        }
+    }
+
+    /// Adds a diagnostic of the piece at a place, under a number and name as `W9 MayLack`, unless the
+    /// same of the same place is there already.
+    pub fn add_diagnostic(
+        &self,
+        all: &mut Vec<Diagnostic>,
+        (severity, name): (Severity, &str),
+        at: Pos,
+        message: Message,
+    ) -> Result<(), AllocError> {
+        let headline = format!(in message.alloc(); "{severity} {name} at {at}")?;
+        if !all.iter().any(|diagnostic| diagnostic.headline == headline) {
+            let span = span_at(self.pieces, at);
+            all.push(message.into_diagnostic(severity, headline, Some(span)))?;
+        }
+        Ok(())
+    }
+}
