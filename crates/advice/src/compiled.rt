@@ -59,8 +59,8 @@ impl<'a> Compiled<'a> {
         }
     }
 
-    /// Adds a diagnostic of the piece at a place, under a number and name as `W9 MayLack`, unless the
-    /// same of the same place is there already.
+    /// Adds to `all` a diagnostic of the piece at a place, under a number and name as `W9 MayLack`,
+    /// unless `all` has one of that number at that place.
     pub fn add_diagnostic(
         &self,
         all: &mut Vec<Diagnostic>,

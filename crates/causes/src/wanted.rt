@@ -39,7 +39,7 @@ pub struct Wanted {
 }
 
 impl Wanted {
-    // What is needed where the place is behind the last event: nothing.
+    // What is wanted at the place behind the last event: nothing, since no event follows.
     pub fn nothing(alloc: Global, program: &Program, events: &[Event]) -> Wanted
         requires { All (IsValidEvent program.now) events.now }
         ensures { IsWanted events.now [] result }

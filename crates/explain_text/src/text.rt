@@ -15,7 +15,7 @@ use waits::Waits;
 pub struct Layout {
     /// Columns of a line, at most; fewer than 40 count as 40, more than 1,000 as 1,000.
     pub width: usize,
-    /// Each step has a row where the schedule has at most so many steps; else some are folded.
+    /// A schedule of at most this many steps has a row for each; of a longer one some are folded.
     pub steps: usize,
     /// Whether a search showed that no schedule with fewer preemptions is bad.
     pub is_fewest: bool,

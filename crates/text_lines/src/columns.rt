@@ -39,7 +39,7 @@ pub struct Columns {
 }
 
 impl Columns {
-    /// The columns of a table of this width, for so many threads, whose widest line cell is `line` wide.
+    /// The columns of a table `width` wide for `threads` threads, with line cells up to `line` wide.
     pub fn new(width: usize, threads: usize, line: usize) -> Columns {
         let width = width.max(LEAST_WIDTH).min(GREATEST_WIDTH);
         let margin = STEP + line.max(LEAST_LINE_WIDTH).min(GREATEST_LINE_WIDTH) + GAP;
